@@ -6,6 +6,8 @@ ghost use Rattle.sig_base.specs.HourRows.{RiseIn, AreRowsOf, Shown};
 use crate::{Hour, Reads, Row};
 use std::marker::{Model, PhantomData};
 
+/// The rows of one hour, ordered by tenth: at most 400,000, all in the hour. With them is kept how
+/// many repeats were dropped. The rows are handed out only by `show`, which counts it.
 pub struct HourRows<L> {
     hour: Hour,
     rows: Vec<Row>,
@@ -40,6 +42,8 @@ fn rise_in(from: u32, to: u32, rows: &[Row]) -> bool
 }
 
 impl<L> HourRows<L> {
+    /// These rows as those of this hour; `None` where the hour is past 743, there are more than
+    /// 400,000 rows, one isn't in the hour or one stands behind a later one.
     pub fn new(hour: Hour, rows: Vec<Row>, repeats: u32) -> Option<Self>
         ensures there { IsSome result ↔ AreRowsOf hour rows.items }
         ensures value { IfSome result (λ h. h ≡ record { hour = hour; rows = rows.items; repeats = repeats }) }
@@ -59,6 +63,7 @@ impl<L> HourRows<L> {
         })
     }
 
+    /// The hour, counted from the start of the window.
     pub fn hour(&self) -> Hour
         ensures value { result ≡ self.now.hour }
         ensures rows { AreRowsOf self.now.hour self.now.rows }
@@ -66,12 +71,14 @@ impl<L> HourRows<L> {
         self.hour
     }
 
+    /// How many rows there are.
     pub fn len(&self) -> u32
         ensures { result ≡ length self.now.rows }
     {
         self.rows.len() as u32
     }
 
+    /// How many repeats were dropped.
     pub fn repeats(&self) -> u32
         ensures { result ≡ self.now.repeats }
     {

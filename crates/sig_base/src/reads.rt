@@ -21,6 +21,7 @@ impl<L> Model for Reads<L> {
 }
 
 impl<L> Reads<L> {
+    /// All counts at 0.
     pub fn new(mark: L) -> Self
         ensures { result ≡ replicate 744 0 }
     {
@@ -30,6 +31,7 @@ impl<L> Reads<L> {
         }
     }
 
+    /// How often the rows of this hour, 0 to 743, were handed out.
     pub fn count(&self, hour: Hour) -> u64
         requires { hour < 744 }
         ensures { result ≡ slice_index self.now hour }
@@ -37,7 +39,7 @@ impl<L> Reads<L> {
         self.counts[hour as usize]
     }
 
-    /// Adds one, up to the last value of a u64.
+    /// Adds one to the count of this hour, up to the last value of a u64.
     pub fn raise(&mut self, hour: Hour)
         requires { hour < 744 }
         ensures { self.new ≡ raised self.old hour }

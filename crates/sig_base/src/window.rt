@@ -12,6 +12,8 @@ const FIRST_DAY: i64 = -719_528;
 
 const LAST_DAY: i64 = 2_932_896;
 
+/// The hours that a log is about: 1 to 744 of them, one after another, of days with 24 hours each.
+/// Stamps are civil times of the years 0000 to 9999.
 #[derive(Drop)]
 pub struct Window {
     day: i64,
@@ -98,12 +100,16 @@ impl Window {
         Some(Window { day, hour, hours })
     }
 
+    /// How many hours the window has, 1 to 744.
     pub fn hours(&self) -> u32
-        ensures { result ≡ self.now.hours }
+        ensures value { result ≡ self.now.hours }
+        ensures some { 1 ≤ result }
+        ensures few { result ≤ 744 }
     {
         self.hours
     }
 
+    /// Whether the window has this hour, counted from its start.
     pub fn has_hour(&self, hour: Hour) -> bool
         ensures { IsTrue result ↔ (hour < self.now.hours) }
     {

@@ -1,0 +1,35 @@
+-- What a call that writes a text does to a sink.
+use Rattle.std.specs.Prelude.{◌≡◌, ◌<◌, ◌≤◌, ◌+◌, ◌++◌, ◌⊎◌, ℕ, List, length, Option, Result, Ok, Err}
+use Rattle.sig_base.specs.Reads.{one_more}
+use Rattle.std.specs.Io.KnownBytes.{Appends}
+use Rattle.outside.specs.Counted.{Rose}
+
+-- known bytes grow by a front of the text
+abbrev pub AppendsFront : Option (List ℕ) → Option (List ℕ) → List ℕ → Type 0
+AppendsFront old new text = (front : List ℕ) × (rest : List ℕ) × (text ≡ front ++ rest) × Appends old new front
+
+-- the count of faults rose, and a front of the text was written
+abbrev pub Stops : Option (List ℕ) → Option (List ℕ) → ℕ → ℕ → List ℕ → Type 0
+Stops old new before now text = (before ≤ now) × Rose before now × AppendsFront old new text
+
+-- at Ok the whole text was written and no fault came; at an Err a front of it was, and the count of faults rose
+abbrev pub Puts : {T E : Type 0} → Option (List ℕ) → Option (List ℕ) → ℕ → ℕ → List ℕ → Result T E → Type 0
+Puts old new before now text (Ok _) = (now ≡ before) × Appends old new text
+Puts old new before now text (Err _) = Stops old new before now text
+
+-- what a sink in memory is: the bytes that it took, its room, how many puts came, the number of the put that fails, and its faults
+pub record SinkState : Type 0 where
+  pub bytes : List ℕ
+  pub room : ℕ
+  pub puts : ℕ
+  pub failing : ℕ
+  pub faults : ℕ
+
+-- this put is the one that was told to fail, or its piece passes the room
+abbrev pub FailsPut : SinkState → List ℕ → Type 0
+FailsPut s piece = (one_more s.puts ≡ s.failing) ⊎ (s.room < length s.bytes + length piece)
+
+-- what a put leaves: its bytes are taken, or it fails and takes none
+abbrev pub IsPut : {T E : Type 0} → SinkState → SinkState → List ℕ → Result T E → Type 0
+IsPut old new piece (Ok _) = (new ≡ record old { bytes = old.bytes ++ piece; puts = one_more old.puts }) × (¬ FailsPut old piece)
+IsPut old new piece (Err _) = (new ≡ record old { puts = one_more old.puts; faults = one_more old.faults }) × FailsPut old piece

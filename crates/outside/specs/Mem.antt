@@ -1,5 +1,5 @@
 -- What the shelf and the sink in memory hold.
-use Rattle.std.specs.Prelude.{if◌then◌else◌, ℕ, List, [], ◌∷◌, Option, Some, None, string_bytes}
+use Rattle.std.specs.Prelude.{if◌then◌else◌, ℕ, List, [], ◌∷◌, Some, None, string_bytes}
 use Rattle.std.specs.Str.{bytes_eq}
 use Rattle.outside.specs.Shelf.{Files, Counts}
 use Rattle.outside.specs.declared.mem_shelf.MemFile.{MemFile}

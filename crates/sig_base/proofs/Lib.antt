@@ -1,1 +1,2 @@
 mod Years
+mod Dates

@@ -1,11 +1,11 @@
 -- The years of the days that a window has.
-use Rattle.std.proofs.Common.{◌≡◌, ◌≤◌, ◌<◌, ◌+◌, ◌-◌, ℕ, zero, suc, ℤ, pos, negsuc, ◌+ℤ◌, ◌-ℤ◌, ◌≤ℤ◌, ◌<ℤ◌, refl, arith, w16, to_z, of_z}
+use Rattle.std.proofs.Common.{◌≡◌, ◌≤◌, ◌<◌, ℕ, ℤ, pos, negsuc, ◌≤ℤ◌, refl, arith, w16, to_z, of_z}
 use Rattle.jiff_core.specs.Calendar.{IsCivilDate, days_from_civil, day_count}
 use Rattle.jiff_core.proofs.CalendarLemmas.{day_count-lt_year, day_count-epoch}
 use Rattle.jiff_core.proofs.MarchLemmas.{day_count-early}
 use Rattle.jiff_core.proofs.SignedLemmas.{signed_arith, back_small}
 
-year_0 : day_count (pos 0) 1 1 ≡ 3652425
+pub year_0 : day_count (pos 0) 1 1 ≡ 3652425
 year_0 = day_count-early (pos 0) 9999 1 1 refl (omega arith) (omega arith) (omega arith)
 
 -- a date from 0000-01-01 on has no year before 0

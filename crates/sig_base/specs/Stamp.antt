@@ -1,18 +1,42 @@
 -- How a tenth is printed.
-use Rattle.std.specs.Prelude.{◌≡◌, ◌+◌, ◌*◌, ◌/◌, ◌%◌, ℕ, pos, ◌+ℤ◌, List, [], ◌∷◌}
-use Rattle.jiff_core.specs.Calendar.{IsCivilDate, days_from_civil}
+use Rattle.std.specs.Prelude.{◌≡◌, ◌+◌, ◌-◌, ◌*◌, ◌/◌, ◌%◌, nat_lt, if◌then◌else◌, ℕ, zero, suc, ℤ, pos, ◌+ℤ◌, unsigned_abs, List, [], ◌∷◌}
+use Rattle.jiff_core.specs.Calendar.{IsCivilDate, days_from_civil, days_in_year, days_in_month}
+use Rattle.sig_base.specs.declared.stamp.Civil.{Civil}
 use Rattle.sig_base.specs.Window.{Span}
+
+-- the year of the nth day from 1 January of a year on, and that day's place in its year from 0; so many years are looked at
+unfoldable pub year_from : ℕ → ℕ → ℕ → ℕ × ℕ
+year_from zero year n = (year, n)
+year_from (suc k) year n =
+    if nat_lt n (days_in_year (pos year)) then (year, n) else year_from k (year + 1) (n - days_in_year (pos year))
+
+-- the month of the nth day from the first of a month on, and that day's place in its month from 0
+unfoldable pub month_from : ℕ → ℕ → ℕ → ℕ → ℕ × ℕ
+month_from zero year month n = (month, n)
+month_from (suc k) year month n =
+    if nat_lt n (days_in_month (pos year) month) then (month, n)
+    else month_from k year (month + 1) (n - days_in_month (pos year) month)
+
+abbrev pub with_month : ℕ → ℕ × ℕ → Civil
+with_month year found = record { year = year; month = found.0; day = found.1 + 1 }
+
+abbrev pub with_year : ℕ × ℕ → Civil
+with_year found = with_month found.0 (month_from 12 found.0 1 found.1)
+
+-- the date of a day of the years 0000 to 9999, of which 0000-01-01 is 719528 days before 1970-01-01
+unfoldable pub civil_of : ℤ → Civil
+civil_of day = with_year (year_from 10000 0 (unsigned_abs (day +ℤ pos 719528)))
 
 -- the last decimal digit of a number
 abbrev pub decimal_end : ℕ → ℕ
 decimal_end n = 48 + n % 10
 
 -- the text `YYYY-MM-DDTHH:MM:SS.f` of a date and a tenth of its day
-abbrev pub stamp_text : ℕ → ℕ → ℕ → ℕ → List ℕ
-stamp_text year month day tenth =
-    decimal_end (year / 1000) ∷ decimal_end (year / 100) ∷ decimal_end (year / 10) ∷ decimal_end year ∷ 45
-    ∷ decimal_end (month / 10) ∷ decimal_end month ∷ 45
-    ∷ decimal_end (day / 10) ∷ decimal_end day ∷ 84
+abbrev pub stamp_text : Civil → ℕ → List ℕ
+stamp_text date tenth =
+    decimal_end (date.year / 1000) ∷ decimal_end (date.year / 100) ∷ decimal_end (date.year / 10) ∷ decimal_end date.year ∷ 45
+    ∷ decimal_end (date.month / 10) ∷ decimal_end date.month ∷ 45
+    ∷ decimal_end (date.day / 10) ∷ decimal_end date.day ∷ 84
     ∷ decimal_end (tenth / 360000) ∷ decimal_end (tenth / 36000) ∷ 58
     ∷ decimal_end (tenth / 600 % 60 / 10) ∷ decimal_end (tenth / 600 % 60) ∷ 58
     ∷ decimal_end (tenth / 10 % 60 / 10) ∷ decimal_end (tenth / 10 % 60) ∷ 46
@@ -22,10 +46,18 @@ stamp_text year month day tenth =
 abbrev pub since_first_day : Span → ℕ → ℕ
 since_first_day w at = 36000 * w.hour + at
 
--- the text is the stamp of this tenth of the window: of the date with the day's number, and of the tenth of that day
-abbrev pub IsStamp : Span → ℕ → List ℕ → Type 0
-IsStamp w at text =
-    (year month day : ℕ)
-    × IsCivilDate (pos year) month day
-    × (days_from_civil (pos year) month day ≡ w.day +ℤ pos (since_first_day w at / 864000))
-    × (text ≡ stamp_text year month day (since_first_day w at % 864000))
+-- the day of this tenth of the window
+abbrev pub day_at : Span → ℕ → ℤ
+day_at w at = w.day +ℤ pos (since_first_day w at / 864000)
+
+-- the stamp of this tenth of the window
+abbrev pub stamp_at : Span → ℕ → List ℕ
+stamp_at w at = stamp_text (civil_of (day_at w at)) (since_first_day w at % 864000)
+
+-- the date is in the calendar and has this day number
+abbrev pub IsDateOf : ℤ → Civil → Type 0
+IsDateOf day date = IsCivilDate (pos date.year) date.month date.day × (days_from_civil (pos date.year) date.month date.day ≡ day)
+
+-- the text shows the date that has the tenth's day number, and the tenth of that day
+abbrev pub ShowsTenth : Span → ℕ → List ℕ → Type 0
+ShowsTenth w at text = (date : Civil) × IsDateOf (day_at w at) date × (text ≡ stamp_text date (since_first_day w at % 864000))

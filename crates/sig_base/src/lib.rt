@@ -9,6 +9,7 @@
 mod hour_rows;
 mod memory;
 mod reads;
+mod stamp;
 mod values;
 mod window;
 

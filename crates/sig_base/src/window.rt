@@ -1,11 +1,10 @@
 // The hours that are looked at.
-ghost use Rattle.std.specs.Prelude.{◌≡◌, ◌<◌, ◌≤◌, ◌↔◌, ◌*◌, pos, ◌≤ℤ◌, IsTrue, IsSome, IfSome};
-ghost use Rattle.jiff_core.specs.Calendar.{IsCivilDate, days_from_civil};
+ghost use Rattle.std.specs.Prelude.{◌≡◌, ◌<◌, ◌≤◌, ◌↔◌, ◌*◌, IsTrue, IsSome, IfSome};
 ghost use Rattle.sig_base.specs.Window.{IsDay, IsWindow, Span, tenth_in};
-ghost use Rattle.sig_base.specs.Stamp.{IsStamp, decimal_end, stamp_text};
+ghost use Rattle.sig_base.specs.Stamp.{ShowsTenth, stamp_at};
 
+use crate::stamp::{date_at, stamp_of};
 use crate::{Hour, Tenth};
-use jiff_core::civil::Date;
 use std::marker::Model;
 
 const FIRST_DAY: i64 = -719_528;
@@ -35,53 +34,6 @@ fn is_day(day: i64) -> bool
     ensures { IsTrue result ↔ IsDay day }
 {
     FIRST_DAY <= day && day <= LAST_DAY
-}
-
-// The year, month and day of a day of the years 0000 to 9999.
-fn date_at(day: i64) -> (u32, u32, u32)
-    requires { IsDay day }
-    ensures civil { IsCivilDate (pos result.0) result.1 result.2 }
-    ensures day { days_from_civil (pos result.0) result.1 result.2 ≡ day }
-{
-    let Ok(date) = Date::from_unix_epoch_day(day) else {
-        unreachable!()
-    };
-    (date.year as u32, date.month as u32, date.day as u32)
-}
-
-fn last_digit(number: u32) -> u8
-    ensures { result ≡ decimal_end number }
-{
-    b'0' + (number % 10) as u8
-}
-
-fn stamp_of(year: u32, month: u32, day: u32, tenth: u32) -> [u8; 21]
-    ensures { result ≡ stamp_text year month day tenth }
-{
-    let (minute, second) = (tenth / 600 % 60, tenth / 10 % 60);
-    [
-        last_digit(year / 1000),
-        last_digit(year / 100),
-        last_digit(year / 10),
-        last_digit(year),
-        b'-',
-        last_digit(month / 10),
-        last_digit(month),
-        b'-',
-        last_digit(day / 10),
-        last_digit(day),
-        b'T',
-        last_digit(tenth / 360_000),
-        last_digit(tenth / 36_000),
-        b':',
-        last_digit(minute / 10),
-        last_digit(minute),
-        b':',
-        last_digit(second / 10),
-        last_digit(second),
-        b'.',
-        last_digit(tenth),
-    ]
 }
 
 impl Window {
@@ -128,10 +80,11 @@ impl Window {
     /// The stamp `YYYY-MM-DDTHH:MM:SS.f` of this tenth of the window.
     pub fn stamp(&self, at: u32) -> [u8; 21]
         requires { at < 36000 * self.now.hours }
-        ensures { IsStamp self.now at result }
+        ensures value { result ≡ stamp_at self.now at }
+        ensures shows { ShowsTenth self.now at result }
     {
         let since = 36_000 * self.hour as u32 + at;
-        let (year, month, day) = date_at(self.day + (since / 864_000) as i64);
-        stamp_of(year, month, day, since % 864_000)
+        let date = date_at(self.day + (since / 864_000) as i64);
+        stamp_of(date, since % 864_000)
     }
 }

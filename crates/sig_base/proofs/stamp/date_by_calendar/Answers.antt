@@ -1,7 +1,7 @@
-use Rattle.std.proofs.Common.{arith, Fits, w32, ap, ◌∙◌, sym, ℕ, ℤ, pos, to_z-of_z, FitsSigned, w64, ◌≡◌}
+use Rattle.std.proofs.Common.{arith, to_z-of_z, FitsSigned, w64, ◌≡◌}
 use Rattle.jiff_core.specs.Calendar.{days_from_civil}
 use Rattle.sig_base.proofs.Years.{year-cast}
-use Rattle.sig_base.proofs.window.date_at.Goals as goal
+use Rattle.sig_base.proofs.stamp.date_by_calendar.Goals as goal
 
 pub overflow_cast-result : goal.overflow_cast-result
 overflow_cast-result c =

@@ -51,7 +51,7 @@ abbrev pub day_at : Span → ℕ → ℤ
 day_at w at = w.day +ℤ pos (since_first_day w at / 864000)
 
 -- the stamp of this tenth of the window
-abbrev pub stamp_at : Span → ℕ → List ℕ
+unfoldable pub stamp_at : Span → ℕ → List ℕ
 stamp_at w at = stamp_text (civil_of (day_at w at)) (since_first_day w at % 864000)
 
 -- the date is in the calendar and has this day number

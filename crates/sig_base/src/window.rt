@@ -78,6 +78,7 @@ impl Window {
     }
 
     /// The stamp `YYYY-MM-DDTHH:MM:SS.f` of this tenth of the window.
+    #[tactic(auto, unfolding(crate::specs::Stamp::stamp_at))]
     pub fn stamp(&self, at: u32) -> [u8; 21]
         requires { at < 36000 * self.now.hours }
         ensures value { result ≡ stamp_at self.now at }

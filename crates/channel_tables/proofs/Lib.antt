@@ -1,0 +1,4 @@
+pub mod Distinct
+pub mod Machines
+pub mod Places
+pub mod Rows

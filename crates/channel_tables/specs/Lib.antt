@@ -1,0 +1,14 @@
+pub mod Table
+pub mod PhaseTable
+pub mod PedTable
+pub mod OverlapTable
+pub mod SwitchTables
+pub mod PreemptTable
+pub mod CoordinationTable
+pub mod Tables
+pub mod Letters
+pub mod Laws
+pub mod TableLaws
+pub mod Spec
+pub mod Any
+pub mod AnyLaws

@@ -1,0 +1,31 @@
+-- The table of a preempt's service.
+use Rattle.std.specs.Prelude.{ℕ, List, [], ◌∷◌, codes}
+use Rattle.channel_tables.specs.Table.{Table, line}
+
+abbrev pub rest : ℕ
+rest = 0
+
+abbrev pub entry : ℕ
+entry = 1
+
+abbrev pub track : ℕ
+track = 2
+
+abbrev pub dwell : ℕ
+dwell = 3
+
+abbrev pub any_preempt_colour : List ℕ
+any_preempt_colour = rest ∷ entry ∷ track ∷ dwell ∷ []
+
+-- 105 preempt entry started, 106 begin track clearance, 107 begin dwell service, 111 begin exit interval: these are the letters 0 to 3
+abbrev pub preempt_table : Table
+preempt_table = record {
+  names = codes "Rest" ∷ codes "Entry" ∷ codes "Track" ∷ codes "Dwell" ∷ [];
+  signs = 105 ∷ 106 ∷ 107 ∷ 111 ∷ [];
+  lines =
+      line 105 any_preempt_colour entry
+      ∷ line 106 (entry ∷ track ∷ []) track
+      ∷ line 107 (entry ∷ track ∷ dwell ∷ []) dwell
+      ∷ line 111 any_preempt_colour rest
+      ∷ [];
+}

@@ -1,0 +1,22 @@
+-- The text of a count.
+use Rattle.std.specs.Prelude.{◌==◌, ◌++◌, ◌+◌, if◌then◌else◌, ℕ, zero, suc, List, [], ◌∷◌, length, codes, decimal}
+use Rattle.sig_base.specs.declared.values.Row.{Row}
+use Rattle.event_codes.specs.Names.{code_name}
+use Rattle.row_reader.specs.Count.{count_of}
+use Rattle.report_text.specs.Line.{line_of}
+
+-- the line of a code, if there are rows of it
+abbrev pub code_line : List Row → ℕ → List ℕ
+code_line rows code =
+    if count_of rows code == 0 then []
+    else line_of (codes "code " ∷ decimal code ∷ codes " " ∷ code_name code ∷ codes " " ∷ decimal (count_of rows code) ∷ [])
+
+-- the lines of so many codes from this one on
+unfoldable pub code_lines : List Row → ℕ → ℕ → List ℕ
+code_lines rows zero code = []
+code_lines rows (suc n) code = code_line rows code ++ code_lines rows n (code + 1)
+
+-- how many rows and repeats there are, and how many rows of each code
+abbrev pub count_text : List Row → ℕ → List ℕ
+count_text rows repeats =
+    line_of (codes "rows " ∷ decimal (length rows) ∷ codes " repeats " ∷ decimal repeats ∷ []) ++ code_lines rows 256 0

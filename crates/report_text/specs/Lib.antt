@@ -1,0 +1,4 @@
+pub mod Line
+pub mod Counts
+pub mod Refusals
+pub mod Applied

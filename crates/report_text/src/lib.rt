@@ -1,0 +1,11 @@
+//! The lines that sigaudit prints. Each call appends exactly its text to a sink, or a front of it
+//! where the sink fails; none takes memory. The texts are those of `docs/FORMATS.md`.
+#![tactic(auto)]
+
+mod applied;
+mod counts;
+mod refusal;
+
+pub use applied::put_applied;
+pub use counts::put_counts;
+pub use refusal::{Refusal, put_refusal};

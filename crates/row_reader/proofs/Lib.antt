@@ -1,0 +1,9 @@
+pub mod CsvRestFacts
+pub mod Room
+pub mod StampFacts
+pub mod DayFacts
+pub mod TrimFacts
+pub mod OrderFacts
+pub mod RepeatFacts
+pub mod ReadFacts
+pub mod FormFacts

@@ -1,0 +1,22 @@
+-- The last row of each group, as it is looked up while repeats are dropped.
+use Rattle.std.specs.Prelude.{◌≡◌, ◌==◌, ◌&&◌, Bool, false, List, Option, Some, None, if◌then◌else◌}
+use Rattle.sig_base.specs.declared.values.Row.{Row}
+use Rattle.event_codes.specs.declared.channels.Group.{Group}
+use Rattle.row_reader.specs.Repeats.{same_group, group_of_row, last_where}
+
+-- there is such a row, and it is this one
+abbrev pub is_row : Row → Option Row → Bool
+is_row row None = false
+is_row row (Some r) = (r.at == row.at) && ((r.code == row.code) && (r.param == row.param))
+
+-- the last of these rows of a group
+abbrev pub last_of : Group → List Row → Option Row
+last_of group rows = last_where (λ r. same_group group (group_of_row r)) rows
+
+-- the look-ups give the last of these rows of each group
+abbrev pub GivesLast : (Group → Option Row) → List Row → Type 0
+GivesLast look_up rows = (g : Group) → look_up g ≡ last_of g rows
+
+-- the look-ups differ in this row alone, which is the last one of its group
+abbrev pub IsWithLast : Row → (Group → Option Row) → (Group → Option Row) → Type 0
+IsWithLast row old new = (g : Group) → new g ≡ (if same_group (group_of_row row) g then Some row else old g)

@@ -1,0 +1,11 @@
+pub mod CsvRest
+pub mod Number
+pub mod Stamp
+pub mod Forms
+pub mod Trim
+pub mod Order
+pub mod Repeats
+pub mod Last
+pub mod Rows
+pub mod Request
+pub mod Count

@@ -1,0 +1,25 @@
+//! Reads a log file: the rows of one signal and one hour, in row order and without those that were
+//! logged twice, or the first record that can't be such a row.
+//!
+//! A file is what `csv` gives for its bytes: records of four fields, signal, stamp, code and
+//! parameter, of which the first may be a header.
+#![tactic(auto)]
+
+mod count;
+mod number;
+mod order;
+mod reader;
+mod repeats;
+mod row;
+mod row_error;
+mod stamp;
+#[cfg(test)]
+mod tests;
+mod trim;
+
+pub use count::count_code;
+pub use order::put_in_order;
+pub use reader::read_rows;
+pub use repeats::drop_repeats;
+pub use row_error::RowError;
+pub use stamp::{read_hour_stamp, read_stamp};

@@ -1,0 +1,97 @@
+// Reads a log file, record by record.
+ghost use Rattle.std.specs.Prelude.{◌≡◌, ◌+◌, ◌*◌, ◌<◌, ◌≤◌, Ok, IfOk, IfErr, length};
+ghost use Rattle.sig_base.specs.HourRows.{AreRowsOf};
+ghost use Rattle.row_reader.specs.Order.{AreWithin};
+ghost use Rattle.row_reader.specs.Rows.{good_rows, rows_of, shown_of, IsRefusal};
+ghost use Rattle.row_reader.specs.Request.{wanted};
+
+use crate::RowError;
+use crate::order::put_in_order;
+use crate::repeats::drop_repeats;
+use crate::row::{Request, is_header, record_row};
+use csv::{ByteRecord, ReaderBuilder};
+use sig_base::{Hour, HourRows, NoMemory, Row, Window};
+use std::alloc::Global;
+
+// The rows of a file as it has them.
+fn good_rows(alloc: Global, bytes: &[u8], request: &Request<'_>) -> Result<Vec<Row>, RowError>
+    requires { request.now.hour < 744 }
+    ensures ok { IfOk result (λ v. good_rows (wanted request.now) bytes.now ≡ Ok v.items) }
+    ensures within { IfOk result (λ v. AreWithin (36000 * request.now.hour) (36000 * request.now.hour + 36000) v.items) }
+    ensures few { IfOk result (λ v. length v.items ≤ 400000) }
+    ensures err { IfErr result (IsRefusal (good_rows (wanted request.now) bytes.now)) }
+{
+    let mut reader = ReaderBuilder::new()
+        .has_headers(false)
+        .flexible(true)
+        .from_reader(alloc, bytes);
+    let mut fields = ByteRecord::new(alloc);
+    let mut rows = Vec::new(alloc);
+    let mut headers = 0;
+    for number in 1..400_003 {
+        match reader.read_byte_record(&mut fields) {
+            Ok(true) => {}
+            Ok(false) => return Ok(rows),
+            Err(_) => return Err(RowError::Memory),
+        }
+        if is_header(number, &fields) {
+            headers = 1;
+            continue;
+        }
+        let row = match record_row(request, headers, number, &fields) {
+            Ok(row) => row,
+            Err(error) => return Err(error),
+        };
+        if rows.push(row).is_err() {
+            return Err(RowError::Memory);
+        }
+    }
+    unreachable!()
+}
+
+// The rows of an hour in row order, without the repeats and with their count.
+fn hour_rows<L>(alloc: Global, hour: Hour, mut rows: Vec<Row>) -> Result<HourRows<L>, NoMemory>
+    requires hour { hour < 744 }
+    requires within { AreWithin (36000 * hour) (36000 * hour + 36000) rows.items }
+    requires few { length rows.items ≤ 400000 }
+    ensures { IfOk result (λ h. h ≡ shown_of hour rows.items) }
+{
+    put_in_order(hour, &mut rows)?;
+    let kept = drop_repeats(alloc, hour, &rows)?;
+    let repeats = (rows.len() - kept.len()) as u32;
+    match HourRows::new(hour, kept, repeats) {
+        Some(rows) => Ok(rows),
+        None => unreachable!(),
+    }
+}
+
+/// The rows of a file that are of this signal and this hour, in row order and without repeats, or
+/// the first bad record with the first test that it fails.
+///
+/// `hour` is one of the window's, and so at most 743. An error of the `csv` reader itself is
+/// `Memory`: it refuses no record.
+pub fn read_rows<L>(
+    alloc: Global,
+    bytes: &[u8],
+    signal: &str,
+    hour: Hour,
+    window: &Window,
+) -> Result<HourRows<L>, RowError>
+    requires { hour < 744 }
+    ensures ok { IfOk result (λ h. rows_of (record { signal = signal.now; hour = hour; window = window.now }) bytes.now ≡ Ok h) }
+    ensures err { IfErr result (IsRefusal (rows_of (record { signal = signal.now; hour = hour; window = window.now }) bytes.now)) }
+{
+    let request = Request {
+        signal,
+        hour,
+        window,
+    };
+    let rows = match good_rows(alloc, bytes, &request) {
+        Ok(rows) => rows,
+        Err(refusal) => return Err(refusal),
+    };
+    match hour_rows(alloc, hour, rows) {
+        Ok(rows) => Ok(rows),
+        Err(_) => Err(RowError::Memory),
+    }
+}

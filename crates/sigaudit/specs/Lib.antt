@@ -1,0 +1,5 @@
+pub mod Asked
+pub mod Request
+pub mod Status
+pub mod Transcript
+pub mod Run

@@ -1,20 +1,36 @@
 // The text of a count.
-ghost use Rattle.std.specs.Prelude.{◌≡◌, ◌<◌, ◌≤◌, ◌∷◌, [], length, codes, decimal};
+ghost use Rattle.std.specs.Prelude.{◌≡◌, ◌<◌, ◌≤◌, ◌+◌, ◌∷◌, [], length, slice_index, slice_set, codes, decimal};
 ghost use Rattle.outside.specs.Sink.{Puts};
 ghost use Rattle.report_text.specs.Line.{line_of};
-ghost use Rattle.report_text.specs.Counts.{code_line, count_text};
+ghost use Rattle.report_text.specs.Counts.{IsTally, code_count_line, count_text};
 
 use event_codes::name_of;
 use itoa::Buffer;
 use outside::{PutFailed, Sink, put_parts};
-use row_reader::count_code;
 use sig_base::Row;
 
-fn put_code<K: Sink>(rows: &[Row], code: u8, sink: &mut K) -> Result<(), PutFailed>
+// Counts the rows of each code in one pass.
+fn tally(rows: &[Row]) -> [u32; 256]
     requires { length rows.now ≤ 400000 }
-    ensures { Puts (K.written sink.old) (K.written sink.new) (K.faults sink.old) (K.faults sink.new) (code_line rows.now code) result }
+    ensures { IsTally result rows.now }
 {
-    let count = count_code(rows, code);
+    let mut counts = [0; 256];
+    for row in rows {
+        count_one(&mut counts, row.code);
+    }
+    counts
+}
+
+fn count_one(counts: &mut [u32; 256], code: u8)
+    requires { slice_index counts.old code < 400000 }
+    ensures { counts.new ≡ slice_set counts.old code (slice_index counts.old code + 1) }
+{
+    counts[code as usize] += 1;
+}
+
+fn put_code<K: Sink>(code: u8, count: u32, sink: &mut K) -> Result<(), PutFailed>
+    ensures { Puts (K.written sink.old) (K.written sink.new) (K.faults sink.old) (K.faults sink.new) (code_count_line code count) result }
+{
     if count == 0 {
         return Ok(());
     }
@@ -61,8 +77,9 @@ pub fn put_counts<K: Sink>(rows: &[Row], repeats: u32, sink: &mut K) -> Result<(
         Ok(()) => {}
         Err(failed) => return Err(failed),
     }
+    let counts = tally(rows);
     for code in 0..256u32 {
-        match put_code(rows, code as u8, sink) {
+        match put_code(code as u8, counts[code as usize], sink) {
             Ok(()) => {}
             Err(failed) => return Err(failed),
         }

@@ -1,8 +1,8 @@
-use Rattle.std.proofs.Common.{◌≡◌, ◌<◌, ◌≤◌, ◌+◌, ◌-◌, ◌++◌, ◌∷◌, [], ℕ, List, suc, zero, refl, arith, codes, decimal, length}
+use Rattle.std.proofs.Common.{◌≡◌, ◌<◌, ◌≤◌, ◌+◌, ◌-◌, ◌++◌, ◌∷◌, [], ℕ, List, suc, zero, refl, ap, arith, codes, decimal, length}
 use Rattle.sig_base.specs.declared.values.Row.{Row}
 use Rattle.outside.proofs.PutsFacts.{Going, going-on, going-stops, going-end, stops-front}
 use Rattle.report_text.specs.Line.{line_of}
-use Rattle.report_text.specs.Counts.{code_line, code_lines, count_text}
+use Rattle.report_text.specs.Counts.{code_count_line, code_line, code_lines, count_text}
 use Rattle.report_text.proofs.counts.put_counts.Goals as goal
 
 lines-step : (rows : List Row) (c : ℕ) → c < 256 → code_lines rows (256 - c) c ≡ code_line rows c ++ code_lines rows (256 - (c + 1)) (c + 1)
@@ -20,12 +20,16 @@ returns-in-Err g c =
 pub returns-in-Err-put_code : goal.returns-in-Err-put_code
 returns-in-Err-put_code g c =
     let h = rw (lines-step c.args.rows.now c.loop-code.code c.loop-code-test.true) at c.loop-code.invariant in
-    going-stops _ _ _ _ _ _ (count_text c.args.rows.now c.args.repeats) (code_line c.args.rows.now c.loop-code.code) _ h c.in-Err-put_code.ensures
+    let line = ap (code_count_line c.loop-code.code) (c.tally-counts.ensures c.loop-code.code c.loop-code-test.true) in
+    let put = rw line at c.in-Err-put_code.ensures in
+    going-stops _ _ _ _ _ _ (count_text c.args.rows.now c.args.repeats) (code_line c.args.rows.now c.loop-code.code) _ h put
 
 pub loop-code-preserved : goal.loop-code-preserved
 loop-code-preserved g c =
     let h = rw (lines-step c.args.rows.now c.loop-code.code c.loop-code-test.true) at c.loop-code.invariant in
-    going-on _ _ _ _ _ _ (count_text c.args.rows.now c.args.repeats) (code_line c.args.rows.now c.loop-code.code) _ h c.in-Ok-put_code.ensures.0 c.in-Ok-put_code.ensures.1
+    let line = ap (code_count_line c.loop-code.code) (c.tally-counts.ensures c.loop-code.code c.loop-code-test.true) in
+    let put = rw line at c.in-Ok-put_code.ensures in
+    going-on _ _ _ _ _ _ (count_text c.args.rows.now c.args.repeats) (code_line c.args.rows.now c.loop-code.code) _ h put.0 put.1
 
 pub returns : goal.returns
 returns g c =

@@ -7,3 +7,4 @@ pub mod OrderFacts
 pub mod RepeatFacts
 pub mod ReadFacts
 pub mod FormFacts
+pub mod GroupFacts

@@ -114,14 +114,3 @@ is_refusal want (OutsideHour n) h = h
 is_refusal want (Code n) h = h
 is_refusal want (Param n) h = h
 is_refusal want Memory h = tt
-
--- a refusal of the rows is one of the file
-pub refusal_on : (hour : ℕ) (want : Result (List Row) RowError) (e : RowError) → IsRefusal want e → IsRefusal (on_rows hour want) e
-refusal_on hour want TooManyRows h = ap (on_rows hour) h
-refusal_on hour want (Fields n) h = ap (on_rows hour) h
-refusal_on hour want (WrongSignal n) h = ap (on_rows hour) h
-refusal_on hour want (Stamp n) h = ap (on_rows hour) h
-refusal_on hour want (OutsideHour n) h = ap (on_rows hour) h
-refusal_on hour want (Code n) h = ap (on_rows hour) h
-refusal_on hour want (Param n) h = ap (on_rows hour) h
-refusal_on hour want Memory h = tt

@@ -16,7 +16,7 @@ use Rattle.row_reader.specs.Last.{is_row, last_of, GivesLast, IsWithLast}
 
 -- ---- groups
 
-same_group-laws : IsEquivalence same_group
+pub same_group-laws : IsEquivalence same_group
 unfolding same_group
 same_group-laws = laws-law
 

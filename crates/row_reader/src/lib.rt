@@ -18,6 +18,7 @@ mod tests;
 mod trim;
 
 pub use count::count_code;
+pub use number::read_number;
 pub use order::put_in_order;
 pub use reader::read_rows;
 pub use repeats::drop_repeats;

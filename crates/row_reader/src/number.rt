@@ -35,8 +35,8 @@ fn number_from(text: &[u8]) -> u32
     n
 }
 
-// The number of `least` to `most` digits, where it is no more than the limit.
-pub(crate) fn number(text: &[u8], least: usize, most: usize, limit: u32) -> Option<u32>
+/// The number of `least` to `most` digits, where it is no more than the limit.
+pub fn read_number(text: &[u8], least: usize, most: usize, limit: u32) -> Option<u32>
     requires { most ≤ 9 }
     ensures value { result ≡ number_of least most limit text.now }
     ensures within { IfSome result (λ n. n ≤ limit) }

@@ -86,12 +86,6 @@ pub fn read_rows<L>(
         hour,
         window,
     };
-    let rows = match good_rows(alloc, bytes, &request) {
-        Ok(rows) => rows,
-        Err(refusal) => return Err(refusal),
-    };
-    match hour_rows(alloc, hour, rows) {
-        Ok(rows) => Ok(rows),
-        Err(_) => Err(RowError::Memory),
-    }
+    let rows = good_rows(alloc, bytes, &request)?;
+    Ok(hour_rows(alloc, hour, rows)?)
 }

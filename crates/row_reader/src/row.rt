@@ -4,7 +4,7 @@ ghost use Rattle.csv.specs.Records.{fields_of};
 ghost use Rattle.row_reader.specs.Rows.{at_in_hour, field, is_header, is_word, record_row, row_of};
 
 use crate::RowError;
-use crate::number::number;
+use crate::number::read_number;
 use crate::stamp::read_stamp;
 use crate::trim::trimmed;
 use csv::ByteRecord;
@@ -74,10 +74,10 @@ fn row_of(
     let Some(at) = at_in_hour(request.hour, tenth) else {
         return Err(RowError::OutsideHour(n));
     };
-    let Some(code) = number(code, 1, 9, 255) else {
+    let Some(code) = read_number(code, 1, 9, 255) else {
         return Err(RowError::Code(n));
     };
-    let Some(param) = number(param, 1, 9, 65_535) else {
+    let Some(param) = read_number(param, 1, 9, 65_535) else {
         return Err(RowError::Param(n));
     };
     Ok(Row {

@@ -6,7 +6,7 @@ ghost use Rattle.row_reader.specs.Forms.{IsHourStamp, NamesTenth};
 ghost use Rattle.row_reader.specs.Number.{number_of};
 ghost use Rattle.row_reader.specs.Stamp.{civil_day, cut, dashed_date, dashed_month, date_of, day_of, first_digit, hour_stamp_of, minutes_of, seconds_of, slashed_date, slashed_day, stamp_in, stamp_of, tenth_of_day, tenths, time_of};
 
-use crate::number::{digit, number};
+use crate::number::{digit, read_number};
 use jiff::civil::Date;
 use sig_base::{Tenth, Window};
 
@@ -62,9 +62,9 @@ fn dashed_month(year: &[u8], rest: &[u8]) -> Option<i64>
 {
     let (month, day) = cut(rest, b'-')?;
     day_of(
-        number(year, 4, 4, 9999),
-        number(month, 2, 2, 99),
-        number(day, 2, 2, 99),
+        read_number(year, 4, 4, 9999),
+        read_number(month, 2, 2, 99),
+        read_number(day, 2, 2, 99),
     )
 }
 
@@ -84,9 +84,9 @@ fn slashed_day(month: &[u8], rest: &[u8]) -> Option<i64>
 {
     let (day, year) = cut(rest, b'/')?;
     day_of(
-        number(year, 4, 4, 9999),
-        number(month, 1, 2, 99),
-        number(day, 1, 2, 99),
+        read_number(year, 4, 4, 9999),
+        read_number(month, 1, 2, 99),
+        read_number(day, 1, 2, 99),
     )
 }
 
@@ -103,10 +103,7 @@ fn date_of(text: &[u8]) -> Option<i64>
     ensures value { result ≡ date_of text.now }
     ensures bound { IfSome result IsDay }
 {
-    match dashed_date(text) {
-        Some(day) => Some(day),
-        None => slashed_date(text),
-    }
+    dashed_date(text).or_else(|| slashed_date(text))
 }
 
 // The first of one to nine digits.
@@ -114,7 +111,7 @@ fn first_digit(text: &[u8]) -> Option<u32>
     ensures value { result ≡ first_digit text.now }
     ensures bound { IfSome result (λ n. n ≤ 9) }
 {
-    match number(text, 1, 9, 999_999_999) {
+    match read_number(text, 1, 9, 999_999_999) {
         Some(_) => Some(digit(text[0])),
         None => None,
     }
@@ -138,8 +135,8 @@ fn seconds_of(text: &[u8]) -> Option<u32>
     ensures bound { IfSome result (λ n. n < 600) }
 {
     match cut(text, b'.') {
-        Some((second, fraction)) => tenths(number(second, 2, 2, 59), first_digit(fraction)),
-        None => tenths(number(text, 2, 2, 59), Some(0)),
+        Some((second, fraction)) => tenths(read_number(second, 2, 2, 59), first_digit(fraction)),
+        None => tenths(read_number(text, 2, 2, 59), Some(0)),
     }
 }
 
@@ -163,8 +160,8 @@ fn minutes_of(hour: &[u8], rest: &[u8]) -> Option<u32>
 {
     let (minute, second) = cut(rest, b':')?;
     tenth_of_day(
-        number(hour, 1, 2, 23),
-        number(minute, 2, 2, 59),
+        read_number(hour, 1, 2, 23),
+        read_number(minute, 2, 2, 59),
         seconds_of(second),
     )
 }
@@ -182,10 +179,7 @@ fn time_of(text: &[u8]) -> Option<u32>
 fn halves(text: &[u8]) -> Option<(&[u8], &[u8])>
     ensures { option_map (λ p. (p.0.now, p.1.now)) result ≡ option_or (cut 32 text.now) (cut 84 text.now) }
 {
-    match cut(text, b' ') {
-        Some(halves) => Some(halves),
-        None => cut(text, b'T'),
-    }
+    cut(text, b' ').or_else(|| cut(text, b'T'))
 }
 
 // The day of a stamp, counted from 1970-01-01, and the tenth of that day.
@@ -224,7 +218,7 @@ pub fn read_hour_stamp(text: &[u8]) -> Option<(i64, u8)>
     ensures forms { (day : ℤ) → (hour : ℕ) → (result ≡ Some (day, hour)) ↔ IsHourStamp text.now day hour }
 {
     let (date, hour) = cut(text, b'T')?;
-    match (dashed_date(date), number(hour, 2, 2, 23)) {
+    match (dashed_date(date), read_number(hour, 2, 2, 23)) {
         (Some(day), Some(hour)) => Some((day, hour as u8)),
         _ => None,
     }

@@ -1,0 +1,9 @@
+//! An hour cut into the stretches of tenths that are known and those that are not. A tenth is
+//! known where its hour is held and it isn't blanked.
+#![tactic(auto)]
+
+mod stretch;
+#[cfg(test)]
+mod tests;
+
+pub use stretch::{Stretch, stretches};

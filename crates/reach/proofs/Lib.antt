@@ -1,0 +1,7 @@
+pub mod States
+pub mod Changing
+pub mod Lowering
+pub mod Arriving
+pub mod Later
+pub mod Entering
+pub mod Seeing

@@ -1,0 +1,24 @@
+//! What one machine may have done where the log has a hole: the states that are possible after a
+//! row and after a gap, those from which what comes later can still be met, and whether a test
+//! holds in all, none or some of the states that are both.
+//!
+//! A state is a colour and the tenth at which it was entered; its age at a tenth is that tenth
+//! minus the entry. Tenths count from the window's start, and lie within -2^39 and 2^39.
+#![tactic(auto)]
+
+mod ahead;
+mod before_gap;
+mod before_row;
+mod gap;
+mod past;
+mod row;
+mod seen;
+mod sets;
+
+pub use ahead::Ahead;
+pub use before_gap::ahead_gap;
+pub use before_row::ahead_row;
+pub use gap::past_gap;
+pub use past::Past;
+pub use row::past_row;
+pub use seen::{AgeBound, Seen, Test, possible};

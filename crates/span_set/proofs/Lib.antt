@@ -1,0 +1,4 @@
+pub mod Sets
+pub mod Adding
+pub mod Cutting
+pub mod Clamping

@@ -1,5 +1,5 @@
 -- A gap in one step: earliest arrivals.
-use Rattle.std.proofs.Common.{◌≡◌, refl, sym, ◌∙◌, subst, ◌⊎◌, inl, inr, ◌↔◌, ℕ, zero, suc, ◌+◌, ◌<◌, ◌≤◌, ℤ, pos, negsuc, ◌+ℤ◌, ◌-ℤ◌, ◌<ℤ◌, ◌≤ℤ◌, List, [], ◌∷◌, ◌++◌, length, get_or, replicate, arith}
+use Rattle.std.proofs.Common.{◌≡◌, refl, sym, ◌∙◌, subst, ◌⊎◌, inl, inr, ◌↔◌, ℕ, zero, suc, ◌+◌, ◌<◌, ◌≤◌, ℤ, pos, negsuc, ◌+ℤ◌, ◌-ℤ◌, ◌<ℤ◌, ◌≤ℤ◌, List, [], ◌∷◌, ◌++◌, length, get_or, arith}
 use Rattle.std.proofs.lemmas.Int.{ints}
 use Rattle.span_set.proofs.Sets.{int_cases}
 use Rattle.span_set.specs.declared.set.Span.{Span}
@@ -10,7 +10,7 @@ use Rattle.reach.specs.Past.{Holds, AfterGap}
 use Rattle.reach.specs.Sets.{at, AreAdded}
 use Rattle.reach.specs.Arrivals.{StandsIn, ArrivesFrom, AreArrivals, IsArrival, IsFirst, IsLeave, IsLowered, ByColours}
 use Rattle.reach.proofs.States.{in_sets}
-use Rattle.std.proofs.lemmas.List.{get_or_default, get_or_past, get_or-replicate}
+use Rattle.std.proofs.lemmas.List.{get_or_default, get_or_past}
 use Rattle.std.proofs.lemmas.Bool.{cases_lt}
 use Rattle.reach.proofs.States.{fills_none}
 
@@ -215,9 +215,6 @@ module _ (f : ℤ) where
 
   pub total_falls : (a b : List ℤ) → length b ≡ length a → ((d : ℕ) → d < length a → (f ≤ℤ at b d) × (at b d ≤ℤ at a d)) → (b ≡ a → ⊥) → total f b < total f a
   total_falls a b l h ne = elim (cases_lt (total f b) (total f a)) [ inl x ↦ x | inr x ↦ absurd (ne (total_same a b l h x)) ]
-
-pub none_yet : (m : Rules) (sets : List (List Span)) (f t : ℤ) → f <ℤ t → AreArrivals m sets f t (replicate 16 t)
-none_yet m sets f t ft = (refl, λ d h. let e : at (replicate 16 t) d ≡ t = get_or-replicate 16 d t (pos 0) h in (omega (arith, ints), omega (arith, ints), λ _. e), λ d h lt. let e : at (replicate 16 t) d ≡ t = get_or-replicate 16 d t (pos 0) h in absurd (omega (arith, ints)))
 
 none_out : (m : Rules) (sets : List (List Span)) (f t : ℤ) (a : List ℤ) → AreArrivals m sets f t a → (d : ℕ) → m.colours ≤ d → get_or a d t ≡ t
 none_out m sets f t a arr d ge = elim (cases_lt d 16) [

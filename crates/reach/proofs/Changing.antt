@@ -7,7 +7,6 @@ use Rattle.std.proofs.lemmas.List.{take_at}
 use Rattle.std.proofs.lemmas.Grind.{common_steps}
 use Rattle.span_set.specs.declared.set.Span.{Span}
 use Rattle.span_set.specs.Spans.{Member, Above, AreRanges}
-use Rattle.span_set.proofs.Sets.{int_cases}
 use Rattle.reach.specs.Sets.{at, set_of, IsFree, AreFree, AreAdded, AreTakenBack, AreStarts, IsRebuilt}
 use Rattle.reach.proofs.States.{lists_same}
 
@@ -61,9 +60,6 @@ free_from (s ∷ ss) start x d p n h e =
     let g : get_or (s ∷ ss) ((suc (length ss)) - 1) d ≡ last_range s ss = rw k (last_get s ss d) in
     free_last start x s ss p h (e ∙ ap (λ (v : Span). int_max start v.to) g)
 
-pub free_empty : (start : ℤ) → IsFree [] start start
-free_empty start = record { ordered = tt; late = omega (arith, ints); after = λ e m. absurd m; taken = λ e a b. absurd (omega (arith, ints)) }
-
 pub taken_more : (old now : List (List Span)) (firsts : List ℤ) (k : ℕ) (new : List Span) → k < length now → AreTakenBack old firsts now k → ((ss : List Span) → AreRanges ss → ((e : ℤ) → Member ss e ↔ (Member (set_of now k) e × (e <ℤ at firsts k))) → new ≡ ss) → AreTakenBack old firsts (set now k new) (k + 1)
 taken_more old now firsts k new h (len, below, above) cut = (
   put_length now k new ∙ len,
@@ -94,18 +90,6 @@ undone old now new starts firsts t k free added above taken = lists_same new old
       | inl b ↦ taken.1 c b (set_of old c) f.ordered (λ e. (λ m. ((added.1 c b e).1 (inl m), f.after e m), λ (m, l). elim ((added.1 c b e).0 m) [ inl x ↦ x | inr y ↦ absurd (let z = y.0 in omega (arith, ints)) ]))
       | inr b ↦ taken.2 c b ∙ above c b
     ])
-
--- the first free tenths in place of the starts
-pub added_starts : (old new : List (List Span)) (starts firsts : List ℤ) (t : ℤ) (n : ℕ) → AreFree old starts firsts n → AreAdded old firsts t new n → AreAdded old starts t new n
-added_starts old new starts firsts t n free (len, r) = (
-  len,
-  λ c lt e.
-      let f = free.1 c lt in
-      let i = r c lt e in (
-        λ m. elim (i.0 m) [ inl x ↦ inl x | inr y ↦ inr (let k = f.late in let z = y.0 in omega (arith, ints), y.1) ],
-        λ h. elim h [ inl x ↦ i.1 (inl x) | inr y ↦ elim (int_cases e (at firsts c)) [ inl b ↦ i.1 (inl (f.taken e y.0 b.1)) | inr b ↦ i.1 (inr (b.1, y.1)) ] ],
-      ),
-)
 
 -- sets to which a tenth is added, and which are then settled, are rebuilt
 pub rebuilt_is : (old mid new : List (List Span)) (keep enter : ℕ) (t : ℤ) (starts : List ℤ) → length old ≤ 16 → AreStarts enter t starts 16 → AreAdded old starts (t +ℤ pos 1) mid (length old) → IsRebuilt mid keep enter t new (length mid) → IsRebuilt old keep enter t new (length old)

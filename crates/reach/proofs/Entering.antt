@@ -72,10 +72,6 @@ entry_more P new k x h below here c lt = elim (cases_eq c k) [
   | inr ne ↦ let s : entry_of (set new k x) c ≡ entry_of new c = get_or-set_other new k c x None ne in rw s (below c (omega arith))
 ]
 
-not_later_before : (best : Option ℤ) (e x : ℤ) → e ≤ℤ x → NotLater best x → NotLater best e
-not_later_before None e x h n = n
-not_later_before (Some y) e x h n = omega (arith, ints)
-
 -- where a colour's entry at e stands when the range begins, or at its own tenth, the rest is completed
 abbrev pub IsSound : Rules → List (Option ℤ) → ℤ → ℤ → List (Option ℤ) → Type 0
 IsSound m latest f t a = (c : ℕ) (e x : ℤ) → NotLater (entry_of a c) e → f ≤ℤ x → e ≤ℤ x → x <ℤ t → ((x ≡ f) ⊎ (x ≡ e)) → Completes m latest x t (state c e)

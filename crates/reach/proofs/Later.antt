@@ -30,10 +30,6 @@ row_other m old t l c d e n ne = (
   λ (u, (g, k), a). let same : u.colour ≡ d = some_same u.colour d (sym g.2 ∙ n.2) in elim k [ inl kept ↦ absurd (ne (sym same ∙ ap (λ (v : State). v.colour) kept)) | inr new ↦ (subst (λ (x : ℤ). NotLater (entry_of old d) x) new.1 (subst (λ (x : ℕ). NotLater (entry_of old x) u.entry) same a), new.2) ],
 )
 
--- one that isn't legal in it
-pub row_never : (m : Rules) (old : List (Option ℤ)) (t : ℤ) (l c : ℕ) (e : ℤ) → m.next c l ≡ None → BeforeRow m old t l (state c e) → ⊥
-row_never m old t l c e n (u, (g, k), a) = let h : Some u.colour ≡ None = sym g.2 ∙ n in cc
-
 -- a state in the tables of latest entries: one more colour is right, and none comes after it
 pub set_more : (P : State → Type 0) (new : List (Option ℤ)) (k : ℕ) (one : Option ℤ) → k < length new → ((s : State) → s.colour < k → Admits new s ↔ P s) → ((e : ℤ) → NotLater one e ↔ P (state k e)) → (s : State) → s.colour < k + 1 → Admits (set new k one) s ↔ P s
 set_more P new k one h below here s lt = elim (cases_eq s.colour k) [
@@ -53,13 +49,6 @@ length_set new k one h = grind (arith, common_steps)
 
 pub none_left : (latest : List (Option ℤ)) (s : State) → entry_of latest s.colour ≡ None → Admits latest s → ⊥
 none_left latest s e a = subst (λ (o : Option ℤ). NotLater o s.entry) e a
-
--- all colours are done: the others are neither admitted nor led on from
-pub row_all : (m : Rules) (old new : List (Option ℤ)) (t : ℤ) (l k : ℕ) → m.colours ≤ k → ((s : State) → s.colour < k → Admits new s ↔ ((s.entry ≤ℤ t) × BeforeRow m old t l s)) → ((c : ℕ) → k ≤ c → entry_of new c ≡ None) → (s : State) → Admits new s ↔ ((s.entry ≤ℤ t) × BeforeRow m old t l s)
-row_all m old new t l k all below none s = elim (cases_lt s.colour k) [
-  | inl lt ↦ below s lt
-  | inr ge ↦ (λ a. absurd (none_left new s (none s.colour ge) a), λ (le, (u, (g, st), a)). absurd (let b = g.0 in omega arith))
-]
 
 -- the first n of a table
 pub take_admits : (n : ℕ) (latest : List (Option ℤ)) (s : State) → ((c : ℕ) → n ≤ c → entry_of latest c ≡ None) → Admits (take n latest) s ↔ Admits latest s
@@ -126,13 +115,6 @@ lower_table limit n old new w (few, none) = (
   ],
 )
 
-pub lower_clause : (limit : ℤ) (n : ℕ) (old new now : List (Option ℤ)) → IsLower limit old new 16 → length old ≡ 16 → IsTable n old → take n old ≡ now → (s : State) → Admits (take n new) s ↔ (Admits now s × (s.entry ≤ℤ limit))
-lower_clause limit n old new now w size table view s =
-    let a = take_admits n new s (lower_table limit n old new w table).1 in
-    let b = take_admits n old s table.1 in
-    let c = lower_admits limit old new w size s in
-    rw (← view) (λ x. let y = c.0 (a.0 x) in (b.1 y.0, y.1), λ (x, le). a.1 (c.1 (b.0 x, le)))
-
 -- what a gap leaves, seen through the first colours of the tables
 pub gap_clause : (m : Rules) (n : ℕ) (latest entries new now : List (Option ℤ)) (f t limit : ℤ) → (limit +ℤ pos 1) ≡ f → IsTable n latest → n ≡ m.colours → length entries ≡ 16 → ((c : ℕ) → m.colours ≤ c → entry_of entries c ≡ None) → IsLower limit entries new 16 → take n latest ≡ now → AreLatest m latest f t entries → (s : State) → Admits (take n new) s ↔ ((s.entry <ℤ f) × BeforeGap m now f t s)
 gap_clause m n latest entries new now f t limit lim old size len none w view h s =
@@ -170,12 +152,3 @@ same_admits a b = (
   λ e. (ap length e, λ s. rw e (λ x. x, λ x. x)),
   λ (l, h). entries_same a b l (λ c lt. entry_same (entry_of a c) (entry_of b c) (λ e. h (state c e))),
 )
-
--- the first n colours with one latest entry, and no others
-pub end_admits : (n : ℕ) (x : ℤ) (latest : List (Option ℤ)) → ((c : ℕ) → c < n → entry_of latest c ≡ Some x) → ((c : ℕ) → n ≤ c → entry_of latest c ≡ None) → (s : State) → Admits (take n latest) s ↔ ((s.colour < n) × (s.entry ≤ℤ x))
-end_admits n x latest some none s =
-    let a = take_admits n latest s none in
-    elim (cases_lt s.colour n) [
-      | inl lt ↦ (λ y. (lt, subst (λ (o : Option ℤ). NotLater o s.entry) (some s.colour lt) (a.0 y)), λ (b, le). a.1 (subst (λ (o : Option ℤ). NotLater o s.entry) (sym (some s.colour lt)) le))
-      | inr ge ↦ (λ y. absurd (none_left latest s (none s.colour ge) (a.0 y)), λ (b, le). absurd (omega arith))
-    ]

@@ -1,5 +1,5 @@
 -- Tables of tenths that are lowered place by place.
-use Rattle.std.proofs.Common.{◌≡◌, sym, ◌∙◌, subst, ◌⊎◌, inl, inr, ◌↔◌, ℕ, ◌+◌, ◌<◌, ℤ, pos, ◌+ℤ◌, ◌≤ℤ◌, List, length, set, get_or-set_same, get_or-set_other, arith}
+use Rattle.std.proofs.Common.{◌≡◌, sym, ◌∙◌, subst, ◌⊎◌, inl, inr, ◌↔◌, ℕ, ◌+◌, ◌<◌, ℤ, pos, List, length, set, get_or-set_same, get_or-set_other, arith}
 use Rattle.std.proofs.lemmas.Int.{ints}
 use Rattle.std.proofs.lemmas.Bool.{cases_eq}
 use Rattle.std.proofs.lemmas.Grind.{common_steps}
@@ -36,6 +36,3 @@ place_more P new k x h below here c lt = elim (cases_eq c k) [
 
 pub length_same : (new : List ℤ) (k : ℕ) (x : ℤ) → length new ≡ 16 → length (set new k x) ≡ 16
 length_same new k x h = grind (arith, common_steps)
-
-pub leave_is_one : (dep arrival x : ℤ) (floor : ℕ) (y : ℤ) → y ≡ (arrival +ℤ pos floor) → ((x ≤ℤ dep) × (x ≤ℤ y)) → ((x ≡ dep) ⊎ (x ≡ y)) → (x ≤ℤ dep) × (x ≤ℤ (arrival +ℤ pos floor)) × ((x ≡ dep) ⊎ (x ≡ (arrival +ℤ pos floor)))
-leave_is_one dep arrival x floor y e (a, b) k = (a, omega (arith, ints), elim k [ inl p ↦ inl p | inr p ↦ inr (p ∙ e) ])

@@ -1,15 +1,15 @@
 -- States of one machine, forward.
-use Rattle.std.proofs.Common.{suc, ◌≡◌, ◌≢◌, refl, ap, ◌∙◌, subst, ◌⊎◌, inl, inr, ◌↔◌, ℕ, ◌+◌, ◌<◌, ℤ, pos, ◌+ℤ◌, ◌<ℤ◌, List, [], ◌∷◌, length, get_or, arith}
+use Rattle.std.proofs.Common.{suc, ◌≡◌, ◌≢◌, refl, ap, ◌∙◌, subst, ◌⊎◌, inl, inr, ◌↔◌, ℕ, ◌<◌, ℤ, pos, ◌+ℤ◌, ◌<ℤ◌, List, [], ◌∷◌, length, get_or, arith}
 use Rattle.std.proofs.lemmas.Int.{ints}
-use Rattle.std.proofs.lemmas.Bool.{cases_eq, cases_lt}
+use Rattle.std.proofs.lemmas.Bool.{cases_lt}
 use Rattle.std.proofs.lemmas.List.{get_or_past, get_or_default}
 use Rattle.span_set.specs.Spans.{Member}
 use Rattle.span_set.specs.declared.set.Span.{Span}
 use Rattle.colour_machine.specs.Mask.{Has}
-use Rattle.colour_machine.specs.Rules.{Rules, IsMachine, Goes, Path, IsThrough}
-use Rattle.colour_machine.proofs.Ways.{through_one, through_more, goes_stays}
-use Rattle.reach.specs.Runs.{State, state, OldEnough, Step, Steps, Run, Fills}
-use Rattle.reach.specs.Past.{Holds, AfterRow, AfterTenth, AfterGap}
+use Rattle.colour_machine.specs.Rules.{Rules, IsMachine, Goes}
+use Rattle.colour_machine.proofs.Ways.{goes_stays}
+use Rattle.reach.specs.Runs.{State, state, Steps, Run, Fills}
+use Rattle.reach.specs.Past.{Holds, AfterRow}
 use Rattle.reach.specs.Leaving.{HasOld, CanLeave}
 use Rattle.reach.specs.Sets.{IsRebuilt}
 
@@ -35,65 +35,6 @@ fills_step m f t s u h = (
   λ (v, a, g). (a.0 ∷ g.0, (let e = g.1 in omega (arith, ints)), (v, a.1, g.2)),
 )
 
-pub gap_none : (m : Rules) (sets : List (List Span)) (t : ℤ) (u : State) → AfterGap m sets t t u ↔ Holds sets u
-gap_none m sets t u = (λ (s, h, f). rw ((fills_none m t s u).0 f) h, λ h. (u, h, (fills_none m t u u).1 refl))
-
--- what a tenth leaves, and then the rest
-pub gap_more : (m : Rules) (sets new : List (List Span)) (f t : ℤ) → f <ℤ t → ((v : State) → Holds new v ↔ AfterTenth m sets f v) → (u : State) → AfterGap m new (f +ℤ pos 1) t u ↔ AfterGap m sets f t u
-gap_more m sets new f t h n u = (
-  λ (v, hv, g). let a = (n v).0 hv in (a.0, a.1, (fills_step m f t a.0 u h).1 (v, a.2, g)),
-  λ (s, hs, g). let a = (fills_step m f t s u h).0 g in (a.0, (n a.0).1 (s, hs, a.1), a.2),
-)
-
--- a path over colours without a floor is a list of letters at one tenth
-module _ (m : Rules) (t : ℤ) (still : ℕ) (no_floor : (c : ℕ) → Has still c ↔ ((c < m.colours) × (m.floor c ≡ 0))) where
-  pub path_steps : (xs : List ℕ) (s : State) (d : ℕ) → OldEnough m t s → Path m still s.colour xs d → (ls : List ℕ) × Steps m t s ls (state d t)
-  path_steps [] s d old (l, g, ne) = (l ∷ [], (state d t, (g, inr (ne, refl, old)), refl))
-  path_steps (x ∷ xs) s d old ((l, g, ne), v, p) =
-      let zero : m.floor x ≡ 0 = ((no_floor x).0 v).1 in
-      let next = path_steps xs (state x t) d (omega (arith, ints)) p in
-      (l ∷ next.0, (state x t, (g, inr (ne, refl, old)), next.1))
-
--- which colours may be entered at a tenth, from masks
-module _ (m : Rules) (sets : List (List Span)) (t : ℤ) (leave still entered : ℕ)
-    (can : (c : ℕ) → Has leave c ↔ CanLeave m sets t c)
-    (no_floor : (c : ℕ) → Has still c ↔ ((c < m.colours) × (m.floor c ≡ 0)))
-    (reached : (d : ℕ) → Has entered d ↔ IsThrough m leave still d)
-    (colours : (d : ℕ) → Has entered d → d < m.colours) where
-  enters : (d : ℕ) → Has entered d → AfterTenth m sets t (state d t)
-  enters d h =
-      let w = (reached d).0 h in
-      let c = (can w.0).0 w.1 in
-      let e = path_steps m t still no_floor w.2.0 c.0 d c.3 (rw c.1 w.2.1) in
-      (c.0, c.2, e)
-
-  After : State → Type 0
-  After u = Holds sets u ⊎ ((u.entry ≡ t) × Has entered u.colour)
-
-  step_after : (s v : State) (l : ℕ) → After s → Step m t s l v → After v
-  unfolding After
-  step_after s v l h (g, k) = elim k [
-    | inl same ↦ rw same h
-    | inr new ↦ inr (
-      new.1,
-      elim h [
-        | inl held ↦ (reached v.colour).1 (through_one m leave still s.colour v.colour ((can s.colour).1 (s, refl, held, new.2)) (l, g, new.0))
-        | inr here ↦ (reached v.colour).1 (through_more m leave still s.colour v.colour ((reached s.colour).0 here.1) ((no_floor s.colour).1 (colours s.colour here.1, (let o = new.2 in let e = here.0 in omega (arith, ints)))) (l, g, new.0))
-      ],
-    )
-  ]
-
-  steps_after : (ls : List ℕ) (s u : State) → After s → Steps m t s ls u → After u
-  steps_after [] s u h e = rw e h
-  steps_after (l ∷ ls) s u h (v, a, r) = steps_after ls v u (step_after s v l h a) r
-
-  pub tenth_is : (u : State) → AfterTenth m sets t u ↔ (Holds sets u ⊎ ((u.entry ≡ t) × Has entered u.colour))
-  unfolding After
-  tenth_is u = (
-    λ (s, h, (ls, r)). steps_after ls s u (inl h) r,
-    λ h. elim h [ inl held ↦ (u, held, ([], refl)) | inr here ↦ rw (state_same u (state u.colour t) refl here.0) (enters u.colour here.1) ],
-  )
-
 -- a state that the sets hold has one of their colours
 pub in_sets : (sets : List (List Span)) (c : ℕ) (e : ℤ) → Member (get_or sets c []) e → c < length sets
 in_sets sets c e h = elim (cases_lt c (length sets)) [ inl x ↦ x | inr x ↦ let past : get_or sets c [] ≡ [] = get_or_past sets c [] x in absurd (subst (λ (l : List Span). Member l e) past h) ]
@@ -103,16 +44,6 @@ leave_is m sets t n c a b = (
   λ (l, (e, h, o)). (state c e, refl, h, o),
   λ (s, e, h, o). (let l = in_sets sets s.colour s.entry h in omega arith, rw (← e) (s.entry, h, o)),
 )
-
-pub some_state : (sets : List (List Span)) (n : ℕ) → length sets ≡ n → ((c : ℕ) × (c < n) × ((e : ℤ) × Member (get_or sets c []) e)) ↔ ((s : State) × Holds sets s)
-some_state sets n l = (λ (c, lt, (e, h)). (state c e, h), λ (s, h). (s.colour, (let i = in_sets sets s.colour s.entry h in omega arith), (s.entry, h)))
-
--- a turn of the loop over the tenths, and its end
-pub gap_turn : (m : Rules) (sets now new : List (List Span)) (f t a : ℤ) → a <ℤ t → ((u : State) → AfterGap m now a t u ↔ AfterGap m sets f t u) → ((v : State) → Holds new v ↔ AfterTenth m now a v) → (u : State) → AfterGap m new (a +ℤ pos 1) t u ↔ AfterGap m sets f t u
-gap_turn m sets now new f t a lt i n u = let k = gap_more m now new a t lt n u in (λ h. (i u).0 (k.0 h), λ h. k.1 ((i u).1 h))
-
-pub gap_end : (m : Rules) (sets new : List (List Span)) (f t a : ℤ) → a ≡ t → ((u : State) → AfterGap m new a t u ↔ AfterGap m sets f t u) → (u : State) → Holds new u ↔ AfterGap m sets f t u
-gap_end m sets new f t a e i u = let k = gap_none m new t u in let j = rw e at (i u) in (λ h. j.0 (k.1 h), λ h. k.0 (j.1 h))
 
 pub held_at : (sets : List (List Span)) (i : ℕ) (set : List Span) (e : ℤ) → i < length sets → set ≡ get_or sets i set → Member set e → (s : State) × Holds sets s
 held_at sets i set e lt is h = (state i e, let same : set ≡ get_or sets i [] = is ∙ get_or_default sets i set [] lt in subst (λ (l : List Span). Member l e) same h)
@@ -134,12 +65,6 @@ row_is m sets t l keep leave entered can kept ent u = (
     | inl (k, held) ↦ (u, held, ((kept u.colour).0 k, inl refl))
     | inr (n, e) ↦ let x = (ent u.colour).0 n in let c = (can x.0).0 x.1 in (c.0, c.2, (rw c.1 x.2, inr (rw c.1 x.3, e, c.3)))
   ],
-)
-
-pub entered_more : (m : Rules) (l k leave before after d : ℕ) → (Has before d ↔ ((c : ℕ) × (c < k) × Has leave c × Goes m c l d × (d ≢ c))) → (Has after d ↔ (Has before d ⊎ (Has leave k × Goes m k l d × (d ≢ k)))) → Has after d ↔ ((c : ℕ) × (c < k + 1) × Has leave c × Goes m c l d × (d ≢ c))
-entered_more m l k leave before after d a b = (
-  λ h. elim (b.0 h) [ inl x ↦ let (c, lt, v, g, ne) = a.0 x in (c, omega arith, v, g, ne) | inr (v, g, ne) ↦ (k, omega arith, v, g, ne) ],
-  λ (c, lt, v, g, ne). elim (cases_eq c k) [ inl e ↦ b.1 (inr (rw (← e) v, rw (← e) g, rw (← e) ne)) | inr other ↦ b.1 (inl (a.1 (c, omega arith, v, g, ne))) ],
 )
 
 -- the rebuilt sets hold the states after the row

@@ -1,7 +1,7 @@
 -- Which states can still be completed, as a latest entry for each colour.
 use Rattle.std.specs.Prelude.{ℕ, ℤ, ◌≤ℤ◌, List, Option, Some, None, slice_index_or}
 use Rattle.colour_machine.specs.Rules.{Rules}
-use Rattle.reach.specs.Runs.{State, Step, Steps, Fills}
+use Rattle.reach.specs.Runs.{State, Step, Fills}
 
 -- an entry is not later than a latest one, where there is one
 abbrev pub NotLater : Option ℤ → ℤ → Type 0
@@ -15,10 +15,6 @@ Admits latest s = NotLater (slice_index_or latest s.colour None) s.entry
 -- the letter at the tenth leads from the state to one that is admitted
 abbrev pub BeforeRow : Rules → List (Option ℤ) → ℤ → ℕ → State → Type 0
 BeforeRow m latest t l s = (u : State) × Step m t s l u × Admits latest u
-
--- some legal list at the tenth leads from the state to one that is admitted
-abbrev pub BeforeTenth : Rules → List (Option ℤ) → ℤ → State → Type 0
-BeforeTenth m latest t s = (u : State) × ((ls : List ℕ) × Steps m t s ls u) × Admits latest u
 
 -- some legal lists for the tenths from f up to t lead from the state to one that is admitted
 abbrev pub BeforeGap : Rules → List (Option ℤ) → ℤ → ℤ → State → Type 0

@@ -6,3 +6,4 @@ pub mod Leaving
 pub mod Sets
 pub mod Arrivals
 pub mod Latest
+pub mod Table

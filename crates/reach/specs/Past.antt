@@ -3,7 +3,7 @@ use Rattle.std.specs.Prelude.{◌≡◌, ◌⊎◌, ℕ, ℤ, ◌≤ℤ◌, ◌<
 use Rattle.span_set.specs.declared.set.Span.{Span}
 use Rattle.span_set.specs.Spans.{Member}
 use Rattle.colour_machine.specs.Rules.{Rules}
-use Rattle.reach.specs.Runs.{State, Step, Steps, Fills}
+use Rattle.reach.specs.Runs.{State, Step, Fills}
 
 -- the state's entry is in the set of its colour
 abbrev pub Holds : List (List Span) → State → Type 0
@@ -16,10 +16,6 @@ NoneLater sets t = (s : State) → Holds sets s → s.entry ≤ℤ t
 -- the letter at the tenth leads to the state from one that is held
 abbrev pub AfterRow : Rules → List (List Span) → ℤ → ℕ → State → Type 0
 AfterRow m sets t l u = (s : State) × Holds sets s × Step m t s l u
-
--- some legal list at the tenth leads to the state from one that is held
-abbrev pub AfterTenth : Rules → List (List Span) → ℤ → State → Type 0
-AfterTenth m sets t u = (s : State) × Holds sets s × ((ls : List ℕ) × Steps m t s ls u)
 
 -- some legal lists for the tenths from f up to t lead to the state from one that is held
 abbrev pub AfterGap : Rules → List (List Span) → ℤ → ℤ → State → Type 0

@@ -9,11 +9,17 @@
 mod ahead;
 mod before_gap;
 mod before_row;
+#[cfg(test)]
+mod by_tenths;
 mod gap;
 mod past;
 mod row;
 mod seen;
 mod sets;
+#[cfg(test)]
+mod table;
+#[cfg(test)]
+mod tests;
 
 pub use ahead::Ahead;
 pub use before_gap::ahead_gap;

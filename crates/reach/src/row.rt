@@ -83,7 +83,7 @@ fn has_old(set: &SpanSet, floor: u32, at: Tenth) -> bool
 }
 
 // The colours that may be left at the tenth.
-fn leaving<M: Machine>(machine: &M, sets: &[SpanSet], at: Tenth) -> Mask
+pub fn leaving<M: Machine>(machine: &M, sets: &[SpanSet], at: Tenth) -> Mask
     requires low { negsuc (2 ^ 39) ≤ℤ at }
     requires high { at ≤ℤ pos (2 ^ 39) }
     requires colours { length sets.now ≡ (M.rules machine.now).colours }

@@ -2,3 +2,4 @@ pub mod Line
 pub mod Counts
 pub mod Refusals
 pub mod Applied
+pub mod Measures

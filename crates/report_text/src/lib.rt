@@ -4,8 +4,10 @@
 
 mod applied;
 mod counts;
+mod measures;
 mod refusal;
 
 pub use applied::put_applied;
 pub use counts::put_counts;
+pub use measures::put_measures;
 pub use refusal::{Refusal, put_refusal};

@@ -1,5 +1,5 @@
 -- What a run writes and how it ends, of the words and the files alone.
-use Rattle.std.specs.Prelude.{◌≡◌, ◌*◌, ◌^◌, nat_le, if◌then◌else◌, ℕ, List, [], length, codes, Option, Some, None, Result, Ok, Err}
+use Rattle.std.specs.Prelude.{◌≡◌, ◌*◌, ◌^◌, nat_le, if◌then◌else◌, ℕ, List, [], length, codes, Option, Some, None, Result, Ok, Err, Bool, true, false}
 use Rattle.outside.specs.Shelf.{Files}
 use Rattle.sig_base.specs.HourRows.{Shown}
 use Rattle.sig_base.specs.Window.{Span}
@@ -8,7 +8,14 @@ use Rattle.row_reader.specs.Rows.{Wanted, rows_of}
 use Rattle.report_text.specs.declared.refusal.Refusal.TheVariants.{File}
 use Rattle.report_text.specs.Counts.{count_text}
 use Rattle.report_text.specs.Refusals.{refusal_text}
+use Rattle.ring_config.specs.Reading.{Read}
+use Rattle.ring_config.specs.Settings.{Settings, config_of}
+use Rattle.hour_store.specs.Store.{nothing_held}
+use Rattle.command_line.specs.Words.{Asked, for_run, for_count}
+use Rattle.script_lines.specs.Lines.{lines_of}
 use Rattle.sigaudit.specs.Asked.{Count, asked_of}
+use Rattle.sigaudit.specs.ConfigText.{config_text}
+use Rattle.sigaudit.specs.Script.{Told, told_of}
 use Rattle.sigaudit.specs.declared.status.Ended.{Ended}
 use Rattle.sigaudit.specs.declared.status.Ended.TheVariants as ended
 
@@ -42,10 +49,39 @@ counted a None = outcome [] ended.NoFile
 counted a (Some bytes) =
     if nat_le (length bytes) (32 * 2 ^ 20) then count_outcome a (rows_of (wanted_by a) bytes) else outcome [] ended.NoFile
 
+-- the bytes of a file that is there and within a limit
+abbrev pub limited : ℕ → Option (List ℕ) → Option (List ℕ)
+limited most None = None
+limited most (Some bytes) = if nat_le (length bytes) most then Some bytes else None
+
+-- of a script's lines
+abbrev pub ended_by : Bool → Ended
+ended_by true = ended.SomeRefused
+ended_by false = ended.Done
+
+abbrev pub told_outcome : Told → Outcome
+told_outcome told = outcome told.text (ended_by told.refused)
+
+-- of a script, over a store that holds and blanks nothing; a script has a limit of 4 MiB
+abbrev pub script_outcome : Files → Settings → Option (List ℕ) → Outcome
+script_outcome files c None = outcome [] ended.NoFile
+script_outcome files c (Some script) = told_outcome (told_of files c 1 (lines_of script) (nothing_held c.window.hours))
+
+-- of what the configuration says
+abbrev pub config_outcome : Files → List ℕ → Read Settings → Outcome
+config_outcome files script (Err e) = outcome (config_text e) ended.BadConfig
+config_outcome files script (Ok c) = script_outcome files c (limited (4 * 2 ^ 20) (files script))
+
+-- of the configuration's file, which has a limit of 1 MiB
+abbrev pub file_outcome : Files → List ℕ → Option (List ℕ) → Outcome
+file_outcome files script None = outcome [] ended.NoFile
+file_outcome files script (Some bytes) = config_outcome files script (config_of bytes)
+
 -- of what the words ask for
-abbrev pub answer_of : Option Count → Files → Outcome
+unfoldable pub answer_of : Option Asked → Files → Outcome
 answer_of None files = outcome usage_text ended.Usage
-answer_of (Some a) files = counted a (files a.file)
+answer_of (Some (for_run config script)) files = file_outcome files script (limited (2 ^ 20) (files config))
+answer_of (Some (for_count file signal day hour)) files = counted (record { file = file; signal = signal; day = day; hour = hour }) (files file)
 
 abbrev pub transcript : List (List ℕ) → Files → Outcome
 transcript words files = answer_of (asked_of words) files

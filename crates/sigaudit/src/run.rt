@@ -1,24 +1,71 @@
 // The whole run.
-ghost use Rattle.std.specs.Prelude.{◌≡◌, ◌⊎◌, IfSome};
-ghost use Rattle.sig_base.specs.Reads.{raised};
+ghost use Rattle.std.specs.Prelude.{◌≡◌, ◌≤◌, ◌<◌, Some, [], length, IfSome};
+ghost use Rattle.outside.specs.Shelf.{Files};
+ghost use Rattle.sig_base.specs.Window.{IsDay};
+ghost use Rattle.session.specs.Sessions.{Grow};
+ghost use Rattle.script_lines.specs.Lines.{lines_of};
+ghost use Rattle.hour_store.specs.Store.{nothing_held};
+ghost use Rattle.ring_config.specs.Settings.{config_of};
+ghost use Rattle.command_line.specs.Words.{HasDay, seen};
 ghost use Rattle.sigaudit.specs.Asked.{asked_of};
+ghost use Rattle.sigaudit.specs.ConfigText.{config_text, is_config_memory};
+ghost use Rattle.sigaudit.specs.Script.{told_of};
 ghost use Rattle.sigaudit.specs.Status.{status_of_run};
-ghost use Rattle.sigaudit.specs.Transcript.{outcome, transcript, usage_text, HaveOneTranscript, HaveTranscript};
-ghost use Rattle.sigaudit.specs.Run.{world, IsRun, RunsAs, HasCause, NeedsWords, NeverFall, PutsOutcome};
+ghost use Rattle.sigaudit.specs.Transcript.{answer_of, ended_by, config_outcome, file_outcome, limited, outcome, script_outcome, told_outcome, transcript, usage_text, HaveOneTranscript, HaveTranscript};
+ghost use Rattle.sigaudit.specs.Run.{world, CountsText, FetchesText, FewBytes, IsRun, RunsAs, HasCause, NeedsWords, NeverFall, PutsOutcome, ScriptCause};
 
-use crate::count::count_file;
+use crate::config_text::put_config_error;
+use crate::count::{Counted, count_file};
+use crate::script::run_script;
 use crate::status::{Ended, Status, Stopped, status_of};
-use crate::words::{Words, read_words};
-use outside::{Shelf, Sink};
+use crate::words::Words;
+use command_line::{Refused, Request, parse_words};
+use outside::{FetchError, Shelf, Sink};
+use ring_config::{Config, ConfigError, read_config};
+use session::Session;
 use sig_base::Reads;
 use std::alloc::Global;
 
 const USAGE: &[u8] =
     b"usage: sigaudit --config C --script S | --count F --signal ID --hour H | --demo N\n";
 
+// The most bytes of a configuration, and of a script.
+const CONFIG_LIMIT: u64 = 1_048_576;
+
+const SCRIPT_LIMIT: u64 = 4_194_304;
+
+// What came of a fetch of a text.
+#[derive(Clone, Copy)]
+enum Got {
+    Have,
+    Nothing,
+    Stop(Stopped),
+}
+
+fn fetch_text<S: Shelf>(
+    alloc: Global,
+    name: &str,
+    limit: u64,
+    shelf: &mut S,
+    bytes: &mut Vec<u8>,
+) -> Got
+    requires { bytes.old.items ≡ [] }
+    ensures told { (files : Files) → S.files shelf.old ≡ Some files → FetchesText (limited limit (files name.now)) bytes.new.items result }
+    ensures counts { CountsText (S.counts shelf.old) (S.counts shelf.new) result }
+    ensures few { FewBytes limit bytes.new.items result }
+    ensures files { S.files shelf.new ≡ S.files shelf.old }
+{
+    match shelf.fetch(alloc, name, limit, bytes) {
+        Ok(()) => Got::Have,
+        Err(FetchError::Missing) => Got::Nothing,
+        Err(FetchError::TooLong) => Got::Nothing,
+        Err(FetchError::Failed) => Got::Stop(Stopped::Fault),
+        Err(FetchError::Memory) => Got::Stop(Stopped::Memory),
+    }
+}
+
 fn show_usage<K: Sink>(sink: &mut K) -> Result<Ended, Stopped>
-    ensures put { PutsOutcome (outcome usage_text Ended.Usage) (K.written sink.old) (K.written sink.new) (K.faults sink.old) (K.faults sink.new) result }
-    ensures memory { (result ≡ Err Stopped.Memory) → ⊥ }
+    ensures { PutsOutcome (outcome usage_text Ended.Usage) (K.written sink.old) (K.written sink.new) (K.faults sink.old) (K.faults sink.new) result }
 {
     match sink.put(USAGE) {
         Ok(()) => Ok(Ended::Usage),
@@ -26,7 +73,165 @@ fn show_usage<K: Sink>(sink: &mut K) -> Result<Ended, Stopped>
     }
 }
 
+fn show_config_error<K: Sink>(error: ConfigError, sink: &mut K) -> Result<Ended, Stopped>
+    ensures { PutsOutcome (outcome (config_text error) Ended.BadConfig) (K.written sink.old) (K.written sink.new) (K.faults sink.old) (K.faults sink.new) result }
+{
+    match put_config_error(error, sink) {
+        Ok(()) => Ok(Ended::BadConfig),
+        Err(_) => Err(Stopped::Fault),
+    }
+}
+
+// Carries out the lines of a script.
+#[tactic(auto, using(crate::proofs::GrowFacts::grow_same))]
+fn run_lines<L, S: Shelf, K: Sink>(
+    alloc: Global,
+    config: Config,
+    script: &[u8],
+    shelf: &mut S,
+    sink: &mut K,
+    reads: &mut Reads<L>,
+) -> Result<Ended, Stopped>
+    requires { length script.now ≤ 4194304 }
+    ensures told { (files : Files) → S.files shelf.old ≡ Some files → RunsAs (told_outcome (told_of files config 1 (lines_of script.now) (nothing_held config.window.hours))) (world (S.counts shelf.old) (K.written sink.old) (K.faults sink.old)) (world (S.counts shelf.new) (K.written sink.new) (K.faults sink.new)) (status_of_run result) }
+    ensures cause { ScriptCause (world (S.counts shelf.old) (K.written sink.old) (K.faults sink.old)) (world (S.counts shelf.new) (K.written sink.new) (K.faults sink.new)) (status_of_run result) }
+    ensures never_fall { NeverFall (world (S.counts shelf.old) (K.written sink.old) (K.faults sink.old)) (world (S.counts shelf.new) (K.written sink.new) (K.faults sink.new)) }
+    ensures grow { Grow reads.old reads.new }
+{
+    let mut session = match Session::new(alloc, config) {
+        Ok(session) => session,
+        Err(_) => return Err(Stopped::Memory),
+    };
+    match run_script(alloc, script, &mut session, shelf, sink, reads) {
+        Ok(refused) => Ok(ended_by(refused)),
+        Err(stopped) => Err(stopped),
+    }
+}
+
+fn ended_by(refused: bool) -> Ended
+    ensures { result ≡ ended_by refused }
+{
+    if refused {
+        Ended::SomeRefused
+    } else {
+        Ended::Done
+    }
+}
+
+// Carries out the script of this name.
+#[tactic(auto, using(crate::proofs::GrowFacts::grow_same))]
+fn run_script_file<L, S: Shelf, K: Sink>(
+    alloc: Global,
+    config: Config,
+    name: &str,
+    shelf: &mut S,
+    sink: &mut K,
+    reads: &mut Reads<L>,
+) -> Result<Ended, Stopped>
+    ensures told { (files : Files) → S.files shelf.old ≡ Some files → RunsAs (script_outcome files config (limited 4194304 (files name.now))) (world (S.counts shelf.old) (K.written sink.old) (K.faults sink.old)) (world (S.counts shelf.new) (K.written sink.new) (K.faults sink.new)) (status_of_run result) }
+    ensures cause { ScriptCause (world (S.counts shelf.old) (K.written sink.old) (K.faults sink.old)) (world (S.counts shelf.new) (K.written sink.new) (K.faults sink.new)) (status_of_run result) }
+    ensures never_fall { NeverFall (world (S.counts shelf.old) (K.written sink.old) (K.faults sink.old)) (world (S.counts shelf.new) (K.written sink.new) (K.faults sink.new)) }
+    ensures grow { Grow reads.old reads.new }
+{
+    let mut script = Vec::new(alloc);
+    match fetch_text(alloc, name, SCRIPT_LIMIT, shelf, &mut script) {
+        Got::Have => run_lines(alloc, config, &script, shelf, sink, reads),
+        Got::Nothing => Ok(Ended::NoFile),
+        Got::Stop(stopped) => Err(stopped),
+    }
+}
+
+fn is_memory(error: ConfigError) -> bool
+    ensures { result ≡ is_config_memory error }
+{
+    matches!(error, ConfigError::Memory)
+}
+
+// Carries out a script under what the bytes of a configuration say.
+#[tactic(auto, using(crate::proofs::GrowFacts::grow_same))]
+fn run_config<L, S: Shelf, K: Sink>(
+    alloc: Global,
+    bytes: &[u8],
+    script: &str,
+    shelf: &mut S,
+    sink: &mut K,
+    reads: &mut Reads<L>,
+) -> Result<Ended, Stopped>
+    ensures told { (files : Files) → S.files shelf.old ≡ Some files → RunsAs (config_outcome files script.now (config_of bytes.now)) (world (S.counts shelf.old) (K.written sink.old) (K.faults sink.old)) (world (S.counts shelf.new) (K.written sink.new) (K.faults sink.new)) (status_of_run result) }
+    ensures cause { ScriptCause (world (S.counts shelf.old) (K.written sink.old) (K.faults sink.old)) (world (S.counts shelf.new) (K.written sink.new) (K.faults sink.new)) (status_of_run result) }
+    ensures never_fall { NeverFall (world (S.counts shelf.old) (K.written sink.old) (K.faults sink.old)) (world (S.counts shelf.new) (K.written sink.new) (K.faults sink.new)) }
+    ensures grow { Grow reads.old reads.new }
+{
+    match read_config(alloc, bytes) {
+        Ok(config) => run_script_file(alloc, config, script, shelf, sink, reads),
+        Err(error) => {
+            if is_memory(error) {
+                return Err(Stopped::Memory);
+            }
+            show_config_error(error, sink)
+        }
+    }
+}
+
+// Carries out a script over a configuration, both by their names.
+#[tactic(auto, using(crate::proofs::GrowFacts::grow_same))]
+fn run_files<L, S: Shelf, K: Sink>(
+    alloc: Global,
+    config: &str,
+    script: &str,
+    shelf: &mut S,
+    sink: &mut K,
+    reads: &mut Reads<L>,
+) -> Result<Ended, Stopped>
+    ensures told { (files : Files) → S.files shelf.old ≡ Some files → RunsAs (file_outcome files script.now (limited 1048576 (files config.now))) (world (S.counts shelf.old) (K.written sink.old) (K.faults sink.old)) (world (S.counts shelf.new) (K.written sink.new) (K.faults sink.new)) (status_of_run result) }
+    ensures cause { ScriptCause (world (S.counts shelf.old) (K.written sink.old) (K.faults sink.old)) (world (S.counts shelf.new) (K.written sink.new) (K.faults sink.new)) (status_of_run result) }
+    ensures never_fall { NeverFall (world (S.counts shelf.old) (K.written sink.old) (K.faults sink.old)) (world (S.counts shelf.new) (K.written sink.new) (K.faults sink.new)) }
+    ensures grow { Grow reads.old reads.new }
+{
+    let mut bytes = Vec::new(alloc);
+    match fetch_text(alloc, config, CONFIG_LIMIT, shelf, &mut bytes) {
+        Got::Have => run_config(alloc, &bytes, script, shelf, sink, reads),
+        Got::Nothing => Ok(Ended::NoFile),
+        Got::Stop(stopped) => Err(stopped),
+    }
+}
+
+// Does what the words ask for.
+#[tactic(auto, using(crate::proofs::GrowFacts::grow_same))]
+fn run_request<L, S: Shelf, K: Sink>(
+    alloc: Global,
+    request: Request<'_>,
+    shelf: &mut S,
+    sink: &mut K,
+    reads: &mut Reads<L>,
+) -> Result<Ended, Stopped>
+    requires { HasDay request }
+    ensures told { (files : Files) → S.files shelf.old ≡ Some files → RunsAs (answer_of (Some (seen request.entry)) files) (world (S.counts shelf.old) (K.written sink.old) (K.faults sink.old)) (world (S.counts shelf.new) (K.written sink.new) (K.faults sink.new)) (status_of_run result) }
+    ensures cause { HasCause (Some (seen request.entry)) (world (S.counts shelf.old) (K.written sink.old) (K.faults sink.old)) (world (S.counts shelf.new) (K.written sink.new) (K.faults sink.new)) (status_of_run result) }
+    ensures never_fall { NeverFall (world (S.counts shelf.old) (K.written sink.old) (K.faults sink.old)) (world (S.counts shelf.new) (K.written sink.new) (K.faults sink.new)) }
+    ensures grow { Grow reads.old reads.new }
+{
+    match request {
+        Request::Run(config, script) => run_files(alloc, config, script, shelf, sink, reads),
+        Request::Count(file, signal, day, hour) => {
+            count_file(
+                alloc,
+                &Counted {
+                    file,
+                    signal,
+                    day,
+                    hour,
+                },
+                shelf,
+                sink,
+                reads,
+            )
+        }
+    }
+}
+
 // Runs to an end, unless something from outside cuts the run off.
+#[tactic(auto, using(crate::proofs::GrowFacts::grow_same))]
 fn run_to_end<L, S: Shelf, K: Sink>(
     alloc: Global,
     words: &Words,
@@ -34,15 +239,20 @@ fn run_to_end<L, S: Shelf, K: Sink>(
     sink: &mut K,
     reads: &mut Reads<L>,
 ) -> Result<Ended, Stopped>
-    ensures told { IfSome (S.files shelf.old) (λ files. RunsAs (transcript words.now files) (world (S.counts shelf.old) (K.written sink.old) (K.faults sink.old)) (world (S.counts shelf.new) (K.written sink.new) (K.faults sink.new)) (status_of_run result)) }
+    ensures told { (files : Files) → S.files shelf.old ≡ Some files → RunsAs (transcript words.now files) (world (S.counts shelf.old) (K.written sink.old) (K.faults sink.old)) (world (S.counts shelf.new) (K.written sink.new) (K.faults sink.new)) (status_of_run result) }
     ensures cause { HasCause (asked_of words.now) (world (S.counts shelf.old) (K.written sink.old) (K.faults sink.old)) (world (S.counts shelf.new) (K.written sink.new) (K.faults sink.new)) (status_of_run result) }
     ensures usage { NeedsWords (asked_of words.now) (world (S.counts shelf.old) (K.written sink.old) (K.faults sink.old)) (world (S.counts shelf.new) (K.written sink.new) (K.faults sink.new)) (status_of_run result) }
     ensures never_fall { NeverFall (world (S.counts shelf.old) (K.written sink.old) (K.faults sink.old)) (world (S.counts shelf.new) (K.written sink.new) (K.faults sink.new)) }
-    ensures reads { (reads.new ≡ reads.old) ⊎ (reads.new ≡ raised reads.old 0) }
+    ensures grow { Grow reads.old reads.new }
 {
-    match read_words(words) {
-        Some(asked) => count_file(alloc, &asked, shelf, sink, reads),
-        None => show_usage(sink),
+    let all = match words.after_name() {
+        Ok(all) => all,
+        Err(_) => return Err(Stopped::Memory),
+    };
+    match parse_words(alloc, &all) {
+        Ok(request) => run_request(alloc, request, shelf, sink, reads),
+        Err(Refused::Usage) => show_usage(sink),
+        Err(Refused::Memory) => Err(Stopped::Memory),
     }
 }
 
@@ -63,8 +273,8 @@ pub fn run<L, S: Shelf, K: Sink>(
     ensures usage { NeedsWords (asked_of words.now) (world (S.counts shelf.old) (K.written sink.old) (K.faults sink.old)) (world (S.counts shelf.new) (K.written sink.new) (K.faults sink.new)) result }
     ensures never_fall { NeverFall (world (S.counts shelf.old) (K.written sink.old) (K.faults sink.old)) (world (S.counts shelf.new) (K.written sink.new) (K.faults sink.new)) }
 
-    // The counted file's rows are opened at most once.
-    ensures reads { (reads.new ≡ reads.old) ⊎ (reads.new ≡ raised reads.old 0) }
+    // No count of opened hours falls.
+    ensures grow { Grow reads.old reads.new }
 {
     status_of(run_to_end(alloc, words, shelf, sink, reads))
 }

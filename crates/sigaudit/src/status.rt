@@ -11,6 +11,8 @@ pub enum Status {
     SomeRefused,
     /// The words aren't ones that the program has.
     Usage,
+    /// The configuration is refused.
+    BadConfig,
     /// A fetch failed or the output took no more bytes.
     Fault,
     /// Memory ran out.
@@ -25,6 +27,7 @@ pub enum Ended {
     Done,
     SomeRefused,
     Usage,
+    BadConfig,
     NoFile,
 }
 
@@ -43,6 +46,7 @@ pub fn status_of(ended: Result<Ended, Stopped>) -> Status
         Ok(Ended::Done) => Status::Done,
         Ok(Ended::SomeRefused) => Status::SomeRefused,
         Ok(Ended::Usage) => Status::Usage,
+        Ok(Ended::BadConfig) => Status::BadConfig,
         Ok(Ended::NoFile) => Status::NoFile,
         Err(Stopped::Fault) => Status::Fault,
         Err(Stopped::Memory) => Status::Memory,
@@ -57,6 +61,7 @@ pub fn exit_code(status: Status) -> u8
         Status::Done => 0,
         Status::SomeRefused => 1,
         Status::Usage => 2,
+        Status::BadConfig => 3,
         Status::Fault => 4,
         Status::Memory => 5,
         Status::NoFile => 6,

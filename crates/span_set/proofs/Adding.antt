@@ -58,8 +58,5 @@ add_split f t g [] (suc n) q w a b = absurd (omega arith)
 add_split f t g (s ∷ ss) zero q w a b = let k : g <ℤ s.to = b (omega arith) s in rw (over s.to f (omega (arith, ints))) refl
 add_split f t g (s ∷ ss) (suc n) q w a b = let k : s.to ≤ℤ g = a.0 in rw (not_over s.to f (omega (arith, ints))) (ap (λ r. s ∷ r) (add_split f t g ss n q (omega arith) a.1 (λ h d. b (omega arith) d)))
 
-pub join_stop : (f t : ℤ) (ss : List Span) (n : ℕ) (d : Span) → n < length ss → t <ℤ (get_or ss n d).from → join f t (drop n ss) ≡ span f t ∷ drop n ss
-join_stop f t ss n d h a = rw (drop-cons ss n d h, not_over t (get_or ss n d).from a) refl
-
 pub join_more : (f t : ℤ) (ss : List Span) (n : ℕ) (d : Span) → n < length ss → (get_or ss n d).from ≤ℤ t → join f t (drop n ss) ≡ join (int_min f (get_or ss n d).from) (int_max t (get_or ss n d).to) (drop (n + 1) ss)
 join_more f t ss n d h a = rw (add-one, drop-cons ss n d h, over t (get_or ss n d).from a) refl

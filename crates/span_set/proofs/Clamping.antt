@@ -1,5 +1,5 @@
 -- The ranges with a limit in place of the tenths below it.
-use Rattle.std.proofs.Common.{set, zero, ◌-◌, suc, drop, drop-cons, add-one, get_or, length, ◌<◌, ◌≤◌, ◌+◌, ◌≡◌, refl, ◌⊎◌, inl, inr, ℕ, ℤ, pos, negsuc, ◌^◌, ◌+ℤ◌, ◌<ℤ◌, ◌≤ℤ◌, List, [], ◌∷◌, arith, ◌↔◌, take}
+use Rattle.std.proofs.Common.{zero, suc, drop, drop-cons, add-one, get_or, length, ◌<◌, ◌≤◌, ◌+◌, ◌≡◌, refl, ◌⊎◌, inl, inr, ℕ, ℤ, pos, negsuc, ◌^◌, ◌+ℤ◌, ◌<ℤ◌, ◌≤ℤ◌, List, [], ◌∷◌, arith, ◌↔◌, take}
 use Rattle.std.proofs.lemmas.Int.{ints}
 use Rattle.std.proofs.lemmas.Grind.{common_steps}
 use Rattle.span_set.specs.declared.set.Span.{Span}
@@ -66,9 +66,6 @@ clamp_none limit ss p n e = let b = begins_below (negsuc (2 ^ 40)) limit ss p in
   λ m. elim (int_cases e limit) [ inl x ↦ absurd (n (b.1 (e, m, x.1))) | inr x ↦ inl (m, x.1) ],
   λ h. elim h [ inl x ↦ x.0 | inr x ↦ absurd (n x.1) ],
 )
-
-pub set_front : (ss : List Span) (n : ℕ) (s : Span) → 0 < n → n ≤ length ss → set (drop (n - 1) ss) 0 s ≡ s ∷ drop n ss
-set_front ss n s a b = let h : n - 1 < length ss = omega arith in let e : suc (n - 1) ≡ n = omega arith in rw (drop-cons ss (n - 1) s h, e) refl
 
 pub passed_some : (limit : ℤ) (ss : List Span) (n : ℕ) → BeginsBelow limit ss → (n < length ss → (d : Span) → (limit +ℤ pos 1) <ℤ (get_or ss n d).from) → 0 < n
 passed_some limit [] n b h = absurd b

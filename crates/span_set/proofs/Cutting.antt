@@ -6,7 +6,7 @@ use Rattle.span_set.specs.declared.set.Span.{Span}
 use Rattle.span_set.specs.Changes.{span, AllEnd, part_before, from_on, cut_to, cut, keep_to}
 use Rattle.span_set.specs.Spans.{Within, Member, Above, AreRanges}
 use Rattle.std.proofs.Math.Seq.{take-append_seam, drop-append_seam}
-use Rattle.std.proofs.lemmas.List.{drop-drop, length-take-le, length-append, take_more_set, append-nil}
+use Rattle.std.proofs.lemmas.List.{drop-drop, length-take-le, length-append, take_more_set}
 use Rattle.span_set.proofs.Sets.{int_cases, over, not_over, member_above, same_ranges}
 
 from_on_above : (low m t : ℤ) (s : Span) (ss : List Span) → (low ≤ℤ m) ⊎ (low <ℤ t) → t <ℤ s.to → Above m (s ∷ ss) → Above low (from_on t (s ∷ ss))
@@ -168,18 +168,9 @@ keep_split f [] (suc n) w a b = absurd (omega arith)
 keep_split f (s ∷ ss) zero w a b = rw (not_over f s.to (b (omega arith) s)) refl
 keep_split f (s ∷ ss) (suc n) w a b = rw (over f s.to a.0) (ap (λ r. s ∷ r) (keep_split f ss n (omega arith) a.1 (λ h d. b (omega arith) d)))
 
-part_none : (f : ℤ) (x : Span) (xs : List Span) → f ≤ℤ x.from → part_before f (x ∷ xs) ≡ []
-part_none f x xs a = rw (over x.from f a) refl
-
 -- a range whose end is cut off, and those after it
 pub trimmed_is : (f : ℤ) (xs : List Span) (n : ℕ) (x : Span) → n < length xs → x ≡ get_or xs n x → x.from <ℤ f → take (n + 1) (set xs n (span x.from f)) ≡ take n xs ++ part_before f (drop n xs)
 trimmed_is f xs n x h e a =
     let d : drop n xs ≡ get_or xs n x ∷ drop (suc n) xs = drop-cons xs n x h in
     let b : part_before f (drop n xs) ≡ span x.from f ∷ [] = ap (part_before f) d ∙ (ap (λ (y : Span). part_before f (y ∷ drop (suc n) xs)) (sym e) ∙ part_some f x (drop (suc n) xs) a) in
     take_more_set xs n (span x.from f) h ∙ ap (λ r. take n xs ++ r) (sym b)
-
-pub none_before : (f : ℤ) (xs : List Span) (n : ℕ) (x : Span) → n < length xs → x ≡ get_or xs n x → f ≤ℤ x.from → take n xs ≡ take n xs ++ part_before f (drop n xs)
-none_before f xs n x h e a =
-    let d : drop n xs ≡ get_or xs n x ∷ drop (suc n) xs = drop-cons xs n x h in
-    let b : part_before f (drop n xs) ≡ [] = ap (part_before f) d ∙ (ap (λ (y : Span). part_before f (y ∷ drop (suc n) xs)) (sym e) ∙ part_none f x (drop (suc n) xs) a) in
-    sym (append-nil (take n xs)) ∙ ap (λ r. take n xs ++ r) (sym b)

@@ -1,0 +1,16 @@
+-- Words that are written out.
+use Rattle.std.proofs.Common.{◌≡◌, List, [], ◌∷◌, Some, None, codes, refl}
+use Rattle.clap.proofs.OnLiterals.{clap_on_literals}
+use Rattle.command_line.specs.Words.{request_of, faults, rows, asked_for, for_run}
+
+help_none : request_of (codes "sigaudit" ∷ codes "--help" ∷ []) ≡ None
+unfolding clap_on_literals request_of faults rows asked_for
+help_none = refl
+
+twice_none : request_of (codes "sigaudit" ∷ codes "--config" ∷ codes "a" ∷ codes "--config" ∷ codes "b" ∷ codes "--script" ∷ codes "s" ∷ []) ≡ None
+unfolding clap_on_literals request_of faults rows asked_for
+twice_none = refl
+
+both : request_of (codes "sigaudit" ∷ codes "--script=s" ∷ codes "--config" ∷ codes "c" ∷ []) ≡ Some (for_run (codes "c") (codes "s"))
+unfolding clap_on_literals request_of faults rows asked_for
+both = refl

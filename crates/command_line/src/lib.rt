@@ -1,0 +1,192 @@
+//! What the words of a command line ask for: one simple command of six options, each taking one
+//! value, and the three sets of them that the program has. The rules are those of
+//! `docs/FORMATS.md`.
+#![tactic(auto)]
+
+ghost use Rattle.std.specs.Prelude.{◌≡◌, false, map, IfOk, IfSome, List, Option, option_map, Some, None};
+ghost use Rattle.clap.specs.Words.{app_of, rule_of, found_of, rows_of};
+ghost use Rattle.command_line.specs.Words.{all_plain, is_signal, count_asked, option_rule, sigaudit, request_of, Answers, HasDay, Parses, asked_for, given_by, seen, AsksFor};
+ghost use Rattle.command_line.specs.declared.Refused.TheVariants.{Memory};
+
+use clap::error::ErrorKind;
+use clap::{Arg, ArgAction, ArgMatches, Command};
+use row_reader::read_hour_stamp;
+use std::alloc::{AllocError, Global};
+
+/// What the words ask for.
+#[derive(Clone, Copy, Debug, PartialEq, Eq)]
+pub enum Request<'a> {
+    /// A configuration and a script, by their names.
+    Run(&'a str, &'a str),
+    /// A file by its name, the signal, and the hour: a day, counted from 1970-01-01, and an hour of
+    /// it, 0 to 23.
+    Count(&'a str, &'a str, i64, u8),
+}
+
+/// Why there is no request.
+#[derive(Clone, Copy, Debug, PartialEq, Eq)]
+pub enum Refused {
+    /// The words are none that the program has.
+    Usage,
+    /// Memory ran out.
+    Memory,
+}
+
+impl From<AllocError> for Refused {
+    ghost from_gives = { λ _ e. e ≡ Memory };
+
+    fn from(_e: AllocError) -> Refused {
+        Refused::Memory
+    }
+}
+
+fn option<'a>(alloc: Global, name: &'a str) -> Arg<'a>
+    ensures rule { rule_of result ≡ option_rule name.entry.now }
+    ensures local { result.global ≡ false }
+{
+    Arg::new(alloc, name).long(name).action(ArgAction::Set)
+}
+
+fn command<'a>(alloc: Global) -> Result<Command<'a>, AllocError>
+    ensures { IfOk result (λ c. app_of c ≡ sigaudit) }
+{
+    Command::new(alloc, "sigaudit")
+        .arg(option(alloc, "config"))?
+        .arg(option(alloc, "script"))?
+        .arg(option(alloc, "count"))?
+        .arg(option(alloc, "signal"))?
+        .arg(option(alloc, "hour"))?
+        .arg(option(alloc, "demo"))
+}
+
+fn all_plain(text: &[u8]) -> bool
+    ensures { result ≡ all_plain text.now }
+{
+    let mut rest = text;
+    while let [first, after @ ..] = rest {
+        if *first < 33 || *first > 126 || *first == b',' || *first == b'"' {
+            return false;
+        }
+        rest = after;
+    }
+    true
+}
+
+fn is_signal(text: &[u8]) -> bool
+    ensures { result ≡ is_signal text.now }
+{
+    1 <= text.len() && text.len() <= 32 && all_plain(text)
+}
+
+// The count of this file, signal and hour, where the last two are readable.
+fn count_asked<'a>(file: &'a str, signal: &'a str, hour: &str) -> Option<Request<'a>>
+    ensures value { option_map seen result ≡ count_asked file.entry.now signal.entry.now hour.now }
+    ensures day { IfSome result HasDay }
+{
+    if !is_signal(signal.as_bytes()) {
+        return None;
+    }
+    match read_hour_stamp(hour.as_bytes()) {
+        Some((day, hour)) => Some(Request::Count(file, signal, day, hour)),
+        None => None,
+    }
+}
+
+fn choose<'a>(
+    config: Option<&'a str>,
+    script: Option<&'a str>,
+    count: Option<&'a str>,
+    signal: Option<&'a str>,
+    hour: Option<&'a str>,
+    demo: Option<&'a str>,
+) -> Option<Request<'a>>
+    ensures value { AsksFor result config.entry script.entry count.entry signal.entry hour.entry demo.entry }
+    ensures day { IfSome result HasDay }
+{
+    match (config, script, count, signal, hour, demo) {
+        (Some(config), Some(script), None, None, None, None) => Some(Request::Run(config, script)),
+        (None, None, Some(file), Some(signal), Some(hour), None) => count_asked(file, signal, hour),
+        _ => None,
+    }
+}
+
+// The matches of the words, the program's own name first.
+fn parse<'a>(alloc: Global, words: &'a [&'a str]) -> Result<ArgMatches<'a>, Refused>
+    ensures { Parses result (map (λ w. w.now) words.entry.now) }
+{
+    let command = command(alloc)?;
+    match command.try_get_matches_from(words) {
+        Ok(matches) => Ok(matches),
+        Err(error) => match error.kind() {
+            ErrorKind::OutOfMemory => return Err(Refused::Memory),
+            _ => return Err(Refused::Usage),
+        },
+    }
+}
+
+// What the options that were given ask for.
+fn asked<'a>(matches: &ArgMatches<'a>) -> Option<Request<'a>>
+    ensures value { option_map seen result ≡ asked_for (given_by (rows_of (found_of matches.now))) }
+    ensures day { IfSome result HasDay }
+{
+    choose(
+        matches.get_str("config"),
+        matches.get_str("script"),
+        matches.get_str("count"),
+        matches.get_str("signal"),
+        matches.get_str("hour"),
+        matches.get_str("demo"),
+    )
+}
+
+/// What the words ask for, the program's own name first. `Usage` comes exactly where the command
+/// refuses them for another cause than memory, where the options are none of the sets that the
+/// program has, or where the signal or the hour isn't readable.
+pub fn parse_words<'a>(alloc: Global, words: &'a [&'a str]) -> Result<Request<'a>, Refused>
+    ensures value { Answers result (request_of (map (λ w. w.now) words.entry.now)) }
+    ensures day { IfOk result HasDay }
+{
+    let matches = parse(alloc, words)?;
+    match asked(&matches) {
+        Some(request) => Ok(request),
+        None => Err(Refused::Usage),
+    }
+}
+
+#[cfg(test)]
+mod tests {
+    use super::{Refused, Request, parse_words};
+
+    #[test]
+    fn words_in_any_order(rt: HostRuntime) {
+        let run = Ok(Request::Run("c", "s"));
+        let count = Ok(Request::Count("f", "7", 19_786, 6));
+        for (words, wanted) in [
+            (["--config", "c", "--script", "s", "--"].as_slice(), run),
+            (["--script=s", "--config", "c"].as_slice(), run),
+            (
+                ["--hour=2024-03-04T06", "--count=f", "--signal", "7"].as_slice(),
+                count,
+            ),
+            (["--config", "c"].as_slice(), Err(Refused::Usage)),
+            (
+                ["--config", "c", "--script", "s", "--help"].as_slice(),
+                Err(Refused::Usage),
+            ),
+            (
+                ["--config", "c", "--config", "c", "--script", "s"].as_slice(),
+                Err(Refused::Usage),
+            ),
+            (
+                ["--count=f", "--signal=7", "--hour=2024-03-04T24"].as_slice(),
+                Err(Refused::Usage),
+            ),
+            (["--demo", "3"].as_slice(), Err(Refused::Usage)),
+        ] {
+            let mut all = Vec::new(rt.alloc());
+            assert!(rt; all.push("sigaudit").is_ok());
+            assert!(rt; all.extend_from_slice(words).is_ok());
+            assert_eq!(rt; parse_words(rt.alloc(), &all), wanted);
+        }
+    }
+}

@@ -1,0 +1,9 @@
+pub mod Reading
+pub mod Values
+pub mod Walk
+pub mod Tables
+pub mod Settings
+pub mod Seen
+pub mod Parents
+pub mod Sound
+pub mod Kept

@@ -1,0 +1,228 @@
+-- A configuration: the tables in their order, and what they say together.
+use Rattle.std.specs.Prelude.{ℕ, ◌+◌, ◌&&◌, ◌||◌, ◌==◌, not, Bool, true, false, nat_lt, if◌then◌else◌, List, [], ◌∷◌, ◌++◌, length, map, filter, flat_map, find, position, Option, Some, None, option_map, unwrap_or, Ok, Err}
+use Rattle.std.specs.List.{range_with_len, list_any}
+use Rattle.std.specs.Str.{bytes_eq}
+use Rattle.std.specs.Str.Lossy.{utf8_valid_len}
+use Rattle.toml.specs.Data.{Members}
+use Rattle.toml.specs.Parse.{parse_document}
+use Rattle.sig_base.specs.Window.{Span}
+use Rattle.sig_base.specs.declared.values.PhaseItem.{PhaseItem}
+use Rattle.event_codes.specs.declared.channels.Kind.{Kind}
+use Rattle.event_codes.specs.declared.channels.Kind.TheVariants as kinds
+use Rattle.event_codes.specs.declared.channels.Channel.{Channel}
+use Rattle.channel_tables.specs.declared.spec.Spec.{Spec}
+use Rattle.ring_config.specs.declared.error.ConfigError.TheVariants.{NotToml}
+use Rattle.ring_config.specs.declared.error.TableName.TheVariants as tables
+use Rattle.ring_config.specs.declared.items.Pair.{Pair}
+use Rattle.ring_config.specs.declared.items.OverlapItem.{OverlapItem}
+use Rattle.ring_config.specs.declared.items.FloorItem.{FloorItem}
+use Rattle.ring_config.specs.declared.items.IntervalItem.{IntervalItem}
+use Rattle.ring_config.specs.declared.items.Approach.{Approach}
+use Rattle.ring_config.specs.Reading.{Read, ◌>>=◌, EntryData, only}
+use Rattle.ring_config.specs.Values.{has_number, has_pair, has_phase}
+use Rattle.ring_config.specs.Walk.{entries_of}
+use Rattle.ring_config.specs.Tables.{Top, LayoutArrays, DetailArrays, top_keys, top_of, layout_arrays_of, detail_arrays_of, phase_rules, ped_rules, overlap_rules, preempt_rules, conflict_rules, allow_rules, floor_rules, interval_rules, approach_rules}
+
+-- what an accepted configuration says
+pub record Settings : Type 0 where
+  pub window : Span
+  pub signal : List ℕ
+  pub coordination : Bool
+  pub phases : List PhaseItem
+  pub peds : List ℕ
+  pub overlaps : List OverlapItem
+  pub preempts : List ℕ
+  pub conflicts : List Pair
+  pub allows : List Pair
+  pub specs : List Spec
+  pub intervals : List IntervalItem
+  pub approaches : List Approach
+
+-- ---- the tracked channels
+
+-- what the intersection has
+pub record Layout : Type 0 where
+  pub phases : List PhaseItem
+  pub peds : List ℕ
+  pub overlaps : List OverlapItem
+  pub preempts : List ℕ
+
+-- the channels of a kind with these numbers, of 1 to most, in ascending order and each once
+unfoldable pub numbered : Kind → ℕ → List ℕ → List Channel
+numbered kind most numbers = filter (λ c. has_number numbers c.number) (map (λ n. record { kind = kind; number = n }) (range_with_len 1 most))
+
+-- the channels that floors and intervals may name, with the preempt inputs between them
+unfoldable pub signal_channels : Layout → List Channel
+signal_channels l =
+    numbered kinds.Phase 16 (map (λ p. p.number) l.phases) ++ numbered kinds.Ped 16 l.peds
+    ++ numbered kinds.Overlap 16 (map (λ o. o.number) l.overlaps) ++ numbered kinds.PreemptInput 16 l.preempts
+    ++ numbered kinds.PreemptService 16 l.preempts
+
+abbrev pub some_number : Option ℕ → List ℕ
+some_number None = []
+some_number (Some n) = n ∷ []
+
+-- the detectors of an approach
+abbrev pub detectors : Approach → List ℕ
+detectors a = some_number a.advance ++ some_number a.stop_bar
+
+abbrev pub coordination_channel : Bool → List Channel
+coordination_channel on = if on then record { kind = kinds.Coordination; number = 0 } ∷ [] else []
+
+-- all tracked channels: those, and then the inputs of pedestrians and vehicles and the coordination
+unfoldable pub all_channels : Layout → List Approach → Bool → List Channel
+all_channels layout approaches coordination =
+    signal_channels layout ++ numbered kinds.PedDetector 16 layout.peds ++ numbered kinds.Detector 128 (flat_map detectors approaches) ++ coordination_channel coordination
+
+-- the floor of a colour of a spec, 0 where no entry sets it
+abbrev pub floor_of : List FloorItem → ℕ → ℕ → ℕ
+floor_of floors spec colour = unwrap_or (option_map (λ f. f.tenths) (find (λ f. f.spec == spec && f.colour == colour) floors)) 0
+
+-- the floors of the sixteen colours that a spec has room for
+unfoldable pub floors_of : List FloorItem → ℕ → List ℕ
+floors_of floors spec = map (floor_of floors spec) (range_with_len 0 16)
+
+-- the channels with their floors, counted from i
+unfoldable pub specs_from : List FloorItem → ℕ → List Channel → List Spec
+specs_from floors i [] = []
+specs_from floors i (c ∷ cs) = record { channel = c; floors = floors_of floors i } ∷ specs_from floors (i + 1) cs
+
+-- ---- the tables in order
+
+unfoldable pub layout_of : LayoutArrays → Read Layout
+layout_of arrays = do
+  phases ← entries_of phase_rules arrays.phase
+  peds ← entries_of (ped_rules phases) arrays.ped
+  overlaps ← entries_of (overlap_rules phases) arrays.overlap
+  preempts ← entries_of preempt_rules arrays.preempt
+  Ok (record { phases = phases; peds = peds; overlaps = overlaps; preempts = preempts })
+
+-- what is said of the phases and channels of a layout
+pub record Details : Type 0 where
+  pub conflicts : List Pair
+  pub allows : List Pair
+  pub floors : List FloorItem
+  pub intervals : List IntervalItem
+  pub approaches : List Approach
+
+unfoldable pub details_of : Layout → DetailArrays → Read Details
+details_of layout arrays = do
+  conflicts ← entries_of (conflict_rules layout.phases) arrays.conflict
+  allows ← entries_of (allow_rules layout.phases conflicts) arrays.allow
+  floors ← entries_of (floor_rules (signal_channels layout)) arrays.floor
+  intervals ← entries_of (interval_rules (signal_channels layout)) arrays.interval
+  approaches ← entries_of (approach_rules layout.phases) arrays.approach
+  Ok (record { conflicts = conflicts; allows = allows; floors = floors; intervals = intervals; approaches = approaches })
+
+-- all tracked channels with their floors
+abbrev pub specs_of : Top → Layout → Details → List Spec
+specs_of top layout details =
+    specs_from details.floors 0 (all_channels layout details.approaches top.coordination)
+
+abbrev pub settings_of : Top → Layout → Details → Settings
+settings_of top layout details = record {
+  window = top.window;
+  signal = top.signal;
+  coordination = top.coordination;
+  phases = layout.phases;
+  peds = layout.peds;
+  overlaps = layout.overlaps;
+  preempts = layout.preempts;
+  conflicts = details.conflicts;
+  allows = details.allows;
+  specs = specs_of top layout details;
+  intervals = details.intervals;
+  approaches = details.approaches;
+}
+
+-- the document as an entry
+abbrev pub document : Members → EntryData
+document ms = record { table = tables.Top; index = 0; members = ms }
+
+-- what all tables say
+pub record Parts : Type 0 where
+  pub top : Top
+  pub layout : Layout
+  pub details : Details
+
+unfoldable pub parts_of : EntryData → Read Parts
+parts_of e = do
+  _ ← only top_keys e
+  top ← top_of e
+  layout_arrays ← layout_arrays_of e
+  detail_arrays ← detail_arrays_of e
+  layout ← layout_of layout_arrays
+  details ← details_of layout detail_arrays
+  Ok (record { top = top; layout = layout; details = details })
+
+unfoldable pub config_at : Members → Read Settings
+config_at ms = parts_of (document ms) >>= λ p. Ok (settings_of p.top p.layout p.details)
+
+-- the table that the bytes are, where they are UTF-8 and TOML
+unfoldable pub document_of : List ℕ → Option Members
+document_of bytes = if nat_lt (utf8_valid_len bytes) (length bytes) then None else parse_document bytes
+
+abbrev pub config_in : Option Members → Read Settings
+config_in None = Err NotToml
+config_in (Some ms) = config_at ms
+
+-- the configuration that the bytes are, or the first refusal
+unfoldable pub config_of : List ℕ → Read Settings
+config_of bytes = config_in (document_of bytes)
+
+-- ---- looking up
+
+-- the place of a kind of channel in the order of specs
+abbrev pub kind_rank : Kind → ℕ
+kind_rank kinds.Phase = 0
+kind_rank kinds.Ped = 1
+kind_rank kinds.Overlap = 2
+kind_rank kinds.PreemptInput = 3
+kind_rank kinds.PreemptService = 4
+kind_rank kinds.PedDetector = 5
+kind_rank kinds.Detector = 6
+kind_rank kinds.Coordination = 7
+
+abbrev pub is_same_channel : Channel → Channel → Bool
+is_same_channel a b = kind_rank a.kind == kind_rank b.kind && a.number == b.number
+
+-- the place of a channel among the specs
+abbrev pub spec_place : List Spec → Channel → Option ℕ
+spec_place specs channel = position (λ s. is_same_channel s.channel channel) specs
+
+-- a channel of this kind and number is tracked: the configuration names it, and a pedestrian detector comes with its signal, input and service with their preempt
+abbrev pub is_tracked_as : Settings → Kind → ℕ → Bool
+is_tracked_as c kinds.Phase n = has_phase c.phases n
+is_tracked_as c kinds.Ped n = has_number c.peds n
+is_tracked_as c kinds.Overlap n = list_any (λ o. o.number == n) c.overlaps
+is_tracked_as c kinds.PreemptInput n = has_number c.preempts n
+is_tracked_as c kinds.PreemptService n = has_number c.preempts n
+is_tracked_as c kinds.PedDetector n = has_number c.peds n
+is_tracked_as c kinds.Detector n = list_any (λ a. has_number (detectors a) n) c.approaches
+is_tracked_as c kinds.Coordination n = c.coordination && n == 0
+
+abbrev pub is_tracked : Settings → Channel → Bool
+is_tracked c channel = is_tracked_as c channel.kind channel.number
+
+-- the place of an approach of this name
+abbrev pub approach_place : List Approach → List ℕ → Option ℕ
+approach_place approaches name = position (λ a. bytes_eq name a.name) approaches
+
+-- ---- conflicts
+
+abbrev pub phase_of : List PhaseItem → ℕ → Option PhaseItem
+phase_of phases number = find (λ p. p.number == number) phases
+
+-- two phases are in one ring, or on different sides of the barrier
+abbrev pub clash : Option PhaseItem → Option PhaseItem → Bool
+clash (Some p) (Some q) = p.ring == q.ring || not (p.side == q.side)
+clash _ _ = false
+
+-- two phases conflict: by an entry, else unless they are allowed by one, by their rings and sides
+unfoldable pub conflict_by : List Pair → List Pair → List PhaseItem → ℕ → ℕ → Bool
+conflict_by conflicts allows phases a b =
+    if has_pair conflicts a b then true
+    else (if has_pair allows a b then false else clash (phase_of phases a) (phase_of phases b))
+
+abbrev pub in_conflict : Settings → ℕ → ℕ → Bool
+in_conflict c a b = conflict_by c.conflicts c.allows c.phases a b

@@ -1,0 +1,246 @@
+-- The tables of a configuration, each as its keys in order and what their values are.
+use Rattle.std.specs.Prelude.{ℕ, ℤ, option_and_then, ◌&&◌, ◌==◌, not, Bool, false, int_lt, pos, List, [], ◌∷◌, Option, Some, None, Ok, Err}
+use Rattle.std.specs.Str.{bytes_eq}
+use Rattle.toml.specs.Data.{Data, Members, as_integer}
+use Rattle.sig_base.specs.Window.{Span}
+use Rattle.sig_base.specs.declared.values.PhaseItem.{PhaseItem}
+use Rattle.sig_base.specs.declared.values.Frac.{Frac}
+use Rattle.event_codes.specs.declared.channels.Channel.{Channel}
+use Rattle.reach.specs.declared.seen.AgeBound.{AgeBound}
+use Rattle.reach.specs.declared.seen.AgeBound.TheVariants.{AtLeast, AtMost}
+use Rattle.ring_config.specs.declared.error.ConfigError.TheVariants.{Missing, BadValue}
+use Rattle.ring_config.specs.declared.error.TableName.{TableName}
+use Rattle.ring_config.specs.declared.error.TableName.TheVariants as tables
+use Rattle.ring_config.specs.declared.error.KeyName.{KeyName}
+use Rattle.ring_config.specs.declared.error.KeyName.TheVariants as keys
+use Rattle.ring_config.specs.declared.items.Pair.{Pair}
+use Rattle.ring_config.specs.declared.items.OverlapItem.{OverlapItem}
+use Rattle.ring_config.specs.declared.items.FloorItem.{FloorItem}
+use Rattle.ring_config.specs.declared.items.IntervalItem.{IntervalItem}
+use Rattle.ring_config.specs.declared.items.Approach.{Approach}
+use Rattle.ring_config.specs.Reading.{Read, ◌>>=◌, EntryData, place, value_at, good, required, defaulted, optional}
+use Rattle.ring_config.specs.Values as values
+use Rattle.ring_config.specs.Values.{whole, configured, has_pair, is_pair}
+use Rattle.ring_config.specs.Walk.{Rules}
+
+-- ---- the document itself
+
+-- the keys of the document that are no arrays
+pub record Top : Type 0 where
+  pub signal : List ℕ
+  pub window : Span
+  pub coordination : Bool
+
+-- the arrays of tables of what the intersection has
+pub record LayoutArrays : Type 0 where
+  pub phase : List Members
+  pub ped : List Members
+  pub overlap : List Members
+  pub preempt : List Members
+
+-- the arrays of tables of what is said of it
+pub record DetailArrays : Type 0 where
+  pub conflict : List Members
+  pub allow : List Members
+  pub floor : List Members
+  pub interval : List Members
+  pub approach : List Members
+
+abbrev pub top_keys : List KeyName
+top_keys =
+    keys.Signal ∷ keys.Start ∷ keys.Hours ∷ keys.Coordination ∷ keys.Phase ∷ keys.Ped ∷ keys.Overlap ∷ keys.Preempt ∷ keys.Conflict ∷ keys.Allow ∷ keys.Floor ∷ keys.Interval ∷ keys.Approach ∷ []
+
+unfoldable pub top_of : EntryData → Read Top
+top_of e = do
+  signal ← required values.signal keys.Signal e
+  start ← required values.start keys.Start e
+  window ← required (values.window start) keys.Hours e
+  coordination ← defaulted false values.yes_or_no keys.Coordination e
+  Ok (record { signal = signal; window = window; coordination = coordination })
+
+unfoldable pub layout_arrays_of : EntryData → Read LayoutArrays
+layout_arrays_of e = do
+  phase ← defaulted [] values.tables keys.Phase e
+  ped ← defaulted [] values.tables keys.Ped e
+  overlap ← defaulted [] values.tables keys.Overlap e
+  preempt ← defaulted [] values.tables keys.Preempt e
+  Ok (record { phase = phase; ped = ped; overlap = overlap; preempt = preempt })
+
+unfoldable pub detail_arrays_of : EntryData → Read DetailArrays
+detail_arrays_of e = do
+  conflict ← defaulted [] values.tables keys.Conflict e
+  allow ← defaulted [] values.tables keys.Allow e
+  floor ← defaulted [] values.tables keys.Floor e
+  interval ← defaulted [] values.tables keys.Interval e
+  approach ← defaulted [] values.tables keys.Approach e
+  Ok (record { conflict = conflict; allow = allow; floor = floor; interval = interval; approach = approach })
+
+-- ---- phases, pedestrian signals, overlaps, preempts
+
+unfoldable pub phase_values : EntryData → Read PhaseItem
+phase_values e = do
+  number ← required (whole 1 16) keys.Number e
+  ring ← required (whole 1 4) keys.Ring e
+  side ← required (whole 1 4) keys.Side e
+  Ok (record { number = number; ring = ring; side = side })
+
+abbrev pub phase_rules : Rules PhaseItem
+phase_rules = record {
+  table = tables.Phase;
+  limit = 16;
+  listed = keys.Number ∷ keys.Ring ∷ keys.Side ∷ [];
+  values = phase_values;
+  repeats = λ p q. p.number == q.number;
+  repeated = keys.Number;
+}
+
+abbrev pub ped_rules : List PhaseItem → Rules ℕ
+ped_rules phases = record {
+  table = tables.Ped;
+  limit = 16;
+  listed = keys.Number ∷ [];
+  values = required (configured phases) keys.Number;
+  repeats = λ p q. p == q;
+  repeated = keys.Number;
+}
+
+unfoldable pub overlap_values : List PhaseItem → EntryData → Read OverlapItem
+overlap_values phases e = do
+  number ← required (whole 1 16) keys.Number e
+  parents ← required (values.parents phases) keys.Parents e
+  Ok (record { number = number; parents = parents })
+
+abbrev pub overlap_rules : List PhaseItem → Rules OverlapItem
+overlap_rules phases = record {
+  table = tables.Overlap;
+  limit = 16;
+  listed = keys.Number ∷ keys.Parents ∷ [];
+  values = overlap_values phases;
+  repeats = λ p q. p.number == q.number;
+  repeated = keys.Number;
+}
+
+abbrev pub preempt_rules : Rules ℕ
+preempt_rules = record {
+  table = tables.Preempt;
+  limit = 16;
+  listed = keys.Number ∷ [];
+  values = required (whole 1 16) keys.Number;
+  repeats = λ p q. p == q;
+  repeated = keys.Number;
+}
+
+-- ---- pairs of phases
+
+unfoldable pub pair_values : List PhaseItem → List Pair → EntryData → Read Pair
+pair_values phases barred e = do
+  a ← required (configured phases) keys.A e
+  b ← required (values.partner phases barred a) keys.B e
+  Ok (record { a = a; b = b })
+
+-- the pairs of one of the two tables, of which none is barred
+abbrev pub pair_rules : TableName → List PhaseItem → List Pair → Rules Pair
+pair_rules table phases barred = record {
+  table = table;
+  limit = 120;
+  listed = keys.A ∷ keys.B ∷ [];
+  values = pair_values phases barred;
+  repeats = λ p q. is_pair p q.a q.b;
+  repeated = keys.A;
+}
+
+abbrev pub conflict_rules : List PhaseItem → Rules Pair
+conflict_rules phases = pair_rules tables.Conflict phases []
+
+-- no pair is both in conflict and allowed
+abbrev pub allow_rules : List PhaseItem → List Pair → Rules Pair
+allow_rules phases conflicts = pair_rules tables.Allow phases conflicts
+
+-- ---- floors and intervals
+
+unfoldable pub floor_values : List Channel → EntryData → Read FloorItem
+floor_values channels e = do
+  channel ← required (values.channel channels) keys.Channel e
+  colour ← required (values.colour channel.kind) keys.Colour e
+  tenths ← required (whole 0 36000) keys.Tenths e
+  Ok (record { spec = channel.spec; colour = colour; tenths = tenths })
+
+abbrev pub floor_rules : List Channel → Rules FloorItem
+floor_rules channels = record {
+  table = tables.Floor;
+  limit = 512;
+  listed = keys.Channel ∷ keys.Colour ∷ keys.Tenths ∷ [];
+  values = floor_values channels;
+  repeats = λ p q. p.spec == q.spec && p.colour == q.colour;
+  repeated = keys.Channel;
+}
+
+-- exactly one of the two bounds
+abbrev pub bound_of : EntryData → Option Data → Option Data → Read AgeBound
+bound_of e None None = Err (Missing (place keys.AtLeast e))
+bound_of e None (Some most) = good (place keys.AtMost e) (whole 1 36000 most) >>= λ n. Ok (AtMost n)
+bound_of e (Some least) None = good (place keys.AtLeast e) (whole 1 36000 least) >>= λ n. Ok (AtLeast n)
+bound_of e (Some least) (Some most) = good (place keys.AtLeast e) (whole 1 36000 least) >>= λ n. Err (BadValue (place keys.AtMost e))
+
+unfoldable pub bound_at : EntryData → Read AgeBound
+bound_at e = bound_of e (value_at keys.AtLeast e) (value_at keys.AtMost e)
+
+unfoldable pub interval_values : List Channel → EntryData → Read IntervalItem
+interval_values channels e = do
+  channel ← required (values.channel channels) keys.Channel e
+  colour ← required (values.colour channel.kind) keys.Colour e
+  bound ← bound_at e
+  Ok (record { spec = channel.spec; colour = colour; bound = bound })
+
+-- interval entries may repeat
+abbrev pub interval_rules : List Channel → Rules IntervalItem
+interval_rules channels = record {
+  table = tables.Interval;
+  limit = 256;
+  listed = keys.Channel ∷ keys.Colour ∷ keys.AtLeast ∷ keys.AtMost ∷ [];
+  values = interval_values channels;
+  repeats = λ p q. false;
+  repeated = keys.Other;
+}
+
+-- ---- approaches
+
+-- the number is over another one, where there is one
+abbrev pub is_over : ℕ → Option ℤ → Bool
+is_over n None = false
+is_over n (Some d) = int_lt d (pos n)
+
+-- the first number of a share: not over what stands at the key of the second, where that is a number
+abbrev pub numerator : EntryData → Data → Option ℕ
+numerator e d = values.passing (λ n. not (is_over n (option_and_then as_integer (value_at keys.HighDen e)))) (whole 1 1000 d)
+
+-- a share as both of its numbers, or 4/5 where neither is there
+abbrev pub high_of : EntryData → Option Data → Option Data → Read Frac
+high_of e None None = Ok (record { num = 4; den = 5 })
+high_of e None (Some den) = Err (Missing (place keys.HighNum e))
+high_of e (Some num) den = do
+  n ← good (place keys.HighNum e) (numerator e num)
+  d ← required (whole 1 1000) keys.HighDen e
+  Ok (record { num = n; den = d })
+
+unfoldable pub high_at : EntryData → Read Frac
+high_at e = high_of e (value_at keys.HighNum e) (value_at keys.HighDen e)
+
+unfoldable pub approach_values : List PhaseItem → EntryData → Read Approach
+approach_values phases e = do
+  name ← required values.name keys.Name e
+  phase ← required (configured phases) keys.Phase e
+  advance ← optional (whole 1 128) keys.Advance e
+  stop_bar ← optional (whole 1 128) keys.StopBar e
+  high ← high_at e
+  Ok (record { name = name; phase = phase; advance = advance; stop_bar = stop_bar; high = high })
+
+abbrev pub approach_rules : List PhaseItem → Rules Approach
+approach_rules phases = record {
+  table = tables.Approach;
+  limit = 64;
+  listed = keys.Name ∷ keys.Phase ∷ keys.Advance ∷ keys.StopBar ∷ keys.HighNum ∷ keys.HighDen ∷ [];
+  values = approach_values phases;
+  repeats = λ p q. bytes_eq p.name q.name;
+  repeated = keys.Name;
+}

@@ -1,0 +1,161 @@
+-- What a value stands for, key by key; none where it isn't good.
+use Rattle.std.specs.Prelude.{ℕ, ℤ, pos, ◌+◌, ◌-◌, ◌/◌, ◌^◌, ◌+ℤ◌, int_le, ◌&&◌, ◌||◌, ◌==◌, not, Bool, false, nat_le, if◌then◌else◌, List, [], ◌∷◌, ◌++◌, length, codes, decimal, fold, bit_or, Option, Some, None, option_map, option_and_then, position}
+use Rattle.std.specs.List.{list_any, list_all}
+use Rattle.std.specs.Str.{bytes_eq}
+use Rattle.toml.specs.Data.{Data, table, Items, no_items, item, Members, as_str, as_integer, as_bool, as_array}
+use Rattle.sig_base.specs.Window.{Span}
+use Rattle.sig_base.specs.declared.values.PhaseItem.{PhaseItem}
+use Rattle.event_codes.specs.declared.channels.Kind.{Kind}
+use Rattle.event_codes.specs.declared.channels.Kind.TheVariants as kinds
+use Rattle.event_codes.specs.declared.channels.Channel.{Channel}
+use Rattle.channel_tables.specs.Tables.{table_of}
+use Rattle.row_reader.specs.Stamp.{hour_stamp_of}
+use Rattle.ring_config.specs.declared.items.Pair.{Pair}
+use Rattle.ring_config.specs.declared.items.Named.{Named}
+
+-- what there is, where it passes a test
+abbrev pub passing : {X : Type 0} → (X → Bool) → Option X → Option X
+passing test None = None
+passing test (Some x) = if test x then Some x else None
+
+-- a whole number from low to high
+abbrev pub within : ℕ → ℕ → Option ℤ → Option ℕ
+within low high (Some (pos n)) = if nat_le low n && nat_le n high then Some n else None
+within low high _ = None
+
+unfoldable pub whole : ℕ → ℕ → Data → Option ℕ
+whole low high d = within low high (as_integer d)
+
+-- true or false
+unfoldable pub yes_or_no : Data → Option Bool
+yes_or_no d = as_bool d
+
+-- ---- texts
+
+-- a text of 1 to 32 bytes that each pass a test
+abbrev pub is_short_text : (ℕ → Bool) → List ℕ → Bool
+is_short_text test text = (nat_le 1 (length text) && nat_le (length text) 32) && list_all test text
+
+-- a printed character other than a comma or a double quote
+abbrev pub is_signal_byte : ℕ → Bool
+is_signal_byte b = (nat_le 0x21 b && nat_le b 0x7E) && not (b == 44 || b == 34)
+
+-- the text of a signal
+unfoldable pub signal : Data → Option (List ℕ)
+signal d = passing (is_short_text is_signal_byte) (as_str d)
+
+-- a letter, a digit, `_` or `-`
+abbrev pub is_name_byte : ℕ → Bool
+is_name_byte b = ((nat_le 48 b && nat_le b 57) || (nat_le 65 b && nat_le b 90)) || ((nat_le 97 b && nat_le b 122) || (b == 95 || b == 45))
+
+-- the name of an approach
+unfoldable pub name : Data → Option (List ℕ)
+name d = passing (is_short_text is_name_byte) (as_str d)
+
+-- ---- the window
+
+-- the day and the hour at which the window starts
+unfoldable pub start : Data → Option (ℤ × ℕ)
+start d = option_and_then hour_stamp_of (as_str d)
+
+-- the day of the last hour of a window
+abbrev pub last_day : ℤ × ℕ → ℕ → ℤ
+last_day first hours = first.0 +ℤ pos ((first.1 + hours - 1) / 24)
+
+-- so many hours from the first one, where the last day is at most 9999-12-31
+abbrev pub window_from : ℤ × ℕ → ℕ → Option Span
+window_from first hours =
+    if int_le (last_day first hours) (pos 2932896) then Some (record { day = first.0; hour = first.1; hours = hours }) else None
+
+-- the window that a number of hours makes
+unfoldable pub window : ℤ × ℕ → Data → Option Span
+window first d = option_and_then (window_from first) (whole 1 744 d)
+
+-- ---- phases
+
+abbrev pub has_phase : List PhaseItem → ℕ → Bool
+has_phase phases number = list_any (λ p. p.number == number) phases
+
+-- the number of a configured phase
+unfoldable pub configured : List PhaseItem → Data → Option ℕ
+configured phases d = passing (has_phase phases) (whole 1 16 d)
+
+abbrev pub is_pair : Pair → ℕ → ℕ → Bool
+is_pair p a b = (p.a == a && p.b == b) || (p.a == b && p.b == a)
+
+abbrev pub has_pair : List Pair → ℕ → ℕ → Bool
+has_pair pairs a b = list_any (λ p. is_pair p a b) pairs
+
+-- another configured phase than a, with which a is not a pair of those barred
+unfoldable pub partner : List PhaseItem → List Pair → ℕ → Data → Option ℕ
+partner phases barred a d = passing (λ b. not (b == a || has_pair barred a b)) (configured phases d)
+
+abbrev pub has_number : List ℕ → ℕ → Bool
+has_number numbers n = list_any (λ m. m == n) numbers
+
+-- a configured phase that isn't among those found
+abbrev pub next_phase : List PhaseItem → List ℕ → Data → Option ℕ
+next_phase phases found d = passing (λ n. not (has_number found n)) (configured phases d)
+
+-- distinct configured phases, after those found
+unfoldable pub phases_from : List PhaseItem → List ℕ → Items → Option (List ℕ)
+phases_from phases found no_items = Some found
+phases_from phases found (item d ds) =
+    option_and_then (λ n. phases_from phases (found ++ n ∷ []) ds) (next_phase phases found d)
+
+-- the set of these phases: bit n - 1 for phase n
+unfoldable pub mask_of : List ℕ → ℕ
+mask_of numbers = fold (λ mask n. bit_or mask (2 ^ (n - 1))) 0 numbers
+
+abbrev pub few_parents : List ℕ → Bool
+few_parents found = nat_le 1 (length found) && nat_le (length found) 8
+
+-- the set of 1 to 8 distinct configured phases
+unfoldable pub parents : List PhaseItem → Data → Option ℕ
+parents phases d = option_map mask_of (passing few_parents (option_and_then (phases_from phases []) (as_array d)))
+
+-- ---- channels and colours
+
+-- the word for a kind of channel that has floors and interval rules
+abbrev pub kind_word : Kind → Option (List ℕ)
+kind_word kinds.Phase = Some (codes "phase ")
+kind_word kinds.Ped = Some (codes "ped ")
+kind_word kinds.Overlap = Some (codes "overlap ")
+kind_word kinds.PreemptService = Some (codes "preempt ")
+kind_word _ = None
+
+abbrev pub is_word_and : Option (List ℕ) → ℕ → List ℕ → Bool
+is_word_and None number text = false
+is_word_and (Some word) number text = bytes_eq text (word ++ decimal number)
+
+-- the text names the channel: its word, one space and its number
+abbrev pub is_named : List ℕ → Channel → Bool
+is_named text c = is_word_and (kind_word c.kind) c.number text
+
+-- the first of the channels that the text names, counted from i
+unfoldable pub named_from : ℕ → List Channel → List ℕ → Option Named
+named_from i [] text = None
+named_from i (c ∷ cs) text = if is_named text c then Some (record { spec = i; kind = c.kind }) else named_from (i + 1) cs text
+
+-- the channel of this text: its place among the specs, and its kind
+unfoldable pub channel : List Channel → Data → Option Named
+channel channels d = option_and_then (named_from 0 channels) (as_str d)
+
+-- the colour of this name of a kind of channel: the name's place in the table of the kind
+unfoldable pub colour_of : Kind → List ℕ → Option ℕ
+colour_of kind text = position (λ name. bytes_eq text name) (table_of kind).names
+
+-- the colour that the value names
+unfoldable pub colour : Kind → Data → Option ℕ
+colour kind d = option_and_then (colour_of kind) (as_str d)
+
+-- ---- arrays of tables
+
+-- the tables after those found
+unfoldable pub tables_from : List Members → Items → Option (List Members)
+tables_from found no_items = Some found
+tables_from found (item (table ms) ds) = tables_from (found ++ ms ∷ []) ds
+tables_from found (item _ ds) = None
+
+unfoldable pub tables : Data → Option (List Members)
+tables d = option_and_then (tables_from []) (as_array d)

@@ -1,0 +1,15 @@
+-- What the code's lines say.
+use Rattle.script_lines.specs.declared.words.Line.{Line}
+use Rattle.script_lines.specs.declared.words.Line.TheVariants as code
+use Rattle.script_lines.specs.Words.{Said, skip, bad, load, replace, withdraw, blank, unblank, measures, measures_of}
+
+abbrev pub seen : Line → Said
+seen code.Skip = skip
+seen code.Bad = bad
+seen (code.Load hour name) = load hour name.now
+seen (code.Replace hour name) = replace hour name.now
+seen (code.Withdraw hour) = withdraw hour
+seen (code.Blank from to) = blank from to
+seen (code.Unblank from to) = unblank from to
+seen code.Measures = measures
+seen (code.MeasuresOf hour) = measures_of hour

@@ -1,0 +1,92 @@
+-- What a line of a script says.
+use Rattle.std.specs.Prelude.{◌==◌, ◌&&◌, ◌||◌, nat_le, ℕ, ℤ, Bool, true, false, List, [], ◌∷◌, length, codes, if◌then◌else◌, Option, Some, None}
+use Rattle.std.specs.List.{list_all}
+use Rattle.std.specs.Str.{bytes_eq}
+use Rattle.sig_base.specs.Window.{Span}
+use Rattle.row_reader.specs.Number.{number_of}
+use Rattle.row_reader.specs.Stamp.{stamp_in}
+
+-- without the spaces in front
+unfoldable pub skip_spaces : List ℕ → List ℕ
+skip_spaces [] = []
+skip_spaces (b ∷ bs) = if b == 32 then skip_spaces bs else b ∷ bs
+
+-- the bytes up to the first space, and those from it on
+unfoldable pub word : List ℕ → List ℕ
+word [] = []
+word (b ∷ bs) = if b == 32 then [] else b ∷ word bs
+
+unfoldable pub after_word : List ℕ → List ℕ
+after_word [] = []
+after_word (b ∷ bs) = if b == 32 then b ∷ bs else after_word bs
+
+-- what a line says
+pub data Said : Type 0 where
+  skip : Said
+  bad : Said
+  load : ℕ → List ℕ → Said
+  replace : ℕ → List ℕ → Said
+  withdraw : ℕ → Said
+  blank : ℤ → ℤ → Said
+  unblank : ℤ → ℤ → Said
+  measures : Said
+  measures_of : ℕ → Said
+
+-- an hour of one to six digits
+abbrev pub hour_at : List ℕ → Option ℕ
+hour_at text = number_of 1 6 999999 text
+
+-- the name of a file, 1 to 255 bytes
+abbrev pub name_at : List ℕ → Option (List ℕ)
+name_at text = if nat_le 1 (length text) && nat_le (length text) 255 then Some text else None
+
+abbrev pub by_hour : (ℕ → Said) → Option ℕ → Said
+by_hour make None = bad
+by_hour make (Some h) = make h
+
+abbrev pub by_name : (ℕ → List ℕ → Said) → Option ℕ → Option (List ℕ) → Said
+by_name make None name = bad
+by_name make (Some h) None = bad
+by_name make (Some h) (Some name) = make h name
+
+abbrev pub by_range : (ℤ → ℤ → Said) → Option ℤ → Option ℤ → Said
+by_range make None to = bad
+by_range make (Some from) None = bad
+by_range make (Some from) (Some to) = make from to
+
+-- nothing is left of a line
+abbrev pub is_over : List ℕ → Bool
+is_over text = length text == 0
+
+-- the line of these words: the first, the second, the third, and what follows them
+abbrev pub of_words : Span → List ℕ → List ℕ → List ℕ → List ℕ → Said
+of_words w verb a b rest =
+    if bytes_eq verb (codes "load") then (if is_over rest then by_name load (hour_at a) (name_at b) else bad)
+    else (if bytes_eq verb (codes "replace") then (if is_over rest then by_name replace (hour_at a) (name_at b) else bad)
+    else (if bytes_eq verb (codes "withdraw") then (if is_over b then by_hour withdraw (hour_at a) else bad)
+    else (if bytes_eq verb (codes "blank") then (if is_over rest then by_range blank (stamp_in w a) (stamp_in w b) else bad)
+    else (if bytes_eq verb (codes "unblank") then (if is_over rest then by_range unblank (stamp_in w a) (stamp_in w b) else bad)
+    else (if bytes_eq verb (codes "measures") then (if is_over a then measures else (if is_over b then by_hour measures_of (hour_at a) else bad))
+    else bad)))))
+
+-- a byte that a line may have: 0x20 to 0x7E
+abbrev pub is_printable : ℕ → Bool
+is_printable b = nat_le 32 b && nat_le b 126
+
+-- the words of a line in a window, whose stamps may lie outside it
+unfoldable pub worded : Span → List ℕ → Said
+worded w line =
+    let one = skip_spaces line in
+    let two = skip_spaces (after_word one) in
+    let three = skip_spaces (after_word two) in
+    of_words w (word one) (word two) (word three) (skip_spaces (after_word three))
+
+-- a line that is passed over: it has no byte but spaces, or a # before any other
+abbrev pub is_comment : List ℕ → Bool
+is_comment [] = true
+is_comment (b ∷ bs) = b == 35
+
+-- what a line says in a window
+unfoldable pub said : Span → List ℕ → Said
+said w line =
+    if is_comment (skip_spaces line) then skip else (if list_all is_printable line then worded w line else bad)

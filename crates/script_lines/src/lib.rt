@@ -1,0 +1,44 @@
+//! The lines of a script and what each of them says. A line is an edit, a report, a line to pass
+//! over or a bad line; the rules are those of `docs/FORMATS.md`.
+#![tactic(auto)]
+
+mod lines;
+mod words;
+
+pub use lines::split_line;
+pub use words::{Line, read_line};
+
+#[cfg(test)]
+mod tests {
+    use crate::{Line, read_line, split_line};
+    use sig_base::Window;
+
+    #[test]
+    fn lines_of_a_script(rt: HostRuntime) {
+        let Some(window) = Window::new(19_786, 6, 2) else {
+            assert!(rt; false);
+            return;
+        };
+        let mut rest: &[u8] =
+            b"# a day\r\n load 0  h06.csv \n\nwithdraw 000001\r\nblank 2024-03-04T06:00:00.0 3/4/2024T6:00:10\nmeasures 1\nmeasures 1 2\nload 0 a b\nload 1234567 f\nlod 0 f\rmeasures\n\tmeasures\nmeasures\r";
+        for wanted in [
+            Line::Skip,
+            Line::Load(0, "h06.csv"),
+            Line::Skip,
+            Line::Withdraw(1),
+            Line::Blank(0, 100),
+            Line::MeasuresOf(1),
+            Line::Bad,
+            Line::Bad,
+            Line::Bad,
+            Line::Bad,
+            Line::Bad,
+            Line::Bad,
+        ] {
+            let (line, after) = split_line(rest);
+            assert_eq!(rt; read_line(line, &window), wanted);
+            rest = after;
+        }
+        assert!(rt; rest.is_empty());
+    }
+}

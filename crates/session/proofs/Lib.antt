@@ -1,0 +1,4 @@
+pub mod GrowLaws
+pub mod PartLaws
+pub mod RangeLaws
+pub mod EditLaws

@@ -1,0 +1,59 @@
+-- Edits of a store, and what each makes of it.
+use Rattle.std.specs.Prelude.{◌≡◌, ◌+◌, ◌*◌, ◌/◌, ℕ, ℤ, pos, int_lt, nat_lt, nat_le, Bool, ◌||◌, if◌then◌else◌, is_some, List, length, Option, Some, None, Result, Ok, Err}
+use Rattle.sig_base.specs.HourRows.{Shown}
+use Rattle.sig_base.specs.declared.values.EditError.{EditError}
+use Rattle.sig_base.specs.declared.values.EditError.TheVariants.{OutOfWindow, AlreadyHeld, NotHeld, EmptyRange, TooManyRows, TooManyBlanks}
+use Rattle.hour_store.specs.Store.{Store, held_at, rows_held, with_hour, with_blanks}
+use Rattle.session.specs.Ranges.{ranges_of, blanked_with, blanked_without}
+use Rattle.session.specs.declared.edit.Edit.{Edit}
+use Rattle.session.specs.declared.edit.Edit.TheVariants as code
+
+-- an edit; the tenth `to` of a range is left out
+pub data Change : Type 0 where
+  load : Shown → Change
+  replace : Shown → Change
+  withdraw : ℕ → Change
+  blank : ℤ → ℤ → Change
+  unblank : ℤ → ℤ → Change
+
+abbrev pub change_of : {L : Type 0} → Edit L → Change
+change_of (code.Load rows) = load rows
+change_of (code.Replace rows) = replace rows
+change_of (code.Withdraw hour) = withdraw hour
+change_of (code.Blank from to) = blank from to
+change_of (code.Unblank from to) = unblank from to
+
+-- the tenths from `from` to `to` reach out of a window of so many hours
+abbrev pub reaches_out : ℕ → ℤ → ℤ → Bool
+reaches_out hours from to = int_lt from (pos 0) || int_lt (pos (36000 * hours)) to
+
+-- the store, unless it holds too many rows
+abbrev pub unless_many_rows : Store → Result Store EditError
+unless_many_rows s = if nat_lt 20000000 (rows_held s) then Err TooManyRows else Ok s
+
+-- the store, unless it has too many blanked ranges
+abbrev pub unless_many_blanks : Store → Result Store EditError
+unless_many_blanks s = if nat_lt 10000 (length s.blanks) then Err TooManyBlanks else Ok s
+
+-- the store after an edit, or the first refusal of it
+unfoldable pub step_of : Store → Change → Result Store EditError
+step_of s (load r) =
+    if nat_le (length s.hours) r.hour then Err OutOfWindow
+    else (if is_some (held_at s r.hour) then Err AlreadyHeld
+    else unless_many_rows (with_hour s r.hour (Some r)))
+step_of s (replace r) =
+    if nat_le (length s.hours) r.hour then Err OutOfWindow
+    else (if is_some (held_at s r.hour) then unless_many_rows (with_hour s r.hour (Some r))
+    else Err NotHeld)
+step_of s (withdraw hour) =
+    if nat_le (length s.hours) hour then Err OutOfWindow
+    else (if is_some (held_at s hour) then Ok (with_hour s hour None)
+    else Err NotHeld)
+step_of s (blank from to) =
+    if reaches_out (length s.hours) from to then Err OutOfWindow
+    else (if int_lt from to then unless_many_blanks (with_blanks s (ranges_of (length s.hours) (blanked_with s from to)))
+    else Err EmptyRange)
+step_of s (unblank from to) =
+    if reaches_out (length s.hours) from to then Err OutOfWindow
+    else (if int_lt from to then unless_many_blanks (with_blanks s (ranges_of (length s.hours) (blanked_without s from to)))
+    else Err EmptyRange)

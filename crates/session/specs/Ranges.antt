@@ -1,0 +1,52 @@
+-- Ranges of the tenths that pass a test.
+use Rattle.std.specs.Prelude.{◌≡◌, ◌+◌, ◌*◌, ◌/◌, ◌↔◌, ◌⊎◌, ℕ, zero, suc, ℤ, pos, negsuc, int_le, int_lt, Bool, ◌&&◌, ◌||◌, not, if◌then◌else◌, List, [], ◌∷◌}
+use Rattle.std.specs.Ordering.{int_eq}
+use Rattle.span_set.specs.declared.set.Span.{Span}
+use Rattle.span_set.specs.Spans.{Member, Within, is_member}
+use Rattle.span_set.specs.Changes.{span}
+use Rattle.hour_store.specs.Store.{Store}
+
+-- ranges that all begin after a tenth, with this tenth too
+abbrev pub with_first : ℕ → List Span → List Span
+with_first t [] = record { from = pos t; to = pos (t + 1) } ∷ []
+with_first t (s ∷ ss) =
+    if int_eq s.from (pos (t + 1)) then record { from = pos t; to = s.to } ∷ ss
+    else record { from = pos t; to = pos (t + 1) } ∷ s ∷ ss
+
+-- the ranges of those of the n tenths from `from` on that pass the test
+unfoldable pub ranges_from : (ℕ → Bool) → ℕ → ℕ → List Span
+ranges_from test from zero = []
+ranges_from test from (suc n) =
+    if test from then with_first from (ranges_from test (from + 1) n) else ranges_from test (from + 1) n
+
+-- the ranges of those tenths of a window of so many hours that pass the test
+abbrev pub ranges_of : ℕ → (ℕ → Bool) → List Span
+ranges_of hours test = ranges_from test 0 (36000 * hours)
+
+abbrev pub is_blanked : Store → ℕ → Bool
+is_blanked s t = is_member s.blanks (pos t)
+
+-- the tenth t is from `from` on, but before `to`
+abbrev pub is_between : ℤ → ℤ → ℕ → Bool
+is_between from to t = int_le from (pos t) && int_lt (pos t) to
+
+-- the blanked tenths and those of the range
+abbrev pub blanked_with : Store → ℤ → ℤ → ℕ → Bool
+blanked_with s from to t = is_blanked s t || is_between from to t
+
+-- the blanked tenths without those of the range
+abbrev pub blanked_without : Store → ℤ → ℤ → ℕ → Bool
+blanked_without s from to t = is_blanked s t && not (is_between from to t)
+
+-- the hour of a tenth of the window
+abbrev pub hour_at : ℤ → ℕ
+hour_at (pos n) = n / 36000
+hour_at (negsuc n) = 0
+
+-- the new ranges have the tenths of the old ones and those of the range
+abbrev pub With : List Span → ℤ → ℤ → List Span → Type 0
+With old from to new = (e : ℤ) → Member new e ↔ (Member old e ⊎ Within (span from to) e)
+
+-- the new ranges have the tenths of the old ones without those of the range
+abbrev pub Without : List Span → ℤ → ℤ → List Span → Type 0
+Without old from to new = (e : ℤ) → Member new e ↔ (Member old e × (Within (span from to) e → ⊥))

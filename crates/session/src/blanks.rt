@@ -1,0 +1,46 @@
+// Ranges of tenths that are to be blanked, or no longer.
+ghost use Rattle.std.specs.Prelude.{◌≡◌, ◌^◌, pos, ◌≤ℤ◌, ◌<ℤ◌, IfOk};
+ghost use Rattle.session.specs.Edits.{reaches_out};
+ghost use Rattle.session.specs.Ranges.{Without, With, hour_at};
+
+use sig_base::{Hour, NoMemory, Tenth};
+use span_set::SpanSet;
+
+// The hour of a tenth of the window.
+pub fn hour_at(at: Tenth) -> Hour
+    requires low { pos 0 ≤ℤ at }
+    requires high { at <ℤ pos (2 ^ 32) }
+    ensures { result ≡ hour_at at }
+{
+    at as u32 / 36_000
+}
+
+// Whether the range begins before a window of so many hours, or ends past it.
+pub fn reaches_out(hours: u32, from: Tenth, to: Tenth) -> bool
+    ensures { result ≡ reaches_out hours from to }
+{
+    let end = 36_000 * hours as i64;
+    from < 0 || end < to
+}
+
+// These tenths, and those of the range.
+pub fn with_range(blanks: &SpanSet, from: Tenth, to: Tenth) -> Result<SpanSet, NoMemory>
+    requires low { pos 0 ≤ℤ from }
+    requires some { from <ℤ to }
+    requires high { to ≤ℤ pos (2 ^ 40) }
+    ensures { IfOk result (With blanks.now from to) }
+{
+    let mut all = blanks.copy()?;
+    all.add(from, to)?;
+    Ok(all)
+}
+
+// These tenths without those of the range.
+pub fn without_range(blanks: &SpanSet, from: Tenth, to: Tenth) -> Result<SpanSet, NoMemory>
+    requires { from <ℤ to }
+    ensures { IfOk result (Without blanks.now from to) }
+{
+    let mut rest = blanks.copy()?;
+    rest.remove(from, to)?;
+    Ok(rest)
+}

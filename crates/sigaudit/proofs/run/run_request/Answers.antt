@@ -1,0 +1,23 @@
+use Rattle.std.proofs.Common.{◌≡◌, ap, List, ℕ}
+use Rattle.outside.specs.Shelf.{Files}
+use Rattle.command_line.specs.Words.{HasDay, seen}
+use Rattle.sigaudit.specs.Run.{world, RunsAs}
+use Rattle.sigaudit.specs.Status.{status_of_run}
+use Rattle.sigaudit.specs.Transcript.{counted}
+use Rattle.sigaudit.proofs.GrowFacts.{grow_once}
+use Rattle.sigaudit.proofs.RunFacts.{request_run, request_count, day_back}
+use Rattle.sigaudit.proofs.ScriptFacts.{told_file}
+use Rattle.sigaudit.proofs.run.run_request.Goals as goal
+
+pub returns-in-Run-clause-told : goal.returns-in-Run-clause-told
+returns-in-Run-clause-told g c = λ files told.
+    request_run files (seen c.args.request) c.in-Run.config.now c.in-Run.script.now (world (g.S.Shelf.counts c.args.shelf.now) (g.K.Sink.written c.args.sink.now) (g.K.Sink.faults c.args.sink.now)) (world (g.S.Shelf.counts c.run_files.new.shelf) (g.K.Sink.written c.run_files.new.sink) (g.K.Sink.faults c.run_files.new.sink)) (status_of_run c.run_files.result) (ap seen c.in-Run.is) (c.run_files.ensures.told files told)
+
+pub returns-in-Count-clause-told : goal.returns-in-Count-clause-told
+returns-in-Count-clause-told g c = λ files told.
+    let day = rw c.in-Count.is at c.requires in
+    let h = told_file _ (g.S.Shelf.files c.args.shelf.now) files told c.count_file.ensures.told in
+    request_count files (seen c.args.request) c.in-Count.file.now c.in-Count.signal.now c.in-Count.day c.in-Count.hour (world (g.S.Shelf.counts c.args.shelf.now) (g.K.Sink.written c.args.sink.now) (g.K.Sink.faults c.args.sink.now)) (world (g.S.Shelf.counts c.count_file.new.shelf) (g.K.Sink.written c.count_file.new.sink) (g.K.Sink.faults c.count_file.new.sink)) (status_of_run c.count_file.result) (ap seen c.in-Count.is) (rw (day_back c.in-Count.day day.0) at h)
+
+pub returns-in-Count-clause-grow : goal.returns-in-Count-clause-grow
+returns-in-Count-clause-grow g c = grow_once _ _ 0 c.count_file.ensures.reads

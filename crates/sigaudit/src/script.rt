@@ -1,0 +1,400 @@
+// A script, line by line.
+ghost use Rattle.std.specs.Prelude.{◌≡◌, ◌<◌, ◌≤◌, ◌^◌, Some, None, ◌∷◌, [], codes, decimal, length, option_map};
+ghost use Rattle.outside.specs.Shelf.{Files};
+ghost use Rattle.outside.specs.Sink.{Puts};
+ghost use Rattle.report_text.specs.Line.{line_of};
+ghost use Rattle.sig_base.specs.HourRows.{Shown};
+ghost use Rattle.hour_store.specs.Store.{Store};
+ghost use Rattle.row_reader.specs.Rows.{rows_of};
+ghost use Rattle.report_text.specs.Refusals.{IsOfWindow};
+ghost use Rattle.session.specs.Edits.{change_of, step_of};
+ghost use Rattle.session.specs.Sessions.{Grow};
+ghost use Rattle.script_lines.specs.Lines.{lines_of};
+ghost use Rattle.script_lines.specs.Words.{said};
+ghost use Rattle.script_lines.specs.Seen.{seen};
+ghost use Rattle.sigaudit.specs.Script.{Turn, edit_said, hour_head, window_head, is_edit_memory, is_row_memory, hour_file, edit_turn, edited, file_turn, hour_change, hour_file_turn, hour_turn, measures_turn, passes, read_turn, refuses, told_of, turn, wanted_for, writes};
+ghost use Rattle.sigaudit.specs.Run.{world, CountsFetch, FetchesHour, NamesNoRow, IsCaused, NeverFall, Takes, TakesPut, TellsAll};
+
+use crate::status::Stopped;
+use itoa::Buffer;
+use outside::{FetchError, PutFailed, Shelf, Sink, put_parts};
+use report_text::{Refusal, put_applied, put_measures, put_refusal};
+use ring_config::Config;
+use row_reader::{RowError, read_rows};
+use script_lines::{Line, read_line, split_line};
+use session::{Edit, Session};
+use sig_base::{EditError, Hour, HourRows, Reads};
+use std::alloc::Global;
+
+// What came of a fetch of an hour file.
+#[derive(Clone, Copy)]
+enum Fetched {
+    There,
+    Missed(Refusal),
+    Cut(Stopped),
+}
+
+// The most bytes of an hour file.
+const LONGEST: u64 = 32 * 1_048_576;
+
+fn is_edit_memory(error: EditError) -> bool
+    ensures { result ≡ is_edit_memory error }
+{
+    matches!(error, EditError::Memory)
+}
+
+fn is_row_memory(error: RowError) -> bool
+    ensures { result ≡ is_row_memory error }
+{
+    matches!(error, RowError::Memory)
+}
+
+// Refuses a line.
+fn refuse<K: Sink>(
+    config: &Config,
+    number: u32,
+    refusal: Refusal,
+    sink: &mut K,
+) -> Result<bool, Stopped>
+    requires { IsOfWindow config.now.window refusal }
+    ensures { (s : Store) → TakesPut (refuses config.now number refusal s) (K.written sink.old) (K.written sink.new) (K.faults sink.old) (K.faults sink.new) s result }
+{
+    match put_refusal(config.window(), Some(number), &refusal, sink) {
+        Ok(()) => Ok(true),
+        Err(_) => Err(Stopped::Fault),
+    }
+}
+
+// Makes an edit and answers its line; a load or a replacement names its rows and repeats.
+fn edit_line<L, K: Sink>(
+    number: u32,
+    loaded: Option<(u32, u32)>,
+    edit: Edit<L>,
+    session: &mut Session<L>,
+    sink: &mut K,
+    reads: &mut Reads<L>,
+) -> Result<bool, Stopped>
+    ensures turn { TakesPut (edited session.old.config number loaded session.old.store (step_of session.old.store (change_of edit))) (K.written sink.old) (K.written sink.new) (K.faults sink.old) (K.faults sink.new) session.new.store result }
+    ensures config { session.new.config ≡ session.old.config }
+    ensures grow { Grow reads.old reads.new }
+{
+    match session.apply(edit, reads) {
+        Ok(applied) => match put_applied(number, loaded, &applied, sink) {
+            Ok(()) => Ok(false),
+            Err(_) => Err(Stopped::Fault),
+        },
+        Err(error) => {
+            if is_edit_memory(error) {
+                return Err(Stopped::Memory);
+            }
+            refuse(session.config(), number, Refusal::Edit(error), sink)
+        }
+    }
+}
+
+// The edit that loads these rows, or puts them in the place of the held ones.
+fn edit_of<L>(rows: HourRows<L>, replaces: bool) -> Edit<L>
+    ensures { change_of result ≡ hour_change replaces rows }
+{
+    if replaces {
+        Edit::Replace(rows)
+    } else {
+        Edit::Load(rows)
+    }
+}
+
+// Loads or replaces an hour by what the bytes of its file say.
+#[tactic(auto, using(crate::proofs::GrowFacts::grow_same))]
+fn bytes_line<L, K: Sink>(
+    alloc: Global,
+    number: u32,
+    hour: Hour,
+    bytes: &[u8],
+    replaces: bool,
+    session: &mut Session<L>,
+    sink: &mut K,
+    reads: &mut Reads<L>,
+) -> Result<bool, Stopped>
+    requires { hour < 744 }
+    ensures turn { TakesPut (read_turn session.old.config number (hour_change replaces) session.old.store (rows_of (wanted_for session.old.config hour) bytes.now)) (K.written sink.old) (K.written sink.new) (K.faults sink.old) (K.faults sink.new) session.new.store result }
+    ensures config { session.new.config ≡ session.old.config }
+    ensures grow { Grow reads.old reads.new }
+{
+    let config = session.config();
+    match read_rows::<L>(alloc, bytes, config.signal(), hour, config.window()) {
+        Ok(rows) => {
+            let loaded = Some((rows.len(), rows.repeats()));
+            edit_line(
+                number,
+                loaded,
+                edit_of(rows, replaces),
+                session,
+                sink,
+                reads,
+            )
+        }
+        Err(error) => {
+            if is_row_memory(error) {
+                return Err(Stopped::Memory);
+            }
+            refuse(config, number, Refusal::File(error), sink)
+        }
+    }
+}
+
+// Fetches an hour file, or says why there is nothing to read.
+fn fetch_hour<S: Shelf>(alloc: Global, name: &str, shelf: &mut S, bytes: &mut Vec<u8>) -> Fetched
+    requires { bytes.old.items ≡ [] }
+    ensures told { (files : Files) → S.files shelf.old ≡ Some files → FetchesHour (hour_file (files name.now)) bytes.new.items result }
+    ensures plain { NamesNoRow result }
+    ensures counts { CountsFetch (S.counts shelf.old) (S.counts shelf.new) result }
+    ensures files { S.files shelf.new ≡ S.files shelf.old }
+{
+    match shelf.fetch(alloc, name, LONGEST, bytes) {
+        Ok(()) => Fetched::There,
+        Err(FetchError::Missing) => Fetched::Missed(Refusal::MissingFile),
+        Err(FetchError::TooLong) => Fetched::Missed(Refusal::FileTooLong),
+        Err(FetchError::Failed) => Fetched::Cut(Stopped::Fault),
+        Err(FetchError::Memory) => Fetched::Cut(Stopped::Memory),
+    }
+}
+
+// Loads or replaces an hour of the window by the file of this name.
+#[tactic(auto, using(crate::proofs::GrowFacts::grow_same))]
+fn fetch_line<L, S: Shelf, K: Sink>(
+    alloc: Global,
+    number: u32,
+    hour: Hour,
+    name: &str,
+    replaces: bool,
+    session: &mut Session<L>,
+    shelf: &mut S,
+    sink: &mut K,
+    reads: &mut Reads<L>,
+) -> Result<bool, Stopped>
+    requires { hour < 744 }
+    ensures turn { (files : Files) → S.files shelf.old ≡ Some files
+        → Takes (file_turn session.old.config number hour (hour_change replaces) session.old.store (hour_file (files name.now))) (world (S.counts shelf.old) (K.written sink.old) (K.faults sink.old)) (world (S.counts shelf.new) (K.written sink.new) (K.faults sink.new)) session.new.store result }
+    ensures cause { IsCaused (world (S.counts shelf.old) (K.written sink.old) (K.faults sink.old)) (world (S.counts shelf.new) (K.written sink.new) (K.faults sink.new)) result }
+    ensures never_fall { NeverFall (world (S.counts shelf.old) (K.written sink.old) (K.faults sink.old)) (world (S.counts shelf.new) (K.written sink.new) (K.faults sink.new)) }
+    ensures files { S.files shelf.new ≡ S.files shelf.old }
+    ensures config { session.new.config ≡ session.old.config }
+    ensures grow { Grow reads.old reads.new }
+{
+    let mut bytes = Vec::new(alloc);
+    match fetch_hour(alloc, name, shelf, &mut bytes) {
+        Fetched::There => bytes_line(alloc, number, hour, &bytes, replaces, session, sink, reads),
+        Fetched::Missed(refusal) => refuse(session.config(), number, refusal, sink),
+        Fetched::Cut(stopped) => Err(stopped),
+    }
+}
+
+// Loads or replaces an hour by the file of this name.
+#[tactic(auto, using(crate::proofs::GrowFacts::grow_same))]
+fn file_line<L, S: Shelf, K: Sink>(
+    alloc: Global,
+    number: u32,
+    hour: Hour,
+    name: &str,
+    replaces: bool,
+    session: &mut Session<L>,
+    shelf: &mut S,
+    sink: &mut K,
+    reads: &mut Reads<L>,
+) -> Result<bool, Stopped>
+    ensures turn { (files : Files) → S.files shelf.old ≡ Some files
+        → Takes (hour_file_turn files session.old.config number hour name.now (hour_change replaces) session.old.store) (world (S.counts shelf.old) (K.written sink.old) (K.faults sink.old)) (world (S.counts shelf.new) (K.written sink.new) (K.faults sink.new)) session.new.store result }
+    ensures cause { IsCaused (world (S.counts shelf.old) (K.written sink.old) (K.faults sink.old)) (world (S.counts shelf.new) (K.written sink.new) (K.faults sink.new)) result }
+    ensures never_fall { NeverFall (world (S.counts shelf.old) (K.written sink.old) (K.faults sink.old)) (world (S.counts shelf.new) (K.written sink.new) (K.faults sink.new)) }
+    ensures files { S.files shelf.new ≡ S.files shelf.old }
+    ensures config { session.new.config ≡ session.old.config }
+    ensures grow { Grow reads.old reads.new }
+{
+    if hour >= session.config().window().hours() {
+        return refuse(
+            session.config(),
+            number,
+            Refusal::Edit(EditError::OutOfWindow),
+            sink,
+        );
+    }
+    fetch_line(
+        alloc, number, hour, name, replaces, session, shelf, sink, reads,
+    )
+}
+
+fn put_head<K: Sink>(number: u32, sink: &mut K) -> Result<(), PutFailed>
+    ensures { Puts (K.written sink.old) (K.written sink.new) (K.faults sink.old) (K.faults sink.new) (window_head number) result }
+{
+    let mut line = Buffer::new();
+    put_parts(sink, &[line.format(number).as_bytes(), b" measures", b"\n"])
+}
+
+fn put_hour_head<K: Sink>(number: u32, hour: Hour, sink: &mut K) -> Result<(), PutFailed>
+    ensures { Puts (K.written sink.old) (K.written sink.new) (K.faults sink.old) (K.faults sink.new) (hour_head number hour) result }
+{
+    let mut line = Buffer::new();
+    let mut of = Buffer::new();
+    put_parts(
+        sink,
+        &[
+            line.format(number).as_bytes(),
+            b" measures ",
+            of.format(hour).as_bytes(),
+            b"\n",
+        ],
+    )
+}
+
+// Writes the measures of the window.
+fn measures_line<L, K: Sink>(
+    number: u32,
+    session: &Session<L>,
+    sink: &mut K,
+) -> Result<bool, Stopped>
+    ensures { TakesPut (measures_turn number session.now.store) (K.written sink.old) (K.written sink.new) (K.faults sink.old) (K.faults sink.new) session.now.store result }
+{
+    match put_head(number, sink) {
+        Ok(()) => {}
+        Err(_) => return Err(Stopped::Fault),
+    }
+    match put_measures(session.config(), session.report().total(), sink) {
+        Ok(()) => Ok(false),
+        Err(_) => Err(Stopped::Fault),
+    }
+}
+
+// Writes the measures of one hour.
+fn hour_line<L, K: Sink>(
+    number: u32,
+    hour: Hour,
+    session: &Session<L>,
+    sink: &mut K,
+) -> Result<bool, Stopped>
+    ensures { TakesPut (hour_turn session.now.config number hour session.now.store) (K.written sink.old) (K.written sink.new) (K.faults sink.old) (K.faults sink.new) session.now.store result }
+{
+    let Some(part) = session.report().hour(hour) else {
+        return refuse(
+            session.config(),
+            number,
+            Refusal::Edit(EditError::OutOfWindow),
+            sink,
+        );
+    };
+    match put_hour_head(number, hour, sink) {
+        Ok(()) => {}
+        Err(_) => return Err(Stopped::Fault),
+    }
+    match put_measures(session.config(), part, sink) {
+        Ok(()) => Ok(false),
+        Err(_) => Err(Stopped::Fault),
+    }
+}
+
+// The edit of a line that needs no file.
+fn edit_in<L>(line: Line<'_>) -> Option<Edit<L>>
+    ensures { option_map change_of result ≡ edit_said (seen line.entry) }
+{
+    match line {
+        Line::Withdraw(hour) => Some(Edit::Withdraw(hour)),
+        Line::Blank(from, to) => Some(Edit::Blank { from, to }),
+        Line::Unblank(from, to) => Some(Edit::Unblank { from, to }),
+        _ => None,
+    }
+}
+
+// Takes a line by what it says.
+#[tactic(auto, using(crate::proofs::GrowFacts::grow_same))]
+fn take_said<L, S: Shelf, K: Sink>(
+    alloc: Global,
+    number: u32,
+    line: Line<'_>,
+    session: &mut Session<L>,
+    shelf: &mut S,
+    sink: &mut K,
+    reads: &mut Reads<L>,
+) -> Result<bool, Stopped>
+    ensures turn { (files : Files) → S.files shelf.old ≡ Some files
+        → Takes (turn files session.old.config number (seen line.entry) session.old.store) (world (S.counts shelf.old) (K.written sink.old) (K.faults sink.old)) (world (S.counts shelf.new) (K.written sink.new) (K.faults sink.new)) session.new.store result }
+    ensures cause { IsCaused (world (S.counts shelf.old) (K.written sink.old) (K.faults sink.old)) (world (S.counts shelf.new) (K.written sink.new) (K.faults sink.new)) result }
+    ensures never_fall { NeverFall (world (S.counts shelf.old) (K.written sink.old) (K.faults sink.old)) (world (S.counts shelf.new) (K.written sink.new) (K.faults sink.new)) }
+    ensures files { S.files shelf.new ≡ S.files shelf.old }
+    ensures config { session.new.config ≡ session.old.config }
+    ensures grow { Grow reads.old reads.new }
+{
+    if let Some(edit) = edit_in(line) {
+        return edit_line(number, None, edit, session, sink, reads);
+    }
+    match line {
+        Line::Skip => Ok(false),
+        Line::Bad => refuse(session.config(), number, Refusal::BadLine, sink),
+        Line::Load(hour, name) => {
+            file_line(
+                alloc, number, hour, name, false, session, shelf, sink, reads,
+            )
+        }
+        Line::Replace(hour, name) => {
+            file_line(alloc, number, hour, name, true, session, shelf, sink, reads)
+        }
+        Line::Measures => measures_line(number, session, sink),
+        Line::MeasuresOf(hour) => hour_line(number, hour, session, sink),
+        Line::Withdraw(_) => unreachable!(),
+        Line::Blank(_, _) => unreachable!(),
+        Line::Unblank(_, _) => unreachable!(),
+    }
+}
+
+// Takes a line of a script.
+fn take_line<L, S: Shelf, K: Sink>(
+    alloc: Global,
+    number: u32,
+    line: &[u8],
+    session: &mut Session<L>,
+    shelf: &mut S,
+    sink: &mut K,
+    reads: &mut Reads<L>,
+) -> Result<bool, Stopped>
+    ensures turn { (files : Files) → S.files shelf.old ≡ Some files
+        → Takes (turn files session.old.config number (said session.old.config.window line.now) session.old.store) (world (S.counts shelf.old) (K.written sink.old) (K.faults sink.old)) (world (S.counts shelf.new) (K.written sink.new) (K.faults sink.new)) session.new.store result }
+    ensures cause { IsCaused (world (S.counts shelf.old) (K.written sink.old) (K.faults sink.old)) (world (S.counts shelf.new) (K.written sink.new) (K.faults sink.new)) result }
+    ensures never_fall { NeverFall (world (S.counts shelf.old) (K.written sink.old) (K.faults sink.old)) (world (S.counts shelf.new) (K.written sink.new) (K.faults sink.new)) }
+    ensures files { S.files shelf.new ≡ S.files shelf.old }
+    ensures config { session.new.config ≡ session.old.config }
+    ensures grow { Grow reads.old reads.new }
+{
+    let said = read_line(line, session.config().window());
+    take_said(alloc, number, said, session, shelf, sink, reads)
+}
+
+/// Takes the lines of a script in their order, numbered from 1, and answers whether one of them was
+/// refused. The bytes written are the texts of the lines, or a front of them where the run was cut
+/// off.
+pub fn run_script<L, S: Shelf, K: Sink>(
+    alloc: Global,
+    script: &[u8],
+    session: &mut Session<L>,
+    shelf: &mut S,
+    sink: &mut K,
+    reads: &mut Reads<L>,
+) -> Result<bool, Stopped>
+    requires { length script.now < 2 ^ 32 }
+    ensures transcript { (files : Files) → S.files shelf.old ≡ Some files
+        → TellsAll (told_of files session.old.config 1 (lines_of script.now) session.old.store) (world (S.counts shelf.old) (K.written sink.old) (K.faults sink.old)) (world (S.counts shelf.new) (K.written sink.new) (K.faults sink.new)) result }
+    ensures cause { IsCaused (world (S.counts shelf.old) (K.written sink.old) (K.faults sink.old)) (world (S.counts shelf.new) (K.written sink.new) (K.faults sink.new)) result }
+    ensures never_fall { NeverFall (world (S.counts shelf.old) (K.written sink.old) (K.faults sink.old)) (world (S.counts shelf.new) (K.written sink.new) (K.faults sink.new)) }
+    ensures grow { Grow reads.old reads.new }
+{
+    let mut rest = script;
+    let mut number: u32 = 0;
+    let mut refused = false;
+    while !rest.is_empty() {
+        let (line, after) = split_line(rest);
+        number += 1;
+        match take_line(alloc, number, line, session, shelf, sink, reads) {
+            Ok(is_refused) => refused |= is_refused,
+            Err(stopped) => return Err(stopped),
+        }
+        rest = after;
+    }
+    Ok(refused)
+}

@@ -1,0 +1,9 @@
+pub mod History
+pub mod Moves
+pub mod Logs
+pub mod Channels
+pub mod Courses
+pub mod Stops
+pub mod Places
+pub mod Hours
+pub mod Verdicts

@@ -1,0 +1,165 @@
+// The states of all channels before an hour.
+ghost use Rattle.std.specs.Prelude.{◌≡◌, ◌↔◌, ℕ, ℤ, pos, negsuc, ◌<ℤ◌, ◌≤ℤ◌, ◌<◌, ◌≤◌, ◌^◌, [], IsTrue, length, slice_index_or, IfOk};
+ghost use Rattle.channel_tables.specs.Spec.{IsSpec, rules_of};
+ghost use Rattle.reach.specs.Runs.{State};
+ghost use Rattle.reach.specs.Ahead.{Admits};
+ghost use Rattle.lane.specs.Walks.{InOrder, BeforeMoves};
+ghost use Rattle.lane.specs.Places.{EntersBefore};
+ghost use Rattle.gap_map.specs.Stretches.{FollowOn};
+ghost use Rattle.board.specs.Channels.{AreSpecs};
+ghost use Rattle.board.specs.Logs.{IsHour};
+ghost use Rattle.board.specs.Places.{AreAheadsOf};
+ghost use Rattle.board.specs.Hours.{AreEnds, AreAheadsBefore};
+
+use crate::courses::courses_of;
+use channel_tables::{Spec, machine_of};
+use colour_machine::Machine;
+use gap_map::Stretch;
+use lane::{Move, walk_ahead};
+use reach::Ahead;
+use sig_base::{NoMemory, Row, Tenth};
+use std::alloc::Global;
+use std::marker::Model;
+
+/// Which states of each channel can still be completed, in the order of the specs.
+#[derive(Drop)]
+pub struct Aheads {
+    pub(crate) aheads: Vec<Ahead>,
+    alloc: Global,
+}
+
+impl Model for Aheads {
+    ghost use Rattle.std.specs.Prelude.{List, Option, ℤ};
+
+    ghost Value = { List (List (Option ℤ)) };
+
+    ghost view = { λ a. a.aheads.items };
+}
+
+impl Aheads {
+    /// At the point, the window's end: of each channel every colour with every entry before it.
+    pub fn end(alloc: Global, specs: &[Spec], point: Tenth) -> Result<Aheads, NoMemory>
+        requires specs { AreSpecs specs.now }
+        requires low { negsuc (2 ^ 39) ≤ℤ point }
+        requires high { point ≤ℤ pos (2 ^ 39) }
+        ensures shape { IfOk result (λ a. AreAheadsOf specs.now a) }
+        ensures states { IfOk result (λ a. AreEnds specs.now point (length specs.now) a) }
+    {
+        let mut aheads = Vec::new(alloc);
+        for i in 0..specs.len() {
+            aheads.push(ahead_end(&specs[i], point))?;
+        }
+        Ok(Aheads { aheads, alloc })
+    }
+
+    /// An equal value.
+    pub fn copy(&self) -> Result<Aheads, NoMemory>
+        ensures { IfOk result (λ a. a ≡ self.now) }
+    {
+        let mut aheads = Vec::new(self.alloc);
+        for ahead in &self.aheads {
+            aheads.push(ahead.copy())?;
+        }
+        Ok(Aheads {
+            aheads,
+            alloc: self.alloc,
+        })
+    }
+
+    /// Whether both have equally many channels, and each admits the same states in both.
+    pub fn same(&self, other: &Aheads) -> bool
+        ensures { IsTrue result ↔ (self.now ≡ other.now) }
+    {
+        same_aheads(&self.aheads, &other.aheads)
+    }
+
+    /// Which states of the channel with this place among the specs, from 0, can be completed.
+    pub fn at(&self, spec: u16) -> &Ahead
+        requires { spec < length self.now }
+        ensures { result.now ≡ slice_index_or self.now spec [] }
+    {
+        &self.aheads[spec as usize]
+    }
+}
+
+fn ahead_end(spec: &Spec, point: Tenth) -> Ahead
+    requires fits { IsSpec spec.now }
+    requires low { negsuc (2 ^ 39) ≤ℤ point }
+    requires high { point ≤ℤ pos (2 ^ 39) }
+    ensures colours { length result ≡ (rules_of spec.now).colours }
+    ensures states { (s : State) → Admits result s ↔ ((s.colour < (rules_of spec.now).colours) × (s.entry <ℤ point)) }
+{
+    let machine = machine_of(spec);
+    Ahead::end(machine.colours(), point)
+}
+
+fn same_aheads(a: &[Ahead], b: &[Ahead]) -> bool
+    ensures { IsTrue result ↔ (a.now ≡ b.now) }
+{
+    if a.len() != b.len() {
+        return false;
+    }
+    for i in 0..a.len() {
+        if !a[i].same(&b[i]) {
+            return false;
+        }
+    }
+    true
+}
+
+/// Which states of each channel before the hour can be completed: those entered before its first
+/// tenth from which some run of the hour that agrees with its known rows leads to one that is
+/// admitted after it.
+pub fn aheads_hour(
+    alloc: Global,
+    specs: &[Spec],
+    after: &Aheads,
+    rows: &[Row],
+    stretches: &[Stretch],
+) -> Result<Aheads, NoMemory>
+    requires specs { AreSpecs specs.now }
+    requires hour { (h : ℕ) × IsHour h rows.now stretches.now }
+    requires after { AreAheadsOf specs.now after.now }
+    ensures shape { IfOk result (λ a. AreAheadsOf specs.now a) }
+    ensures before { IfOk result (λ a. AreAheadsBefore specs.now rows.now stretches.now after.now a) }
+{
+    let courses = courses_of(alloc, specs, rows, stretches)?;
+    let first = first_of(stretches);
+    let mut aheads = Vec::new(alloc);
+    for i in 0..specs.len() {
+        let ahead = ahead_before(&specs[i], &after.aheads[i], courses[i].moves(), first);
+        aheads.push(ahead)?;
+    }
+    Ok(Aheads { aheads, alloc })
+}
+
+// The first tenth of the stretches.
+fn first_of(stretches: &[Stretch]) -> u32
+    requires { 1 ≤ length stretches.now }
+    ensures { (f t : ℕ) → FollowOn f t stretches.now → result ≡ f }
+{
+    stretches[0].from
+}
+
+// The states of one channel, entered before the tenth, from which its moves lead to one that is
+// admitted.
+fn ahead_before(spec: &Spec, after: &Ahead, moves: &[Move], first: u32) -> Ahead
+    requires fits { IsSpec spec.now }
+    requires order { InOrder (rules_of spec.now) 0 moves.now }
+    requires colours { length after.now ≡ (rules_of spec.now).colours }
+    ensures before { (s : State) → Admits result s ↔ ((EntersBefore moves.now s × BeforeMoves (rules_of spec.now) after.now moves.now s) × (s.entry <ℤ pos first)) }
+    ensures colours { length result ≡ length after.now }
+{
+    let machine = machine_of(spec);
+    let mut ahead = after.copy();
+    walk_ahead(&machine, &mut ahead, moves);
+    lower_before(&mut ahead, first);
+    ahead
+}
+
+fn lower_before(ahead: &mut Ahead, first: u32)
+    ensures states { (s : State) → Admits ahead.new s ↔ (Admits ahead.old s × (s.entry <ℤ pos first)) }
+    ensures colours { length ahead.new ≡ length ahead.old }
+{
+    ahead.lower(i64::from(first) - 1);
+}

@@ -1,0 +1,127 @@
+// Clauses over several channels, and what holds of them in all histories.
+ghost use Rattle.std.specs.Prelude.{◌≡◌, ◌↔◌, ◌⊎◌, ℕ, ℤ, pos, ◌+◌, ◌<◌, ◌≤◌, true, IsTrue, IsSome, IfSome, List, [], length};
+ghost use Rattle.reach.specs.Runs.{State};
+ghost use Rattle.gap_map.specs.Stretches.{known_at};
+ghost use Rattle.board.specs.declared.clause.Term.{Term};
+ghost use Rattle.board.specs.Logs.{HourLog};
+ghost use Rattle.board.specs.Places.{IsViewOf};
+ghost use Rattle.board.specs.Verdicts.{AreApart, AreClause, AreWithin, HasSpec, IsVerdict, Keeps, PassStates, MayPass, SomeIn, SomeNot};
+
+use crate::view::HourView;
+use colour_machine::Mask;
+use reach::{AgeBound, Seen, Test};
+use sig_base::Verdict;
+use std::marker::Model;
+
+/// A term of a clause: the place of a channel among the specs, from 0, and the colours in which the
+/// term holds.
+#[derive(Clone, Copy, Debug, PartialEq, Eq)]
+pub struct Term {
+    pub spec: u16,
+    pub colours: Mask,
+}
+
+/// A clause: it is kept where one of its terms holds. It has 1 to 9 terms, no two of one channel.
+#[derive(Drop)]
+pub struct Clause {
+    terms: Vec<Term>,
+}
+
+impl Model for Clause {
+    ghost use Rattle.std.specs.Prelude.{List};
+    ghost use Rattle.board.specs.declared.clause.Term.{Term};
+    ghost use Rattle.board.specs.Verdicts.{AreClause};
+
+    ghost Value = { List Term };
+
+    ghost view = { λ c. c.terms.items };
+
+    ghost invariant = { λ c. AreClause c.terms.items };
+}
+
+impl Clause {
+    /// `None` exactly where there are no terms, more than 9, or two of one spec.
+    pub fn new(terms: Vec<Term>) -> Option<Clause>
+        ensures some { IsSome result ↔ AreClause terms.items }
+        ensures terms { IfSome result (λ c. c ≡ terms.items) }
+    {
+        if terms.is_empty() || terms.len() > 9 || !are_apart(&terms) {
+            return None;
+        }
+        Some(Clause { terms })
+    }
+
+    pub fn terms(&self) -> &[Term]
+        ensures terms { result.now ≡ self.now }
+        ensures fit { AreClause self.now }
+    {
+        self.terms.as_slice()
+    }
+}
+
+// Whether no two of the terms are of one spec.
+fn are_apart(terms: &[Term]) -> bool
+    ensures { IsTrue result ↔ AreApart terms.now }
+{
+    for i in 0..terms.len() {
+        if has_spec(&terms[i + 1..], terms[i].spec) {
+            return false;
+        }
+    }
+    true
+}
+
+// Whether one of the terms is of the spec.
+fn has_spec(terms: &[Term], spec: u16) -> bool
+    ensures { IsTrue result ↔ HasSpec spec terms.now }
+{
+    for term in terms {
+        if term.spec == spec {
+            return true;
+        }
+    }
+    false
+}
+
+/// Whether all, none or some of the histories of the hour that agree with its known rows keep the
+/// clause at the end of the known tenth; never `Idle`.
+pub fn clause_verdict(view: &HourView, at: u32, clause: &Clause) -> Verdict
+    requires { AreWithin (length view.now) clause.now }
+    ensures { (log : HourLog) → IsViewOf log view.now → known_at log.stretches at ≡ true → ((w : ℕ → State) × PassStates log at w) → IsVerdict result (PassStates log at) (Keeps clause.now) }
+{
+    let terms = clause.terms();
+    let mut some = false;
+    for i in 0..terms.len() {
+        let seen = term_seen(view, at, terms[i]);
+        if !seen.some_false {
+            return Verdict::Kept;
+        }
+        some = either(some, seen.some_true);
+    }
+    if some {
+        return Verdict::Undecided;
+    }
+    Verdict::Broken
+}
+
+// What the runs of the term's channel say of it at the end of the tenth.
+fn term_seen(view: &HourView, at: u32, term: Term) -> Seen
+    requires spec { term.spec < length view.now }
+    ensures { (log : HourLog) → IsViewOf log view.now → known_at log.stretches at ≡ true → (IsTrue result.some_true ↔ SomeIn (MayPass log at) term) × (IsTrue result.some_false ↔ SomeNot (MayPass log at) term) }
+{
+    let test = Test {
+        colours: term.colours,
+        bound: AgeBound::Any,
+        at: i64::from(at),
+    };
+    view.seen_at_end(term.spec, at, &test)
+}
+
+fn either(a: bool, b: bool) -> bool
+    ensures { IsTrue result ↔ (IsTrue a ⊎ IsTrue b) }
+{
+    if a {
+        return true;
+    }
+    b
+}

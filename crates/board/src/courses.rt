@@ -1,0 +1,198 @@
+// The moves of each channel in an hour, in one pass over stretches and rows.
+ghost use Rattle.std.specs.Prelude.{◌≡◌, ◌≢◌, ℕ, ◌+◌, ◌<◌, ◌≤◌, ◌^◌, [], ◌∷◌, ◌++◌, Some, None, length, drop, take, slice_index_or, MatchOption, OnOk, IfOk, IsTrue, ◌↔◌};
+ghost use Rattle.event_codes.specs.declared.channels.Channel.{Channel};
+ghost use Rattle.channel_tables.specs.declared.spec.Spec.{Spec};
+ghost use Rattle.lane.specs.declared.moves.Move.{Move};
+ghost use Rattle.lane.specs.declared.moves.Move.TheVariants.{Letter, Gap};
+ghost use Rattle.board.specs.Channels.{letter_in, track, AreSpecs};
+ghost use Rattle.board.specs.Moves.{count_before, with_letter, letter_moves, stretch_moves};
+ghost use Rattle.board.specs.Courses.{AreAdded, AreCourses};
+
+use channel_tables::{Spec, letter_of};
+use event_codes::{Channel, channel_of};
+use gap_map::Stretch;
+use lane::Move;
+use sig_base::{NoMemory, Row};
+use std::alloc::Global;
+use std::marker::Model;
+
+/// The moves of one channel.
+#[derive(Drop)]
+pub struct Course {
+    moves: Vec<Move>,
+}
+
+impl Model for Course {
+    ghost use Rattle.std.specs.Prelude.{List};
+    ghost use Rattle.lane.specs.declared.moves.Move.{Move};
+
+    ghost Value = { List Move };
+
+    ghost view = { λ c. c.moves.items };
+}
+
+impl Course {
+    fn new(alloc: Global) -> Course
+        ensures { result ≡ [] }
+    {
+        Course {
+            moves: Vec::new(alloc),
+        }
+    }
+
+    fn add(&mut self, one: Move) -> Result<(), NoMemory>
+        ensures { OnOk result (self.new ≡ self.old ++ one ∷ []) }
+    {
+        self.moves.push(one)?;
+        Ok(())
+    }
+
+    pub fn moves(&self) -> &[Move]
+        ensures { result.now ≡ self.now }
+    {
+        self.moves.as_slice()
+    }
+}
+
+/// The moves of each channel over the stretches.
+pub fn courses_of(
+    alloc: Global,
+    specs: &[Spec],
+    rows: &[Row],
+    stretches: &[Stretch],
+) -> Result<Vec<Course>, NoMemory>
+    requires specs { AreSpecs specs.now }
+    requires few { length rows.now < 2 ^ 32 }
+    ensures { IfOk result (λ v. AreCourses specs.now rows.now stretches.now v.items) }
+{
+    let mut courses = empty(alloc, specs.len())?;
+    let mut next: usize = 0;
+    for stretch in stretches {
+        next = add_stretch(specs, courses.as_mut_slice(), rows, next, *stretch)?;
+    }
+    Ok(courses)
+}
+
+fn empty(alloc: Global, count: usize) -> Result<Vec<Course>, NoMemory>
+    ensures { IfOk result (λ v. (length v.items ≡ count) × ((i : ℕ) → slice_index_or v.items i [] ≡ [])) }
+{
+    let mut courses = Vec::new(alloc);
+    for _course in 0..count {
+        courses.push(Course::new(alloc))?;
+    }
+    Ok(courses)
+}
+
+// The moves of a stretch, of which the next row is the first. Answers which row comes next then.
+fn add_stretch(
+    specs: &[Spec],
+    courses: &mut [Course],
+    rows: &[Row],
+    next: usize,
+    stretch: Stretch,
+) -> Result<usize, NoMemory>
+    requires specs { AreSpecs specs.now }
+    requires same { length courses.old ≡ length specs.now }
+    requires few { length rows.now < 2 ^ 32 }
+    requires next { next ≤ length rows.now }
+    ensures next { IfOk result (λ n. n ≡ next + count_before stretch.to (drop next rows.now)) }
+    ensures added { OnOk result ((d : Spec) → AreAdded courses.old courses.new (λ i. stretch_moves (track (slice_index_or specs.now i d)) next (take (count_before stretch.to (drop next rows.now)) (drop next rows.now)) stretch)) }
+{
+    let (_done, rest) = rows.split_at(next);
+    let count = until(rest, stretch.to);
+    if stretch.known {
+        let (here, _later) = rest.split_at(count);
+        add_rows(specs, courses, here, next as u32)?;
+        return Ok(next + count);
+    }
+    add_gap(courses, stretch.from, stretch.to)?;
+    Ok(next + count)
+}
+
+// The number of first rows before the tenth.
+fn until(rows: &[Row], tenth: u32) -> usize
+    ensures { result ≡ count_before tenth rows.now }
+{
+    for (i, row) in rows.iter().enumerate() {
+        if row.at >= tenth {
+            return i;
+        }
+    }
+    rows.len()
+}
+
+// A gap for each channel.
+fn add_gap(courses: &mut [Course], from: u32, to: u32) -> Result<(), NoMemory>
+    ensures { OnOk result (AreAdded courses.old courses.new (λ _. Gap from to ∷ [])) }
+{
+    for course in courses.iter_mut() {
+        course.add(Move::Gap { from, to })?;
+    }
+    Ok(())
+}
+
+// The rows, of which the first has this number.
+fn add_rows(
+    specs: &[Spec],
+    courses: &mut [Course],
+    rows: &[Row],
+    first: u32,
+) -> Result<(), NoMemory>
+    requires specs { AreSpecs specs.now }
+    requires same { length courses.old ≡ length specs.now }
+    requires few { first + length rows.now < 2 ^ 32 }
+    ensures { OnOk result ((d : Spec) → AreAdded courses.old courses.new (λ i. letter_moves (track (slice_index_or specs.now i d)) first rows.now)) }
+{
+    let mut number = first;
+    for row in rows {
+        add_row(specs, courses, *row, number)?;
+        number += 1;
+    }
+    Ok(())
+}
+
+// A row, for the channel to which it belongs.
+fn add_row(specs: &[Spec], courses: &mut [Course], row: Row, number: u32) -> Result<(), NoMemory>
+    requires specs { AreSpecs specs.now }
+    requires same { length courses.old ≡ length specs.now }
+    ensures { OnOk result ((d : Spec) → AreAdded courses.old courses.new (λ i. with_letter (letter_in (slice_index_or specs.now i d) row.code row.param) row.at number [])) }
+{
+    let Some((i, letter)) = find(specs, row.code, row.param) else {
+        return Ok(());
+    };
+    courses[i].add(Move::Letter {
+        at: row.at,
+        letter,
+        row: number,
+    })?;
+    Ok(())
+}
+
+// The place of the spec to whose channel the event belongs, and its letter.
+fn find(specs: &[Spec], code: u8, param: u16) -> Option<(usize, u8)>
+    ensures { MatchOption result ((i : ℕ) (d : Spec) → i < length specs.now → letter_in (slice_index_or specs.now i d) code param ≡ None) (λ p. (p.0 < length specs.now) × ((d : Spec) → letter_in (slice_index_or specs.now p.0 d) code param ≡ Some p.1)) }
+{
+    let channel = channel_of(code, param)?;
+    let letter = letter_of(code, param)?;
+    match place_of_channel(specs, channel) {
+        Some(place) => Some((place, letter)),
+        None => None,
+    }
+}
+
+fn place_of_channel(specs: &[Spec], channel: Channel) -> Option<usize>
+    ensures { MatchOption result ((i : ℕ) (d : Spec) → i < length specs.now → (slice_index_or specs.now i d).channel ≢ channel) (λ p. (p < length specs.now) × ((d : Spec) → (slice_index_or specs.now p d).channel ≡ channel)) }
+{
+    for i in 0..specs.len() {
+        if is_same(specs[i].channel, channel) {
+            return Some(i);
+        }
+    }
+    None
+}
+
+fn is_same(a: Channel, b: Channel) -> bool
+    ensures { IsTrue result ↔ (a ≡ b) }
+{
+    a == b
+}

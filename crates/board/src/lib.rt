@@ -1,0 +1,24 @@
+//! All channels of one hour: the states after it and those before it, and what each known place of
+//! it says of a test or of a clause, over all histories that agree with the log.
+//!
+//! A history gives each channel a state before the hour and each tenth a list of events. It agrees
+//! with the log where no event is illegal for its channel and each known tenth has exactly the
+//! events of its rows, in order. The rows are cut into each channel's own moves once; all else goes
+//! one channel at a time.
+//!
+//! Tenths are tenths of a second from the window's start.
+#![tactic(auto)]
+
+mod aheads;
+mod clause;
+mod courses;
+mod pasts;
+mod view;
+
+pub use aheads::{Aheads, aheads_hour};
+pub use clause::{Clause, Term, clause_verdict};
+pub use pasts::{Pasts, PastsError, pasts_hour};
+pub use view::HourView;
+
+#[cfg(test)]
+mod tests;

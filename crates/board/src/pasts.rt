@@ -1,0 +1,273 @@
+// The states of all channels after an hour.
+ghost use Rattle.std.specs.Prelude.{◌≡◌, ◌↔◌, ℕ, ℤ, pos, ◌-ℤ◌, ◌<◌, ◌≤◌, [], None, IsTrue, length, slice_index_or, MatchOption, IfSome, IfOk, IfErr};
+ghost use Rattle.channel_tables.specs.Spec.{IsSpec, rules_of};
+ghost use Rattle.channel_tables.specs.declared.spec.Spec.{Spec};
+ghost use Rattle.reach.specs.Runs.{State};
+ghost use Rattle.reach.specs.Past.{Holds};
+ghost use Rattle.lane.specs.Walks.{InOrder, AfterMoves, EnteredBefore};
+ghost use Rattle.gap_map.specs.Stretches.{FollowOn};
+ghost use Rattle.board.specs.declared.pasts.PastsError.TheVariants.{Memory};
+ghost use Rattle.board.specs.Channels.{AreSpecs};
+ghost use Rattle.board.specs.Logs.{IsHour, first_tenth, end_tenth};
+ghost use Rattle.board.specs.Stops.{number, StopRow, IsEarlier, Survives, IsFirstStop, AreAfter, AreBefore, rules_at};
+ghost use Rattle.board.specs.Places.{AllEarly};
+ghost use Rattle.board.specs.Hours.{IsStart, AreStarts, AllClamped, ArePastsOf, NamesStop};
+
+use crate::courses::courses_of;
+use channel_tables::{Spec, machine_of};
+use colour_machine::Machine;
+use gap_map::Stretch;
+use lane::{Move, walk_past};
+use reach::Past;
+use sig_base::{NoMemory, Row};
+use std::alloc::Global;
+use std::marker::Model;
+
+/// The possible states of each channel, in the order of the specs.
+#[derive(Drop)]
+pub struct Pasts {
+    pub(crate) pasts: Vec<Past>,
+    alloc: Global,
+}
+
+impl Model for Pasts {
+    ghost use Rattle.std.specs.Prelude.{List};
+    ghost use Rattle.span_set.specs.declared.set.Span.{Span};
+
+    ghost Value = { List (List (List Span)) };
+
+    ghost view = { λ p. p.pasts.items };
+}
+
+impl Pasts {
+    /// The states before the window: of each channel all colours, each with every entry from
+    /// -36,001 to -1.
+    pub fn start(alloc: Global, specs: &[Spec]) -> Result<Pasts, NoMemory>
+        requires { AreSpecs specs.now }
+        ensures shape { IfOk result (λ p. AreBefore specs.now p) }
+        ensures states { IfOk result (λ p. AreStarts specs.now (length specs.now) p) }
+    {
+        let mut pasts = Vec::new(alloc);
+        for i in 0..specs.len() {
+            let past = past_start(alloc, &specs[i])?;
+            pasts.push(past)?;
+        }
+        Ok(Pasts { pasts, alloc })
+    }
+
+    /// An equal value.
+    pub fn copy(&self) -> Result<Pasts, NoMemory>
+        ensures { IfOk result (λ p. p ≡ self.now) }
+    {
+        let mut pasts = Vec::new(self.alloc);
+        for past in &self.pasts {
+            let next = past.copy()?;
+            pasts.push(next)?;
+        }
+        Ok(Pasts {
+            pasts,
+            alloc: self.alloc,
+        })
+    }
+
+    /// Whether both have equally many channels, and each the same states in both.
+    pub fn same(&self, other: &Pasts) -> bool
+        ensures { IsTrue result ↔ (self.now ≡ other.now) }
+    {
+        same_pasts(&self.pasts, &other.pasts)
+    }
+
+    /// The states of the channel with this place among the specs, from 0.
+    pub fn at(&self, spec: u16) -> &Past
+        requires { spec < length self.now }
+        ensures { result.now ≡ slice_index_or self.now spec [] }
+    {
+        &self.pasts[spec as usize]
+    }
+
+    // Makes the entries that are older than an hour at the point one.
+    fn clamp(&mut self, point: u32)
+        ensures { AllClamped (pos point -ℤ pos 36001) self.old self.new }
+    {
+        clamp_all(self.pasts.as_mut_slice(), point);
+    }
+}
+
+fn past_start(alloc: Global, spec: &Spec) -> Result<Past, NoMemory>
+    requires { IsSpec spec.now }
+    ensures colours { IfOk result (λ p. length p ≡ (rules_of spec.now).colours) }
+    ensures states { IfOk result (λ p. (s : State) → Holds p s ↔ IsStart (rules_of spec.now) s) }
+{
+    let machine = machine_of(spec);
+    Past::start(alloc, machine.colours())
+}
+
+fn same_pasts(a: &[Past], b: &[Past]) -> bool
+    ensures { IsTrue result ↔ (a.now ≡ b.now) }
+{
+    if a.len() != b.len() {
+        return false;
+    }
+    for i in 0..a.len() {
+        if !a[i].same(&b[i]) {
+            return false;
+        }
+    }
+    true
+}
+
+/// Why there are no states after an hour.
+#[derive(Clone, Copy, Debug, PartialEq, Eq)]
+pub enum PastsError {
+    /// The log contradicts itself: after this row its channel has no state.
+    NoState(Row),
+    Memory,
+}
+
+impl From<NoMemory> for PastsError {
+    ghost from_gives = { λ _ e. e ≡ Memory };
+
+    fn from(_: NoMemory) -> Self {
+        PastsError::Memory
+    }
+}
+
+/// The states of each channel after the hour, from those before it: those to which the runs of the
+/// hour lead that agree with its known rows, with the entries that are older than an hour at the
+/// point after it made one. `NoState` names the first known row, in the order of the rows, after
+/// which its channel has no state, and comes exactly where there is one.
+pub fn pasts_hour(
+    alloc: Global,
+    specs: &[Spec],
+    before: &Pasts,
+    rows: &[Row],
+    stretches: &[Stretch],
+) -> Result<Pasts, PastsError>
+    requires specs { AreSpecs specs.now }
+    requires hour { (h : ℕ) × IsHour h rows.now stretches.now × AllEarly (first_tenth h) before.now }
+    requires before { AreBefore specs.now before.now }
+    ensures pasts { IfOk result (λ p. ArePastsOf specs.now rows.now stretches.now before.now p) }
+    ensures stop { IfErr result (NamesStop specs.now rows.now stretches.now before.now) }
+    ensures shape { IfOk result (λ p. AreBefore specs.now p) }
+    ensures early { IfOk result (λ p. (h : ℕ) → IsHour h rows.now stretches.now → AllEarly (end_tenth h) p) }
+{
+    let after = pasts_walked(alloc, specs, before, rows, stretches)?;
+    match after.stop {
+        Some(stop) => Err(PastsError::NoState(rows[stop as usize])),
+        None => {
+            let mut pasts = after.pasts;
+            pasts.clamp(end_of(stretches));
+            Ok(pasts)
+        }
+    }
+}
+
+// The tenth after the last stretch.
+fn end_of(stretches: &[Stretch]) -> u32
+    requires { 1 ≤ length stretches.now }
+    ensures { (f t : ℕ) → FollowOn f t stretches.now → result ≡ t }
+{
+    stretches[stretches.len() - 1].to
+}
+
+fn clamp_all(pasts: &mut [Past], point: u32)
+    ensures { AllClamped (pos point -ℤ pos 36001) pasts.old pasts.new }
+{
+    for past in pasts.iter_mut() {
+        past.clamp(i64::from(point));
+    }
+}
+
+// The states after an hour, and the number of the first row after which its channel has no state.
+#[derive(Drop)]
+struct After {
+    pasts: Pasts,
+    stop: Option<u32>,
+}
+
+// The same by the moves of each channel.
+fn pasts_walked(
+    alloc: Global,
+    specs: &[Spec],
+    before: &Pasts,
+    rows: &[Row],
+    stretches: &[Stretch],
+) -> Result<After, NoMemory>
+    requires specs { AreSpecs specs.now }
+    requires hour { (h : ℕ) × IsHour h rows.now stretches.now × AllEarly (first_tenth h) before.now }
+    requires before { AreBefore specs.now before.now }
+    ensures count { IfOk result (λ a. length a.pasts ≡ length specs.now) }
+    ensures colours { IfOk result (λ a. (i : ℕ) (d : Spec) → i < length specs.now → length (slice_index_or a.pasts i []) ≡ (rules_at specs.now i d).colours) }
+    ensures stop { IfOk result (λ a. IsFirstStop specs.now rows.now stretches.now before.now (length specs.now) a.stop) }
+    ensures pasts { IfOk result (λ a. a.stop ≡ None → AreAfter specs.now rows.now stretches.now before.now (length specs.now) a.pasts) }
+{
+    let courses = courses_of(alloc, specs, rows, stretches)?;
+    let mut pasts = Vec::new(alloc);
+    let mut stop = None;
+    for i in 0..specs.len() {
+        let mut past = before.pasts[i].copy()?;
+        let next = walk_spec(&specs[i], &mut past, courses[i].moves())?;
+        stop = earlier(stop, next);
+        pasts.push(past)?;
+    }
+    Ok(After {
+        pasts: Pasts { pasts, alloc },
+        stop,
+    })
+}
+
+// The states of one channel after its moves. Answers the row after which there is none.
+fn walk_spec(spec: &Spec, past: &mut Past, moves: &[Move]) -> Result<Option<u32>, NoMemory>
+    requires fits { IsSpec spec.now }
+    requires order { (low : ℕ) × EnteredBefore past.old low × InOrder (rules_of spec.now) low moves.now }
+    requires colours { length past.old ≡ (rules_of spec.now).colours }
+    requires some { (s : State) × Holds past.old s }
+    ensures after { IfOk result (λ r. MatchOption r (((u : State) → Holds past.new u ↔ AfterMoves (rules_of spec.now) past.old moves.now u) × Survives (rules_of spec.now) past.old moves.now) (λ x. StopRow (rules_of spec.now) past.old moves.now x)) }
+    ensures colours { length past.new ≡ length past.old }
+{
+    let machine = machine_of(spec);
+    walk_moves(&machine, past, moves)
+}
+
+fn walk_moves<M: Machine>(
+    machine: &M,
+    past: &mut Past,
+    moves: &[Move],
+) -> Result<Option<u32>, NoMemory>
+    requires order { (low : ℕ) × EnteredBefore past.old low × InOrder (M.rules machine.now) low moves.now }
+    requires colours { length past.old ≡ (M.rules machine.now).colours }
+    requires some { (s : State) × Holds past.old s }
+    ensures after { IfOk result (λ r. MatchOption r (((u : State) → Holds past.new u ↔ AfterMoves (M.rules machine.now) past.old moves.now u) × Survives (M.rules machine.now) past.old moves.now) (λ x. StopRow (M.rules machine.now) past.old moves.now x)) }
+    ensures colours { length past.new ≡ length past.old }
+{
+    match walk_past(machine, past, moves)? {
+        None => Ok(None),
+        Some(place) => Ok(Some(number_of(moves[place]))),
+    }
+}
+
+fn number_of(one: Move) -> u32
+    ensures { result ≡ number one }
+{
+    match one {
+        Move::Letter {
+            at: _at,
+            letter: _letter,
+            row,
+        } => row,
+        Move::Gap {
+            from: _from,
+            to: _to,
+        } => 0,
+    }
+}
+
+fn earlier(a: Option<u32>, b: Option<u32>) -> Option<u32>
+    ensures { IsEarlier a b result }
+{
+    match (a, b) {
+        (None, b) => b,
+        (Some(x), None) => Some(x),
+        (Some(x), Some(y)) => Some(x.min(y)),
+    }
+}

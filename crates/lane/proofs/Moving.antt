@@ -1,0 +1,153 @@
+-- Moves one after another, forward and backward.
+use Rattle.std.proofs.Common.{suc, zero, ◌≡◌, refl, sym, subst, inl, inr, ◌↔◌, ℕ, ◌+◌, ◌<◌, ◌≤◌, ℤ, pos, ◌+ℤ◌, ◌<ℤ◌, List, [], ◌∷◌, ◌++◌, length, take, drop, get_or, arith, Option}
+use Rattle.std.proofs.lemmas.Int.{ints}
+use Rattle.std.proofs.lemmas.Bool.{cases_eq}
+use Rattle.std.proofs.lemmas.Grind.{common_steps}
+use Rattle.std.proofs.lemmas.List.{take_more, take_all, drop_all, drop_more}
+use Rattle.span_set.specs.declared.set.Span.{Span}
+use Rattle.colour_machine.specs.Rules.{Rules}
+use Rattle.reach.specs.Runs.{State, Step, Steps, Run, Fills}
+use Rattle.reach.specs.Past.{Holds}
+use Rattle.reach.specs.Ahead.{Admits}
+use Rattle.reach.proofs.States.{fills_none}
+use Rattle.reach.proofs.Arriving.{fills_later}
+use Rattle.lane.specs.declared.moves.Move.{Move}
+use Rattle.lane.specs.declared.moves.Move.TheVariants.{Letter, Gap}
+use Rattle.lane.specs.Walks.{limit_before, limit_after, IsMove, InOrder, Taken, Walk, AfterMove, AfterMoves, BeforeMove, BeforeMoves, EnteredBefore}
+use Rattle.lane.specs.Places.{EntersBefore, ArePasts, AreAheads, limit_of}
+
+-- a walk over one list and then another
+pub walk_join : (m : Rules) (xs ys : List Move) (s u : State) → Walk m (xs ++ ys) s u ↔ ((v : State) × Walk m xs s v × Walk m ys v u)
+walk_join m [] ys s u = (λ w. (s, refl, w), λ (v, e, w). rw (← e) w)
+walk_join m (x ∷ xs) ys s u = (
+  λ (z, a, w). let k = (walk_join m xs ys z u).0 w in (k.0, (z, a, k.1), k.2),
+  λ (v, (z, a, w), r). (z, a, (walk_join m xs ys z u).1 (v, w, r)),
+)
+
+pub walk_one : (m : Rules) (x : Move) (s u : State) → Walk m (x ∷ []) s u ↔ Taken m x s u
+walk_one m x s u = (λ (v, a, e). rw e a, λ a. (u, a, refl))
+
+-- one more move at the end
+pub after_end : (m : Rules) (sets : List (List Span)) (xs : List Move) (x : Move) (u : State) → AfterMoves m sets (xs ++ x ∷ []) u ↔ ((v : State) × AfterMoves m sets xs v × Taken m x v u)
+after_end m sets xs x u = (
+  λ (s, h, w). let k = (walk_join m xs (x ∷ []) s u).0 w in (k.0, (s, h, k.1), (walk_one m x k.0 u).0 k.2),
+  λ (v, (s, h, w), a). (s, h, (walk_join m xs (x ∷ []) s u).1 (v, w, (walk_one m x v u).1 a)),
+)
+
+-- the sets after one more move
+pub after_turn : (m : Rules) (old now new : List (List Span)) (xs : List Move) (i : ℕ) (d : Move) → i < length xs → ((u : State) → Holds now u ↔ AfterMoves m old (take i xs) u) → ((u : State) → Holds new u ↔ AfterMove m now (get_or xs i d) u) → (u : State) → Holds new u ↔ AfterMoves m old (take (i + 1) xs) u
+after_turn m old now new xs i d lt inv step u =
+    let e = after_end m old (take i xs) (get_or xs i d) u in
+    rw (take_more xs i d lt) (
+      λ h. let (v, hv, a) = (step u).0 h in e.1 (v, (inv v).0 hv, a),
+      λ w. let (v, av, a) = e.0 w in (step u).1 (v, (inv v).1 av, a),
+    )
+
+pub after_none : (m : Rules) (old : List (List Span)) (xs : List Move) (u : State) → Holds old u ↔ AfterMoves m old (take 0 xs) u
+after_none m old xs u = (λ h. (u, h, refl), λ (s, h, e). rw e h)
+
+-- a move of the list is one of the machine's
+pub one_fits : (m : Rules) (low i : ℕ) (xs : List Move) (d : Move) → i < length xs → InOrder m low xs → IsMove m (get_or xs i d)
+one_fits m low i [] d lt o = absurd (omega arith)
+one_fits m low zero (x ∷ xs) d lt o = o.1
+one_fits m low (suc i) (x ∷ xs) d lt o = one_fits m (limit_after x) i xs d (omega arith) o.2
+
+-- no state is entered after the moves that lead to it
+step_early : (m : Rules) (t x : ℤ) (s u : State) (l : ℕ) → Step m t s l u → t <ℤ x → s.entry <ℤ x → u.entry <ℤ x
+step_early m t x s u l (g, k) b e = elim k [ inl same ↦ rw same e | inr (_, at, _) ↦ omega (arith, ints) ]
+
+steps_early : (m : Rules) (t x : ℤ) (s u : State) (ls : List ℕ) → Steps m t s ls u → t <ℤ x → s.entry <ℤ x → u.entry <ℤ x
+steps_early m t x s u [] r b e = rw r e
+steps_early m t x s u (l ∷ ls) (v, a, r) b e = steps_early m t x v u ls r b (step_early m t x s v l a b e)
+
+run_early : (m : Rules) (t : ℤ) (s u : State) (lists : List (List ℕ)) → Run m t s lists u → s.entry <ℤ t → u.entry <ℤ (t +ℤ pos (length lists))
+run_early m t s u [] r e = let k : u.entry <ℤ t = rw r e in omega (arith, ints)
+run_early m t s u (ls ∷ rest) (v, a, r) e =
+    let n = steps_early m t (t +ℤ pos 1) s v ls a (omega (arith, ints)) (omega (arith, ints)) in
+    let k = run_early m (t +ℤ pos 1) v u rest r n in omega (arith, ints)
+
+pub taken_early : (m : Rules) (x : Move) (s u : State) → Taken m x s u → s.entry <ℤ pos (limit_before x) → u.entry <ℤ pos (limit_after x)
+taken_early m (Letter at l r) s u a e = step_early m (pos at) (pos (at + 1)) s u l a (omega (arith, ints)) e
+taken_early m (Gap f t) s u (lists, len, r) e = let n = run_early m (pos f) s u lists r e in omega (arith, ints)
+
+pub walk_early : (m : Rules) (low : ℕ) (xs : List Move) (s u : State) → InOrder m low xs → Walk m xs s u → s.entry <ℤ pos low → u.entry <ℤ pos (limit_of low xs)
+walk_early m low [] s u o w e = rw w e
+walk_early m low (x ∷ xs) s u o (v, a, w) e = let b = o.0 in walk_early m (limit_after x) xs v u o.2 w (taken_early m x s v a (omega (arith, ints)))
+
+pub earlier_low : (m : Rules) (a b : ℕ) (xs : List Move) → a ≤ b → InOrder m b xs → InOrder m a xs
+earlier_low m a b [] h o = tt
+earlier_low m a b (x ∷ xs) h o = ((let q = o.0 in omega arith), o.1, o.2)
+
+pub order_take : (m : Rules) (low j : ℕ) (xs : List Move) → InOrder m low xs → InOrder m low (take j xs)
+order_take m low zero xs o = tt
+order_take m low (suc j) [] o = tt
+order_take m low (suc j) (x ∷ xs) o = (o.0, o.1, order_take m (limit_after x) j xs o.2)
+
+pub order_drop : (m : Rules) (low j : ℕ) (xs : List Move) → InOrder m low xs → InOrder m (limit_of low (take j xs)) (drop j xs)
+order_drop m low zero xs o = o
+order_drop m low (suc j) [] o = tt
+order_drop m low (suc j) (x ∷ xs) o = order_drop m (limit_after x) j xs o.2
+
+-- the moves before a place end before the next one limit_before
+end_before : (m : Rules) (low i : ℕ) (xs : List Move) (d : Move) → i < length xs → InOrder m low xs → limit_of low (take i xs) ≤ limit_before (get_or xs i d)
+end_before m low i [] d lt o = absurd (omega arith)
+end_before m low zero (x ∷ xs) d lt o = o.0
+end_before m low (suc i) (x ∷ xs) d lt o = end_before m (limit_after x) i xs d (omega arith) o.2
+
+-- the states at a place are entered no later than the next move limit_before
+pub late_at : (m : Rules) (old now : List (List Span)) (xs : List Move) (i : ℕ) (d : Move) → i < length xs → ((low : ℕ) × EnteredBefore old low × InOrder m low xs) → ((u : State) → Holds now u ↔ AfterMoves m old (take i xs) u) → EnteredBefore now (limit_before (get_or xs i d))
+late_at m old now xs i d lt (low, none, o) inv s h =
+    let (z, hz, w) = (inv s).0 h in
+    let a = walk_early m low (take i xs) z s (order_take m low i xs o) w (none z hz) in
+    let b = end_before m low i xs d lt o in
+    omega (arith, ints)
+
+pub gap_keeps : (m : Rules) (f t : ℕ) (s : State) → f < t → Fills m (pos f) (pos t) s s
+gap_keeps m f t s lt = fills_later m (pos f) (pos f) (pos t) s s (omega (arith, ints)) ((fills_none m (pos f) s s).1 refl)
+
+-- a gap leaves each state where it was, among others
+pub some_after : (m : Rules) (old new : List (List Span)) (x : Move) (f t : ℕ) → x ≡ Gap f t → IsMove m x → ((s : State) × Holds old s) → ((u : State) → Holds new u ↔ AfterMove m old x u) → (u : State) × Holds new u
+some_after m old new x f t e k (s, h) a =
+    let lt = subst (λ (y : Move). IsMove m y) e k in
+    (s, (a s).1 (s, h, subst (λ (y : Move). Taken m y s s) (sym e) (gap_keeps m f t s lt)))
+
+pub after_all : (m : Rules) (old now : List (List Span)) (xs : List Move) (i : ℕ) → length xs ≤ i → ((u : State) → Holds now u ↔ AfterMoves m old (take i xs) u) → (u : State) → Holds now u ↔ AfterMoves m old xs u
+after_all m old now xs i h inv = subst (λ (ys : List Move). (u : State) → Holds now u ↔ AfterMoves m old ys u) (take_all i xs h) inv
+
+pub pasts_more : (m : Rules) (before : List (List Span)) (xs : List Move) (i n : ℕ) (pasts : List (List (List Span))) (set : List (List Span)) → n ≡ i + 1 → length pasts ≡ i → length set ≡ m.colours → ((u : State) → Holds set u ↔ AfterMoves m before (take i xs) u) → ArePasts m before xs i pasts → ArePasts m before xs n (pasts ++ set ∷ [])
+pasts_more m before xs i n pasts set same l k a p j lt = elim (cases_eq j i) [
+  | inl e ↦ let at : get_or (pasts ++ set ∷ []) j [] ≡ set = grind (arith, common_steps) in rw at (k, rw e a)
+  | inr ne ↦ let below : j < i = omega arith in let b2 : j < length pasts = omega arith in let at : get_or (pasts ++ set ∷ []) j [] ≡ get_or pasts j [] = grind (arith, common_steps) in rw at (p j below)
+]
+
+pub not_after : (m : Rules) (low : ℕ) (xs : List Move) (v : State) → InOrder m low xs → v.entry <ℤ pos low → EntersBefore xs v
+not_after m low [] v o e = tt
+not_after m low (x ∷ xs) v o e = let b = o.0 in omega (arith, ints)
+
+-- a move more in front
+pub ahead_turn : (m : Rules) (after now new : List (Option ℤ)) (low : ℕ) (x : Move) (xs : List Move) → InOrder m low (x ∷ xs) → ((s : State) → Admits now s ↔ (EntersBefore xs s × BeforeMoves m after xs s)) → ((s : State) → Admits new s ↔ ((s.entry <ℤ pos (limit_before x)) × BeforeMove m now x s)) → (s : State) → Admits new s ↔ (EntersBefore (x ∷ xs) s × BeforeMoves m after (x ∷ xs) s)
+ahead_turn m after now new low x xs o inv step s = (
+  λ a. let (e, (v, t, b)) = (step s).0 a in
+      let (_, (u, w, h)) = (inv v).0 b in
+      (e, (u, (v, t, w), h)),
+  λ (e, (u, (v, t, w), h)).
+      let n = taken_early m x s v t e in
+      (step s).1 (e, (v, t, (inv v).1 (not_after m (limit_after x) xs v o.2 n, (u, w, h)))),
+)
+
+-- the same at a place of a list
+pub ahead_at : (m : Rules) (after now new : List (Option ℤ)) (xs : List Move) (j : ℕ) (d : Move) → InOrder m 0 xs → j < length xs → ((s : State) → Admits now s ↔ (EntersBefore (drop (j + 1) xs) s × BeforeMoves m after (drop (j + 1) xs) s)) → ((s : State) → Admits new s ↔ ((s.entry <ℤ pos (limit_before (get_or xs j d))) × BeforeMove m now (get_or xs j d) s)) → (s : State) → Admits new s ↔ (EntersBefore (drop j xs) s × BeforeMoves m after (drop j xs) s)
+ahead_at m after now new xs j d o lt inv step =
+    let e = drop_more xs j d lt in
+    let low = limit_of 0 (take j xs) in
+    let p = order_drop m 0 j xs o in
+    subst (λ (ys : List Move). (s : State) → Admits new s ↔ (EntersBefore ys s × BeforeMoves m after ys s)) (sym e) (ahead_turn m after now new low (get_or xs j d) (drop (j + 1) xs) (subst (λ (ys : List Move). InOrder m low ys) e p) inv step)
+
+pub ahead_none : (m : Rules) (after : List (Option ℤ)) (xs : List Move) (j : ℕ) → length xs ≤ j → (s : State) → Admits after s ↔ (EntersBefore (drop j xs) s × BeforeMoves m after (drop j xs) s)
+ahead_none m after xs j h s = rw (drop_all j xs h) (λ a. (tt, (s, refl, a)), λ (_, (u, e, a)). rw (← e) a)
+
+pub aheads_more : (m : Rules) (after : List (Option ℤ)) (xs : List Move) (i n : ℕ) (aheads : List (List (Option ℤ))) (one : List (Option ℤ)) → n ≡ i + 1 → length aheads ≡ i → length one ≡ m.colours → ((j : ℕ) → j + i ≡ length xs → (s : State) → Admits one s ↔ (EntersBefore (drop j xs) s × BeforeMoves m after (drop j xs) s)) → AreAheads m after xs i aheads → AreAheads m after xs n (aheads ++ one ∷ [])
+aheads_more m after xs i n aheads one same l k a p j at lt sum = elim (cases_eq at i) [
+  | inl e ↦ let is : get_or (aheads ++ one ∷ []) at [] ≡ one = grind (arith, common_steps) in rw is (k, a j (omega arith))
+  | inr ne ↦ let below : at < i = omega arith in let b2 : at < length aheads = omega arith in let is : get_or (aheads ++ one ∷ []) at [] ≡ get_or aheads at [] = grind (arith, common_steps) in rw is (p j at below sum)
+]

@@ -1,6 +1,7 @@
 // The stretches of an hour.
-ghost use Rattle.std.specs.Prelude.{◌≡◌, ◌+◌, ◌*◌, ◌<◌, ◌≤◌, ◌++◌, List, ◌∷◌, IfOk, OnOk};
+ghost use Rattle.std.specs.Prelude.{◌≡◌, ◌+◌, ◌*◌, ◌<◌, ◌≤◌, ◌++◌, ℕ, ℤ, List, ◌∷◌, IfOk, OnOk};
 ghost use Rattle.span_set.specs.declared.set.Span.{Span};
+ghost use Rattle.span_set.specs.Spans.{Above, AreRanges};
 ghost use Rattle.gap_map.specs.declared.stretch.Stretch.{Stretch};
 ghost use Rattle.gap_map.specs.Stretches.{IsCut, known_in};
 ghost use Rattle.gap_map.specs.Cuts.{clip, cut_of, known_part};
@@ -34,7 +35,7 @@ pub fn stretches(
     let from = 36_000 * hour;
     let to = from + 36_000;
     if held {
-        let cut = known_and_blanked(alloc, from, to, blanked.ranges())?;
+        let cut = known_and_blanked(alloc, from, to, reaching(blanked.ranges(), from, to))?;
         return Ok(cut);
     }
     let mut all = Vec::new(alloc);
@@ -44,6 +45,35 @@ pub fn stretches(
         known: false,
     })?;
     Ok(all)
+}
+
+// The ranges without those that end at the tenth or before.
+fn ending_after(ranges: &[Span], from: u32) -> &[Span]
+    requires { AreRanges ranges.now }
+    ensures cut { (to : ℕ) → from ≤ to → cut_of from to result.now ≡ cut_of from to ranges.now }
+    ensures ordered { (low : ℤ) × Above low result.now }
+{
+    let first = ranges.partition_point(|s| s.to <= i64::from(from));
+    let (_ended, others) = ranges.split_at(first);
+    others
+}
+
+// The ranges without those that begin at the tenth or after.
+fn beginning_before(ranges: &[Span], to: u32) -> &[Span]
+    requires { (low : ℤ) × Above low ranges.now }
+    ensures { (from : ℕ) → from ≤ to → cut_of from to result.now ≡ cut_of from to ranges.now }
+{
+    let end = ranges.partition_point(|s| s.from < i64::from(to));
+    &ranges[..end]
+}
+
+// The ranges that have tenths from `from` up to `to`.
+fn reaching(ranges: &[Span], from: u32, to: u32) -> &[Span]
+    requires order { from ≤ to }
+    requires ordered { AreRanges ranges.now }
+    ensures { cut_of from to result.now ≡ cut_of from to ranges.now }
+{
+    beginning_before(ending_after(ranges, from), to)
 }
 
 // The tenths from `from` up to `to`, cut by the blanked ranges.

@@ -58,6 +58,14 @@ impl<L> HourStore<L> {
         })
     }
 
+    /// How many hours the window has, 1 to 744.
+    pub fn hours(&self) -> u32
+        ensures value { result ≡ length self.now.hours }
+        ensures store { IsStore self.now }
+    {
+        self.hours.len() as u32
+    }
+
     pub fn is_held(&self, hour: Hour) -> bool
         requires { hour < length self.now.hours }
         ensures { result ≡ is_some (held_at self.now hour) }
@@ -85,6 +93,7 @@ impl<L> HourStore<L> {
     pub fn blanked(&self) -> &SpanSet
         ensures value { result.now ≡ self.now.blanks }
         ensures within { LieWithin (length self.now.hours) self.now.blanks }
+        ensures store { IsStore self.now }
     {
         &self.blanks
     }

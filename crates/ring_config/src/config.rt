@@ -145,6 +145,16 @@ impl Config {
         &self.window
     }
 
+    /// How many hours the window has, 1 to 744.
+    pub fn hours(&self) -> u32
+        ensures value { result ≡ self.now.window.hours }
+        ensures some { 1 ≤ result }
+        ensures few { result ≤ 744 }
+        ensures sound { IsSound self.now }
+    {
+        self.window.hours()
+    }
+
     /// The signal as its log files name it: 1 to 32 printed characters without comma and double
     /// quote.
     pub fn signal(&self) -> &str
@@ -161,6 +171,7 @@ impl Config {
         ensures specs { All IsSpec self.now.specs }
         ensures few { length self.now.specs ≤ 225 }
         ensures ordered { AllPairs (λ s t. IsBefore s.channel t.channel) self.now.specs }
+        ensures sound { IsSound self.now }
     {
         self.specs.as_slice()
     }

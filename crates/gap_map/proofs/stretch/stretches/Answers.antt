@@ -5,7 +5,7 @@ use Rattle.gap_map.proofs.stretch.stretches.Goals as goal
 
 pub returns-then-held-clause-cut : goal.returns-then-held-clause-cut
 returns-then-held-clause-cut c =
-    rw (c.if-held.true, c.in_ok-cut.ensures, c.ranges-then-held.ensures.value) (held_cut c.args.blanked.now (36000 * c.args.hour) (36000 * c.args.hour + 36000) (omega arith) c.ranges-then-held.ensures.ordered)
+    rw (c.if-held.true, c.in_ok-cut.ensures, c.reaching.ensures, c.ranges-then-held.ensures.value) (held_cut c.args.blanked.now (36000 * c.args.hour) (36000 * c.args.hour + 36000) (omega arith) c.ranges-then-held.ensures.ordered)
 
 pub returns-then-held-clause-only : goal.returns-then-held-clause-only
 returns-then-held-clause-only c = only _ _ _ _ (returns-then-held-clause-cut c)

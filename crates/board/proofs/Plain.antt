@@ -38,7 +38,7 @@ use Rattle.board.specs.Hours.{AllClamped, AreClampedPasts, AreHourAheads, AreHou
 
 first_same : (P Q : ℕ → Type 0) (S R : ℕ → ℕ → Type 0) (n : ℕ) (o : Option ℕ) → ((i : ℕ) → P i → Q i) → ((i x : ℕ) → S i x → R i x) → ((i x : ℕ) → R i x → S i x) → IsFirst P S n o → IsFirst Q R n o
 first_same P Q S R n None p s r h = λ i lt. p i (h i lt)
-first_same P Q S R n (Some x) p s r ((i, lt, st), least) = ((i, lt, s i x st), λ j y l2 q. least j y l2 (r j y q))
+first_same P Q S R n (Some x) p s r ((i, lt, st), least, each) = ((i, lt, s i x st), (λ j y l2 q. least j y l2 (r j y q)), λ j l2. elim (each j l2) [ inl g ↦ inl (p j g) | inr (y, q) ↦ inr (y, s j y q) ])
 
 pub after_hour : (k : Track) (f t : ℕ) (rows : List Row) (ss : List Stretch) (before : List (List Span)) → FollowOn f t ss → RowsIn f t rows → (u : State) → AfterMoves k.rules before (own k 0 rows ss) u ↔ IsAfterHour k rows ss f t before u
 after_hour k f t rows ss before h r u =
@@ -60,7 +60,7 @@ hour_stop specs rows ss f t before stop h r first =
 
 -- the row that is named is one of the hour's
 pub stop_within : (specs : List Spec) (rows : List Row) (ss : List Stretch) (f t n : ℕ) (before : List (List (List Span))) → IsHourStop specs rows ss f t before (Some n) → n < length rows
-stop_within specs rows ss f t n before ((i, lt, stop), least) = stop.within
+stop_within specs rows ss f t n before ((i, lt, stop), least, each) = stop.within
 
 pub hour_pasts : (specs : List Spec) (rows : List Row) (ss : List Stretch) (f t : ℕ) (before pasts : List (List (List Span))) → FollowOn f t ss → RowsIn f t rows → AreAfter specs rows ss before (length specs) pasts → AreHourPasts specs rows ss f t before pasts
 hour_pasts specs rows ss f t before pasts h r a i lt u = then_iff (a i no_spec lt u) (after_hour (track (get_or specs i no_spec)) f t rows ss (get_or before i []) h r u)

@@ -1,4 +1,4 @@
-use Rattle.std.proofs.Common.{◌≡◌, ap, sym, ◌∙◌, inl, inr, ℕ, ◌+◌, ◌≤◌, min, List, ◌++◌, length, take, drop, get_or, arith, Option, Some, None}
+use Rattle.std.proofs.Common.{◌≡◌, ap, sym, ◌∙◌, ◌⊎◌, inl, inr, ℕ, ◌+◌, ◌<◌, ◌≤◌, min, List, ◌++◌, length, take, drop, get_or, arith, Option, Some, None}
 use Rattle.std.specs.Prelude.{MatchOption}
 use Rattle.std.proofs.lemmas.Bool.{cases_eq, cases_lt}
 use Rattle.std.proofs.lemmas.List.{take-take, take-append-drop, take_all}
@@ -40,31 +40,37 @@ module _ (GoesOn : ℕ → Type 0) (Stops : ℕ → ℕ → Type 0) (once : (i x
   first_more None None r a b e = rw e (λ i lt. elim (cases_eq i n) [ inl same ↦ rw same b | inr ne ↦ a i (omega arith) ])
   first_more None (Some y) r a b e = rw e (
     (n, omega arith, b),
-    λ i z lt s. elim (cases_eq i n) [
+    (λ i z lt s. elim (cases_eq i n) [
       | inl same ↦ let k = once n y z b (rw same at s) in omega arith
       | inr ne ↦ absurd (never i z (a i (omega arith)) s)
-    ],
+    ]),
+    λ i lt. elim (cases_eq i n) [ inl same ↦ rw same (inr (y, b)) | inr ne ↦ inl (a i (omega arith)) ],
   )
-  first_more (Some x) None r (w, least) b e = rw e (
+  first_more (Some x) None r (w, least, each) b e = rw e (
     (w.0, (let lt = w.1 in omega arith), w.2),
-    λ i z lt s. elim (cases_eq i n) [
+    (λ i z lt s. elim (cases_eq i n) [
       | inl same ↦ absurd (never n z b (rw same at s))
       | inr ne ↦ least i z (omega arith) s
-    ],
+    ]),
+    λ i lt. elim (cases_eq i n) [ inl same ↦ rw same (inl b) | inr ne ↦ each i (omega arith) ],
   )
-  first_more (Some x) (Some y) r (w, least) b e = rw e (elim (cases_lt x y) [
-    | inl lt ↦ let m : min x y ≡ x = omega arith in rw m (
-      (w.0, (let l2 = w.1 in omega arith), w.2),
-      λ i z l3 s. elim (cases_eq i n) [
-        | inl same ↦ let k = once n y z b (rw same at s) in omega arith
-        | inr ne ↦ least i z (omega arith) s
-      ],
-    )
-    | inr ge ↦ let m : min x y ≡ y = omega arith in rw m (
-      (n, omega arith, b),
-      λ i z l3 s. elim (cases_eq i n) [
-        | inl same ↦ let k = once n y z b (rw same at s) in omega arith
-        | inr ne ↦ let k = least i z (omega arith) s in omega arith
-      ],
-    )
-  ])
+  first_more (Some x) (Some y) r (w, least, each) b e =
+      let all : (i : ℕ) → i < n + 1 → GoesOn i ⊎ ((z : ℕ) × Stops i z) = λ i lt. elim (cases_eq i n) [ inl same ↦ rw same (inr (y, b)) | inr ne ↦ each i (omega arith) ] in
+      rw e (elim (cases_lt x y) [
+        | inl lt ↦ let m : min x y ≡ x = omega arith in rw m (
+          (w.0, (let l2 = w.1 in omega arith), w.2),
+          (λ i z l3 s. elim (cases_eq i n) [
+            | inl same ↦ let k = once n y z b (rw same at s) in omega arith
+            | inr ne ↦ least i z (omega arith) s
+          ]),
+          all,
+        )
+        | inr ge ↦ let m : min x y ≡ y = omega arith in rw m (
+          (n, omega arith, b),
+          (λ i z l3 s. elim (cases_eq i n) [
+            | inl same ↦ let k = once n y z b (rw same at s) in omega arith
+            | inr ne ↦ let k = least i z (omega arith) s in omega arith
+          ]),
+          all,
+        )
+      ])

@@ -1,5 +1,5 @@
 -- The first row after which a channel has no state.
-use Rattle.std.specs.Prelude.{◌≡◌, ℕ, ◌<◌, ◌≤◌, ◌↔◌, min, Option, Some, None, List, [], length, slice_index_or}
+use Rattle.std.specs.Prelude.{◌≡◌, ◌⊎◌, ℕ, ◌<◌, ◌≤◌, ◌↔◌, min, Option, Some, None, List, [], length, slice_index_or}
 use Rattle.colour_machine.specs.Rules.{Rules}
 use Rattle.span_set.specs.declared.set.Span.{Span}
 use Rattle.reach.specs.Runs.{State}
@@ -38,10 +38,10 @@ rules_at specs i d = (track (slice_index_or specs i d)).rules
 abbrev pub moves_at : List Spec → List Row → List Stretch → ℕ → Spec → List Move
 moves_at specs rows ss i d = own (track (slice_index_or specs i d)) 0 rows ss
 
--- of the first n places all go on, or this is the least row at which one stops
+-- of the first n places all go on, or this is the least row at which one stops, and each of the others goes on or stops at a row
 abbrev pub IsFirst : (ℕ → Type 0) → (ℕ → ℕ → Type 0) → ℕ → Option ℕ → Type 0
 IsFirst GoesOn Stops n None = (i : ℕ) → i < n → GoesOn i
-IsFirst GoesOn Stops n (Some x) = ((i : ℕ) × (i < n) × Stops i x) × ((i y : ℕ) → i < n → Stops i y → x ≤ y)
+IsFirst GoesOn Stops n (Some x) = ((i : ℕ) × (i < n) × Stops i x) × ((i y : ℕ) → i < n → Stops i y → x ≤ y) × ((i : ℕ) → i < n → GoesOn i ⊎ ((y : ℕ) × Stops i y))
 
 -- the channel with this place has a state after its moves
 abbrev pub GoesOnAt : List Spec → List Row → List Stretch → List (List (List Span)) → Spec → ℕ → Type 0

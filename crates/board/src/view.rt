@@ -3,7 +3,7 @@ ghost use Rattle.std.specs.Prelude.{◌≡◌, ◌↔◌, ℕ, ℤ, pos, negsuc,
 ghost use Rattle.channel_tables.specs.Spec.{IsSpec, rules_of};
 ghost use Rattle.reach.specs.Runs.{State};
 ghost use Rattle.lane.specs.Walks.{InOrder, EnteredBefore};
-ghost use Rattle.lane.specs.Places.{IsLine};
+ghost use Rattle.lane.specs.Places.{IsLine, Kept};
 ghost use Rattle.gap_map.specs.Stretches.{known_at};
 ghost use Rattle.board.specs.Channels.{AreSpecs};
 ghost use Rattle.board.specs.Logs.{IsHour, HourLog, hour_log, first_tenth, no_row};
@@ -68,6 +68,14 @@ impl HourView {
             lines.push(line)?;
         }
         Ok(HourView { lines })
+    }
+
+    /// What happens to the channel with this place among the specs, from 0.
+    pub fn moves(&self, spec: u16) -> &[Move]
+        requires spec { spec < length self.now }
+        ensures { (d : Kept) → result.now ≡ (slice_index_or self.now spec d).moves }
+    {
+        self.lines[spec as usize].moves()
     }
 
     /// What the runs of the channel with this place among the specs say of the test before the

@@ -1,0 +1,48 @@
+-- What the calls of an hour know of it.
+use Rattle.std.proofs.Common.{◌≡◌, refl, sym, subst, ℕ, ◌+◌, ◌*◌, ◌<◌, Bool, List, arith, Option, Some, None, Bor}
+use Rattle.std.specs.Prelude.{is_some, option_copied, IfSome, IfOk, Result, Ok, Err}
+use Rattle.span_set.specs.declared.set.Span.{Span}
+use Rattle.sig_base.specs.declared.values.Row.{Row}
+use Rattle.sig_base.specs.HourRows.{AreRowsOf}
+use Rattle.gap_map.specs.declared.stretch.Stretch.{Stretch}
+use Rattle.gap_map.specs.Stretches.{IsCut, known_in}
+use Rattle.gap_map.proofs.Following.{follow}
+use Rattle.channel_tables.specs.declared.spec.Spec.{Spec}
+use Rattle.hour_store.specs.Store.{Store}
+use Rattle.board.specs.declared.pasts.PastsError.{PastsError}
+use Rattle.board.specs.declared.pasts.PastsError.TheVariants.{NoState, Memory}
+use Rattle.board.specs.Channels.{AreSpecs}
+use Rattle.board.specs.Logs.{IsHour}
+use Rattle.board.specs.Hours.{NamesStop}
+use Rattle.signal_log.specs.Log.{IsContradiction, log_of}
+use Rattle.signal_log.specs.Points.{ArePastsAt, HasHour, NamesContradiction, rows_or_none}
+use Rattle.signal_log.proofs.Stopped.{contradicts}
+
+pub copied_some : (o : Option (Bor (List Row))) → is_some o ≡ is_some (option_copied o)
+copied_some None = refl
+copied_some (Some r) = refl
+
+pub rows_fit : (hour : ℕ) (o : Option (Bor (List Row))) → hour < 744 → IfSome o (λ s. AreRowsOf hour s.now) → AreRowsOf hour (rows_or_none (option_copied o))
+rows_fit hour None lt h = record { in_range = lt; few = omega arith; rise = tt }
+rows_fit hour (Some r) lt h = h
+
+abbrev pub CutAs : ℕ → Option (List Row) → List Span → List Stretch → Type 0
+CutAs hour rows blanks ss = IsCut (known_in (is_some rows) blanks) (36000 * hour) (36000 * hour + 36000) ss
+
+pub cut_as : (hour : ℕ) (rows : Option (List Row)) (held : Bool) (blanks : List Span) (ss : List Stretch) → held ≡ is_some rows → IsCut (known_in held blanks) (36000 * hour) (36000 * hour + 36000) ss → CutAs hour rows blanks ss
+cut_as hour rows held blanks ss e cut = subst (λ (b : Bool). IsCut (known_in b blanks) (36000 * hour) (36000 * hour + 36000) ss) e cut
+
+pub hour_told : (hour : ℕ) (rows : Option (List Row)) (blanks : List Span) (ss : List Stretch) → AreRowsOf hour (rows_or_none rows) → CutAs hour rows blanks ss → IsHour hour (rows_or_none rows) ss
+hour_told hour rows blanks ss are cut = record { are_rows = are; follow = follow (known_in (is_some rows) blanks) (36000 * hour) (36000 * hour + 36000) ss cut.stretches }
+
+-- what the answer is, where there is one
+pub ok_both : {X E : Type 0} (r : Result X E) (P Q S : X → Type 0) → ((x : X) → P x → Q x → S x) → IfOk r P → IfOk r Q → IfOk r S
+ok_both (Ok x) P Q S h p q = h x p q
+ok_both (Err e) P Q S h p q = tt
+
+-- the row that is named
+pub names : (specs : List Spec) (s : Store) (hour : ℕ) (rows : Option (List Row)) (blanks : List Span) (ss : List Stretch) (before : List (List (List Span))) → AreSpecs specs → AreRowsOf hour (rows_or_none rows) → CutAs hour rows blanks ss → (e : PastsError) → NamesStop specs (rows_or_none rows) ss before e → HasHour s hour rows blanks → ArePastsAt (log_of specs s) hour before → NamesContradiction (log_of specs s) e
+names specs s hour rows blanks ss before are fit cut (NoState row) (n, is, at) has pasts =
+    let hour_is = hour_told hour rows blanks ss fit cut in
+    subst (λ (r : Row). IsContradiction (log_of specs s) r) (sym is) (contradicts specs s hour rows blanks ss before n are has cut hour_is pasts (at hour hour_is))
+names specs s hour rows blanks ss before are fit cut Memory at has pasts = tt

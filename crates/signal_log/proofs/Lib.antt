@@ -1,0 +1,10 @@
+pub mod Runs
+pub mod Stored
+pub mod Joined
+pub mod Hour
+pub mod Contradicting
+pub mod Stopped
+pub mod Calls
+pub mod Lawful
+pub mod Viewed
+pub mod Earlier

@@ -1,0 +1,5 @@
+pub mod Log
+pub mod States
+pub mod Points
+pub mod Views
+pub mod Laws

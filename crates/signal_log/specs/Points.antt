@@ -1,0 +1,44 @@
+-- The states at an hour point: the place before an hour's first tenth, or the window's end.
+use Rattle.std.specs.Prelude.{◌≡◌, ◌↔◌, ℕ, ◌<◌, ℤ, pos, ◌-ℤ◌, ◌<ℤ◌, Option, Some, None, List, [], length, slice_index_or}
+use Rattle.span_set.specs.declared.set.Span.{Span}
+use Rattle.sig_base.specs.declared.values.Row.{Row}
+use Rattle.reach.specs.Runs.{State}
+use Rattle.reach.specs.Past.{Holds}
+use Rattle.reach.specs.Ahead.{Admits}
+use Rattle.hour_store.specs.Store.{IsStore, Store, rows_at}
+use Rattle.board.specs.declared.pasts.PastsError.{PastsError}
+use Rattle.board.specs.declared.pasts.PastsError.TheVariants.{NoState, Memory}
+use Rattle.board.specs.Logs.{first_tenth}
+use Rattle.board.specs.Stops.{AreBefore}
+use Rattle.board.specs.Places.{AllEarly, AreAheadsOf}
+use Rattle.board.specs.Hours.{Clamped}
+use Rattle.signal_log.specs.Log.{IsContradiction, Log, track_at}
+use Rattle.signal_log.specs.States.{IsCompleted, IsReached}
+
+-- these are each channel's states at point k, with the entries that are older than an hour made one
+pub record ArePastsAt (log : Log) (k : ℕ) (pasts : List (List (List Span))) : Type 0 where
+  pub shape : AreBefore log.specs pasts
+  pub early : AllEarly (first_tenth k) pasts
+  pub states : (i : ℕ) → i < length log.specs → (u : State) → Holds (slice_index_or pasts i []) u ↔ Clamped (pos (first_tenth k) -ℤ pos 36001) (IsReached log i (first_tenth k)) u
+
+-- these admit each channel's states, entered before point k, from which the rest of the window can be met
+pub record AreAheadsAt (log : Log) (k : ℕ) (aheads : List (List (Option ℤ))) : Type 0 where
+  pub shape : AreAheadsOf log.specs aheads
+  pub states : (i : ℕ) → i < length log.specs → (s : State) → Admits (slice_index_or aheads i []) s ↔ ((s.colour < (track_at log i).rules.colours) × (s.entry <ℤ pos (first_tenth k)) × IsCompleted log i (first_tenth k) s)
+
+-- the rows that are held, none where the hour isn't held
+abbrev pub rows_or_none : Option (List Row) → List Row
+rows_or_none None = []
+rows_or_none (Some rows) = rows
+
+-- of the store these rows are held of the hour, and these tenths are blanked
+pub record HasHour (s : Store) (hour : ℕ) (rows : Option (List Row)) (blanks : List Span) : Type 0 where
+  pub is_store : IsStore s
+  pub within : hour < length s.hours
+  pub held : rows_at s hour ≡ rows
+  pub blanked : blanks ≡ s.blanks
+
+-- an error that isn't want of memory names the row at which the log contradicts itself
+abbrev pub NamesContradiction : Log → PastsError → Type 0
+NamesContradiction log (NoState row) = IsContradiction log row
+NamesContradiction log Memory = Unit {0}

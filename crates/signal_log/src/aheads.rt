@@ -1,0 +1,38 @@
+// The states of each channel that can be completed, from one hour point to the one before it.
+ghost use Rattle.std.specs.Prelude.{◌<◌, ◌+◌, option_copied, IfSome, IfOk};
+ghost use Rattle.sig_base.specs.HourRows.{AreRowsOf};
+ghost use Rattle.hour_store.specs.Store.{Store};
+ghost use Rattle.board.specs.Channels.{AreSpecs};
+ghost use Rattle.board.specs.Places.{AreAheadsOf};
+ghost use Rattle.signal_log.specs.Log.{log_of};
+ghost use Rattle.signal_log.specs.Points.{AreAheadsAt, HasHour};
+
+use crate::pasts::held_rows;
+use board::{Aheads, aheads_hour};
+use channel_tables::Spec;
+use gap_map::stretches;
+use sig_base::{Hour, NoMemory, Row};
+use span_set::SpanSet;
+use std::alloc::Global;
+
+/// The states of each channel, entered before the hour, that can be completed to the window's end,
+/// from those at the point after it, where these rows are held of the hour (`None`: it isn't held)
+/// and these tenths are blanked.
+pub fn aheads_before(
+    alloc: Global,
+    specs: &[Spec],
+    hour: Hour,
+    after: &Aheads,
+    rows: Option<&[Row]>,
+    blanked: &SpanSet,
+) -> Result<Aheads, NoMemory>
+    requires specs { AreSpecs specs.now }
+    requires hour { hour < 744 }
+    requires rows { IfSome rows (λ s. AreRowsOf hour s.now) }
+    requires shape { AreAheadsOf specs.now after.now }
+    ensures shape { IfOk result (λ a. AreAheadsOf specs.now a) }
+    ensures aheads { IfOk result (λ a. (s : Store) → HasHour s hour (option_copied rows.entry) blanked.now → AreAheadsAt (log_of specs.now s) (hour + 1) after.now → AreAheadsAt (log_of specs.now s) hour a) }
+{
+    let cut = stretches(alloc, hour, rows.is_some(), blanked)?;
+    aheads_hour(alloc, specs, after, held_rows(rows), &cut)
+}

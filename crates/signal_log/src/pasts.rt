@@ -1,0 +1,51 @@
+// The states of each channel from one hour point to the next.
+ghost use Rattle.std.specs.Prelude.{◌≡◌, ◌<◌, ◌+◌, [], option_copied, IfSome, IfOk, IfErr};
+ghost use Rattle.sig_base.specs.HourRows.{AreRowsOf};
+ghost use Rattle.hour_store.specs.Store.{Store};
+ghost use Rattle.board.specs.Channels.{AreSpecs};
+ghost use Rattle.board.specs.Logs.{first_tenth, end_tenth};
+ghost use Rattle.board.specs.Stops.{AreBefore};
+ghost use Rattle.board.specs.Places.{AllEarly};
+ghost use Rattle.signal_log.specs.Log.{log_of};
+ghost use Rattle.signal_log.specs.Points.{ArePastsAt, HasHour, NamesContradiction, rows_or_none};
+
+use board::{Pasts, PastsError, pasts_hour};
+use channel_tables::Spec;
+use gap_map::stretches;
+use sig_base::{Hour, Row};
+use span_set::SpanSet;
+use std::alloc::Global;
+
+/// The states of each channel at the point after an hour, from those at the point before it, where
+/// these rows are held of the hour (`None`: it isn't held) and these tenths are blanked. `NoState`:
+/// the log contradicts itself at this row.
+pub fn pasts_after(
+    alloc: Global,
+    specs: &[Spec],
+    hour: Hour,
+    before: &Pasts,
+    rows: Option<&[Row]>,
+    blanked: &SpanSet,
+) -> Result<Pasts, PastsError>
+    requires specs { AreSpecs specs.now }
+    requires hour { hour < 744 }
+    requires rows { IfSome rows (λ s. AreRowsOf hour s.now) }
+    requires shape { AreBefore specs.now before.now }
+    requires early { AllEarly (first_tenth hour) before.now }
+    ensures shape { IfOk result (λ p. AreBefore specs.now p × AllEarly (end_tenth hour) p) }
+    ensures pasts { IfOk result (λ p. (s : Store) → HasHour s hour (option_copied rows.entry) blanked.now → ArePastsAt (log_of specs.now s) hour before.now → ArePastsAt (log_of specs.now s) (hour + 1) p) }
+    ensures stop { IfErr result (λ e. (s : Store) → HasHour s hour (option_copied rows.entry) blanked.now → ArePastsAt (log_of specs.now s) hour before.now → NamesContradiction (log_of specs.now s) e) }
+{
+    let cut = stretches(alloc, hour, rows.is_some(), blanked)?;
+    pasts_hour(alloc, specs, before, held_rows(rows), &cut)
+}
+
+// The rows of the hour, none where it isn't held.
+pub(crate) fn held_rows<'a>(rows: Option<&'a [Row]>) -> &'a [Row]
+    ensures { result.now ≡ rows_or_none (option_copied rows.entry) }
+{
+    match rows {
+        Some(rows) => rows,
+        None => &[],
+    }
+}

@@ -1,0 +1,12 @@
+pub mod Numbers
+pub mod Rows
+pub mod Judging
+pub mod Adding
+pub mod Tenths
+pub mod Histories
+pub mod Walking
+pub mod Fitting
+pub mod Logs
+pub mod Once
+pub mod Tracked
+pub mod Running

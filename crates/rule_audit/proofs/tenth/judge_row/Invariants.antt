@@ -1,0 +1,10 @@
+use Rattle.std.proofs.Common.{◌≡◌, ◌+◌, true, drop, get_or}
+use Rattle.gap_map.specs.Stretches.{known_at}
+use Rattle.board.specs.Logs.{no_row}
+use Rattle.rule_audit.specs.Obligations.{row_obligations}
+use Rattle.rule_audit.specs.Judged.{HasVerdict}
+use Rattle.rule_audit.specs.Pass.{AddsUpTo, Ends, IsLogOf, log_of}
+use Rattle.rule_audit.proofs.tenth.judge_row.Given as goal
+
+abbrev pub invariant-loop-place : goal.invariant-loop-place
+invariant-loop-place l = (e : Ends) → IsLogOf l.hour e → known_at l.hour.stretches.now (get_or l.hour.rows.now l.index no_row).at ≡ true → AddsUpTo (HasVerdict (log_of l.hour e)) (row_obligations l.hour.specs.now l.index (get_or l.hour.rows.now l.index no_row) 1 l.hour.rules.now) (row_obligations l.hour.specs.now l.index (get_or l.hour.rows.now l.index no_row) (l.place + 1) (drop l.place l.hour.rules.now)) l.fn.lines.items l.lines.items

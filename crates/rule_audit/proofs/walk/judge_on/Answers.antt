@@ -1,0 +1,36 @@
+use Rattle.std.proofs.Common.{arith, ◌≡◌, ◌+◌, ◌<◌, ◌≤◌, true, get_or}
+use Rattle.gap_map.specs.Stretches.{known_at}
+use Rattle.board.specs.Logs.{no_row}
+use Rattle.rule_audit.proofs.Walking.{on_further, on_join, on_tenth}
+use Rattle.rule_audit.proofs.walk.judge_on.Goals as goal
+
+pub returns-then-at-to-clause-lines : goal.returns-then-at-to-clause-lines
+returns-then-at-to-clause-lines c = λ e is.
+    let h = c.args.hour.now in
+    let (y, low, high, cut, added) = c.tenths.invariant in
+    let past : c.args.to ≤ (get_or h.rows.now c.tenths.next no_row).at = c.if-at-to.true in
+    on_further h e c.requires.ready.rises true c.args.from y c.args.to c.tenths.next c.args.lines.now.items c.tenths.lines.items high (c.requires.within e is) (λ t le lt. c.requires.known t (omega arith) lt) cut (λ lt. past) (added e is)
+
+pub tenths-preserved : goal.tenths-preserved
+tenths-preserved c =
+    let h = c.args.hour.now in
+    let (y, low, high, cut, added) = c.tenths.invariant in
+    let at = (get_or h.rows.now c.tenths.next no_row).at in
+    let less : at < c.args.to = c.if-at-to.false in
+    let from : y ≤ at = cut.2 c.tenths.next (omega arith) c.tenths-test.true in
+    let known : known_at h.stretches.now at ≡ true = c.requires.known at (omega arith) less in (
+      at + 1,
+      omega arith,
+      omega arith,
+      c.until-end.ensures,
+      λ e is.
+          let top = c.requires.within e is in
+          let there = on_further h e c.requires.ready.rises true c.args.from y at c.tenths.next c.args.lines.now.items c.tenths.lines.items from (omega arith) (λ t le lt. c.requires.known t (omega arith) (omega arith)) cut (λ lt. omega arith) (added e is) in
+          on_join h e c.requires.ready.rises true true true c.args.from at (at + 1) c.args.lines.now.items c.tenths.lines.items c.judge_tenth.new.lines.items there (on_tenth h e c.requires.ready.rises true at c.tenths.lines.items c.judge_tenth.new.lines.items (omega arith) known (c.in_ok-judge_tenth.ensures e is)),
+    )
+
+pub returns-clause-lines : goal.returns-clause-lines
+returns-clause-lines c = λ e is.
+    let h = c.args.hour.now in
+    let (y, low, high, cut, added) = c.tenths.invariant in
+    on_further h e c.requires.ready.rises true c.args.from y c.args.to c.tenths.next c.args.lines.now.items c.tenths.lines.items high (c.requires.within e is) (λ t le lt. c.requires.known t (omega arith) lt) cut (λ lt. absurd (let past = c.tenths-test.false in omega arith)) (added e is)

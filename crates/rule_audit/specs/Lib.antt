@@ -1,0 +1,5 @@
+pub mod Rules
+pub mod Obligations
+pub mod Judged
+pub mod Lines
+pub mod Pass

@@ -1,0 +1,91 @@
+-- What the pass over an hour adds to the lines, step by step.
+use Rattle.std.specs.Prelude.{◌≡◌, ◌↔◌, ℕ, ◌-◌, ◌<◌, ◌≤◌, ℤ, Bool, IsTrue, Option, List, [], ◌++◌, length, slice_index_or, All}
+use Rattle.span_set.specs.declared.set.Span.{Span}
+use Rattle.sig_base.specs.declared.values.Row.{Row}
+use Rattle.sig_base.specs.declared.values.Verdict.{Verdict}
+use Rattle.gap_map.specs.Stretches.{known_at}
+use Rattle.channel_tables.specs.declared.spec.Spec.{Spec}
+use Rattle.channel_tables.specs.Spec.{IsSpec}
+use Rattle.channel_tables.specs.Tables.{table_of}
+use Rattle.reach.specs.Runs.{State}
+use Rattle.reach.specs.Tests.{InBound}
+use Rattle.reach.specs.declared.seen.AgeBound.{AgeBound}
+use Rattle.reach.specs.declared.seen.Seen.{Seen}
+use Rattle.board.specs.Logs.{HourLog, hour_log, no_row, no_spec}
+use Rattle.board.specs.Places.{IsViewOf}
+use Rattle.board.specs.Verdicts.{AreWithin}
+use Rattle.ring_config.specs.declared.items.IntervalItem.{IntervalItem}
+use Rattle.ring_config.specs.Sound.{IsBound}
+use Rattle.rule_audit.specs.declared.hour.AuditedHour.{AuditedHour}
+use Rattle.rule_audit.specs.declared.lines.AuditLine.{AuditLine}
+use Rattle.rule_audit.specs.declared.rules.Rule.{Rule}
+use Rattle.rule_audit.specs.declared.rules.Rule.TheVariants.{Interval, Conflict, Companion, Parents}
+use Rattle.rule_audit.specs.Obligations.{Obligation, obligations_from}
+use Rattle.rule_audit.specs.Judged.{HasRuns}
+use Rattle.rule_audit.specs.Lines.{AreLinesOf}
+
+-- what lies on both sides of an hour, beside its number
+pub record Ends : Type 0 where
+  pub hour : ℕ
+  pub before : List (List (List Span))
+  pub after : List (List (Option ℤ))
+
+-- the log of the hour between these
+abbrev pub log_of : AuditedHour → Ends → HourLog
+log_of h e = hour_log e.hour h.specs.now h.rows.now h.stretches.now e.before e.after
+
+-- the view is one of the hour between these, and some history agrees
+pub record IsLogOf (h : AuditedHour) (e : Ends) : Type 0 where
+  pub is_view : IsViewOf (log_of h e) h.view.now
+  pub runs : HasRuns (log_of h e)
+
+-- an interval rule of a channel among the specs
+pub record FitsItem (specs : List Spec) (item : IntervalItem) : Type 0 where
+  pub within : item.spec < length specs
+  pub colour : item.colour < length (table_of (slice_index_or specs item.spec no_spec).channel.kind).names
+  pub bound : IsBound item.bound
+
+-- a rule of channels among the specs
+abbrev pub FitsRule : List Spec → Rule → Type 0
+FitsRule specs (Interval item) = FitsItem specs item
+FitsRule specs (Conflict a b terms) = AreWithin (length specs) terms
+FitsRule specs (Companion p terms) = AreWithin (length specs) terms
+FitsRule specs (Parents o terms) = AreWithin (length specs) terms
+
+-- no row is before an earlier one
+abbrev pub Rises : List Row → Type 0
+Rises rows = (j k : ℕ) → j ≤ k → k < length rows → (slice_index_or rows j no_row).at ≤ (slice_index_or rows k no_row).at
+
+-- the parts fit one another
+pub record IsReady (h : AuditedHour) : Type 0 where
+  pub few_rules : length h.rules.now ≤ 1000
+  pub few_rows : length h.rows.now ≤ 400000
+  pub rises : Rises h.rows.now
+  pub are_specs : All IsSpec h.specs.now
+  pub are_rules : All (FitsRule h.specs.now) h.rules.now
+  pub seen : length h.view.now ≡ length h.specs.now
+
+-- the first i rows are those before tenth x
+abbrev pub IsCutAt : List Row → ℕ → ℕ → Type 0
+IsCutAt rows x i = (i ≤ length rows) × ((k : ℕ) → k < i → (slice_index_or rows k no_row).at < x) × ((k : ℕ) → i ≤ k → k < length rows → x ≤ (slice_index_or rows k no_row).at)
+
+-- whether some of the states has the colour with an age in the bound, and whether some hasn't
+pub record SeesColour (P : State → Type 0) (c : ℕ) (bound : AgeBound) (t : ℤ) (seen : Seen) : Type 0 where
+  pub some_true : IsTrue seen.some_true ↔ ((v : State) × P v × ((v.colour ≡ c) × InBound bound t v.entry))
+  pub some_false : IsTrue seen.some_false ↔ ((v : State) × P v × (((v.colour ≡ c) × InBound bound t v.entry) → ⊥))
+
+-- the lines of the obligations come after those of before
+abbrev pub Adds : (Obligation → Verdict → Type 0) → List Obligation → List AuditLine → List AuditLine → Type 0
+Adds Has os old new = (ls : List AuditLine) × AreLinesOf Has os ls × (new ≡ old ++ ls)
+
+-- the lines of the first of the obligations come after those of before, and these obligations are left
+abbrev pub AddsUpTo : (Obligation → Verdict → Type 0) → List Obligation → List Obligation → List AuditLine → List AuditLine → Type 0
+AddsUpTo Has all left old new = (os : List Obligation) × Adds Has os old new × (os ++ left ≡ all)
+
+-- the obligations of the hour from tenth x up to tenth t
+abbrev pub obligations_in : AuditedHour → Bool → ℕ → ℕ → List Obligation
+obligations_in h before x t = obligations_from (known_at h.stretches.now) h.specs.now h.rules.now h.rows.now before x (t - x)
+
+-- stands where a list has no rule
+abbrev pub no_rule : Rule
+no_rule = Companion 0 []

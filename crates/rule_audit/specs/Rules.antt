@@ -1,0 +1,104 @@
+-- The audit rules of a configuration, in the order of their numbers.
+use Rattle.std.specs.Prelude.{ℕ, ◌-◌, ◌^◌, ◌&&◌, ◌==◌, not, Bool, nat_lt, if◌then◌else◌, List, [], ◌∷◌, ◌++◌, map, filter, flat_map, fold, bit_or, unwrap_or, length}
+use Rattle.std.specs.Int.{bit_at}
+use Rattle.std.specs.List.{range_with_len}
+use Rattle.event_codes.specs.declared.channels.Kind.{Kind}
+use Rattle.event_codes.specs.declared.channels.Kind.TheVariants as kinds
+use Rattle.channel_tables.specs.declared.spec.Spec.{Spec}
+use Rattle.channel_tables.specs.Tables.{table_of}
+use Rattle.channel_tables.specs.PhaseTable as phase
+use Rattle.channel_tables.specs.PedTable as ped
+use Rattle.channel_tables.specs.OverlapTable as overlap
+use Rattle.board.specs.declared.clause.Term.{Term}
+use Rattle.ring_config.specs.declared.items.OverlapItem.{OverlapItem}
+use Rattle.ring_config.specs.Values.{has_number, has_phase}
+use Rattle.ring_config.specs.Settings.{Settings, in_conflict, spec_place}
+use Rattle.rule_audit.specs.declared.rules.Rule.{Rule}
+use Rattle.rule_audit.specs.declared.rules.Rule.TheVariants.{Interval, Conflict, Companion, Parents}
+
+-- what f gives for the numbers 1 to 16, one after another
+unfoldable pub each_number : {A : Type 0} → (ℕ → List A) → List A
+each_number f = flat_map f (range_with_len 1 16)
+
+-- ---- terms
+
+-- a set of colours
+unfoldable pub colours_of : List ℕ → ℕ
+colours_of cs = fold (λ mask c. bit_or mask (2 ^ c)) 0 cs
+
+-- the colours of the machine of a kind of channel, without these
+unfoldable pub others : Kind → List ℕ → List ℕ
+others kind cs = filter (λ c. not (has_number cs c)) (range_with_len 0 (length (table_of kind).names))
+
+-- the channel is in one of the colours
+unfoldable pub is_in : List Spec → Kind → ℕ → List ℕ → Term
+is_in specs kind n cs = record { spec = unwrap_or (spec_place specs (record { kind = kind; number = n })) 0; colours = colours_of cs }
+
+-- the channel is in another colour
+abbrev pub is_in_none : List Spec → Kind → ℕ → List ℕ → Term
+is_in_none specs kind n cs = is_in specs kind n (others kind cs)
+
+-- the colours in which a phase is served: from its call's start to the end of its red clearance
+abbrev pub served : List ℕ
+served = phase.on ∷ phase.green ∷ phase.term ∷ phase.yellow ∷ phase.clear ∷ []
+
+abbrev pub is_served : List Spec → ℕ → Term
+is_served specs p = is_in specs kinds.Phase p served
+
+abbrev pub is_not_served : List Spec → ℕ → Term
+is_not_served specs p = is_in_none specs kinds.Phase p served
+
+-- ---- rules
+
+-- phases a and b are not served together
+abbrev pub conflict_terms : List Spec → ℕ → ℕ → List Term
+conflict_terms specs a b = is_not_served specs a ∷ is_not_served specs b ∷ []
+
+-- where pedestrian signal p shows walk, its phase is on or green
+abbrev pub companion_terms : List Spec → ℕ → List Term
+companion_terms specs p = is_in_none specs kinds.Ped p (ped.walk ∷ []) ∷ is_in specs kinds.Phase p (phase.on ∷ phase.green ∷ []) ∷ []
+
+-- the phase is a parent of the overlap: bit p - 1 of its mask
+abbrev pub is_parent : OverlapItem → ℕ → Bool
+is_parent o p = bit_at o.parents (p - 1) == 1
+
+-- the parents of the overlap, ascending, each as a term that it is served
+abbrev pub parent_term : List Spec → OverlapItem → ℕ → List Term
+parent_term specs o p = if is_parent o p then is_served specs p ∷ [] else []
+
+-- where the overlap is green, one of its parents is served
+abbrev pub parents_terms : List Spec → OverlapItem → List Term
+parents_terms specs o = is_in_none specs kinds.Overlap o.number (overlap.green ∷ []) ∷ each_number (parent_term specs o)
+
+-- two configured phases a < b that conflict
+abbrev pub is_conflict : Settings → ℕ → ℕ → Bool
+is_conflict c a b = (nat_lt a b && has_phase c.phases a) && (has_phase c.phases b && in_conflict c a b)
+
+abbrev pub conflict_rule : Settings → ℕ → ℕ → List Rule
+conflict_rule c a b = if is_conflict c a b then Conflict a b (conflict_terms c.specs a b) ∷ [] else []
+
+-- by the first phase, and then by the second
+abbrev pub conflict_rules : Settings → List Rule
+conflict_rules c = each_number (λ a. each_number (conflict_rule c a))
+
+abbrev pub companion_rule : Settings → ℕ → List Rule
+companion_rule c p = if has_number c.peds p then Companion p (companion_terms c.specs p) ∷ [] else []
+
+-- by the number of the pedestrian signal
+abbrev pub companion_rules : Settings → List Rule
+companion_rules c = each_number (companion_rule c)
+
+-- the overlap's rule, where it has this number
+abbrev pub parents_rule_of : Settings → ℕ → OverlapItem → List Rule
+parents_rule_of c n o = if o.number == n then Parents n (parents_terms c.specs o) ∷ [] else []
+
+abbrev pub parents_rule : Settings → ℕ → List Rule
+parents_rule c n = flat_map (parents_rule_of c n) c.overlaps
+
+-- by the number of the overlap
+abbrev pub parents_rules : Settings → List Rule
+parents_rules c = each_number (parents_rule c)
+
+-- all rules: interval rules in file order, conflicts, companions, parents; the first has number 1
+unfoldable pub rules_for : Settings → List Rule
+rules_for c = ((map Interval c.intervals ++ conflict_rules c) ++ companion_rules c) ++ parents_rules c

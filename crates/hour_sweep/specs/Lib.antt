@@ -1,0 +1,4 @@
+pub mod Rows
+pub mod Hours
+pub mod Passes
+pub mod Numbers

@@ -1,0 +1,12 @@
+//! One pass over an hour, for any measure of it: the hour's known rows in order, and its gaps.
+//!
+//! A measure says what a row and a gap make of what it keeps (`Watch`). One that keeps a part for
+//! each of some numbers, as phases or pedestrian signals have, says it for one part (`Track`), and
+//! a row of the log then reaches the part of its parameter alone, however many there are.
+#![tactic(auto)]
+
+mod track;
+mod watch;
+
+pub use track::{Track, Tracked, track_hour};
+pub use watch::{Watch, sweep};

@@ -1,0 +1,48 @@
+-- Ends of yellow and whole cycles of phases, among the known rows in row order.
+use Rattle.std.specs.Prelude.{ℕ, ◌-◌, Bool, not, if◌then◌else◌, ◌&&◌, List, [], ◌∷◌, ◌++◌, Option, Some, None, is_some}
+use Rattle.std.specs.List.{list_any}
+use Rattle.sig_base.specs.declared.values.Row.{Row}
+use Rattle.hour_sweep.specs.Rows.{kept_last, last_with, last, live}
+use Rattle.service_cut.specs.declared.items.Cycle.{Cycle}
+use Rattle.service_cut.specs.declared.cycles.CycleBegun.{CycleBegun}
+use Rattle.service_cut.specs.Signs.{sign, is_begin, is_yellow, is_end}
+
+abbrev pub yellow_in : (ℕ → Bool) → ℕ → ℕ → Option (Row × List Row) → Option Row
+yellow_in known t p None = None
+yellow_in known t p (Some (y, after)) = if live known y.at t && not (list_any (λ z. is_end (sign p z)) after) then Some y else None
+
+-- the last row 8, where each tenth from its own up to t is known and no row 9 or 10 has come after it
+unfoldable pub yellow_of : (ℕ → Bool) → ℕ → ℕ → List Row → Option Row
+yellow_of known t p before = yellow_in known t p (last_with (λ z. is_yellow (sign p z)) before)
+
+-- the row is a yellow end of phase p, where these rows stand before it
+unfoldable pub is_yellow_end : (ℕ → Bool) → ℕ → List Row → Row → Bool
+is_yellow_end known p before r = is_end (sign p r) && is_some (yellow_of known r.at p before)
+
+-- the last yellow end among the rows with those after it, where the first rows stand before them
+abbrev pub last_end_from : (ℕ → Bool) → ℕ → List Row → List Row → Option (Row × List Row)
+last_end_from known p before [] = None
+last_end_from known p before (x ∷ xs) = kept_last (last_end_from known p (before ++ x ∷ []) xs) (is_yellow_end known p before x) x xs
+
+abbrev pub cycle_begun : ℕ → Row → List Row → CycleBegun
+cycle_begun p from after = record { from = from; green = last (λ z. is_begin (sign p z)) after; yellow = last (λ z. is_yellow (sign p z)) after }
+
+abbrev pub cycle_begun_in : (ℕ → Bool) → ℕ → ℕ → Option (Row × List Row) → Option CycleBegun
+cycle_begun_in known t p None = None
+cycle_begun_in known t p (Some (r, after)) = if live known r.at t then Some (cycle_begun p r after) else None
+
+-- the last yellow end, where each tenth from its own up to t is known, with the last row 1 and the last row 8 since
+unfoldable pub cycle_begun_of : (ℕ → Bool) → ℕ → ℕ → List Row → Option CycleBegun
+cycle_begun_of known t p before = cycle_begun_in known t p (last_end_from known p [] before)
+
+abbrev pub offset_of : ℕ → Option Row → ℕ
+offset_of from None = 0
+offset_of from (Some x) = x.at - from
+
+abbrev pub cycle_of : ℕ → Option CycleBegun → Row → Option Cycle
+cycle_of p None r = None
+cycle_of p (Some s) r = Some (record { phase = p; from = s.from.at; to = r.at; green = offset_of s.from.at s.green; yellow = offset_of s.from.at s.yellow })
+
+-- the whole cycle of phase p that ends with row r, where these rows stand before it
+unfoldable pub cycle_at : (ℕ → Bool) → ℕ → List Row → Row → Option Cycle
+cycle_at known p before r = if is_yellow_end known p before r then cycle_of p (cycle_begun_of known r.at p before) r else None

@@ -1,0 +1,111 @@
+-- The hour's numbers and the next point's carry.
+use Rattle.std.proofs.Common.{◌≡◌, ℕ, ◌+◌, ◌<◌, Bool, true, false, List, [], ◌++◌, Option, get_or, refl, ap, sym, subst, ◌∙◌, arith}
+use Rattle.std.proofs.lemmas.List.Elements.{All-nil, All-append, All-weaker, All-filter}
+use Rattle.sig_base.specs.declared.values.Row.{Row}
+use Rattle.gap_map.specs.declared.stretch.Stretch.{Stretch}
+use Rattle.gap_map.specs.Stretches.{FollowOn}
+use Rattle.hour_sums.specs.Numbers.{AreSums}
+use Rattle.hour_sweep.specs.Rows.{known_rows}
+use Rattle.hour_sweep.specs.Hours.{AreOrdered, IsHour, point}
+use Rattle.hour_sweep.specs.Passes.{swept}
+use Rattle.hour_sweep.specs.Numbers.{Tracking, tracking_after, tracking_cleared, IsTracked}
+use Rattle.hour_sweep.proofs.Orders.{rise_ordered, below_end}
+use Rattle.hour_sweep.proofs.Laws.{hour_tracked}
+use Rattle.hour_sweep.proofs.Counted.{outs_from-append}
+use Rattle.lane.specs.Places.{Kept}
+use Rattle.board.specs.Logs.{HourLog, first_tenth, end_tenth}
+use Rattle.ring_config.specs.Settings.{Settings}
+use Rattle.ring_config.specs.Values.{has_number}
+use Rattle.other_measures.specs.declared.peds.Delay.{Delay}
+use Rattle.other_measures.specs.declared.peds.PedPart.{PedPart}
+use Rattle.other_measures.specs.declared.preempts.PreemptEvent.{PreemptEvent}
+use Rattle.other_measures.specs.declared.preempts.PreemptPart.{PreemptPart}
+use Rattle.other_measures.specs.declared.sums.PedSum.{PedSum}
+use Rattle.other_measures.specs.declared.sums.PreemptSum.{PreemptSum}
+use Rattle.other_measures.specs.declared.sums.CoordSum.{CoordSum}
+use Rattle.other_measures.specs.Peds.{ped_of, delay_at}
+use Rattle.other_measures.specs.Preempts.{preempt_of, event_at}
+use Rattle.other_measures.specs.Steps.{ped_after, ped_cleared, delay_by, preempt_after, preempt_cleared, event_by}
+use Rattle.other_measures.specs.Crossing.{Crossing, IsCarry, peds_of, preempts_of}
+use Rattle.other_measures.specs.Sums.{ped_sum_of, preempt_sum_of, no_ped_sum, no_preempt_sum}
+use Rattle.other_measures.specs.Hours.{delays_from, events_from, HasDelays, HasEvents, with_detector, with_states, AreNumbers, HasRows, no_coordination}
+use Rattle.other_measures.specs.States.{EachOf, IsSeen}
+use Rattle.other_measures.proofs.PedLaws.{ped_tracks}
+use Rattle.other_measures.proofs.PreemptLaws.{preempt_tracks}
+
+next_point : (k : ℕ) → point k + 36000 ≡ point (k + 1)
+next_point k = omega arith
+
+pub peds_tracked : (known : ℕ → Bool) (c : Settings) (before : List Row) (hour : ℕ) (rows : List Row) (ss : List Stretch) (carry : Crossing) (start : List (Option PedPart)) (end : Tracking PedPart Delay) → ((p : ℕ) → has_number c.peds p ≡ true → p < 17) → carry.peds ≡ start → end ≡ swept (tracking_after ped_after delay_by) (tracking_cleared ped_cleared) ss rows (record { parts = start; outs = [] }) → IsHour known hour rows ss → IsCarry known c before hour carry → IsTracked known (ped_of known) (delay_at known) (has_number c.peds) 17 before rows (point hour + 36000) end.outs end.parts
+peds_tracked known c before hour rows ss carry start end room same e h is =
+    let or = rise_ordered (point hour) (point hour + 36000) rows (omega arith) h.are_rows.rise in
+    hour_tracked known (ped_of known) ped_after ped_cleared (delay_at known) delay_by (ped_tracks known) (has_number c.peds) 17 room before (point hour) (point hour + 36000) rows ss start end e h.are_stretches or is.earlier (sym same ∙ is.peds_are)
+
+pub preempts_tracked : (known : ℕ → Bool) (c : Settings) (before : List Row) (hour : ℕ) (rows : List Row) (ss : List Stretch) (carry : Crossing) (start : List (Option PreemptPart)) (end : Tracking PreemptPart PreemptEvent) → ((p : ℕ) → has_number c.preempts p ≡ true → p < 17) → carry.preempts ≡ start → end ≡ swept (tracking_after preempt_after event_by) (tracking_cleared preempt_cleared) ss rows (record { parts = start; outs = [] }) → IsHour known hour rows ss → IsCarry known c before hour carry → IsTracked known (preempt_of known) (event_at known) (has_number c.preempts) 17 before rows (point hour + 36000) end.outs end.parts
+preempts_tracked known c before hour rows ss carry start end room same e h is =
+    let or = rise_ordered (point hour) (point hour + 36000) rows (omega arith) h.are_rows.rise in
+    hour_tracked known (preempt_of known) preempt_after preempt_cleared (event_at known) event_by (preempt_tracks known) (has_number c.preempts) 17 room before (point hour) (point hour + 36000) rows ss start end e h.are_stretches or is.earlier (sym same ∙ is.preempts_are)
+
+pub carry_is : (known : ℕ → Bool) (c : Settings) (before : List Row) (hour : ℕ) (rows : List Row) (ss : List Stretch) (carry : Crossing) (ps : List (Option PedPart)) (ds : List Delay) (qs : List (Option PreemptPart)) (es : List PreemptEvent) → IsHour known hour rows ss → IsCarry known c before hour carry
+    → IsTracked known (ped_of known) (delay_at known) (has_number c.peds) 17 before rows (point hour + 36000) ds ps → IsTracked known (preempt_of known) (event_at known) (has_number c.preempts) 17 before rows (point hour + 36000) es qs
+    → IsCarry known c (before ++ known_rows known rows) (hour + 1) (record { peds = ps; preempts = qs })
+carry_is known c before hour rows ss carry ps ds qs es h is a b =
+    let seen = known_rows known rows in
+    let or = rise_ordered (point hour) (point hour + 36000) rows (omega arith) h.are_rows.rise in
+    let lower = All-weaker (λ (x : Row). x.at < point hour) (λ x. x.at < point (hour + 1)) (λ x l. omega arith) before is.earlier in
+    let below = All-weaker (λ (x : Row). x.at < point hour + 36000) (λ x. x.at < point (hour + 1)) (λ x l. omega arith) seen (All-filter (λ (x : Row). known x.at) (λ x. x.at < point hour + 36000) rows (below_end (point hour) (point hour + 36000) rows or)) in
+    record {
+      earlier = All-append (λ (x : Row). x.at < point (hour + 1)) before seen lower below;
+      peds_are = a.parts_are ∙ ap (λ u. peds_of known u c (before ++ seen)) (next_point hour);
+      preempts_are = b.parts_are ∙ ap (λ u. preempts_of known u c (before ++ seen)) (next_point hour);
+    }
+
+-- from what the code has
+
+pub carry_by : (known : ℕ → Bool) (c : Settings) (before : List Row) (hour : ℕ) (rows : List Row) (ss : List Stretch) (carry : Crossing) (ps qp : List (Option PedPart)) (ds : List Delay) (qs rq : List (Option PreemptPart)) (es : List PreemptEvent) → IsHour known hour rows ss → IsCarry known c before hour carry → qp ≡ ps → rq ≡ qs
+    → IsTracked known (ped_of known) (delay_at known) (has_number c.peds) 17 before rows (point hour + 36000) ds ps → IsTracked known (preempt_of known) (event_at known) (has_number c.preempts) 17 before rows (point hour + 36000) es qs
+    → IsCarry known c (before ++ known_rows known rows) (hour + 1) (record { peds = qp; preempts = rq })
+carry_by known c before hour rows ss carry ps qp ds qs rq es h is e f a b = rw (e, f) (carry_is known c before hour rows ss carry ps ds qs es h is a b)
+
+-- one number's sum, from the table
+
+pub delays_at : (ds : List Delay) (table : List PedSum) (p : ℕ) (s : PedSum) → AreSums (λ d. d.ped) (λ q zs. ped_sum_of zs) 17 ds table → p < 17 → s ≡ with_detector (get_or table p no_ped_sum) s.detector_on s.detector_undecided → HasDelays ds p s
+delays_at ds table p s (len, at) lt e = e ∙ ap (λ (z : PedSum). with_detector z s.detector_on s.detector_undecided) (at p no_ped_sum lt)
+
+pub events_at : (es : List PreemptEvent) (table : List PreemptSum) (p : ℕ) (s : PreemptSum) → AreSums (λ e. e.preempt) (λ q zs. preempt_sum_of zs) 17 es table → p < 17 → s ≡ with_states (get_or table p no_preempt_sum) s → HasEvents es p s
+events_at es table p s (len, at) lt e = e ∙ ap (λ (z : PreemptSum). with_states z s) (at p no_preempt_sum lt)
+
+-- the hour's numbers, and the tenths of states
+
+pub numbers_are : (known : ℕ → Bool) (c : Settings) (before : List Row) (rows : List Row) (ds : List Delay) (es : List PreemptEvent) (peds : List PedSum) (preempts : List PreemptSum) (coordination : CoordSum) → ds ≡ delays_from known c before (known_rows known rows) → es ≡ events_from known c before (known_rows known rows)
+    → EachOf (has_number c.peds) (HasDelays ds) 17 peds → EachOf (has_number c.preempts) (HasEvents es) 17 preempts → (c.coordination ≡ true → HasRows (known_rows known rows) coordination) → (c.coordination ≡ false → coordination ≡ no_coordination)
+    → AreNumbers known c before (known_rows known rows) (record { peds = peds; preempts = preempts; coordination = coordination })
+numbers_are known c before rows ds es peds preempts coordination ed ee p q r off = record {
+  peds = subst (λ (zs : List Delay). EachOf (has_number c.peds) (HasDelays zs) 17 peds) ed p;
+  preempts = subst (λ (zs : List PreemptEvent). EachOf (has_number c.preempts) (HasEvents zs) 17 preempts) ee q;
+  coordination = r;
+  off = off;
+}
+
+-- the first tenth of the hour
+
+pub first_is : (c : Settings) (view : List Kept) (rows : List Row) (ss : List Stretch) (log : HourLog) (from : ℕ) → IsSeen c view rows ss log → ((a b : ℕ) → FollowOn a b ss → a < b → from ≡ a) → from ≡ first_tenth log.hour
+first_is c view rows ss log from is first =
+    let follow = subst (λ (zs : List Stretch). FollowOn (first_tenth log.hour) (end_tenth log.hour) zs) is.same_stretches is.is_view.is_hour.follow in
+    first (first_tenth log.hour) (end_tenth log.hour) follow (omega arith)
+
+-- the laws of several hours
+
+delay_alike : (known : ℕ → Bool) (p : ℕ) (before : List Row) (x : Row) (rest more : List Row) → delay_at known p before x rest ≡ delay_at known p before x more
+unfolding delay_at
+delay_alike known p before x rest more = refl
+
+event_alike : (known : ℕ → Bool) (p : ℕ) (before : List Row) (x : Row) (rest more : List Row) → event_at known p before x rest ≡ event_at known p before x more
+unfolding event_at
+event_alike known p before x rest more = refl
+
+pub delays_add : (known : ℕ → Bool) (c : Settings) (t b : ℕ) (before rows : List Row) → AreOrdered 0 t before → AreOrdered t b rows → delays_from known c [] (before ++ rows) ≡ delays_from known c [] before ++ delays_from known c before rows
+delays_add known c t b before rows ob or = outs_from-append (delay_at known) (has_number c.peds) t b [] before rows (λ earlier x rs ys t b low lt h. delay_alike known x.param earlier x (rs ++ ys) rs) (All-nil (λ z. z.at < t)) (below_end 0 t before ob) or
+
+pub events_add : (known : ℕ → Bool) (c : Settings) (t b : ℕ) (before rows : List Row) → AreOrdered 0 t before → AreOrdered t b rows → events_from known c [] (before ++ rows) ≡ events_from known c [] before ++ events_from known c before rows
+events_add known c t b before rows ob or = outs_from-append (event_at known) (has_number c.preempts) t b [] before rows (λ earlier x rs ys t b low lt h. event_alike known x.param earlier x (rs ++ ys) rs) (All-nil (λ z. z.at < t)) (below_end 0 t before ob) or

@@ -1,0 +1,10 @@
+pub mod LastRows
+pub mod PedLaws
+pub mod PreemptLaws
+pub mod Numbers
+pub mod Ones
+pub mod Tables
+pub mod Rows
+pub mod Starts
+pub mod Seeing
+pub mod Hours

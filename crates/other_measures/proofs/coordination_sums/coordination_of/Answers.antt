@@ -1,0 +1,7 @@
+use Rattle.other_measures.proofs.coordination_sums.coordination_of.Goals as goal
+
+pub returns-clause-states : goal.returns-clause-states
+returns-clause-states c = λ on log rs ss is e. record {
+  tenths = c.state_tenths-in_state.ensures log rs ss is e;
+  undecided = c.tenths-undecided.ensures log rs ss is e;
+}

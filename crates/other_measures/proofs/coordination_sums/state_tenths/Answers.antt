@@ -1,0 +1,13 @@
+use Rattle.std.proofs.Common.{arith, ◌∙◌}
+use Rattle.std.proofs.lemmas.List.{length-set}
+use Rattle.other_measures.proofs.Seeing.{tenths_more}
+use Rattle.other_measures.proofs.coordination_sums.state_tenths.Goals as goal
+
+pub loop-state-preserved : goal.loop-state-preserved
+loop-state-preserved c = record {
+  len = length-set c.loop-state.all c.from.result c.tenths.result ∙ c.loop-state.invariant.len;
+  tenths = λ log rows ss is e. rw c.from.ensures (tenths_more log c.args.config.now c.loop-state.all c.loop-state.state c.tenths.result c.loop-state.invariant.len c.loop-state-test.true (c.tenths.ensures log rows ss is e) (c.loop-state.invariant.tenths log rows ss is e));
+}
+
+pub returns : goal.returns
+returns c = λ log rows ss is e q lt. c.loop-state.invariant.tenths log rows ss is e q (omega (arith, c.loop-state-test.false))

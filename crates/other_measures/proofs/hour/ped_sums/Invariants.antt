@@ -1,0 +1,14 @@
+use Rattle.std.proofs.Common.{◌≡◌, List}
+use Rattle.sig_base.specs.declared.values.Row.{Row}
+use Rattle.gap_map.specs.declared.stretch.Stretch.{Stretch}
+use Rattle.board.specs.Logs.{HourLog, first_tenth}
+use Rattle.ring_config.specs.Values.{has_number}
+use Rattle.other_measures.specs.Hours.{HasDelays}
+use Rattle.other_measures.specs.States.{EachOf, HasDetector, IsSeen}
+use Rattle.other_measures.proofs.hour.ped_sums.Given as goal
+
+abbrev pub invariant-loop-ped : goal.invariant-loop-ped
+invariant-loop-ped l = record {
+  delays : EachOf (has_number l.config.peds) (HasDelays l.delays) l.ped l.sums.items;
+  states : (log : HourLog) (rows : List Row) (ss : List Stretch) → IsSeen l.config l.view rows ss log → l.from ≡ first_tenth log.hour → EachOf (has_number l.config.peds) (HasDetector log l.config) l.ped l.sums.items;
+}

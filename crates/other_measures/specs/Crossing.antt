@@ -1,0 +1,36 @@
+-- What crosses a point between two hours.
+use Rattle.std.specs.Prelude.{ℕ, ◌≡◌, ◌<◌, Bool, List, Option, Some, None, All, if◌then◌else◌}
+use Rattle.sig_base.specs.declared.values.Row.{Row}
+use Rattle.hour_sweep.specs.Hours.{point}
+use Rattle.hour_sweep.specs.Numbers.{table}
+use Rattle.ring_config.specs.Settings.{Settings}
+use Rattle.ring_config.specs.Values.{has_number}
+use Rattle.other_measures.specs.declared.peds.PedPart.{PedPart}
+use Rattle.other_measures.specs.declared.preempts.PreemptPart.{PreemptPart}
+use Rattle.other_measures.specs.Peds.{ped_of}
+use Rattle.other_measures.specs.Preempts.{preempt_of}
+
+-- what is seen of it
+pub record Crossing : Type 0 where
+  pub peds : List (Option PedPart)
+  pub preempts : List (Option PreemptPart)
+
+-- the parts of all pedestrian signals, and of all preempts, each at the place of its number, which is at most 16
+abbrev pub peds_of : (ℕ → Bool) → ℕ → Settings → List Row → List (Option PedPart)
+peds_of known t c before = table (has_number c.peds) 17 (ped_of known t before)
+
+abbrev pub preempts_of : (ℕ → Bool) → ℕ → Settings → List Row → List (Option PreemptPart)
+preempts_of known t c before = table (has_number c.preempts) 17 (preempt_of known t before)
+
+-- this crosses point k, where these are the known rows before it
+pub record IsCarry (known : ℕ → Bool) (c : Settings) (before : List Row) (k : ℕ) (carry : Crossing) : Type 0 where
+  pub earlier : All (λ x. x.at < point k) before
+  pub peds_are : carry.peds ≡ peds_of known (point k) c before
+  pub preempts_are : carry.preempts ≡ preempts_of known (point k) c before
+
+-- the part of a number before any row
+abbrev pub no_ped : List ℕ → ℕ → Option PedPart
+no_ped peds p = if has_number peds p then Some (record { number = p; walk = None }) else None
+
+abbrev pub no_preempt : List ℕ → ℕ → Option PreemptPart
+no_preempt preempts p = if has_number preempts p then Some (record { number = p; call = None; service = None }) else None

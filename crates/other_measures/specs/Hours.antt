@@ -1,0 +1,78 @@
+-- The numbers of one hour.
+use Rattle.std.specs.Prelude.{ℕ, ◌≡◌, ◌+◌, ◌==◌, Bool, true, false, if◌then◌else◌, List, [], ◌∷◌, count_by}
+use Rattle.sig_base.specs.declared.values.Row.{Row}
+use Rattle.hour_sums.specs.Numbers.{capped}
+use Rattle.hour_sweep.specs.Numbers.{outs_from}
+use Rattle.board.specs.Logs.{HourLog}
+use Rattle.ring_config.specs.Settings.{Settings}
+use Rattle.ring_config.specs.Values.{has_number}
+use Rattle.other_measures.specs.declared.peds.Delay.{Delay}
+use Rattle.other_measures.specs.declared.preempts.PreemptEvent.{PreemptEvent}
+use Rattle.other_measures.specs.declared.sums.PedSum.{PedSum}
+use Rattle.other_measures.specs.declared.sums.PreemptSum.{PreemptSum}
+use Rattle.other_measures.specs.declared.sums.CoordSum.{CoordSum}
+use Rattle.other_measures.specs.declared.coordination.CodeCount.{CodeCount}
+use Rattle.other_measures.specs.Peds.{delay_at}
+use Rattle.other_measures.specs.Preempts.{event_at}
+use Rattle.other_measures.specs.Sums.{ped_sum_of, preempt_sum_of, delays_of, events_of}
+use Rattle.other_measures.specs.States.{EachOf, HasDetector, HasStates, HasCoordination}
+
+-- the delays of pedestrian signals that end among the rows, in their order, where the first rows stand before them
+abbrev pub delays_from : (ℕ → Bool) → Settings → List Row → List Row → List Delay
+delays_from known c before rows = outs_from (delay_at known) (has_number c.peds) before rows
+
+-- the entries and exits of preempts among the rows, likewise
+abbrev pub events_from : (ℕ → Bool) → Settings → List Row → List Row → List PreemptEvent
+events_from known c before rows = outs_from (event_at known) (has_number c.preempts) before rows
+
+-- the number of rows of this code
+abbrev pub rows_with : ℕ → List Row → ℕ
+rows_with code rows = capped (count_by (λ x. x.code == code) rows)
+
+-- one more row
+abbrev pub code_after : CodeCount → Row → CodeCount
+code_after s x = record s { count = if x.code == s.code then capped (s.count + 1) else s.count }
+
+-- the sum with these tenths of the detector
+abbrev pub with_detector : PedSum → ℕ → ℕ → PedSum
+with_detector s on undecided = record s { detector_on = on; detector_undecided = undecided }
+
+abbrev pub with_states : PreemptSum → PreemptSum → PreemptSum
+with_states s t = record s { input_on = t.input_on; input_undecided = t.input_undecided; rest = t.rest; entry = t.entry; track = t.track; dwell = t.dwell; undecided = t.undecided }
+
+-- but for the tenths of its states, the numbers are those of its delays, or of its entries and exits
+abbrev pub HasDelays : List Delay → ℕ → PedSum → Type 0
+HasDelays ds p s = s ≡ with_detector (ped_sum_of (delays_of p ds)) s.detector_on s.detector_undecided
+
+abbrev pub HasEvents : List PreemptEvent → ℕ → PreemptSum → Type 0
+HasEvents es p s = s ≡ with_states (preempt_sum_of (events_of p es)) s
+
+-- nothing of the coordination
+abbrev pub no_coordination : CoordSum
+no_coordination = record { tenths = 0 ∷ 0 ∷ 0 ∷ 0 ∷ 0 ∷ 0 ∷ 0 ∷ []; undecided = 0; patterns = 0; cycle_changes = 0; yields = 0; begins = 0 }
+
+-- the rows of the coordination, whatever their parameter
+pub record HasRows (rows : List Row) (s : CoordSum) : Type 0 where
+  pub patterns : s.patterns ≡ rows_with 131 rows
+  pub cycle_changes : s.cycle_changes ≡ rows_with 132 rows
+  pub yields : s.yields ≡ rows_with 151 rows
+  pub begins : s.begins ≡ rows_with 152 rows
+
+-- what is seen of an hour's numbers
+pub record OtherNumbers : Type 0 where
+  pub peds : List PedSum
+  pub preempts : List PreemptSum
+  pub coordination : CoordSum
+
+-- the numbers of an hour with these known rows, but for the tenths of states, where the first rows stand before them
+pub record AreNumbers (known : ℕ → Bool) (c : Settings) (before rows : List Row) (s : OtherNumbers) : Type 0 where
+  pub peds : EachOf (has_number c.peds) (HasDelays (delays_from known c before rows)) 17 s.peds
+  pub preempts : EachOf (has_number c.preempts) (HasEvents (events_from known c before rows)) 17 s.preempts
+  pub coordination : c.coordination ≡ true → HasRows rows s.coordination
+  pub off : c.coordination ≡ false → s.coordination ≡ no_coordination
+
+-- the tenths of states in an hour
+pub record AreStates (log : HourLog) (c : Settings) (s : OtherNumbers) : Type 0 where
+  pub peds : EachOf (has_number c.peds) (HasDetector log c) 17 s.peds
+  pub preempts : EachOf (has_number c.preempts) (HasStates log c) 17 s.preempts
+  pub coordination : c.coordination ≡ true → HasCoordination log c s.coordination

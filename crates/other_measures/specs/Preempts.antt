@@ -1,0 +1,48 @@
+-- Preempt delays and dwells, among the known rows in row order.
+use Rattle.std.specs.Prelude.{ℕ, ◌-◌, ◌==◌, Bool, if◌then◌else◌, ◌&&◌, ◌||◌, List, Option, Some, None}
+use Rattle.sig_base.specs.declared.values.Row.{Row}
+use Rattle.hour_sweep.specs.Rows.{last, live}
+use Rattle.other_measures.specs.declared.preempts.Event.TheVariants.{Entry, Exit}
+use Rattle.other_measures.specs.declared.preempts.PreemptEvent.{PreemptEvent}
+use Rattle.other_measures.specs.declared.preempts.PreemptPart.{PreemptPart}
+use Rattle.other_measures.specs.declared.last_rows.LastRow.{LastRow}
+use Rattle.other_measures.specs.LastRows.{last_row_of, lapse_of}
+
+-- a row 102, 105, 107 or 111 of preempt p
+unfoldable pub is_input : ℕ → Row → Bool
+is_input p x = (x.param == p) && (x.code == 102)
+
+unfoldable pub is_entry : ℕ → Row → Bool
+is_entry p x = (x.param == p) && (x.code == 105)
+
+unfoldable pub is_dwell : ℕ → Row → Bool
+is_dwell p x = (x.param == p) && (x.code == 107)
+
+unfoldable pub is_exit : ℕ → Row → Bool
+is_exit p x = (x.param == p) && (x.code == 111)
+
+abbrev pub call_in : (ℕ → Bool) → ℕ → ℕ → Option Row → Option Row
+call_in known t p None = None
+call_in known t p (Some x) = if live known x.at t && is_input p x then Some x else None
+
+-- the last of the rows 102 and 105, where it is a row 102 and each tenth from its own up to t is known
+unfoldable pub call_of : (ℕ → Bool) → ℕ → ℕ → List Row → Option Row
+call_of known t p before = call_in known t p (last (λ z. is_input p z || is_entry p z) before)
+
+-- the last of the rows 105 and 111, where each tenth from its own up to t is known, with the first row 107 after it
+abbrev pub service_of : (ℕ → Bool) → ℕ → ℕ → List Row → Option LastRow
+service_of known t p before = last_row_of (λ z. is_entry p z || is_exit p z) (is_dwell p) known t before
+
+abbrev pub preempt_of : (ℕ → Bool) → ℕ → List Row → ℕ → PreemptPart
+preempt_of known t before p = record { number = p; call = call_of known t p before; service = service_of known t p before }
+
+-- the tenths since the call
+abbrev pub delay_of : ℕ → Option Row → Option ℕ
+delay_of t None = None
+delay_of t (Some x) = Some (t - x.at)
+
+-- the entry or the exit of p that row r is, where these rows stand before it: an entry with what ran since the call, an exit with what ran since the first row 107
+unfoldable pub event_at : (ℕ → Bool) → ℕ → List Row → Row → List Row → Option PreemptEvent
+event_at known p before r rest =
+    if is_entry p r then Some (record { preempt = p; event = Entry (delay_of r.at (call_of known r.at p before)) }) else
+    if is_exit p r then Some (record { preempt = p; event = Exit (lapse_of r.at (service_of known r.at p before)) }) else None

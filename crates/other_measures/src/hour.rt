@@ -1,0 +1,197 @@
+// The numbers of an hour.
+ghost use Rattle.std.specs.Prelude.{◌≡◌, ◌+◌, ◌<◌, ◌++◌, ℕ, Bool, true, List, length, slice_index_or, IfOk, OnErr};
+ghost use Rattle.sig_base.specs.declared.values.Row.{Row};
+ghost use Rattle.gap_map.specs.declared.stretch.Stretch.{Stretch};
+ghost use Rattle.hour_sweep.specs.Rows.{known_rows};
+ghost use Rattle.hour_sweep.specs.Hours.{IsHour};
+ghost use Rattle.board.specs.Logs.{HourLog, first_tenth};
+ghost use Rattle.ring_config.specs.Values.{has_number};
+ghost use Rattle.other_measures.specs.Crossing.{IsCarry};
+ghost use Rattle.other_measures.specs.Hours.{AreNumbers, AreStates, HasDelays, HasEvents, with_detector, with_states};
+ghost use Rattle.other_measures.specs.States.{EachOf, HasDetector, HasStates, IsSeen};
+
+use crate::carry::{OtherCarry, has_number};
+use crate::coordination_sums::coordination_of;
+use crate::ped_sums::ped_table;
+use crate::peds::Delay;
+use crate::preempt_sums::preempt_table;
+use crate::preempts::PreemptEvent;
+use crate::states::{first_of, numbers_are_low, tenths};
+use crate::sums::{CoordSum, PedSum, PreemptSum};
+use board::HourView;
+use event_codes::{Channel, Kind};
+use gap_map::Stretch;
+use hour_sweep::track_hour;
+use ring_config::Config;
+use sig_base::{NoMemory, Row};
+use state_tenths::Asked;
+use std::alloc::Global;
+use std::marker::Model;
+
+/// The numbers of an hour.
+#[derive(Drop)]
+pub struct OtherSums {
+    peds: Vec<PedSum>,
+    preempts: Vec<PreemptSum>,
+    coordination: CoordSum,
+}
+
+impl Model for OtherSums {
+    ghost use Rattle.other_measures.specs.Hours.{OtherNumbers};
+
+    ghost Value = { OtherNumbers };
+
+    ghost view = { λ s. record { peds = s.peds.items; preempts = s.preempts.items; coordination = s.coordination } };
+}
+
+impl OtherSums {
+    /// One entry for each pedestrian signal, by number.
+    pub fn peds(&self) -> &[PedSum]
+        ensures { result.now ≡ self.now.peds }
+    {
+        self.peds.as_slice()
+    }
+
+    /// One entry for each preempt, by number.
+    pub fn preempts(&self) -> &[PreemptSum]
+        ensures { result.now ≡ self.now.preempts }
+    {
+        self.preempts.as_slice()
+    }
+
+    /// All 0 where the coordination isn't on.
+    pub fn coordination(&self) -> &CoordSum
+        ensures { result.now ≡ self.now.coordination }
+    {
+        &self.coordination
+    }
+}
+
+// The numbers of a pedestrian signal, from those of its delays.
+fn ped_sum(config: &Config, view: &HourView, from: u32, ped: u8, delays: &PedSum) -> PedSum
+    requires view { length view.now ≡ length config.now.specs }
+    requires ped { has_number config.now.peds ped ≡ true }
+    ensures delays { result ≡ with_detector delays.now result.detector_on result.detector_undecided }
+    ensures detector { (log : HourLog) (rows : List Row) (ss : List Stretch) → IsSeen config.now view.now rows ss log → from ≡ first_tenth log.hour → HasDetector log config.now ped result }
+{
+    let detector = Channel {
+        kind: Kind::PedDetector,
+        number: ped,
+    };
+    PedSum {
+        detector_on: tenths(config, view, detector, Asked::Colour(1), from),
+        detector_undecided: tenths(config, view, detector, Asked::NoneOf(2), from),
+        ..*delays
+    }
+}
+
+// The numbers of a preempt, from those of its entries and exits.
+fn preempt_sum(
+    config: &Config,
+    view: &HourView,
+    from: u32,
+    preempt: u8,
+    events: &PreemptSum,
+) -> PreemptSum
+    requires view { length view.now ≡ length config.now.specs }
+    requires preempt { has_number config.now.preempts preempt ≡ true }
+    ensures events { result ≡ with_states events.now result }
+    ensures states { (log : HourLog) (rows : List Row) (ss : List Stretch) → IsSeen config.now view.now rows ss log → from ≡ first_tenth log.hour → HasStates log config.now preempt result }
+{
+    let input = Channel {
+        kind: Kind::PreemptInput,
+        number: preempt,
+    };
+    let service = Channel {
+        kind: Kind::PreemptService,
+        number: preempt,
+    };
+    PreemptSum {
+        input_on: tenths(config, view, input, Asked::Colour(1), from),
+        input_undecided: tenths(config, view, input, Asked::NoneOf(2), from),
+        rest: tenths(config, view, service, Asked::Colour(0), from),
+        entry: tenths(config, view, service, Asked::Colour(1), from),
+        track: tenths(config, view, service, Asked::Colour(2), from),
+        dwell: tenths(config, view, service, Asked::Colour(3), from),
+        undecided: tenths(config, view, service, Asked::NoneOf(4), from),
+        ..*events
+    }
+}
+
+fn ped_sums(
+    alloc: Global,
+    config: &Config,
+    view: &HourView,
+    from: u32,
+    delays: &[Delay],
+) -> Result<Vec<PedSum>, NoMemory>
+    requires view { length view.now ≡ length config.now.specs }
+    ensures delays { IfOk result (λ v. EachOf (has_number config.now.peds) (HasDelays delays.now) 17 v.items) }
+    ensures detector { IfOk result (λ v. (log : HourLog) (rows : List Row) (ss : List Stretch) → IsSeen config.now view.now rows ss log → from ≡ first_tenth log.hour → EachOf (has_number config.now.peds) (HasDetector log config.now) 17 v.items) }
+{
+    let table = ped_table(delays);
+    let mut sums = Vec::new(alloc);
+    for ped in 0..17u8 {
+        if has_number(config.peds(), ped) {
+            sums.push(ped_sum(config, view, from, ped, &table[usize::from(ped)]))?;
+        }
+    }
+    Ok(sums)
+}
+
+fn preempt_sums(
+    alloc: Global,
+    config: &Config,
+    view: &HourView,
+    from: u32,
+    events: &[PreemptEvent],
+) -> Result<Vec<PreemptSum>, NoMemory>
+    requires view { length view.now ≡ length config.now.specs }
+    ensures events { IfOk result (λ v. EachOf (has_number config.now.preempts) (HasEvents events.now) 17 v.items) }
+    ensures states { IfOk result (λ v. (log : HourLog) (rows : List Row) (ss : List Stretch) → IsSeen config.now view.now rows ss log → from ≡ first_tenth log.hour → EachOf (has_number config.now.preempts) (HasStates log config.now) 17 v.items) }
+{
+    let table = preempt_table(events);
+    let mut sums = Vec::new(alloc);
+    for preempt in 0..17u8 {
+        if has_number(config.preempts(), preempt) {
+            sums.push(preempt_sum(config, view, from, preempt, &table[usize::from(preempt)]))?;
+        }
+    }
+    Ok(sums)
+}
+
+/// The hour's numbers, and in `carry` what crosses the point after it in place of what crosses the
+/// point before it. The view is one of the hour, with the configuration's channels.
+pub fn others_hour(
+    alloc: Global,
+    config: &Config,
+    carry: &mut OtherCarry,
+    view: &HourView,
+    rows: &[Row],
+    stretches: &[Stretch],
+) -> Result<OtherSums, NoMemory>
+    requires view { length view.now ≡ length config.now.specs }
+    ensures numbers { IfOk result (λ sums. (known : ℕ → Bool) (before : List Row) (hour : ℕ)
+        → IsHour known hour rows.now stretches.now → IsCarry known config.now before hour carry.old
+        → AreNumbers known config.now before (known_rows known rows.now) sums) }
+    ensures states { IfOk result (λ sums. (log : HourLog) → IsSeen config.now view.now rows.now stretches.now log → AreStates log config.now sums) }
+    ensures carry { IfOk result (λ _. (known : ℕ → Bool) (before : List Row) (hour : ℕ)
+        → IsHour known hour rows.now stretches.now → IsCarry known config.now before hour carry.old
+        → IsCarry known config.now (before ++ known_rows known rows.now) (hour + 1) carry.new) }
+    ensures err { OnErr result (carry.new ≡ carry.old) }
+{
+    let (ped_parts, delays) = track_hour(alloc, &carry.peds, rows, stretches)?.into_parts();
+    let (preempt_parts, events) = track_hour(alloc, &carry.preempts, rows, stretches)?.into_parts();
+    numbers_are_low(config);
+    let from = first_of(stretches);
+    let peds = ped_sums(alloc, config, view, from, &delays)?;
+    let preempts = preempt_sums(alloc, config, view, from, &events)?;
+    let coordination = coordination_of(config, view, from, rows, stretches)?;
+    carry.peds = ped_parts;
+    carry.preempts = preempt_parts;
+    Ok(OtherSums {
+        peds,
+        preempts,
+        coordination,
+    })
+}

@@ -1,0 +1,4 @@
+pub mod Counting
+pub mod Still
+pub mod Cutting
+pub mod Asking

@@ -1,3 +1,10 @@
 pub mod CountLaws
-pub mod NumberLaws
 pub mod ReportLaws
+pub mod SpecLaws
+pub mod PlacedLaws
+pub mod LinkLaws
+pub mod VerdictLaws
+pub mod TallyLaws
+pub mod OneLaws
+pub mod NumberLaws
+pub mod PointLaws

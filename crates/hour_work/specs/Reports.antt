@@ -1,21 +1,35 @@
 -- The report of a store.
-use Rattle.std.specs.Prelude.{◌+◌, ℕ, List, ◌++◌, length, map, take, drop, is_some}
-use Rattle.std.specs.List.{range_with_len}
+use Rattle.std.specs.Prelude.{◌≡◌, ◌+◌, ◌<◌, ℕ, ℤ, List, Option, length, is_some, slice_index_or}
+use Rattle.sig_base.specs.declared.values.Row.{Row}
+use Rattle.span_set.specs.declared.set.Span.{Span}
 use Rattle.hour_store.specs.Store.{Store, count_in, held_at, is_known}
+use Rattle.ring_config.specs.Settings.{Settings}
+use Rattle.signal_log.specs.Log.{HasHistory, log_of}
+use Rattle.signal_log.specs.Points.{HasHour}
+use Rattle.rule_audit.specs.declared.lines.AuditLine.{AuditLine}
+use Rattle.rule_audit.specs.Rules.{rules_for}
 use Rattle.hour_work.specs.Numbers.{Numbers, count_in_hour, one_if}
+use Rattle.hour_work.specs.Counts.{counts_of}
+use Rattle.hour_work.specs.Points.{Carried, IsCarryAt, IsFutureAt}
+use Rattle.hour_work.specs.Verdicts.{AreAuditLines}
 
--- the numbers of an hour of a store: each of its tenths counts where it is known, and its rows count at blanked tenths too
-abbrev pub hour_numbers : Store → ℕ → Numbers
-hour_numbers s hour = record {
-  held_hours = one_if (is_some (held_at s hour));
-  held_rows = count_in (held_at s hour);
-  known_tenths = count_in_hour (is_known s) hour;
-}
+-- the numbers of an hour of a store: its rows count at blanked tenths too, each of its tenths counts where it is known, and each rule has the counts of the hour's audit lines
+pub record IsHourPart (c : Settings) (s : Store) (hour : ℕ) (p : Numbers) : Type 0 where
+  pub held_hours : p.held_hours ≡ one_if (is_some (held_at s hour))
+  pub held_rows : p.held_rows ≡ count_in (held_at s hour)
+  pub known_tenths : p.known_tenths ≡ count_in_hour (is_known s) hour
+  pub lines : List AuditLine
+  pub are_lines : AreAuditLines c s hour lines
+  pub rules : p.rules ≡ counts_of (length (rules_for c)) lines
 
--- the numbers of each hour of a store; `total_of` them are those of the store
-abbrev pub report_of : Store → List Numbers
-report_of s = map (hour_numbers s) (range_with_len 0 (length s.hours))
+-- the report of a store: the numbers of each hour; `total_of` them are those of the store
+pub record IsReport (c : Settings) (s : Store) (all : List Numbers) : Type 0 where
+  pub size : length all ≡ length s.hours
+  pub each : (hour : ℕ) (d : Numbers) → hour < length s.hours → IsHourPart c s hour (slice_index_or all hour d)
 
--- the list with these items in the place of its own, from a place on
-abbrev pub patched : {X : Type 0} → List X → ℕ → List X → List X
-patched all at items = take at all ++ (items ++ drop (at + length items) all)
+-- these are the rows and the blanked tenths of an hour of the store, and what it says at the points before and after the hour; some history agrees with it
+pub record IsHourBetween (c : Settings) (s : Store) (hour : ℕ) (before : Carried) (rows : Option (List Row)) (blanks : List Span) (after : List (List (Option ℤ))) : Type 0 where
+  pub has_hour : HasHour s hour rows blanks
+  pub is_before : IsCarryAt c s hour before
+  pub is_after : IsFutureAt c s (hour + 1) after
+  pub history : HasHistory (log_of c.specs s)

@@ -1,16 +1,29 @@
-//! The numbers of a report: how many hours and rows are held and how many tenths are known, for
-//! each hour of the window and for all of them together.
+//! One hour of the log, forward, backward and summed up.
+//!
+//! Going over the hours from the window's start, `forward` carries what the hours so far say to the
+//! next hour point, or names the row at which the log contradicts itself. Going back from the
+//! window's end, `backward` carries which states can still be completed. Between the two stand the
+//! numbers of an hour (`partial`) and the lines of its audit (`audit_lines`), both over all
+//! histories of the whole window that agree with the log. A `Report` has the numbers of all hours.
 //!
 //! A tenth is known where its hour is held and the tenth isn't blanked. Held rows count at blanked
 //! tenths too.
 #![tactic(auto)]
 
+mod carry;
+mod counts;
 mod hour;
+mod laws;
 mod numbers;
 mod reported;
+mod steps;
 #[cfg(test)]
 mod tests;
 
-pub use hour::partial;
+pub use carry::{Carry, Future};
+pub use counts::RuleCount;
+pub use hour::{audit_lines, partial};
+pub use laws::reports_are_one;
 pub use numbers::Partial;
 pub use reported::Report;
+pub use steps::{ForwardError, backward, forward};

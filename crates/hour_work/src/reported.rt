@@ -1,10 +1,10 @@
 // The numbers of each hour, and their sums.
-ghost use Rattle.std.specs.Prelude.{◌≡◌, ◌≤◌, ◌+◌, All, length, option_map, slice_get};
-ghost use Rattle.hour_work.specs.Numbers.{FitHour, total_of};
-ghost use Rattle.hour_work.specs.Reports.{patched};
+ghost use Rattle.std.specs.Prelude.{◌≡◌, ◌≤◌, All, length, option_map, slice_get, IfOk};
+ghost use Rattle.hour_work.specs.Numbers.{FitHours, total_of};
 
 use crate::{Partial, numbers};
-use sig_base::Hour;
+use sig_base::{Hour, NoMemory};
+use std::alloc::Global;
 use std::marker::Model;
 
 /// The numbers of each hour of a window, seen as a list of them, and their sums.
@@ -15,25 +15,25 @@ pub struct Report {
 }
 
 impl Model for Report {
-    ghost use Rattle.std.specs.Prelude.{◌≡◌, ◌≤◌, All, List, length};
-    ghost use Rattle.hour_work.specs.Numbers.{FitHour, Numbers, total_of};
+    ghost use Rattle.std.specs.Prelude.{◌≡◌, List};
+    ghost use Rattle.hour_work.specs.Numbers.{Numbers, total_of};
 
     ghost Value = { List Numbers };
 
     ghost view = { λ r. r.hours.items };
 
-    ghost invariant = { λ r. (length r.hours.items ≤ 744) × All FitHour r.hours.items × (r.total ≡ total_of r.hours.items) };
+    ghost invariant = { λ r. r.total ≡ total_of r.hours.items };
 }
 
 impl Report {
     /// The report with these numbers of each hour.
-    pub fn new(hours: Vec<Partial>) -> Report
+    pub fn new(alloc: Global, hours: Vec<Partial>) -> Result<Report, NoMemory>
         requires few { length hours.items ≤ 744 }
-        requires small { All FitHour hours.items }
-        ensures { result ≡ hours.items }
+        requires small { All (FitHours 1) hours.items }
+        ensures { IfOk result (λ r. r ≡ hours.items) }
     {
-        let total = numbers::total_of(&hours);
-        Report { hours, total }
+        let total = numbers::total_of(alloc, &hours)?;
+        Ok(Report { hours, total })
     }
 
     /// The numbers of an hour, or `None` where the window doesn't have it.
@@ -49,24 +49,4 @@ impl Report {
     {
         &self.total
     }
-
-    /// Puts these numbers in the place of those of the hours from `first` on. It takes no memory.
-    pub fn renew(&mut self, first: Hour, parts: Vec<Partial>)
-        requires within { first + length parts.items ≤ length self.old }
-        requires small { All FitHour parts.items }
-        ensures { self.new ≡ patched self.old first parts.items }
-    {
-        let mut parts = parts;
-        exchange(&mut self.hours, first as usize, &mut parts);
-        self.total = numbers::total_of(&self.hours);
-    }
-}
-
-// Puts the new numbers in the place of those from `first` on, and those in the place of the new.
-fn exchange(kept: &mut Vec<Partial>, first: usize, new: &mut Vec<Partial>)
-    requires { first + length new.old.items ≤ length kept.old.items }
-    ensures { kept.new.items ≡ patched kept.old.items first new.old.items }
-{
-    let end = first + new.len();
-    kept[first..end].swap_with_slice(new.as_mut_slice());
 }

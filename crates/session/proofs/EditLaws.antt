@@ -1,5 +1,5 @@
 -- Stores before and after an edit, with their reports.
-use Rattle.std.proofs.Common.{◌≡◌, ◌≢◌, ◌∙◌, ◌⊎◌, inl, inr, ℕ, zero, suc, ℤ, pos, ◌+◌, ◌-◌, ◌*◌, ◌/◌, ◌<◌, ◌≤◌, ◌<ℤ◌, ◌≤ℤ◌, ◌↔◌, Bool, true, false, not, ◌&&◌, IsTrue, nat_lt, int_lt, List, [], ◌∷◌, length, get_or, set, Option, Some, None, is_some, option_map, refl, sym, ap, subst, arith, length-set, get_or-set_other, OnOk, OnErr, IfErr, Result, Ok, Err}
+use Rattle.std.proofs.Common.{◌≡◌, ◌≢◌, ◌∙◌, ◌⊎◌, inl, inr, ℕ, zero, suc, ℤ, pos, ◌+◌, ◌-◌, ◌*◌, ◌/◌, ◌<◌, ◌≤◌, ◌<ℤ◌, ◌≤ℤ◌, ◌↔◌, Bool, true, false, not, ◌&&◌, IsTrue, nat_le, nat_lt, int_lt, List, [], ◌∷◌, length, get_or, set, Option, Some, None, is_some, option_map, refl, sym, ap, subst, arith, length-set, get_or-set_other, OnOk, OnErr, IfErr, Result, Ok, Err}
 use Rattle.std.proofs.lemmas.Int.{ints}
 use Rattle.std.proofs.lemmas.Bool.Decides.{nat_tests}
 use Rattle.std.specs.Int.Signed.{le_z}
@@ -15,14 +15,11 @@ use Rattle.span_set.specs.declared.set.Span.{Span}
 use Rattle.span_set.specs.Spans.{AreRanges, Member, is_member}
 use Rattle.span_set.proofs.Sets.{member_test, tested}
 use Rattle.hour_store.specs.Store.{LieWithin, Store, count_in, held_at, is_known, rows_at, rows_held, with_blanks, with_hour}
-use Rattle.hour_work.specs.Numbers.{Numbers, numbers_of}
-use Rattle.hour_work.specs.Reports.{hour_numbers, patched, report_of}
-use Rattle.hour_work.proofs.CountLaws.{count_same}
-use Rattle.hour_work.proofs.ReportLaws.{numbers_at, report_renewed}
-use Rattle.session.specs.Edits.{blank, reaches_out, step_of, unblank, unless_many_blanks}
-use Rattle.session.specs.Parts.{ArePartsOf}
+use Rattle.ring_config.specs.Settings.{Settings}
+use Rattle.signal_log.specs.Log.{HasHistory, log_of}
+use Rattle.session.specs.Edits.{blank, load, reaches_out, replace, withdraw, step_of, unblank, unless_many_blanks}
 use Rattle.session.specs.Ranges.{With, Without}
-use Rattle.session.specs.Sessions.{MayWantMemory, OpensNone, Steps}
+use Rattle.session.specs.Sessions.{MayWantMemory, OpensNone, Steps, StopsAt}
 use Rattle.session.proofs.RangeLaws.{with_is, without_is}
 
 set_set : {X : Type 0} (xs : List X) (i : ℕ) (x y : X) → set (set xs i x) i y ≡ set xs i y
@@ -40,45 +37,34 @@ rows_changed s h r all count old lt a b c =
     let e = sum_by-set count_in s.hours h (Some r) None lt in
     omega arith
 
--- the other hours' numbers stay
-other_hours : (s : Store) (h k : ℕ) (x : Option Shown) → k ≢ h → hour_numbers (with_hour s h x) k ≡ hour_numbers s k
-other_hours s h k x other =
-    numbers_at (with_hour s h x) k
-    ∙ ap (λ v. numbers_of k (option_map (λ r. r.rows) v) s.blanks) (get_or-set_other s.hours h k x None other)
-    ∙ sym (numbers_at s k)
+steps_stopped : (c : Settings) (to : Result Store EditError) (old t new : Store) (e : EditError) → to ≡ Ok t → new ≡ old → StopsAt c t e → Steps c to old new (Err e)
+steps_stopped c to old t new (edit.Contradiction row) is same stop = (same, (t, is, stop.0, stop.1))
+steps_stopped c to old t new edit.Memory is same stop = (same, subst MayWantMemory (sym is) tt)
+steps_stopped c to old t new edit.OutOfWindow is same stop = absurd stop
+steps_stopped c to old t new edit.AlreadyHeld is same stop = absurd stop
+steps_stopped c to old t new edit.NotHeld is same stop = absurd stop
+steps_stopped c to old t new edit.EmptyRange is same stop = absurd stop
+steps_stopped c to old t new edit.TooManyRows is same stop = absurd stop
+steps_stopped c to old t new edit.TooManyBlanks is same stop = absurd stop
 
--- the report after a change of one hour
-pub held_report : (s : Store) (h : ℕ) (x : Option Shown) (all parts : List Numbers) → h < length s.hours → all ≡ report_of s → ArePartsOf (with_hour s h x) h (h + 1) parts → patched all h parts ≡ report_of (with_hour s h x)
-held_report s h x all parts lt e p =
-    let size = p.size in
-    rw e (report_renewed s (with_hour s h x) h parts (length-set s.hours h x) (omega arith) p.each
-    (λ k out. other_hours s h k x (elim out [ inl a ↦ omega arith | inr b ↦ omega arith ])))
+-- an edit that no refusal before a contradiction meets
+pub steps_done : (c : Settings) (to : Result Store EditError) (old t new : Store) (result : Result Applied EditError) → to ≡ Ok t → OnOk result ((new ≡ t) × HasHistory (log_of c.specs t)) → OnErr result (new ≡ old) → IfErr result (StopsAt c t) → Steps c to old new result
+steps_done c to old t new (Ok x) is done back stop = (is ∙ ap Ok (sym done.0), subst (λ s. HasHistory (log_of c.specs s)) (sym done.0) done.1)
+steps_done c to old t new (Err e) is done back stop = steps_stopped c to old t new e is back stop
 
-same_test : (ns os : List Span) (e : ℤ) → Member ns e ↔ Member os e → is_member ns e ≡ is_member os e
-same_test ns os e i = tested (is_member ns e) os e (λ t. i.0 ((member_test ns e).0 t), λ m. (member_test ns e).1 (i.1 m))
+opens_stopped : (c : Settings) (t : Store) (a b : List ℕ) (e : EditError) → StopsAt c t e → OpensNone a b e
+opens_stopped c t a b (edit.Contradiction row) stop = tt
+opens_stopped c t a b edit.Memory stop = tt
+opens_stopped c t a b edit.OutOfWindow stop = absurd stop
+opens_stopped c t a b edit.AlreadyHeld stop = absurd stop
+opens_stopped c t a b edit.NotHeld stop = absurd stop
+opens_stopped c t a b edit.EmptyRange stop = absurd stop
+opens_stopped c t a b edit.TooManyRows stop = absurd stop
+opens_stopped c t a b edit.TooManyBlanks stop = absurd stop
 
--- the report after a change of the blanked tenths of some hours
-pub masked_report : (s : Store) (ns : List Span) (first last : ℕ) (all parts : List Numbers) → first ≤ last → last < length s.hours → all ≡ report_of s
-    → ((e : ℤ) → (e <ℤ pos (36000 * first)) ⊎ (pos (36000 * (last + 1)) ≤ℤ e) → Member ns e ↔ Member s.blanks e)
-    → ArePartsOf (with_blanks s ns) first (last + 1) parts → patched all first parts ≡ report_of (with_blanks s ns)
-masked_report s ns first last all parts order lt e out p =
-    let size = p.size in
-    rw e (report_renewed s (with_blanks s ns) first parts refl (omega arith) p.each (λ k other.
-    rw (count_same (is_known (with_blanks s ns)) (is_known s) (36000 * k) 36000 (λ t low high.
-    ap (λ b. is_some (held_at s (t / 36000)) && not b) (same_test ns s.blanks (pos t) (out (pos t) (elim other [
-      | inl a ↦ inl (omega (arith, ints))
-      | inr b ↦ inr (omega (arith, ints))
-    ])))
-    )) refl))
-
--- an edit that no refusal meets
-pub steps_done : (to : Result Store EditError) (old t new : Store) (result : Result Applied EditError) → to ≡ Ok t → OnOk result (new ≡ t) → OnErr result (new ≡ old) → IfErr result (λ e. e ≡ edit.Memory) → Steps to old new result
-steps_done to old t new (Ok x) e ok err memory = rw ok e
-steps_done to old t new (Err x) e ok err memory = subst (λ y. Steps to old new (Err y)) (sym memory) (err, subst MayWantMemory (sym e) tt)
-
-pub opens_memory : (a b : List ℕ) (result : Result Applied EditError) → IfErr result (λ e. e ≡ edit.Memory) → IfErr result (OpensNone a b)
-opens_memory a b (Ok x) p = tt
-opens_memory a b (Err x) p = subst (OpensNone a b) (sym p) tt
+pub opens_some : (c : Settings) (t : Store) (a b : List ℕ) (result : Result Applied EditError) → IfErr result (StopsAt c t) → IfErr result (OpensNone a b)
+opens_some c t a b (Ok x) p = tt
+opens_some c t a b (Err e) p = opens_stopped c t a b e p
 
 -- a range that doesn't reach out of a window
 pub inside : (hours : ℕ) (f t : ℤ) → reaches_out hours f t ≡ false → (pos 0 ≤ℤ f) × (t ≤ℤ pos (36000 * hours))
@@ -113,3 +99,30 @@ many_blanks s ns more = let e : nat_lt 10000 (length ns) ≡ true = grind (arith
 
 pub few_blanks : (s : Store) (ns : List Span) → length ns ≤ 10000 → unless_many_blanks (with_blanks s ns) ≡ Ok (with_blanks s ns)
 few_blanks s ns few = let e : nat_lt 10000 (length ns) ≡ false = grind (arith, nat_tests) in rw e refl
+
+-- the store after a load, a replacement and a withdrawal that nothing refuses
+load_here : (s : Store) (r : Shown) → r.hour < length s.hours → is_some (held_at s r.hour) ≡ false → rows_held (with_hour s r.hour (Some r)) ≤ 20000000 → step_of s (load r) ≡ Ok (with_hour s r.hour (Some r))
+unfolding step_of
+load_here s r lt held few =
+    let a : nat_le (length s.hours) r.hour ≡ false = grind (arith, nat_tests) in
+    let b : nat_lt 20000000 (rows_held (with_hour s r.hour (Some r))) ≡ false = grind (arith, nat_tests) in
+    rw (a, held, b) refl
+
+pub load_step : (s : Store) (r : Shown) (h : ℕ) → h ≡ r.hour → h < length s.hours → is_some (held_at s h) ≡ false → rows_held (with_hour s h (Some r)) ≤ 20000000 → step_of s (load r) ≡ Ok (with_hour s h (Some r))
+load_step s r h e = subst (λ (k : ℕ). k < length s.hours → is_some (held_at s k) ≡ false → rows_held (with_hour s k (Some r)) ≤ 20000000 → step_of s (load r) ≡ Ok (with_hour s k (Some r))) (sym e) (load_here s r)
+
+replace_here : (s : Store) (r : Shown) → r.hour < length s.hours → is_some (held_at s r.hour) ≡ true → rows_held (with_hour s r.hour (Some r)) ≤ 20000000 → step_of s (replace r) ≡ Ok (with_hour s r.hour (Some r))
+unfolding step_of
+replace_here s r lt held few =
+    let a : nat_le (length s.hours) r.hour ≡ false = grind (arith, nat_tests) in
+    let b : nat_lt 20000000 (rows_held (with_hour s r.hour (Some r))) ≡ false = grind (arith, nat_tests) in
+    rw (a, held, b) refl
+
+pub replace_step : (s : Store) (r : Shown) (h : ℕ) → h ≡ r.hour → h < length s.hours → is_some (held_at s h) ≡ true → rows_held (with_hour s h (Some r)) ≤ 20000000 → step_of s (replace r) ≡ Ok (with_hour s h (Some r))
+replace_step s r h e = subst (λ (k : ℕ). k < length s.hours → is_some (held_at s k) ≡ true → rows_held (with_hour s k (Some r)) ≤ 20000000 → step_of s (replace r) ≡ Ok (with_hour s k (Some r))) (sym e) (replace_here s r)
+
+pub withdraw_step : (s : Store) (h : ℕ) → h < length s.hours → is_some (held_at s h) ≡ true → step_of s (withdraw h) ≡ Ok (with_hour s h None)
+unfolding step_of
+withdraw_step s h lt held =
+    let a : nat_le (length s.hours) h ≡ false = grind (arith, nat_tests) in
+    rw (a, held) refl

@@ -1,4 +1,6 @@
 pub mod GrowLaws
-pub mod PartLaws
 pub mod RangeLaws
 pub mod EditLaws
+pub mod ReportLaws
+pub mod WorkLaws
+pub mod LessLaws

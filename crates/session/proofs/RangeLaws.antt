@@ -9,7 +9,7 @@ use Rattle.span_set.specs.Spans.{Above, AreRanges, Member, Within, is_member}
 use Rattle.span_set.specs.Changes.{span}
 use Rattle.span_set.proofs.Sets.{member_test, same_ranges}
 use Rattle.hour_store.specs.Store.{LieWithin, Store}
-use Rattle.session.specs.Ranges.{With, Without, blanked_with, blanked_without, hour_at, is_between, is_blanked, ranges_from, ranges_of, with_first}
+use Rattle.session.specs.Ranges.{With, Without, blanked_with, blanked_without, is_between, is_blanked, ranges_from, ranges_of, with_first}
 
 -- a test of two tenths, and what it says
 same_or_not : (a b : ℤ) → ((int_eq a b ≡ true) × (a ≡ b)) ⊎ ((int_eq a b ≡ false) × (a ≡ b → ⊥))
@@ -194,35 +194,3 @@ without_is s hours f t ns few l an w =
     ranges_are hours (blanked_without s f t) ns few an (without_within hours s.blanks ns f t l w)
     (λ k lt m. let p = (w (pos k)).0 m in and_from (is_blanked s k) (not (is_between f t k)) ((member_test s.blanks (pos k)).1 p.0) (out_test f t k p.1))
     (λ k e. let p = and_parts (is_blanked s k) (not (is_between f t k)) e in (w (pos k)).1 ((member_test s.blanks (pos k)).0 p.0, out_said f t k p.1))
-
--- the hours of a range
-hour_low : (f : ℤ) → pos 0 ≤ℤ f → pos (36000 * hour_at f) ≤ℤ f
-hour_low (pos n) low = omega (arith, ints)
-hour_low (negsuc n) low = absurd (omega (arith, ints))
-
-hour_high : (t : ℤ) → pos 0 ≤ℤ t → t <ℤ pos (36000 * (hour_at t + 1))
-hour_high (pos n) low = omega (arith, ints)
-hour_high (negsuc n) low = absurd (omega (arith, ints))
-
-out_of_range : (f t e : ℤ) → pos 0 ≤ℤ f → f <ℤ t → (e <ℤ pos (36000 * hour_at f)) ⊎ (pos (36000 * (hour_at (t -ℤ pos 1) + 1)) ≤ℤ e) → Within (span f t) e → ⊥
-out_of_range f t e low some out w =
-    let a = w.0 in let b = w.1 in
-    let l = hour_low f low in
-    let h = hour_high (t -ℤ pos 1) (omega (arith, ints)) in
-    elim out [ inl x ↦ omega (arith, ints) | inr x ↦ omega (arith, ints) ]
-
-pub with_out : (old ns : List Span) (f t : ℤ) → pos 0 ≤ℤ f → f <ℤ t → With old f t ns → (e : ℤ) → (e <ℤ pos (36000 * hour_at f)) ⊎ (pos (36000 * (hour_at (t -ℤ pos 1) + 1)) ≤ℤ e) → Member ns e ↔ Member old e
-with_out old ns f t low some w e out = (λ m. elim ((w e).0 m) [ inl o ↦ o | inr r ↦ absurd (out_of_range f t e low some out r) ], λ o. (w e).1 (inl o))
-
-pub without_out : (old ns : List Span) (f t : ℤ) → pos 0 ≤ℤ f → f <ℤ t → Without old f t ns → (e : ℤ) → (e <ℤ pos (36000 * hour_at f)) ⊎ (pos (36000 * (hour_at (t -ℤ pos 1) + 1)) ≤ℤ e) → Member ns e ↔ Member old e
-without_out old ns f t low some w e out = (λ m. ((w e).0 m).0, λ o. (w e).1 (o, out_of_range f t e low some out))
-
--- the hours of a range are in order, and in the window
-pub hours_rise : (f t : ℤ) → pos 0 ≤ℤ f → f <ℤ t → hour_at f ≤ hour_at (t -ℤ pos 1)
-hours_rise f t low some =
-    let l = hour_low f low in
-    let h = hour_high (t -ℤ pos 1) (omega (arith, ints)) in
-    omega (arith, ints)
-
-pub hour_before : (t : ℤ) (hours : ℕ) → pos 0 <ℤ t → t ≤ℤ pos (36000 * hours) → hour_at (t -ℤ pos 1) < hours
-hour_before t hours some high = let l = hour_low (t -ℤ pos 1) (omega (arith, ints)) in omega (arith, ints)

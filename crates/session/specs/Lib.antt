@@ -1,4 +1,4 @@
 pub mod Ranges
 pub mod Edits
 pub mod Sessions
-pub mod Parts
+pub mod Work

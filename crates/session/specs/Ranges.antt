@@ -1,5 +1,5 @@
 -- Ranges of the tenths that pass a test.
-use Rattle.std.specs.Prelude.{◌≡◌, ◌+◌, ◌*◌, ◌/◌, ◌↔◌, ◌⊎◌, ℕ, zero, suc, ℤ, pos, negsuc, int_le, int_lt, Bool, ◌&&◌, ◌||◌, not, if◌then◌else◌, List, [], ◌∷◌}
+use Rattle.std.specs.Prelude.{◌≡◌, ◌+◌, ◌*◌, ◌↔◌, ◌⊎◌, ℕ, zero, suc, ℤ, pos, int_le, int_lt, Bool, ◌&&◌, ◌||◌, not, if◌then◌else◌, List, [], ◌∷◌}
 use Rattle.std.specs.Ordering.{int_eq}
 use Rattle.span_set.specs.declared.set.Span.{Span}
 use Rattle.span_set.specs.Spans.{Member, Within, is_member}
@@ -37,11 +37,6 @@ blanked_with s from to t = is_blanked s t || is_between from to t
 -- the blanked tenths without those of the range
 abbrev pub blanked_without : Store → ℤ → ℤ → ℕ → Bool
 blanked_without s from to t = is_blanked s t && not (is_between from to t)
-
--- the hour of a tenth of the window
-abbrev pub hour_at : ℤ → ℕ
-hour_at (pos n) = n / 36000
-hour_at (negsuc n) = 0
 
 -- the new ranges have the tenths of the old ones and those of the range
 abbrev pub With : List Span → ℤ → ℤ → List Span → Type 0

@@ -1,12 +1,17 @@
 -- A session, and what an edit answers and does to it.
-use Rattle.std.specs.Prelude.{◌≡◌, ◌≤◌, ◌-◌, ◌^◌, ℕ, List, length, min, slice_index, Result, Ok, Err}
+use Rattle.std.specs.Prelude.{◌≡◌, ◌≤◌, ◌<◌, ◌-◌, ◌^◌, ℕ, List, length, min, slice_index, slice_index_or, Result, Ok, Err}
 use Rattle.sig_base.specs.declared.values.Applied.{Applied}
 use Rattle.sig_base.specs.declared.values.EditError.{EditError}
-use Rattle.sig_base.specs.declared.values.EditError.TheVariants.{TooManyBlanks, Memory}
-use Rattle.hour_store.specs.Store.{Store}
-use Rattle.hour_work.specs.Numbers.{Numbers}
-use Rattle.hour_work.specs.Reports.{report_of}
+use Rattle.sig_base.specs.declared.values.EditError.TheVariants.{TooManyBlanks, Contradiction, Memory}
+use Rattle.hour_store.specs.Store.{IsStore, Store}
 use Rattle.ring_config.specs.Settings.{Settings}
+use Rattle.ring_config.specs.Sound.{IsSound}
+use Rattle.signal_log.specs.Log.{HasHistory, IsContradiction, log_of}
+use Rattle.rule_audit.specs.declared.rules.Rule.{Rule}
+use Rattle.rule_audit.specs.Rules.{rules_for}
+use Rattle.hour_work.specs.Numbers.{Numbers, total_of}
+use Rattle.hour_work.specs.Reports.{IsReport}
+use Rattle.session.specs.Edits.{Change, withdraw, blank}
 
 -- a session: its configuration, and what is held and blanked
 pub record Kept : Type 0 where
@@ -19,23 +24,45 @@ MayWantMemory (Ok _) = Unit {0}
 MayWantMemory (Err TooManyBlanks) = Unit {0}
 MayWantMemory (Err _) = ⊥
 
--- the store is the one after the edit, or the edit was refused and the store is as before
-abbrev pub Steps : Result Store EditError → Store → Store → Result Applied EditError → Type 0
-Steps to old new (Ok _) = to ≡ Ok new
-Steps to old new (Err Memory) = (new ≡ old) × MayWantMemory to
-Steps to old new (Err e) = (new ≡ old) × (to ≡ Err e)
+-- of an edit that makes this of the store, or meets the first refusal other than a contradiction: it is made, and some history agrees with the new store; or it is refused, and the store is as before. A contradiction names the row at which the store that the edit makes contradicts itself, with which no history agrees
+abbrev pub Steps : Settings → Result Store EditError → Store → Store → Result Applied EditError → Type 0
+Steps c to old new (Ok _) = (to ≡ Ok new) × HasHistory (log_of c.specs new)
+Steps c to old new (Err (Contradiction row)) = (new ≡ old) × ((s : Store) × (to ≡ Ok s) × IsContradiction (log_of c.specs s) row × (HasHistory (log_of c.specs s) → ⊥))
+Steps c to old new (Err Memory) = (new ≡ old) × MayWantMemory to
+Steps c to old new (Err e) = (new ≡ old) × (to ≡ Err e)
 
--- only for want of memory was an hour opened by a refused edit
+-- an edit that makes this of the store is refused for this: its log contradicts itself at this row and no history agrees with it, or memory is wanting
+abbrev pub StopsAt : Settings → Store → EditError → Type 0
+StopsAt c s (Contradiction row) = IsContradiction (log_of c.specs s) row × (HasHistory (log_of c.specs s) → ⊥)
+StopsAt c s Memory = Unit {0}
+StopsAt c s e = ⊥
+
+-- a withdrawal and a blanking contradict nothing
+abbrev pub MayRefuse : Change → EditError → Type 0
+MayRefuse (withdraw _) (Contradiction _) = ⊥
+MayRefuse (blank _ _) (Contradiction _) = ⊥
+MayRefuse _ _ = Unit {0}
+
+-- an hour is opened by a refused edit only for want of memory, or to find a contradiction
 abbrev pub OpensNone : List ℕ → List ℕ → EditError → Type 0
 OpensNone old new Memory = Unit {0}
+OpensNone old new (Contradiction _) = Unit {0}
 OpensNone old new e = new ≡ old
 
 -- no count fell; a count ends at the last value of a u64
 unfoldable pub Grow : List ℕ → List ℕ → Type 0
 Grow old new = (h : ℕ) → min (slice_index old h) (2 ^ 64 - 1) ≤ slice_index new h
 
--- what is kept beside a store belongs to it: a window of as many hours, at most 744, and the store's report
-pub record Belong (config : Settings) (store : Store) (kept : List Numbers) : Type 0 where
+-- there is one count for each rule, in the numbers of each hour and in their sums
+pub record AreCounted (rules : ℕ) (all : List Numbers) : Type 0 where
+  pub hours : (hour : ℕ) (d : Numbers) → hour < length all → length (slice_index_or all hour d).rules ≡ rules
+  pub total : length (total_of all).rules ≡ rules
+
+-- what is kept beside a store belongs to it: a window of as many hours, the rules of the configuration, and the store's report; some history agrees with the store
+pub record Belong (config : Settings) (store : Store) (own : List Rule) (kept : List Numbers) : Type 0 where
+  pub sound : IsSound config
+  pub is_store : IsStore store
   pub hours : length store.hours ≡ config.window.hours
-  pub few : length store.hours ≤ 744
-  pub report : kept ≡ report_of store
+  pub rules : own ≡ rules_for config
+  pub history : HasHistory (log_of config.specs store)
+  pub report : IsReport config store kept

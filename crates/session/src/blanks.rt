@@ -1,19 +1,10 @@
 // Ranges of tenths that are to be blanked, or no longer.
 ghost use Rattle.std.specs.Prelude.{◌≡◌, ◌^◌, pos, ◌≤ℤ◌, ◌<ℤ◌, IfOk};
 ghost use Rattle.session.specs.Edits.{reaches_out};
-ghost use Rattle.session.specs.Ranges.{Without, With, hour_at};
+ghost use Rattle.session.specs.Ranges.{With, Without};
 
-use sig_base::{Hour, NoMemory, Tenth};
+use sig_base::{NoMemory, Tenth};
 use span_set::SpanSet;
-
-// The hour of a tenth of the window.
-pub fn hour_at(at: Tenth) -> Hour
-    requires low { pos 0 ≤ℤ at }
-    requires high { at <ℤ pos (2 ^ 32) }
-    ensures { result ≡ hour_at at }
-{
-    at as u32 / 36_000
-}
 
 // Whether the range begins before a window of so many hours, or ends past it.
 pub fn reaches_out(hours: u32, from: Tenth, to: Tenth) -> bool

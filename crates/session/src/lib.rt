@@ -10,6 +10,7 @@ mod hours;
 mod session;
 #[cfg(test)]
 mod tests;
+mod work;
 
 pub use edit::Edit;
 pub use session::Session;

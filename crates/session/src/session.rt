@@ -2,17 +2,25 @@
 ghost use Rattle.std.specs.Prelude.{◌≡◌, ◌+◌, ◌*◌, ◌<◌, ◌≤◌, ◌⊎◌, ◌↔◌, ℤ, pos, ◌<ℤ◌, ◌≤ℤ◌, length, Some, IfOk, IfErr, IfSome, OnOk, OnErr};
 ghost use Rattle.span_set.specs.Spans.{Member};
 ghost use Rattle.sig_base.specs.HourRows.{Shown};
-ghost use Rattle.hour_store.specs.Store.{LieWithin, nothing_held, rows_held, with_blanks, with_hour};
-ghost use Rattle.hour_work.specs.Reports.{report_of};
+ghost use Rattle.hour_store.specs.Store.{IsStore, LieWithin, Store, nothing_held, rows_held, with_blanks, with_hour};
+ghost use Rattle.ring_config.specs.Settings.{Settings};
+ghost use Rattle.ring_config.specs.Sound.{IsSound};
+ghost use Rattle.signal_log.specs.Log.{HasHistory, log_of};
+ghost use Rattle.rule_audit.specs.Rules.{rules_for};
+ghost use Rattle.hour_work.specs.Points.{NamesRow};
+ghost use Rattle.hour_work.specs.Verdicts.{AreAuditLines};
+ghost use Rattle.hour_work.specs.Reports.{IsReport};
 ghost use Rattle.session.specs.Edits.{blank, change_of, load, replace, step_of, unblank, withdraw};
-ghost use Rattle.session.specs.Sessions.{Grow, Kept, OpensNone, Steps};
+ghost use Rattle.session.specs.Sessions.{AreCounted, Grow, Kept, MayRefuse, OpensNone, Steps, StopsAt};
 
 use crate::Edit;
-use crate::blanks::{hour_at, reaches_out, with_range, without_range};
-use crate::hours::{exchange, first_parts, parts_of};
+use crate::blanks::{reaches_out, with_range, without_range};
+use crate::hours::exchange;
+use crate::work::{first_report, lines_of, report_of};
 use hour_store::HourStore;
-use hour_work::Report;
+use hour_work::{ForwardError, Report};
 use ring_config::Config;
+use rule_audit::{AuditLine, Rule, rules_of};
 use sig_base::{Applied, EditError, Hour, HourRows, NoMemory, Reads, Tenth};
 use span_set::SpanSet;
 use std::alloc::Global;
@@ -23,11 +31,12 @@ const MOST_ROWS: u64 = 20_000_000;
 const MOST_BLANKS: usize = 10_000;
 
 /// What is held of a signal's log and which tenths are blanked, under a configuration, with the
-/// report of it.
+/// report of it. Some history of the signal agrees with the log.
 #[derive(Drop)]
 pub struct Session<L> {
     alloc: Global,
     config: Config,
+    rules: Vec<Rule>,
     store: HourStore<L>,
     report: Report,
 }
@@ -39,7 +48,7 @@ impl<L> Model for Session<L> {
 
     ghost view = { λ s. record { config = s.config; store = s.store } };
 
-    ghost invariant = { λ s. Belong s.config s.store s.report };
+    ghost invariant = { λ s. Belong s.config s.store s.rules.items s.report };
 }
 
 // How many rows are held once the hour has so many.
@@ -52,33 +61,72 @@ fn rows_with<L>(store: &HourStore<L>, hour: Hour, count: u32) -> u64
 
 fn let_go<L>(_rows: Option<HourRows<L>>) {}
 
+fn edit_error(error: ForwardError) -> EditError
+    ensures { (c : Settings) (s : Store) → IsSound c → IsStore s → NamesRow (log_of c.specs s) error → StopsAt c s result }
+{
+    match error {
+        ForwardError::Contradiction(row) => EditError::Contradiction(row),
+        ForwardError::Memory => EditError::Memory,
+    }
+}
+
 impl<L> Session<L> {
     /// A session that holds and blanks nothing.
     pub fn new(alloc: Global, config: Config) -> Result<Session<L>, NoMemory>
         ensures { IfOk result (λ s. s ≡ record { config = config; store = nothing_held config.window.hours }) }
     {
-        let hours = config.window().hours();
+        let rules = rules_of(alloc, &config)?;
+        let hours = config.hours();
         let store = HourStore::new(alloc, hours)?;
-        let report = Report::new(first_parts(alloc, &store, hours)?);
+        let report = first_report(alloc, &rules, hours)?;
         Ok(Session {
             alloc,
             config,
+            rules,
             store,
             report,
         })
     }
 
     pub fn config(&self) -> &Config
-        ensures { result.now ≡ self.now.config }
+        ensures value { result.now ≡ self.now.config }
+        ensures hours { length self.now.store.hours ≡ self.now.config.window.hours }
     {
         &self.config
     }
 
+    /// The audit rules of the configuration; the first one has number 1.
+    pub fn rules(&self) -> &[Rule]
+        ensures { result.now ≡ rules_for self.now.config }
+    {
+        self.rules.as_slice()
+    }
+
     /// The report of what is held and blanked.
     pub fn report(&self) -> &Report
-        ensures { result.now ≡ report_of self.now.store }
+        ensures report { IsReport self.now.config self.now.store result.now }
+        ensures counted { AreCounted (length (rules_for self.now.config)) result.now }
+        ensures history { HasHistory (log_of self.now.config.specs self.now.store) }
     {
         &self.report
+    }
+
+    /// The lines of the audit of an hour, in their order: the verdicts that aren't idle, over all
+    /// histories that agree with the log. No line has a window.
+    pub fn audit_hour(&self, hour: Hour, reads: &mut Reads<L>) -> Result<Vec<AuditLine>, NoMemory>
+        requires { hour < length self.now.store.hours }
+        ensures lines { IfOk result (λ v. AreAuditLines self.now.config self.now.store hour v.items) }
+        ensures history { HasHistory (log_of self.now.config.specs self.now.store) }
+        ensures grow { Grow reads.old reads.new }
+    {
+        lines_of(
+            self.alloc,
+            &self.config,
+            &self.rules,
+            &self.store,
+            hour,
+            reads,
+        )
     }
 
     // All hours of the window.
@@ -87,7 +135,7 @@ impl<L> Session<L> {
     {
         Applied {
             from: 0,
-            to: self.config.window().hours(),
+            to: self.config.hours(),
         }
     }
 
@@ -100,63 +148,55 @@ impl<L> Session<L> {
     ) -> Result<Applied, EditError>
         requires in_store { hour < length self.old.store.hours }
         requires of_hour { IfSome entry (λ r. r.hour ≡ hour) }
-        ensures store { OnOk result (self.new.store ≡ with_hour self.old.store hour entry) }
+        ensures done { OnOk result ((self.new.store ≡ with_hour self.old.store hour entry) × HasHistory (log_of self.old.config.specs (with_hour self.old.store hour entry))) }
         ensures moved { IfOk result (λ x. x ≡ record { from = 0; to = self.old.config.window.hours }) }
         ensures back { OnErr result (self.new.store ≡ self.old.store) }
-        ensures memory { IfErr result (λ e. e ≡ EditError.Memory) }
+        ensures stop { IfErr result (StopsAt self.old.config (with_hour self.old.store hour entry)) }
+        ensures store { IsStore (with_hour self.old.store hour entry) }
         ensures config { self.new.config ≡ self.old.config }
         ensures grow { Grow reads.old reads.new }
     {
         let before = exchange(&mut self.store, hour, entry);
-        match parts_of(self.alloc, &self.store, hour, hour + 1, reads) {
-            Ok(parts) => {
+        match report_of(self.alloc, &self.config, &self.rules, &self.store, reads) {
+            Ok(report) => {
                 let_go(before);
-                self.report.renew(hour, parts);
+                self.report = report;
                 Ok(self.whole_window())
             }
-            Err(_) => {
+            Err(error) => {
                 let_go(exchange(&mut self.store, hour, before));
-                Err(EditError::Memory)
+                Err(edit_error(error))
             }
         }
     }
 
-    // Blanks these tenths, which differ from those that are blanked in the hours from `first` to
-    // `last` alone.
-    fn mask(
-        &mut self,
-        first: Hour,
-        last: Hour,
-        blanks: SpanSet,
-        reads: &mut Reads<L>,
-    ) -> Result<Applied, EditError>
-        requires order { first ≤ last }
-        requires in_store { last < length self.old.store.hours }
+    // Blanks these tenths.
+    fn mask(&mut self, blanks: SpanSet, reads: &mut Reads<L>) -> Result<Applied, EditError>
         requires within { LieWithin (length self.old.store.hours) blanks }
-        requires outside { (e : ℤ) → (e <ℤ pos (36000 * first)) ⊎ (pos (36000 * (last + 1)) ≤ℤ e) → Member blanks e ↔ Member self.old.store.blanks e }
-        ensures store { OnOk result (self.new.store ≡ with_blanks self.old.store blanks) }
+        ensures done { OnOk result ((self.new.store ≡ with_blanks self.old.store blanks) × HasHistory (log_of self.old.config.specs (with_blanks self.old.store blanks))) }
         ensures moved { IfOk result (λ x. x ≡ record { from = 0; to = self.old.config.window.hours }) }
         ensures back { OnErr result (self.new.store ≡ self.old.store) }
-        ensures memory { IfErr result (λ e. e ≡ EditError.Memory) }
+        ensures stop { IfErr result (StopsAt self.old.config (with_blanks self.old.store blanks)) }
+        ensures store { IsStore (with_blanks self.old.store blanks) }
         ensures config { self.new.config ≡ self.old.config }
         ensures grow { Grow reads.old reads.new }
     {
         let before = self.store.set_blanks(blanks);
-        match parts_of(self.alloc, &self.store, first, last + 1, reads) {
-            Ok(parts) => {
-                self.report.renew(first, parts);
+        match report_of(self.alloc, &self.config, &self.rules, &self.store, reads) {
+            Ok(renewed) => {
+                self.report = renewed;
                 Ok(self.whole_window())
             }
-            Err(_) => {
+            Err(error) => {
                 self.store.set_blanks(before);
-                Err(EditError::Memory)
+                Err(edit_error(error))
             }
         }
     }
 
-    #[tactic(auto, using(crate::proofs::EditLaws::steps_done, crate::proofs::EditLaws::opens_memory, crate::proofs::GrowLaws::grow_same), unfolding(crate::specs::Edits::step_of))]
+    #[tactic(auto, using(crate::proofs::EditLaws::steps_done, crate::proofs::EditLaws::opens_some, crate::proofs::GrowLaws::grow_same), unfolding(crate::specs::Edits::step_of))]
     fn load(&mut self, rows: HourRows<L>, reads: &mut Reads<L>) -> Result<Applied, EditError>
-        ensures step { Steps (step_of self.old.store (load rows)) self.old.store self.new.store result }
+        ensures step { Steps self.old.config (step_of self.old.store (load rows)) self.old.store self.new.store result }
         ensures moved { IfOk result (λ x. x ≡ record { from = 0; to = self.old.config.window.hours }) }
         ensures config { self.new.config ≡ self.old.config }
         ensures opens { IfErr result (OpensNone reads.old reads.new) }
@@ -175,9 +215,9 @@ impl<L> Session<L> {
         self.hold(hour, Some(rows), reads)
     }
 
-    #[tactic(auto, using(crate::proofs::EditLaws::steps_done, crate::proofs::EditLaws::opens_memory, crate::proofs::GrowLaws::grow_same), unfolding(crate::specs::Edits::step_of))]
+    #[tactic(auto, using(crate::proofs::EditLaws::steps_done, crate::proofs::EditLaws::opens_some, crate::proofs::GrowLaws::grow_same), unfolding(crate::specs::Edits::step_of))]
     fn replace(&mut self, rows: HourRows<L>, reads: &mut Reads<L>) -> Result<Applied, EditError>
-        ensures step { Steps (step_of self.old.store (replace rows)) self.old.store self.new.store result }
+        ensures step { Steps self.old.config (step_of self.old.store (replace rows)) self.old.store self.new.store result }
         ensures moved { IfOk result (λ x. x ≡ record { from = 0; to = self.old.config.window.hours }) }
         ensures config { self.new.config ≡ self.old.config }
         ensures opens { IfErr result (OpensNone reads.old reads.new) }
@@ -196,9 +236,10 @@ impl<L> Session<L> {
         self.hold(hour, Some(rows), reads)
     }
 
-    #[tactic(auto, using(crate::proofs::EditLaws::steps_done, crate::proofs::EditLaws::opens_memory, crate::proofs::GrowLaws::grow_same), unfolding(crate::specs::Edits::step_of))]
+    #[tactic(auto, using(crate::proofs::EditLaws::steps_done, crate::proofs::EditLaws::opens_some, crate::proofs::GrowLaws::grow_same), unfolding(crate::specs::Edits::step_of))]
     fn withdraw(&mut self, hour: Hour, reads: &mut Reads<L>) -> Result<Applied, EditError>
-        ensures step { Steps (step_of self.old.store (withdraw hour)) self.old.store self.new.store result }
+        ensures step { Steps self.old.config (step_of self.old.store (withdraw hour)) self.old.store self.new.store result }
+        ensures never { IfErr result (MayRefuse (withdraw hour)) }
         ensures moved { IfOk result (λ x. x ≡ record { from = 0; to = self.old.config.window.hours }) }
         ensures config { self.new.config ≡ self.old.config }
         ensures opens { IfErr result (OpensNone reads.old reads.new) }
@@ -213,15 +254,16 @@ impl<L> Session<L> {
         self.hold(hour, None, reads)
     }
 
-    #[tactic(auto, using(crate::proofs::EditLaws::steps_done, crate::proofs::EditLaws::opens_memory, crate::proofs::GrowLaws::grow_same), unfolding(crate::specs::Edits::step_of))]
+    #[tactic(auto, using(crate::proofs::EditLaws::steps_done, crate::proofs::EditLaws::opens_some, crate::proofs::GrowLaws::grow_same), unfolding(crate::specs::Edits::step_of))]
     fn blank(&mut self, from: Tenth, to: Tenth, reads: &mut Reads<L>) -> Result<Applied, EditError>
-        ensures step { Steps (step_of self.old.store (blank from to)) self.old.store self.new.store result }
+        ensures step { Steps self.old.config (step_of self.old.store (blank from to)) self.old.store self.new.store result }
+        ensures never { IfErr result (MayRefuse (blank from to)) }
         ensures moved { IfOk result (λ x. x ≡ record { from = 0; to = self.old.config.window.hours }) }
         ensures config { self.new.config ≡ self.old.config }
         ensures opens { IfErr result (OpensNone reads.old reads.new) }
         ensures grow { Grow reads.old reads.new }
     {
-        if reaches_out(self.config.window().hours(), from, to) {
+        if reaches_out(self.config.hours(), from, to) {
             return Err(EditError::OutOfWindow);
         }
         if to <= from {
@@ -234,23 +276,23 @@ impl<L> Session<L> {
         if blanks.ranges().len() > MOST_BLANKS {
             return Err(EditError::TooManyBlanks);
         }
-        self.mask(hour_at(from), hour_at(to - 1), blanks, reads)
+        self.mask(blanks, reads)
     }
 
-    #[tactic(auto, using(crate::proofs::EditLaws::steps_done, crate::proofs::EditLaws::opens_memory, crate::proofs::GrowLaws::grow_same), unfolding(crate::specs::Edits::step_of))]
+    #[tactic(auto, using(crate::proofs::EditLaws::steps_done, crate::proofs::EditLaws::opens_some, crate::proofs::GrowLaws::grow_same), unfolding(crate::specs::Edits::step_of))]
     fn unblank(
         &mut self,
         from: Tenth,
         to: Tenth,
         reads: &mut Reads<L>,
     ) -> Result<Applied, EditError>
-        ensures step { Steps (step_of self.old.store (unblank from to)) self.old.store self.new.store result }
+        ensures step { Steps self.old.config (step_of self.old.store (unblank from to)) self.old.store self.new.store result }
         ensures moved { IfOk result (λ x. x ≡ record { from = 0; to = self.old.config.window.hours }) }
         ensures config { self.new.config ≡ self.old.config }
         ensures opens { IfErr result (OpensNone reads.old reads.new) }
         ensures grow { Grow reads.old reads.new }
     {
-        if reaches_out(self.config.window().hours(), from, to) {
+        if reaches_out(self.config.hours(), from, to) {
             return Err(EditError::OutOfWindow);
         }
         if to <= from {
@@ -263,14 +305,17 @@ impl<L> Session<L> {
         if blanks.ranges().len() > MOST_BLANKS {
             return Err(EditError::TooManyBlanks);
         }
-        self.mask(hour_at(from), hour_at(to - 1), blanks, reads)
+        self.mask(blanks, reads)
     }
 
     /// Makes the edit, or refuses it, with the session as before. The first refusal in the order of
     /// the variants of `EditError` is answered; those before `TooManyBlanks` take no memory and
-    /// never give way to want of memory. `Applied` has all hours of the window.
+    /// never give way to want of memory. `Contradiction` names the row at which the log would
+    /// contradict itself; a withdrawal and a blanking never do. `Applied` has all hours of the
+    /// window.
     pub fn apply(&mut self, edit: Edit<L>, reads: &mut Reads<L>) -> Result<Applied, EditError>
-        ensures step { Steps (step_of self.old.store (change_of edit)) self.old.store self.new.store result }
+        ensures step { Steps self.old.config (step_of self.old.store (change_of edit)) self.old.store self.new.store result }
+        ensures never { IfErr result (MayRefuse (change_of edit)) }
         ensures moved { IfOk result (λ x. x ≡ record { from = 0; to = self.old.config.window.hours }) }
         ensures config { self.new.config ≡ self.old.config }
         ensures opens { IfErr result (OpensNone reads.old reads.new) }

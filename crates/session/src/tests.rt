@@ -1,11 +1,129 @@
-use crate::blanks::{hour_at, reaches_out};
+mod configured;
 
-// The ends of the hours and of a window of two hours; edits are tested through the program.
+use crate::blanks::reaches_out;
+use crate::{Edit, Session};
+use configured::{one_phase, two_hours};
+use sig_base::{Applied, EditError, Hour, HourRows, Reads, Row, Tenth};
+use std::alloc::Global;
+use std::test::Fail;
+
+// The mark of the rows of these tests.
+#[derive(Drop)]
+struct Mark;
+
+// The ends of a window of two hours.
 #[test]
-fn finds_hours_and_the_window(rt: HostRuntime) {
-    assert_eq!(rt; hour_at(35_999), 0);
-    assert_eq!(rt; hour_at(36_000), 1);
+fn finds_the_window(rt: HostRuntime) {
     assert!(rt; !reaches_out(2, 0, 72_000));
     assert!(rt; reaches_out(2, -1, 72_000));
     assert!(rt; reaches_out(2, 0, 72_001));
+}
+
+// An edit; the rows of a load or a replacement are two at the hour's sixth tenth.
+#[derive(Clone, Copy)]
+enum Step {
+    Load(Hour),
+    Replace(Hour),
+    Withdraw(Hour),
+    Blank(Tenth, Tenth),
+    Unblank(Tenth, Tenth),
+}
+
+fn rows_of(alloc: Global, hour: Hour) -> Result<HourRows<Mark>, Fail> {
+    let row = Row {
+        at: hour.saturating_mul(36_000).saturating_add(5),
+        code: 1,
+        param: 2,
+    };
+    let rows = HourRows::new(hour, vec![in alloc; row, row]?, 0).ok_or("rows")?;
+    Ok(rows)
+}
+
+fn edit_of(alloc: Global, step: Step) -> Result<Edit<Mark>, Fail> {
+    match step {
+        Step::Load(hour) => Ok(Edit::Load(rows_of(alloc, hour)?)),
+        Step::Replace(hour) => Ok(Edit::Replace(rows_of(alloc, hour)?)),
+        Step::Withdraw(hour) => Ok(Edit::Withdraw(hour)),
+        Step::Blank(from, to) => Ok(Edit::Blank { from, to }),
+        Step::Unblank(from, to) => Ok(Edit::Unblank { from, to }),
+    }
+}
+
+fn apply(
+    session: &mut Session<Mark>,
+    edit: Edit<Mark>,
+    reads: &mut Reads<Mark>,
+) -> Result<Applied, EditError> {
+    session.apply(edit, reads)
+}
+
+// The held hours, their rows and the known tenths.
+fn numbers(session: &Session<Mark>) -> [u64; 3] {
+    let total = session.report().total();
+    [total.held_hours(), total.held_rows(), total.known_tenths()]
+}
+
+const ALL: Result<Applied, EditError> = Ok(Applied { from: 0, to: 2 });
+
+// Edits of a window of two hours, what comes of each, and what is held and known after it.
+const STEPS: [(Step, Result<Applied, EditError>, [u64; 3]); 10] = [
+    (Step::Withdraw(1), Err(EditError::NotHeld), [0, 0, 0]),
+    (Step::Load(1), ALL, [1, 2, 36_000]),
+    (Step::Load(1), Err(EditError::AlreadyHeld), [1, 2, 36_000]),
+    (Step::Load(2), Err(EditError::OutOfWindow), [1, 2, 36_000]),
+    (Step::Blank(35_990, 36_010), ALL, [1, 2, 35_990]),
+    (
+        Step::Blank(5, 5),
+        Err(EditError::EmptyRange),
+        [1, 2, 35_990],
+    ),
+    (Step::Load(0), ALL, [2, 4, 71_980]),
+    (Step::Unblank(36_000, 36_001), ALL, [2, 4, 71_981]),
+    (Step::Replace(0), ALL, [2, 4, 71_981]),
+    (Step::Withdraw(1), ALL, [1, 2, 35_990]),
+];
+
+#[test]
+fn edits_one_after_another(rt: HostRuntime) -> Result<(), Fail> {
+    let alloc = rt.alloc();
+    let mut session = Session::new(alloc, two_hours(alloc)?)?;
+    let mut reads = Reads::new(Mark);
+    for (step, wanted, after) in STEPS {
+        let edit = edit_of(alloc, step)?;
+        assert_eq!(rt; apply(&mut session, edit, &mut reads), wanted);
+        assert_eq!(rt; numbers(&session), after);
+    }
+    Ok(())
+}
+
+// Phase 2 becomes inactive at 100 and may then not show yellow at 200.
+fn contradicting(alloc: Global) -> Result<HourRows<Mark>, Fail> {
+    let inactive = Row {
+        at: 100,
+        code: 12,
+        param: 2,
+    };
+    let rows = vec![in alloc; inactive, YELLOW]?;
+    Ok(HourRows::new(0, rows, 0).ok_or("rows")?)
+}
+
+const YELLOW: Row = Row {
+    at: 200,
+    code: 8,
+    param: 2,
+};
+
+// The load names the second row, and nothing is held after it.
+#[test]
+fn refuses_what_contradicts(rt: HostRuntime) -> Result<(), Fail> {
+    let alloc = rt.alloc();
+    let mut session = Session::new(alloc, one_phase(alloc)?)?;
+    let mut reads = Reads::new(Mark);
+    let edit = Edit::Load(contradicting(alloc)?);
+    assert_eq!(rt;
+        apply(&mut session, edit, &mut reads),
+        Err(EditError::Contradiction(YELLOW))
+    );
+    assert_eq!(rt; numbers(&session), [0, 0, 0]);
+    Ok(())
 }

@@ -7,7 +7,8 @@ use Rattle.session.specs.Edits.{blank, step_of, unless_many_blanks}
 use Rattle.session.specs.Ranges.{With}
 use Rattle.session.specs.Sessions.{Kept}
 use Rattle.session.proofs.EditLaws.{blank_step, few_blanks, in_order, inside, many_blanks, steps_done}
-use Rattle.session.proofs.RangeLaws.{with_out, with_within}
+use Rattle.session.proofs.LessLaws.{never_blanked}
+use Rattle.session.proofs.RangeLaws.{with_within}
 use Rattle.session.proofs.session.Session.blank.Goals as goal
 
 pub returns-then-ranges-gt-MOST_BLANKS-clause-step : goal.returns-then-ranges-gt-MOST_BLANKS-clause-step
@@ -18,7 +19,7 @@ returns-then-ranges-gt-MOST_BLANKS-clause-step g c =
     let out = simp to_z-of_z at (sym c.reaches_out.ensures ∙ c.if-reaches_out.false) in
     let some : c.args.from <ℤ c.args.to = in_order c.args.to c.args.from (simp to_z-of_z at c.if-to-from.false) in
     let made : With s.blanks c.args.from c.args.to c.in-Ok.blanks = simp to_z-of_z at (rw c.blanked.ensures.value at c.in-Ok.ensures) in
-    let n : c.hours.result ≡ length s.hours = c.hours.ensures.value ∙ ap (λ (w : Span). w.hours) c.window.ensures ∙ sym c.self.invariant.hours in
+    let n : c.hours.result ≡ length s.hours = c.hours.ensures.value ∙ sym c.self.invariant.hours in
     let step = blank_step s c.hours.result c.args.from c.args.to c.in-Ok.blanks n c.hours.ensures.few c.blanked.ensures.within out some c.ranges-2.ensures.ordered made in
     let more = rw c.ranges-2.ensures.value at c.if-ranges-gt-MOST_BLANKS.true in
     rw (← c.self.view_is) (refl, step ∙ many_blanks s c.in-Ok.blanks more)
@@ -31,35 +32,32 @@ returns-clause-step g c =
     let out = simp to_z-of_z at (sym c.reaches_out.ensures ∙ c.if-reaches_out.false) in
     let some : c.args.from <ℤ c.args.to = in_order c.args.to c.args.from (simp to_z-of_z at c.if-to-from.false) in
     let made : With s.blanks c.args.from c.args.to c.in-Ok.blanks = simp to_z-of_z at (rw c.blanked.ensures.value at c.in-Ok.ensures) in
-    let n : c.hours.result ≡ length s.hours = c.hours.ensures.value ∙ ap (λ (w : Span). w.hours) c.window.ensures ∙ sym c.self.invariant.hours in
+    let n : c.hours.result ≡ length s.hours = c.hours.ensures.value ∙ sym c.self.invariant.hours in
     let step = blank_step s c.hours.result c.args.from c.args.to c.in-Ok.blanks n c.hours.ensures.few c.blanked.ensures.within out some c.ranges-2.ensures.ordered made in
     let few = rw c.ranges-2.ensures.value at c.if-ranges-gt-MOST_BLANKS.false in
-    let done = rw (← c.self.view_is) at c.mask.ensures.store in
+    let done = rw (← c.self.view_is) at c.mask.ensures.done in
     let back = rw (← c.self.view_is) at c.mask.ensures.back in
-    rw (← c.self.view_is) (steps_done (step_of s (blank c.args.from c.args.to)) s (with_blanks s c.in-Ok.blanks) c.mask.new.self.store c.mask.result (step ∙ few_blanks s c.in-Ok.blanks few) done back c.mask.ensures.memory)
+    let stop = rw (← c.self.view_is) at c.mask.ensures.stop in
+    rw (← c.self.view_is) (steps_done c.self.inside.config (step_of s (blank c.args.from c.args.to)) s (with_blanks s c.in-Ok.blanks) c.mask.new.self.store c.mask.result (step ∙ few_blanks s c.in-Ok.blanks few) done back stop)
 
-pub mask-requires-clause-within : goal.mask-requires-clause-within
-mask-requires-clause-within g c =
+pub mask-requires : goal.mask-requires
+mask-requires g c =
     let s = c.self.inside.store in
     let rf = c.ranges.from in
     let rt = c.ranges.to in
     let out = simp to_z-of_z at (sym c.reaches_out.ensures ∙ c.if-reaches_out.false) in
     let some : c.args.from <ℤ c.args.to = in_order c.args.to c.args.from (simp to_z-of_z at c.if-to-from.false) in
     let made : With s.blanks c.args.from c.args.to c.in-Ok.blanks = simp to_z-of_z at (rw c.blanked.ensures.value at c.in-Ok.ensures) in
-    let n : c.hours.result ≡ length s.hours = c.hours.ensures.value ∙ ap (λ (w : Span). w.hours) c.window.ensures ∙ sym c.self.invariant.hours in
+    let n : c.hours.result ≡ length s.hours = c.hours.ensures.value ∙ sym c.self.invariant.hours in
     let p = rw n at (inside c.hours.result c.args.from c.args.to out) in
-    rw (← c.self.view_is) (with_within (length s.hours) s.blanks c.in-Ok.blanks c.args.from c.args.to c.blanked.ensures.within p.0 p.1 made)
+    rw (← c.self.view_is) (record { within = with_within (length s.hours) s.blanks c.in-Ok.blanks c.args.from c.args.to c.blanked.ensures.within p.0 p.1 made })
 
-pub mask-requires-clause-outside : goal.mask-requires-clause-outside
-mask-requires-clause-outside g c =
+pub returns-clause-never : goal.returns-clause-never
+returns-clause-never g c =
     let s = c.self.inside.store in
     let rf = c.ranges.from in
     let rt = c.ranges.to in
-    let out = simp to_z-of_z at (sym c.reaches_out.ensures ∙ c.if-reaches_out.false) in
-    let some : c.args.from <ℤ c.args.to = in_order c.args.to c.args.from (simp to_z-of_z at c.if-to-from.false) in
     let made : With s.blanks c.args.from c.args.to c.in-Ok.blanks = simp to_z-of_z at (rw c.blanked.ensures.value at c.in-Ok.ensures) in
-    let fits : FitsSigned w64 (c.args.to -ℤ pos 1) = search (rules, ints) in
-    let low = (inside c.hours.result c.args.from c.args.to out).0 in
-    let a = simp to_z-of_z at c.hour_at.ensures in
-    let b = simp to_z-of_z at c.hour_at-2.ensures in
-    rw (a, b, ← c.self.view_is) (with_out s.blanks c.in-Ok.blanks c.args.from c.args.to low some made)
+    let stop = rw (← c.self.view_is) at c.mask.ensures.stop in
+    let less = rw (← c.self.view_is) at c.mask.ensures.store in
+    never_blanked c.self.inside.config s c.in-Ok.blanks c.args.from c.args.to c.mask.result c.self.invariant.sound c.self.invariant.is_store less c.self.invariant.history made stop

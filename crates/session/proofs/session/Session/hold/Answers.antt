@@ -1,38 +1,10 @@
-use Rattle.std.proofs.Common.{◌≡◌, ◌∙◌, ◌<◌, ◌≤◌, ◌+◌, ap, length, length-set, sym, subst, arith}
+use Rattle.std.proofs.Common.{◌≡◌, ◌∙◌, ap, sym, subst}
 use Rattle.hour_store.specs.Store.{Store, with_hour}
-use Rattle.session.specs.Sessions.{Kept}
-use Rattle.session.proofs.EditLaws.{held_report, hour_back}
-use Rattle.session.proofs.PartLaws.{parts_within}
+use Rattle.signal_log.specs.Log.{log_of}
+use Rattle.hour_work.specs.Points.{NamesRow}
+use Rattle.session.specs.Sessions.{Kept, StopsAt}
+use Rattle.session.proofs.EditLaws.{hour_back}
 use Rattle.session.proofs.session.Session.hold.Goals as goal
-
-pub overflow_add-hour : goal.overflow_add-hour
-overflow_add-hour g c =
-    let lt = rw (← c.self.view_is) at c.requires.in_store in
-    let few = c.self.invariant.few in
-    omega arith
-
-pub parts_of-requires-clause-in_range : goal.parts_of-requires-clause-in_range
-parts_of-requires-clause-in_range g c =
-    let lt = rw (← c.self.view_is) at c.requires.in_store in
-    let few = c.self.invariant.few in
-    omega arith
-
-pub renew-requires-clause-within : goal.renew-requires-clause-within
-renew-requires-clause-within g c =
-    let lt = rw (← c.self.view_is) at c.requires.in_store in
-    parts_within c.self.inside.store _ _ _ _ _ c.self.invariant.report c.in-Ok.ensures.parts (omega arith)
-
-pub invariant_of-self : goal.invariant_of-self
-invariant_of-self g c =
-    let lt = rw (← c.self.view_is) at c.requires.in_store in
-    let s = c.self.inside.store in
-    let p = rw c.exchange-before.ensures.store at c.in-Ok.ensures.parts in
-    let size = length-set s.hours c.args.hour c.args.entry in
-    rw c.exchange-before.ensures.store (record {
-      hours = size ∙ c.self.invariant.hours;
-      few = rw size c.self.invariant.few;
-      report = c.renew.ensures ∙ held_report s c.args.hour c.args.entry c.self.inside.report _ lt c.self.invariant.report p;
-    })
 
 pub invariant_of-self-in-Err : goal.invariant_of-self-in-Err
 invariant_of-self-in-Err g c =
@@ -43,3 +15,10 @@ pub returns-in-Err-clause-back : goal.returns-in-Err-clause-back
 returns-in-Err-clause-back g c =
     let back : c.exchange.new.store ≡ c.self.inside.store = c.exchange.ensures.store ∙ (rw (c.exchange-before.ensures.store, c.exchange-before.ensures.before) (hour_back c.self.inside.store c.args.hour c.args.entry)) in
     back ∙ ap (λ (k : Kept). k.store) c.self.view_is
+
+pub returns-in-Err-clause-stop : goal.returns-in-Err-clause-stop
+returns-in-Err-clause-stop g c =
+    let s = c.self.inside.store in
+    let stop = rw c.exchange-before.ensures.store at c.in-Err.ensures.stop in
+    let is = rw c.exchange-before.ensures.store at c.in-Err.ensures.store in
+    rw (← c.self.view_is) (c.edit_error.ensures c.self.inside.config (with_hour s c.args.hour c.args.entry) c.self.invariant.sound is stop)

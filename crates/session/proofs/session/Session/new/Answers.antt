@@ -1,18 +1,26 @@
-use Rattle.std.proofs.Common.{◌≡◌, ◌∙◌, ◌≤◌, ap, length, sym, arith}
+use Rattle.std.proofs.Common.{◌≡◌, ◌∙◌, Option, None}
 use Rattle.std.proofs.lemmas.List.{length-replicate}
-use Rattle.hour_store.specs.Store.{nothing_held}
-use Rattle.session.proofs.PartLaws.{all_parts, nothing}
+use Rattle.sig_base.specs.HourRows.{Shown}
+use Rattle.hour_store.proofs.StoreLaws.{nothing_is_store}
+use Rattle.signal_log.proofs.Lawful.{nothing}
+use Rattle.hour_work.proofs.SpecLaws.{specs_follow}
 use Rattle.session.proofs.session.Session.new.Goals as goal
+
+abbrev no_rows : Option Shown
+no_rows = None
 
 pub invariant_of-result : goal.invariant_of-result
 invariant_of-result g c =
-    let s = c.in_ok-store.store in
+    let cfg = c.args.config in
     let n = c.hours-hours.result in
-    let len : length s.hours ≡ n = ap (λ t. length t.hours) c.in_ok-store.ensures ∙ length-replicate n nothing in
-    let window : n ≡ c.args.config.window.hours = rw c.window.ensures at c.hours-hours.ensures.value in
-    let few = c.hours-hours.ensures.few in
-    record {
-      hours = len ∙ window;
-      few = omega arith;
-      report = c.new-report.ensures ∙ all_parts s n _ (sym len) c.in_ok-first_parts.ensures;
-    }
+    let made = c.in_ok-store.ensures in
+    let rules = c.in_ok-rules.ensures in
+    let report = c.in_ok-report.ensures cfg (c.deref.ensures.value ∙ rules) in
+    rw made (record {
+      sound = c.hours-hours.ensures.sound;
+      is_store = nothing_is_store n c.hours-hours.ensures.some c.hours-hours.ensures.few;
+      hours = length-replicate n (no_rows) ∙ c.hours-hours.ensures.value;
+      rules = rules;
+      history = nothing cfg.specs n (specs_follow cfg c.hours-hours.ensures.sound);
+      report = report;
+    })

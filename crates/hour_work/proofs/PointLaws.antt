@@ -1,0 +1,144 @@
+-- What is kept at hour points, and what is known between two of them.
+use Rattle.std.proofs.Common.{◌≡◌, ◌∙◌, ℕ, ◌+◌, ◌*◌, ◌-◌, ◌<◌, ◌≤◌, ℤ, pos, Bool, true, false, nat_lt, List, [], length, Option, Some, None, refl, sym, ap, subst, arith}
+use Rattle.std.specs.Prelude.{is_some, option_map}
+use Rattle.std.specs.List.{All}
+use Rattle.std.proofs.lemmas.Bool.Decides.{nat_tests}
+use Rattle.span_set.specs.declared.set.Span.{Span}
+use Rattle.sig_base.specs.HourRows.{AreRowsOf, Shown}
+use Rattle.sig_base.specs.declared.values.Row.{Row}
+use Rattle.gap_map.specs.declared.stretch.Stretch.{Stretch}
+use Rattle.gap_map.specs.Stretches.{IsCut, known_in}
+use Rattle.gap_map.proofs.Following.{follow}
+use Rattle.hour_store.specs.Store.{Store, count_in, held_at, is_known, rows_at}
+use Rattle.board.specs.Hours.{AreEnds, AreStarts}
+use Rattle.board.specs.Logs.{IsHour, first_tenth, hour_log}
+use Rattle.board.specs.Places.{AreAheadsOf, IsViewOf}
+use Rattle.board.specs.Stops.{AreBefore}
+use Rattle.lane.specs.Places.{Kept}
+use Rattle.ring_config.specs.Settings.{Settings}
+use Rattle.ring_config.specs.Sound.{IsSound}
+use Rattle.signal_log.specs.Log.{log_of}
+use Rattle.signal_log.specs.Points.{HasHour, rows_or_none}
+use Rattle.signal_log.specs.Views.{IsHourOf}
+use Rattle.signal_log.proofs.Lawful.{ends, starts}
+use Rattle.signal_log.proofs.Stored.{known_cut, known_hour}
+use Rattle.signal_log.proofs.Viewed.{hours_tell}
+use Rattle.rule_audit.specs.declared.lines.AuditLine.{AuditLine}
+use Rattle.rule_audit.specs.Rules.{rules_for}
+use Rattle.rule_audit.specs.Lines.{AreLines, IsAudited}
+use Rattle.hour_work.specs.Numbers.{FitsCount, count_in_hour, one_if}
+use Rattle.hour_work.specs.Counts.{counts_of}
+use Rattle.hour_work.specs.Points.{Carried, FitPoint, IsCarryAt, IsFutureAt, is_known_before}
+use Rattle.hour_work.specs.Verdicts.{AreAuditLines, HasStoreVerdict, hour_rows, obligations_in}
+use Rattle.hour_work.specs.declared.counts.RuleCount.{RuleCount}
+use Rattle.hour_work.specs.Reports.{IsHourBetween, IsHourPart}
+use Rattle.hour_work.proofs.CountLaws.{count_all, count_same}
+use Rattle.hour_work.proofs.SpecLaws.{specs_follow}
+use Rattle.hour_work.proofs.PlacedLaws.{all_numbered, each_all}
+use Rattle.hour_work.proofs.TallyLaws.{counts_at, counts_fit, length-counts_of, lines_each}
+use Rattle.hour_work.proofs.VerdictLaws.{lines_in, no_lines, runs_are}
+
+-- ---- points
+
+pub first_carry : (c : Settings) (pasts : List (List (List Span))) → AreBefore c.specs pasts → AreStarts c.specs (length c.specs) pasts → (s : Store) → IsCarryAt c s 0 (record { pasts = pasts; known = false })
+first_carry c pasts shape are s = record { pasts = starts (log_of c.specs s) pasts shape are; known = refl }
+
+pub carry_fits : (c : Settings) (s : Store) (k : ℕ) (carry : Carried) → IsCarryAt c s k carry → FitPoint c k carry
+carry_fits c s k carry is = record { shape = is.pasts.shape; early = is.pasts.early }
+
+pub last_future : (c : Settings) (hours : ℕ) (aheads : List (List (Option ℤ))) (point : ℤ) → point ≡ pos (36000 * hours) → AreAheadsOf c.specs aheads → AreEnds c.specs point (length c.specs) aheads → (s : Store) → length s.hours ≡ hours → IsFutureAt c s (length s.hours) aheads
+last_future c hours aheads point e shape are s n =
+    let at : point ≡ pos (36000 * length s.hours) = e ∙ ap (λ h. pos (36000 * h)) (sym n) in
+    ends (log_of c.specs s) aheads shape (subst (λ p. AreEnds c.specs p (length c.specs) aheads) at are)
+
+-- the tenth before the point after an hour is the hour's last
+pub known_after : (s : Store) (hour : ℕ) (rows : Option (List Row)) (blanks : List Span) (held : Bool) → HasHour s hour rows blanks → held ≡ is_some rows → known_in held blanks (36000 * hour + 35999) ≡ is_known_before (is_known s) (first_tenth (hour + 1))
+known_after s hour rows blanks held has e =
+    let last : 36000 * (hour + 1) - 1 ≡ 36000 * hour + 35999 = omega arith in
+    let some : nat_lt 0 (36000 * (hour + 1)) ≡ true = grind (arith, nat_tests) in
+    let known = known_hour s hour (36000 * hour + 35999) rows has.held (omega arith) (omega arith) in
+    rw (some, last, known, e, has.blanked) refl
+
+-- ---- an hour
+
+pub hour_cut : (hour : ℕ) (rows : List Row) (blanks : List Span) (ss : List Stretch) → AreRowsOf hour rows → IsCut (known_in true blanks) (36000 * hour) (36000 * hour + 36000) ss → IsHour hour rows ss
+hour_cut hour rows blanks ss are cut = record { are_rows = are; follow = follow (known_in true blanks) (36000 * hour) (36000 * hour + 36000) ss cut.stretches }
+
+module _ (c : Settings) (sound : IsSound c) (s : Store) (hour : ℕ) (before : Carried) (rows : List Row) (blanks : List Span) (after : List (List (Option ℤ))) (ss : List Stretch) (is : IsHourBetween c s hour before (Some rows) blanks after) (cut : IsCut (known_in true blanks) (36000 * hour) (36000 * hour + 36000) ss) where
+  hour_of : IsHourOf s (hour_log hour c.specs rows ss before.pasts after)
+  hour_of = record {
+    is_store = is.has_hour.is_store;
+    within = is.has_hour.within;
+    held = is.has_hour.held;
+    cut = subst (λ bs. IsCut (known_in true bs) (36000 * hour) (36000 * hour + 36000) ss) is.has_hour.blanked cut;
+    before = is.is_before.pasts;
+    after = is.is_after;
+  }
+
+  -- the view of the hour is one that can be audited
+  pub audited : (view : List Kept) → IsViewOf (hour_log hour c.specs rows ss before.pasts after) view → IsAudited c view rows ss (hour_log hour c.specs rows ss before.pasts after)
+  audited view is_view = record {
+    is_view = is_view;
+    same_specs = refl;
+    same_rows = refl;
+    same_stretches = refl;
+    runs = runs_are (hour_log hour c.specs rows ss before.pasts after) ((hours_tell s (hour_log hour c.specs rows ss before.pasts after) (specs_follow c sound) hour_of).history.runs.0 is.history);
+  }
+
+  -- its lines are those of the store
+  pub lines_done : (lines : List AuditLine) → AreLines (hour_log hour c.specs rows ss before.pasts after) (rules_for c) before.known lines → AreAuditLines c s hour lines
+  lines_done lines = lines_in c s hour rows ss before.pasts after (hours_tell s (hour_log hour c.specs rows ss before.pasts after) (specs_follow c sound) hour_of) is.history before.known lines sound is.has_hour.held (λ x low high. known_cut s hour x (Some rows) blanks ss is.has_hour.held is.has_hour.blanked cut low high) is.is_before.known
+
+-- an hour that isn't held
+pub unheld_lines : (c : Settings) (s : Store) (hour : ℕ) → rows_at s hour ≡ None → AreAuditLines c s hour []
+unheld_lines c s hour none = no_lines c s hour (λ x low high. known_hour s hour x None none low high)
+
+some_rows : (o : Option Shown) → is_some o ≡ is_some (option_map (λ h. h.rows) o)
+some_rows None = refl
+some_rows (Some h) = refl
+
+count_rows : (o : Option Shown) → count_in o ≡ length (rows_or_none (option_map (λ h. h.rows) o))
+count_rows None = refl
+count_rows (Some h) = refl
+
+pub held_one : (s : Store) (hour : ℕ) (rows : Option (List Row)) → rows_at s hour ≡ rows → one_if (is_some rows) ≡ one_if (is_some (held_at s hour))
+held_one s hour rows e = ap (λ (o : Option (List Row)). one_if (is_some o)) (sym e) ∙ ap one_if (sym (some_rows (held_at s hour)))
+
+pub held_count : (s : Store) (hour : ℕ) (rows : Option (List Row)) → rows_at s hour ≡ rows → length (rows_or_none rows) ≡ count_in (held_at s hour)
+held_count s hour rows e = ap (λ (o : Option (List Row)). length (rows_or_none o)) (sym e) ∙ sym (count_rows (held_at s hour))
+
+-- known tenths of an hour
+pub known_count : (s : Store) (hour : ℕ) (rows : Option (List Row)) (blanks : List Span) (held : Bool) → HasHour s hour rows blanks → held ≡ is_some rows → count_in_hour (known_in held blanks) hour ≡ count_in_hour (is_known s) hour
+known_count s hour rows blanks held has e = count_same (known_in held blanks) (is_known s) (36000 * hour) 36000 (λ t low high.
+    let known = known_hour s hour t rows has.held low (omega arith) in
+    rw (known, e, has.blanked) refl)
+
+-- each line has the number of a rule
+pub lines_numbered : (c : Settings) (s : Store) (hour : ℕ) (lines : List AuditLine) → AreAuditLines c s hour lines → All (λ l. (1 ≤ l.rule) × (l.rule ≤ length (rules_for c))) lines
+unfolding obligations_in
+lines_numbered c s hour lines are = each_all (λ l. (1 ≤ l.rule) × (l.rule ≤ length (rules_for c))) lines
+    (lines_each (HasStoreVerdict c s hour) (λ n. (1 ≤ n) × (n ≤ length (rules_for c))) (obligations_in c s hour) lines
+    (all_numbered (is_known s) c.specs (rules_for c) (hour_rows s hour) (is_known_before (is_known s) (first_tenth hour)) (first_tenth hour) 36000) are)
+
+-- no rule is judged too often
+pub lines_fit : (c : Settings) (s : Store) (hour n : ℕ) (rows : Option (List Row)) (lines : List AuditLine) → rows_at s hour ≡ rows → length (rows_or_none rows) ≤ 400000 → AreAuditLines c s hour lines → All (FitsCount 1) (counts_of n lines)
+unfolding obligations_in
+lines_fit c s hour n rows lines held few are =
+    let own : length (hour_rows s hour) ≡ length (rows_or_none rows) = ap (λ (o : Option (List Row)). length (rows_or_none o)) held in
+    counts_fit (HasStoreVerdict c s hour) (is_known s) c.specs (rules_for c) (hour_rows s hour) (is_known_before (is_known s) (first_tenth hour)) (first_tenth hour) n lines (omega arith) are
+
+-- the numbers of an hour that isn't held
+pub unheld_part : (c : Settings) (s : Store) (hour n : ℕ) (rules : List RuleCount) → rules ≡ counts_of n [] → rows_at s hour ≡ None → n ≡ length (rules_for c) → IsHourPart c s hour (record { held_hours = 0; held_rows = 0; known_tenths = 0; rules = rules })
+unheld_part c s hour n rules e none m = record {
+  held_hours = held_one s hour None none;
+  held_rows = held_count s hour None none;
+  known_tenths = sym (count_all (is_known s) (36000 * hour) 36000 false (λ t low high. known_hour s hour t None none low (omega arith)));
+  lines = [];
+  are_lines = unheld_lines c s hour none;
+  rules = e ∙ ap (λ k. counts_of k []) m;
+}
+
+pub none_fit : (n : ℕ) → All (FitsCount 1) (counts_of n [])
+none_fit n j d lt =
+    let within : j < n = subst (λ (m : ℕ). j < m) (length-counts_of n []) lt in
+    subst (λ (c : RuleCount). FitsCount 1 c) (sym (counts_at n [] j d within)) (record { kept = omega arith; broken = omega arith; undecided = omega arith })

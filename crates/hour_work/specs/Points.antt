@@ -1,0 +1,40 @@
+-- What is kept at an hour point: the place before an hour's first tenth, or the window's end.
+use Rattle.std.specs.Prelude.{◌≡◌, ◌-◌, ℕ, ℤ, nat_lt, Bool, ◌&&◌, List, Option}
+use Rattle.span_set.specs.declared.set.Span.{Span}
+use Rattle.hour_store.specs.Store.{Store, is_known}
+use Rattle.board.specs.Logs.{first_tenth}
+use Rattle.board.specs.Stops.{AreBefore}
+use Rattle.board.specs.Places.{AllEarly}
+use Rattle.ring_config.specs.Settings.{Settings}
+use Rattle.signal_log.specs.Log.{IsContradiction, Log, log_of}
+use Rattle.signal_log.specs.Points.{ArePastsAt, AreAheadsAt}
+use Rattle.hour_work.specs.declared.steps.ForwardError.{ForwardError}
+use Rattle.hour_work.specs.declared.steps.ForwardError.TheVariants.{Contradiction, Memory}
+
+-- the states of each channel, and whether the tenth before the point is known
+pub record Carried : Type 0 where
+  pub pasts : List (List (List Span))
+  pub known : Bool
+
+-- the tenth before this one is known; before tenth 0 there is none
+abbrev pub is_known_before : (ℕ → Bool) → ℕ → Bool
+is_known_before known t = nat_lt 0 t && known (t - 1)
+
+-- each channel has states, all of them entered before the point
+pub record FitPoint (c : Settings) (k : ℕ) (carry : Carried) : Type 0 where
+  pub shape : AreBefore c.specs carry.pasts
+  pub early : AllEarly (first_tenth k) carry.pasts
+
+-- this is what the store says up to point k
+pub record IsCarryAt (c : Settings) (s : Store) (k : ℕ) (carry : Carried) : Type 0 where
+  pub pasts : ArePastsAt (log_of c.specs s) k carry.pasts
+  pub known : carry.known ≡ is_known_before (is_known s) (first_tenth k)
+
+-- these admit the states at point k with which the store can be completed
+abbrev pub IsFutureAt : Settings → Store → ℕ → List (List (Option ℤ)) → Type 0
+IsFutureAt c s k future = AreAheadsAt (log_of c.specs s) k future
+
+-- an error that isn't want of memory names the row at which the log contradicts itself
+abbrev pub NamesRow : Log → ForwardError → Type 0
+NamesRow log (Contradiction row) = IsContradiction log row
+NamesRow log Memory = Unit {0}

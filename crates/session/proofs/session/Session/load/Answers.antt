@@ -1,0 +1,24 @@
+use Rattle.std.proofs.Common.{◌≡◌, ◌∙◌, ◌<◌, ◌≤◌, Some, ap, arith, length, sym}
+use Rattle.sig_base.specs.Window.{Span}
+use Rattle.hour_store.specs.Store.{rows_held, with_hour}
+use Rattle.session.specs.Edits.{load, step_of}
+use Rattle.session.proofs.EditLaws.{load_step, steps_done}
+use Rattle.session.proofs.session.Session.load.Goals as goal
+
+pub returns-clause-step : goal.returns-clause-step
+returns-clause-step g c =
+    let s = c.self.inside.store in
+    let r = c.args.rows in
+    let h = c.hour-hour.result in
+    let window = ap (λ (w : Span). w.hours) c.window.ensures in
+    let has = c.has_hour.ensures.0 c.if-not-has_hour.false in
+    let hours = c.self.invariant.hours in
+    let lt : h < length s.hours = omega arith in
+    let count = c.rows_with.ensures r (sym c.len.ensures) in
+    let most = c.if-rows_with-gt-MOST_ROWS.false in
+    let few : rows_held (with_hour s h (Some r)) ≤ 20000000 = omega arith in
+    let step = load_step s r h c.hour-hour.ensures.value lt (sym c.is_held.ensures ∙ c.if-is_held.false) few in
+    let done = rw (← c.self.view_is) at c.hold.ensures.done in
+    let back = rw (← c.self.view_is) at c.hold.ensures.back in
+    let stop = rw (← c.self.view_is) at c.hold.ensures.stop in
+    rw (← c.self.view_is) (steps_done c.self.inside.config (step_of s (load r)) s (with_hour s h (Some r)) c.hold.new.self.store c.hold.result step done back stop)

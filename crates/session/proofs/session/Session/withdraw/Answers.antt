@@ -1,0 +1,28 @@
+use Rattle.std.proofs.Common.{◌≡◌, ◌∙◌, ◌<◌, None, ap, arith, length, sym}
+use Rattle.sig_base.specs.Window.{Span}
+use Rattle.hour_store.specs.Store.{with_hour}
+use Rattle.session.specs.Edits.{step_of, withdraw}
+use Rattle.session.proofs.EditLaws.{steps_done, withdraw_step}
+use Rattle.session.proofs.LessLaws.{never_withdrawn}
+use Rattle.session.proofs.session.Session.withdraw.Goals as goal
+
+pub returns-clause-step : goal.returns-clause-step
+returns-clause-step g c =
+    let s = c.self.inside.store in
+    let h = c.args.hour in
+    let window = ap (λ (w : Span). w.hours) c.window.ensures in
+    let has = c.has_hour.ensures.0 c.if-not-has_hour.false in
+    let hours = c.self.invariant.hours in
+    let lt : h < length s.hours = omega arith in
+    let step = withdraw_step s h lt (sym c.is_held.ensures ∙ c.if-not-is_held.false) in
+    let done = rw (← c.self.view_is) at c.hold.ensures.done in
+    let back = rw (← c.self.view_is) at c.hold.ensures.back in
+    let stop = rw (← c.self.view_is) at c.hold.ensures.stop in
+    rw (← c.self.view_is) (steps_done c.self.inside.config (step_of s (withdraw h)) s (with_hour s h None) c.hold.new.self.store c.hold.result step done back stop)
+
+pub returns-clause-never : goal.returns-clause-never
+returns-clause-never g c =
+    let s = c.self.inside.store in
+    let stop = rw (← c.self.view_is) at c.hold.ensures.stop in
+    let less = rw (← c.self.view_is) at c.hold.ensures.store in
+    never_withdrawn c.self.inside.config s c.args.hour c.hold.result c.self.invariant.sound c.self.invariant.is_store less c.self.invariant.history stop

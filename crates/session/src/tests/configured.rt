@@ -1,0 +1,22 @@
+use ring_config::{Config, read_config};
+use std::alloc::Global;
+use std::test::Fail;
+
+// A window of two hours.
+const TEXT: &str = "signal = \"7\"\nstart = \"2024-03-04T06\"\nhours = 2\n";
+
+// The same with phase 2.
+const WITH_PHASE: &str =
+    "signal = \"7\"\nstart = \"2024-03-04T06\"\nhours = 2\n\n[[phase]]\nnumber = 2\nring = 1\nside = 1\n";
+
+fn read(alloc: Global, text: &str) -> Result<Config, Fail> {
+    Ok(read_config(alloc, text.as_bytes())?)
+}
+
+pub fn two_hours(alloc: Global) -> Result<Config, Fail> {
+    read(alloc, TEXT)
+}
+
+pub fn one_phase(alloc: Global) -> Result<Config, Fail> {
+    read(alloc, WITH_PHASE)
+}

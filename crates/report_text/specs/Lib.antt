@@ -3,3 +3,5 @@ pub mod Counts
 pub mod Refusals
 pub mod Applied
 pub mod Measures
+pub mod Rules
+pub mod Audit

@@ -1,6 +1,5 @@
 -- The line of what was refused.
 use Rattle.std.specs.Prelude.{◌++◌, ◌<◌, ◌*◌, ℕ, List, [], ◌∷◌, codes, decimal, Option, Some, None, ⊤}
-use Rattle.sig_base.specs.declared.values.Row.{Row}
 use Rattle.sig_base.specs.declared.values.EditError.{EditError}
 use Rattle.sig_base.specs.declared.values.EditError.TheVariants.{OutOfWindow, AlreadyHeld, NotHeld, EmptyRange, TooManyRows as TooManyHeldRows, TooManyBlanks, Contradiction, Memory as NoMemoryForEdit}
 use Rattle.sig_base.specs.Window.{Span}

@@ -3,11 +3,14 @@
 #![tactic(auto)]
 
 mod applied;
+mod audit;
 mod counts;
 mod measures;
 mod refusal;
+mod rules;
 
 pub use applied::put_applied;
+pub use audit::{put_audit_counts, put_audit_line};
 pub use counts::put_counts;
 pub use measures::put_measures;
 pub use refusal::{Refusal, put_refusal};

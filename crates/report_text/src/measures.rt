@@ -9,11 +9,7 @@ use ring_config::Config;
 
 /// Writes the measures of an hour, or those of the window: the held hours, their rows with those at
 /// blanked tenths, and the known tenths.
-pub fn put_measures<K: Sink>(
-    _config: &Config,
-    part: &Partial,
-    sink: &mut K,
-) -> Result<(), PutFailed>
+pub fn put_measures<K: Sink>(config: &Config, part: &Partial, sink: &mut K) -> Result<(), PutFailed>
     ensures { Puts (K.written sink.old) (K.written sink.new) (K.faults sink.old) (K.faults sink.new) (measures_text part.now) result }
 {
     let mut hours = Buffer::new();

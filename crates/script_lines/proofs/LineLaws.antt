@@ -1,7 +1,7 @@
 -- A byte at a time through a line.
-use Rattle.std.proofs.Common.{◌≡◌, ℕ, ◌+◌, ◌<◌, ◌≤◌, Bool, true, false, eqb, ◌&&◌, List, [], ◌∷◌, ◌++◌, length, get_or, take, drop, refl, ap, sym, ◌∙◌, append_assoc, arith, inl, inr}
+use Rattle.std.proofs.Common.{◌≡◌, ℕ, ◌+◌, ◌<◌, ◌≤◌, Bool, false, eqb, ◌&&◌, List, [], ◌∷◌, ◌++◌, length, get_or, take, drop, refl, ap, sym, ◌∙◌, append_assoc, arith, inl, inr}
 use Rattle.std.proofs.lemmas.Bool.{ne_eqb, cases_eq, cases_Bool, and_parts, eqb-false}
-use Rattle.std.proofs.lemmas.List.{drop_more, take_more, drop_all, take_all, length-drop, drop-drop}
+use Rattle.std.proofs.lemmas.List.{drop_more, take_more, length-drop, drop-drop}
 use Rattle.script_lines.specs.Lines.{end_length, first_line, after_line, onto, lines_of}
 use Rattle.script_lines.specs.Words.{skip_spaces, word, after_word}
 

@@ -1,5 +1,5 @@
 -- What a line of a script says.
-use Rattle.std.specs.Prelude.{◌==◌, ◌&&◌, ◌||◌, nat_le, ℕ, ℤ, Bool, true, false, List, [], ◌∷◌, length, codes, if◌then◌else◌, Option, Some, None}
+use Rattle.std.specs.Prelude.{◌==◌, ◌&&◌, nat_le, ℕ, ℤ, Bool, true, List, [], ◌∷◌, length, codes, if◌then◌else◌, Option, Some, None}
 use Rattle.std.specs.List.{list_all}
 use Rattle.std.specs.Str.{bytes_eq}
 use Rattle.sig_base.specs.Window.{Span}
@@ -29,6 +29,8 @@ pub data Said : Type 0 where
   withdraw : ℕ → Said
   blank : ℤ → ℤ → Said
   unblank : ℤ → ℤ → Said
+  audit : Said
+  verdicts : ℕ → Said
   measures : Said
   measures_of : ℕ → Said
 
@@ -58,6 +60,14 @@ by_range make (Some from) (Some to) = make from to
 abbrev pub is_over : List ℕ → Bool
 is_over text = length text == 0
 
+-- a line that asks for a report, of these words: the first, the second, and what follows them
+abbrev pub report_words : List ℕ → List ℕ → List ℕ → Said
+report_words verb a rest =
+    if bytes_eq verb (codes "audit") then (if is_over a then audit else bad)
+    else (if bytes_eq verb (codes "verdicts") then (if is_over rest then by_hour verdicts (hour_at a) else bad)
+    else (if bytes_eq verb (codes "measures") then (if is_over a then measures else (if is_over rest then by_hour measures_of (hour_at a) else bad))
+    else bad))
+
 -- the line of these words: the first, the second, the third, and what follows them
 abbrev pub of_words : Span → List ℕ → List ℕ → List ℕ → List ℕ → Said
 of_words w verb a b rest =
@@ -66,8 +76,7 @@ of_words w verb a b rest =
     else (if bytes_eq verb (codes "withdraw") then (if is_over b then by_hour withdraw (hour_at a) else bad)
     else (if bytes_eq verb (codes "blank") then (if is_over rest then by_range blank (stamp_in w a) (stamp_in w b) else bad)
     else (if bytes_eq verb (codes "unblank") then (if is_over rest then by_range unblank (stamp_in w a) (stamp_in w b) else bad)
-    else (if bytes_eq verb (codes "measures") then (if is_over a then measures else (if is_over b then by_hour measures_of (hour_at a) else bad))
-    else bad)))))
+    else report_words verb a b))))
 
 -- a byte that a line may have: 0x20 to 0x7E
 abbrev pub is_printable : ℕ → Bool

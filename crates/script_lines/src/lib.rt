@@ -20,7 +20,7 @@ mod tests {
             return;
         };
         let mut rest: &[u8] =
-            b"# a day\r\n load 0  h06.csv \n\nwithdraw 000001\r\nblank 2024-03-04T06:00:00.0 3/4/2024T6:00:10\nmeasures 1\nmeasures 1 2\nload 0 a b\nload 1234567 f\nlod 0 f\rmeasures\n\tmeasures\nmeasures\r";
+            b"# a day\r\n load 0  h06.csv \n\nwithdraw 000001\r\nblank 2024-03-04T06:00:00.0 3/4/2024T6:00:10\nmeasures 1\nmeasures 1 2\nload 0 a b\nload 1234567 f\nlod 0 f\naudit\n verdicts  001\naudit 0\nverdicts\nlod 0 f\rmeasures\n\tmeasures\nmeasures\r";
         for wanted in [
             Line::Skip,
             Line::Load(0, "h06.csv"),
@@ -29,6 +29,11 @@ mod tests {
             Line::Blank(0, 100),
             Line::MeasuresOf(1),
             Line::Bad,
+            Line::Bad,
+            Line::Bad,
+            Line::Bad,
+            Line::Audit,
+            Line::Verdicts(1),
             Line::Bad,
             Line::Bad,
             Line::Bad,

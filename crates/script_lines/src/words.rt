@@ -1,8 +1,8 @@
 // What a line says.
 ghost use Rattle.std.specs.Prelude.{◌≡◌, true, option_map};
 ghost use Rattle.std.specs.List.{list_all};
-ghost use Rattle.script_lines.specs.Words.{skip_spaces, word, after_word, hour_at, name_at, by_hour, by_name, by_range, is_comment, is_printable, of_words, said, worded};
-ghost use Rattle.script_lines.specs.Words.{load, replace, withdraw, blank, unblank, measures_of as of_hour};
+ghost use Rattle.script_lines.specs.Words.{skip_spaces, word, after_word, hour_at, name_at, by_hour, by_name, by_range, is_comment, is_printable, of_words, report_words, said, worded};
+ghost use Rattle.script_lines.specs.Words.{load, replace, withdraw, blank, unblank, measures_of as of_hour, verdicts};
 ghost use Rattle.row_reader.specs.Stamp.{stamp_in};
 ghost use Rattle.script_lines.specs.Seen.{seen};
 
@@ -27,6 +27,10 @@ pub enum Line<'a> {
     Blank(Tenth, Tenth),
     /// Takes such a blank off.
     Unblank(Tenth, Tenth),
+    /// The verdicts of all rules in all hours.
+    Audit,
+    /// The verdicts of all rules in one hour.
+    Verdicts(Hour),
     /// The measures of the window.
     Measures,
     /// The measures of one hour.
@@ -137,6 +141,15 @@ fn unblank_of<'a>(from: &[u8], to: &[u8], window: &Window) -> Line<'a>
     }
 }
 
+fn verdicts_of<'a>(hour: &[u8]) -> Line<'a>
+    ensures { seen result ≡ by_hour verdicts (hour_at hour.now) }
+{
+    match hour_of(hour) {
+        Some(hour) => Line::Verdicts(hour),
+        None => Line::Bad,
+    }
+}
+
 fn measures_of<'a>(hour: &[u8]) -> Line<'a>
     ensures { seen result ≡ by_hour of_hour (hour_at hour.now) }
 {
@@ -144,6 +157,34 @@ fn measures_of<'a>(hour: &[u8]) -> Line<'a>
         Some(hour) => Line::MeasuresOf(hour),
         None => Line::Bad,
     }
+}
+
+// The line of these words, if it asks for a report: the first, the second, and what follows them.
+fn read_report<'a>(verb: &[u8], second: &[u8], rest: &[u8]) -> Line<'a>
+    ensures { seen result ≡ report_words verb.now second.now rest.now }
+{
+    if verb == b"audit".as_slice() {
+        if !second.is_empty() {
+            return Line::Bad;
+        }
+        return Line::Audit;
+    }
+    if verb == b"verdicts".as_slice() {
+        if !rest.is_empty() {
+            return Line::Bad;
+        }
+        return verdicts_of(second);
+    }
+    if verb == b"measures".as_slice() {
+        if second.is_empty() {
+            return Line::Measures;
+        }
+        if !rest.is_empty() {
+            return Line::Bad;
+        }
+        return measures_of(second);
+    }
+    Line::Bad
 }
 
 // The line of these words: the first, the second, the third, and what follows them.
@@ -187,16 +228,7 @@ fn read_words<'a>(
         }
         return unblank_of(second, third, window);
     }
-    if verb == b"measures".as_slice() {
-        if second.is_empty() {
-            return Line::Measures;
-        }
-        if !third.is_empty() {
-            return Line::Bad;
-        }
-        return measures_of(second);
-    }
-    Line::Bad
+    read_report(verb, second, third)
 }
 
 #[tactic(auto, unfolding(crate::specs::Words::worded))]

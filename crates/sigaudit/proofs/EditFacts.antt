@@ -1,67 +1,175 @@
--- Edits that are refused.
-use Rattle.std.proofs.Common.{◌≡◌, ◌<◌, ◌*◌, ℕ, Bool, true, false, Option, Some, None, Result, Ok, Err, refl, sym, ap, ◌∙◌, inl, inr, nat_le, nat_lt, List, length, pos, ℤ}
-use Rattle.std.specs.Prelude.{is_some, int_lt}
-use Rattle.std.proofs.lemmas.Bool.{cases_Bool}
+-- Edits: those that are refused, and those that are made.
+use Rattle.std.proofs.Common.{◌≡◌, ◌<◌, ◌*◌, ◌/◌, ◌∙◌, ℕ, Bool, true, false, Option, Some, None, Result, Ok, Err, refl, ap, inl, inr, nat_le, nat_lt, List, length, pos, not, arith}
+use Rattle.std.specs.Prelude.{is_some, int_lt, slice_index_or}
+use Rattle.std.proofs.Math.ListN.{get_or-eq_default}
+use Rattle.std.proofs.lemmas.Bool.{cases_Bool, cases_lt, and_parts}
+use Rattle.std.proofs.lemmas.List.{length-set}
+use Rattle.std.proofs.lemmas.List.Elements.{All-get_or, filter_passes}
+use Rattle.std.specs.Io.KnownBytes.{Appends}
+use Rattle.outside.specs.Sink.{Stops}
+use Rattle.sig_base.specs.HourRows.{Shown}
 use Rattle.sig_base.specs.declared.values.Row.{Row}
 use Rattle.sig_base.specs.declared.values.Applied.{Applied}
 use Rattle.sig_base.specs.declared.values.EditError.{EditError}
 use Rattle.sig_base.specs.declared.values.EditError.TheVariants.{OutOfWindow, AlreadyHeld, NotHeld, EmptyRange, TooManyRows, TooManyBlanks, Contradiction, Memory}
 use Rattle.sig_base.specs.Window.{Span}
-use Rattle.hour_store.specs.Store.{Store, held_at, rows_held, with_hour, with_blanks}
+use Rattle.row_reader.specs.declared.row_error.RowError.{RowError}
+use Rattle.row_reader.specs.declared.row_error.RowError.TheVariants as rows
+use Rattle.row_reader.specs.Rows.{rows_of, IsRefusal}
+use Rattle.span_set.specs.Spans.{is_member}
+use Rattle.hour_store.specs.Store.{Store, held_at, is_known, known_rows, rows_held, rows_of as all_rows_of, with_hour, with_blanks}
+use Rattle.board.specs.Logs.{no_row}
+use Rattle.channel_tables.specs.declared.spec.Spec.{Spec}
+use Rattle.ring_config.specs.Settings.{Settings}
+use Rattle.signal_log.specs.Log.{HasHistory, IsContradiction, log_of}
+use Rattle.report_text.specs.declared.refusal.Refusal.TheVariants.{Edit, File}
 use Rattle.report_text.specs.Refusals.{NamesRowIn}
+use Rattle.report_text.specs.Applied.{applied_text}
 use Rattle.session.specs.Edits.{Change, load, replace, withdraw, blank, unblank, step_of, reaches_out, unless_many_rows, unless_many_blanks}
 use Rattle.session.specs.Ranges.{ranges_of, blanked_with, blanked_without}
 use Rattle.session.specs.Sessions.{Steps}
-use Rattle.sigaudit.specs.Script.{is_edit_memory}
+use Rattle.sigaudit.specs.Turns.{refuses}
+use Rattle.sigaudit.specs.Script.{accepts, is_edit_memory, is_row_memory, wanted_for, IsEdited, IsRead}
+use Rattle.sigaudit.specs.Run.{TakesBy, TakesPut}
+use Rattle.sigaudit.specs.declared.status.Stopped.{Stopped}
+use Rattle.sigaudit.specs.declared.status.Stopped.TheVariants as stopped
+use Rattle.sigaudit.proofs.TakeFacts.{by_refusal}
 
-many_rows : (s : Store) (row : Row) → unless_many_rows s ≡ Err (Contradiction row) → ⊥
-many_rows s row e = elim (cases_Bool (nat_lt 20000000 (rows_held s))) [ inl t ↦ let k = rw t at e in cc | inr f ↦ let k = rw f at e in cc ]
+-- ---- an edit changes no window
 
-many_blanks : (s : Store) (row : Row) → unless_many_blanks s ≡ Err (Contradiction row) → ⊥
-many_blanks s row e = elim (cases_Bool (nat_lt 10000 (length s.blanks))) [ inl t ↦ let k = rw t at e in cc | inr f ↦ let k = rw f at e in cc ]
+many_rows_hours : (s t : Store) → unless_many_rows s ≡ Ok t → length t.hours ≡ length s.hours
+many_rows_hours s t e = elim (cases_Bool (nat_lt 20000000 (rows_held s))) [ inl y ↦ let k = rw y at e in absurd (cc) | inr n ↦ let k = rw n at e in let same : t ≡ s = cc in rw same refl ]
 
--- at this stage no edit is refused as a contradiction
-pub no_contradiction : (s : Store) (ch : Change) (row : Row) → step_of s ch ≡ Err (Contradiction row) → ⊥
+many_blanks_hours : (s t : Store) → unless_many_blanks s ≡ Ok t → length t.hours ≡ length s.hours
+many_blanks_hours s t e = elim (cases_Bool (nat_lt 10000 (length s.blanks))) [ inl y ↦ let k = rw y at e in absurd (cc) | inr n ↦ let k = rw n at e in let same : t ≡ s = cc in rw same refl ]
+
+hour_hours : (s : Store) (hour : ℕ) (x : Option Shown) → length (with_hour s hour x).hours ≡ length s.hours
+hour_hours s hour x = length-set s.hours hour x
+
+pub step_hours : (s : Store) (ch : Change) (t : Store) → step_of s ch ≡ Ok t → length t.hours ≡ length s.hours
 unfolding step_of
-no_contradiction s (load r) row e = elim (cases_Bool (nat_le (length s.hours) r.hour)) [
-  | inl t ↦ let k = rw t at e in cc
-  | inr f ↦ elim (cases_Bool (is_some (held_at s r.hour))) [ inl t ↦ let k = rw (f, t) at e in cc | inr g ↦ many_rows (with_hour s r.hour (Some r)) row (rw (f, g) at e) ]
+step_hours s (load r) t e = elim (cases_Bool (nat_le (length s.hours) r.hour)) [
+  | inl y ↦ let k = rw y at e in absurd (cc)
+  | inr f ↦ elim (cases_Bool (is_some (held_at s r.hour))) [ inl y ↦ let k = rw (f, y) at e in absurd (cc) | inr g ↦ many_rows_hours (with_hour s r.hour (Some r)) t (rw (f, g) at e) ∙ hour_hours s r.hour (Some r) ]
 ]
-no_contradiction s (replace r) row e = elim (cases_Bool (nat_le (length s.hours) r.hour)) [
-  | inl t ↦ let k = rw t at e in cc
-  | inr f ↦ elim (cases_Bool (is_some (held_at s r.hour))) [ inl t ↦ many_rows (with_hour s r.hour (Some r)) row (rw (f, t) at e) | inr g ↦ let k = rw (f, g) at e in cc ]
+step_hours s (replace r) t e = elim (cases_Bool (nat_le (length s.hours) r.hour)) [
+  | inl y ↦ let k = rw y at e in absurd (cc)
+  | inr f ↦ elim (cases_Bool (is_some (held_at s r.hour))) [ inl y ↦ many_rows_hours (with_hour s r.hour (Some r)) t (rw (f, y) at e) ∙ hour_hours s r.hour (Some r) | inr g ↦ let k = rw (f, g) at e in absurd (cc) ]
 ]
-no_contradiction s (withdraw hour) row e = elim (cases_Bool (nat_le (length s.hours) hour)) [
-  | inl t ↦ let k = rw t at e in cc
-  | inr f ↦ elim (cases_Bool (is_some (held_at s hour))) [ inl t ↦ let k = rw (f, t) at e in cc | inr g ↦ let k = rw (f, g) at e in cc ]
+step_hours s (withdraw hour) t e = elim (cases_Bool (nat_le (length s.hours) hour)) [
+  | inl y ↦ let k = rw y at e in absurd (cc)
+  | inr f ↦ elim (cases_Bool (is_some (held_at s hour))) [ inl y ↦ let k = rw (f, y) at e in let same : t ≡ with_hour s hour None = cc in rw same (hour_hours s hour None) | inr g ↦ let k = rw (f, g) at e in absurd (cc) ]
 ]
-no_contradiction s (blank from to) row e = elim (cases_Bool (reaches_out (length s.hours) from to)) [
-  | inl t ↦ let k = rw t at e in cc
-  | inr f ↦ elim (cases_Bool (int_lt from to)) [ inl t ↦ many_blanks (with_blanks s (ranges_of (length s.hours) (blanked_with s from to))) row (rw (f, t) at e) | inr g ↦ let k = rw (f, g) at e in cc ]
+step_hours s (blank from to) t e = elim (cases_Bool (reaches_out (length s.hours) from to)) [
+  | inl y ↦ let k = rw y at e in absurd (cc)
+  | inr f ↦ elim (cases_Bool (int_lt from to)) [ inl y ↦ many_blanks_hours (with_blanks s (ranges_of (length s.hours) (blanked_with s from to))) t (rw (f, y) at e) | inr g ↦ let k = rw (f, g) at e in absurd (cc) ]
 ]
-no_contradiction s (unblank from to) row e = elim (cases_Bool (reaches_out (length s.hours) from to)) [
-  | inl t ↦ let k = rw t at e in cc
-  | inr f ↦ elim (cases_Bool (int_lt from to)) [ inl t ↦ many_blanks (with_blanks s (ranges_of (length s.hours) (blanked_without s from to))) row (rw (f, t) at e) | inr g ↦ let k = rw (f, g) at e in cc ]
+step_hours s (unblank from to) t e = elim (cases_Bool (reaches_out (length s.hours) from to)) [
+  | inl y ↦ let k = rw y at e in absurd (cc)
+  | inr f ↦ elim (cases_Bool (int_lt from to)) [ inl y ↦ many_blanks_hours (with_blanks s (ranges_of (length s.hours) (blanked_without s from to))) t (rw (f, y) at e) | inr g ↦ let k = rw (f, g) at e in absurd (cc) ]
 ]
 
--- the refusal of an edit names no row outside any window
-pub names_row : (w : Span) (s : Store) (ch : Change) (e : EditError) → step_of s ch ≡ Err e → NamesRowIn w e
-names_row w s ch OutOfWindow h = tt
-names_row w s ch AlreadyHeld h = tt
-names_row w s ch NotHeld h = tt
-names_row w s ch EmptyRange h = tt
-names_row w s ch TooManyRows h = tt
-names_row w s ch TooManyBlanks h = tt
-names_row w s ch (Contradiction row) h = absurd (no_contradiction s ch row h)
-names_row w s ch Memory h = tt
+-- ---- the row of a contradiction is in the window
 
--- a refusal other than want of memory is the one that the edit has
-pub step_refused : (to : Result Store EditError) (old new : Store) (e : EditError) → is_edit_memory e ≡ false → Steps to old new (Err e) → (new ≡ old) × (to ≡ Err e)
-step_refused to old new OutOfWindow ne h = h
-step_refused to old new AlreadyHeld ne h = h
-step_refused to old new NotHeld ne h = h
-step_refused to old new EmptyRange ne h = h
-step_refused to old new TooManyRows ne h = h
-step_refused to old new TooManyBlanks ne h = h
-step_refused to old new (Contradiction row) ne h = h
-step_refused to old new Memory ne h = absurd (cc)
+held_within : (s : Store) (hour : ℕ) → is_some (held_at s hour) ≡ true → hour < length s.hours
+held_within s hour h = elim (cases_lt hour (length s.hours)) [
+  | inl within ↦ within
+  | inr past ↦ let none : held_at s hour ≡ None = get_or-eq_default s.hours None past in let k = rw none at h in absurd (cc)
+]
+
+known_within : (s : Store) (t : ℕ) → is_known s t ≡ true → t < 36000 * length s.hours
+known_within s t h =
+    let p = and_parts (is_some (held_at s (t / 36000))) (not (is_member s.blanks (pos t))) h in
+    let q = held_within s (t / 36000) p.0 in
+    omega arith
+
+pub row_within : (specs : List Spec) (s : Store) (row : Row) → IsContradiction (log_of specs s) row → row.at < 36000 * length s.hours
+row_within specs s row h =
+    let all = filter_passes (λ r. is_known s r.at) (all_rows_of s.hours) in
+    let known : is_known s (slice_index_or (known_rows s) h.place no_row).at ≡ true = All-get_or (λ r. is_known s r.at ≡ true) (known_rows s) h.place no_row h.within all in
+    rw h.is_row (known_within s (slice_index_or (known_rows s) h.place no_row).at known)
+
+-- the refusal of an edit names no row outside the window
+pub names_row : (c : Settings) (w : Span) (s new : Store) (ch : Change) (e : EditError) → w ≡ c.window → length new.hours ≡ c.window.hours → Steps c (step_of s ch) s new (Err e) → NamesRowIn w e
+names_row c w s new ch OutOfWindow ew el h = tt
+names_row c w s new ch AlreadyHeld ew el h = tt
+names_row c w s new ch NotHeld ew el h = tt
+names_row c w s new ch EmptyRange ew el h = tt
+names_row c w s new ch TooManyRows ew el h = tt
+names_row c w s new ch TooManyBlanks ew el h = tt
+names_row c w s new ch (Contradiction row) ew el h =
+    let same = step_hours s ch h.1.0 h.1.1 ∙ (rw h.0 at el) in
+    let within = row_within c.specs h.1.0 row h.1.2 in
+    rw (ew, ← same) within
+names_row c w s new ch Memory ew el h = tt
+
+-- ---- what an edit tells
+
+-- a refusal other than want of memory is a turn of the line
+refused_turn : (c : Settings) (n : ℕ) (loaded : Option (ℕ × ℕ)) (s new : Store) (to : Result Store EditError) (e : EditError) → is_edit_memory e ≡ false → Steps c to s new (Err e)
+    → (new ≡ s) × IsEdited c n loaded s to (refuses c n (Edit e) s)
+refused_turn c n loaded s new to OutOfWindow ne h = (h.0, rw h.1 refl)
+refused_turn c n loaded s new to AlreadyHeld ne h = (h.0, rw h.1 refl)
+refused_turn c n loaded s new to NotHeld ne h = (h.0, rw h.1 refl)
+refused_turn c n loaded s new to EmptyRange ne h = (h.0, rw h.1 refl)
+refused_turn c n loaded s new to TooManyRows ne h = (h.0, rw h.1 refl)
+refused_turn c n loaded s new to TooManyBlanks ne h = (h.0, rw h.1 refl)
+refused_turn c n loaded s new to (Contradiction row) ne h = (h.0, rw h.1.1 (inr (row, h.1.2, h.1.3, refl)))
+refused_turn c n loaded s new to Memory ne h = absurd (cc)
+
+pub edit_refused : (c c' : Settings) (n : ℕ) (loaded : Option (ℕ × ℕ)) (s new : Store) (to : Result Store EditError) (e : EditError) (w w' : Option (List ℕ)) (f f' : ℕ) (r : Result Bool Stopped)
+    → is_edit_memory e ≡ false → c' ≡ c → Steps c to s new (Err e) → ((x : Store) → TakesPut (refuses c' n (Edit e) x) w w' f f' x r)
+    → TakesBy (IsEdited c n loaded s to) w w' f f' new r
+edit_refused c c' n loaded s new to e w w' f f' r ne ec h p =
+    let k = refused_turn c n loaded s new to e ne h in
+    rw (k.0) (by_refusal (IsEdited c n loaded s to) c c' n (Edit e) s w w' f f' r ec k.1 p)
+
+-- an edit that was made is a turn of the line
+made_turn : (c : Settings) (n : ℕ) (loaded : Option (ℕ × ℕ)) (s new : Store) (to : Result Store EditError) → to ≡ Ok new → HasHistory (log_of c.specs new) → IsEdited c n loaded s to (accepts c n loaded new)
+made_turn c n loaded s new to e h = rw e (inl (h, refl))
+
+pub edit_made : (c : Settings) (n : ℕ) (loaded : Option (ℕ × ℕ)) (s new : Store) (to : Result Store EditError) (a : Applied) (w w' : Option (List ℕ)) (f f' : ℕ)
+    → Steps c to s new (Ok a) → a ≡ record { from = 0; to = c.window.hours } → f' ≡ f → Appends w w' (applied_text n loaded a) → TakesBy (IsEdited c n loaded s to) w w' f f' new (Ok false)
+edit_made c n loaded s new to a w w' f f' h ea ef p =
+    let p' = rw ea at p in
+    (accepts c n loaded new, made_turn c n loaded s new to h.0 h.1, p', ef, refl, refl)
+
+pub edit_cut : (c : Settings) (n : ℕ) (loaded : Option (ℕ × ℕ)) (s new : Store) (to : Result Store EditError) (a : Applied) (w w' : Option (List ℕ)) (f f' : ℕ)
+    → Steps c to s new (Ok a) → a ≡ record { from = 0; to = c.window.hours } → Stops w w' f f' (applied_text n loaded a) → TakesBy (IsEdited c n loaded s to) w w' f f' new (Err stopped.Fault)
+edit_cut c n loaded s new to a w w' f f' h ea p =
+    let p' = rw ea at p in
+    (accepts c n loaded new, made_turn c n loaded s new to h.0 h.1, p')
+
+-- ---- rows of a file
+
+read_refused : (c : Settings) (n : ℕ) (make : Shown → Change) (s : Store) (want : Result Shown RowError) (e : RowError) → is_row_memory e ≡ false → IsRefusal want e → IsRead c n make s want (refuses c n (File e) s)
+read_refused c n make s want rows.TooManyRows ne h = rw h refl
+read_refused c n make s want (rows.Fields k) ne h = rw h refl
+read_refused c n make s want (rows.WrongSignal k) ne h = rw h refl
+read_refused c n make s want (rows.Stamp k) ne h = rw h refl
+read_refused c n make s want (rows.OutsideHour k) ne h = rw h refl
+read_refused c n make s want (rows.Code k) ne h = rw h refl
+read_refused c n make s want (rows.Param k) ne h = rw h refl
+read_refused c n make s want rows.Memory ne h = absurd (cc)
+
+-- a refused file
+pub bytes_refused : (c c' : Settings) (n hour : ℕ) (make : Shown → Change) (s : Store) (signal : List ℕ) (window : Span) (bytes : List ℕ) (e : RowError) (w w' : Option (List ℕ)) (f f' : ℕ) (r : Result Bool Stopped)
+    → c' ≡ c → signal ≡ c'.signal → window ≡ c'.window → is_row_memory e ≡ false → IsRefusal (rows_of (record { signal = signal; hour = hour; window = window }) bytes) e
+    → ((x : Store) → TakesPut (refuses c' n (File e) x) w w' f f' x r) → TakesBy (IsRead c n make s (rows_of (wanted_for c hour) bytes)) w w' f f' s r
+bytes_refused c c' n hour make s signal window bytes e w w' f f' r ec es ew ne h p =
+    let sig : signal ≡ c.signal = es ∙ ap (λ (k : Settings). k.signal) ec in
+    let win : window ≡ c.window = ew ∙ ap (λ (k : Settings). k.window) ec in
+    let h' = rw (sig, win) at h in
+    by_refusal (IsRead c n make s (rows_of (wanted_for c hour) bytes)) c c' n (File e) s w w' f f' r ec (read_refused c n make s (rows_of (wanted_for c hour) bytes) e ne h') p
+
+-- the rows of a good file, which are loaded or replace the held ones
+pub bytes_loaded : (c c' : Settings) (n hour : ℕ) (make : Shown → Change) (s s' : Store) (signal : List ℕ) (window : Span) (bytes : List ℕ) (shown : Shown) (count repeats : ℕ) (ch : Change) (w w' : Option (List ℕ)) (f f' : ℕ) (r : Result Bool Stopped)
+    → c' ≡ c → signal ≡ c'.signal → window ≡ c'.window → rows_of (record { signal = signal; hour = hour; window = window }) bytes ≡ Ok shown
+    → count ≡ length shown.rows → repeats ≡ shown.repeats → ch ≡ make shown
+    → TakesBy (IsEdited c n (Some (count, repeats)) s (step_of s ch)) w w' f f' s' r → TakesBy (IsRead c n make s (rows_of (wanted_for c hour) bytes)) w w' f f' s' r
+bytes_loaded c c' n hour make s s' signal window bytes shown count repeats ch w w' f f' r ec es ew h ek er em p =
+    let sig : signal ≡ c.signal = es ∙ ap (λ (k : Settings). k.signal) ec in
+    let win : window ≡ c.window = ew ∙ ap (λ (k : Settings). k.window) ec in
+    let h' : rows_of (wanted_for c hour) bytes ≡ Ok shown = rw (sig, win) at h in
+    let p' = rw (ek, er, em) at p in
+    rw h' p'

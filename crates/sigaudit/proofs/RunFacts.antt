@@ -1,5 +1,5 @@
 -- How a run goes on from its parts.
-use Rattle.std.proofs.Common.{◌≡◌, ◌≤◌, ◌⊎◌, ◌++◌, ◌^◌, ◌*◌, ℕ, List, [], length, Option, Some, None, Result, Ok, Err, refl, sym, ap, subst, ◌∙◌, inl, inr, arith, IfSome, Bool, true, false}
+use Rattle.std.proofs.Common.{◌≡◌, ◌≤◌, ◌++◌, ◌^◌, ◌*◌, ℕ, List, [], length, Option, Some, None, Result, Ok, Err, refl, sym, ap, subst, ◌∙◌, inl, inr, arith, IfSome, Bool, true, false}
 use Rattle.std.specs.Io.KnownBytes.{Appends}
 use Rattle.outside.specs.Shelf.{Counts, Files}
 use Rattle.outside.proofs.PutsFacts.{appends-nothing}
@@ -7,15 +7,24 @@ use Rattle.row_reader.specs.Rows.{rows_of}
 use Rattle.std.proofs.Common.{Bor, map, codes, ◌∷◌, ℤ, pos, negsuc, to_z, of_z, w64}
 use Rattle.jiff_core.proofs.SignedLemmas.{signed_arith, back_small}
 use Rattle.sig_base.specs.Window.{IsDay}
+use Rattle.script_lines.specs.Lines.{lines_of}
+use Rattle.hour_store.specs.Store.{nothing_held}
+use Rattle.ring_config.specs.Reading.{Fails, Read}
+use Rattle.ring_config.specs.Settings.{Settings, config_of}
+use Rattle.ring_config.specs.declared.error.ConfigError.{ConfigError}
+use Rattle.ring_config.specs.declared.error.ConfigError.TheVariants.{NotToml, Missing, BadValue, Unknown, Repeated, TooMany, Memory}
+use Rattle.session.specs.Sessions.{Kept}
 use Rattle.command_line.specs.Words.{Asked, for_run, for_count, request_of}
 use Rattle.sigaudit.specs.Asked.{Count, asked_of}
 use Rattle.sigaudit.specs.Status.{status_of_run}
-use Rattle.sigaudit.specs.Transcript.{Outcome, outcome, transcript, usage_text, answer_of, file_outcome, counted, count_outcome, wanted_by, told_outcome, ended_by, limited, IsTranscript, HaveOneTranscript, HaveTranscript}
-use Rattle.sigaudit.specs.Run.{World, world, RunsAs, CountsText, IsRun, HasCause, NeedsWords, IsCaused, TellsAll, ScriptCause, NeverFall, PutsOutcome}
-use Rattle.sigaudit.specs.Script.{Told}
+use Rattle.sigaudit.specs.ConfigText.{config_text, is_config_memory}
+use Rattle.sigaudit.specs.Transcript.{Outcome, outcome, usage_text, counted, count_outcome, first_lines, wanted_by, told_outcome, ended_by, limited, IsAnswer, IsConfigOutcome, IsFileOutcome, IsScriptOutcome}
+use Rattle.sigaudit.specs.Run.{World, world, RunsAs, CountsText, IsRun, HasCause, NeedsWords, IsCaused, TellsAll, ScriptCause, PutsOutcome}
+use Rattle.sigaudit.specs.Script.{nothing_told}
+use Rattle.sigaudit.proofs.ScriptFacts.{told_nothing}
 use Rattle.sigaudit.specs.declared.status.Status.{Status}
 use Rattle.sigaudit.specs.declared.status.Status.TheVariants as outer
-use Rattle.sigaudit.specs.declared.run.Got.TheVariants.{Stop}
+use Rattle.sigaudit.specs.declared.run.Got.TheVariants.{Nothing, Stop}
 use Rattle.sigaudit.specs.declared.status.Ended.{Ended}
 use Rattle.sigaudit.specs.declared.status.Ended.TheVariants as ended
 use Rattle.sigaudit.specs.declared.status.Stopped.{Stopped}
@@ -24,16 +33,16 @@ use Rattle.sigaudit.specs.declared.status.Stopped.TheVariants as stopped
 still : (w w' : Option (List ℕ)) → w' ≡ w → Appends w w' []
 still w w' e = rw e (appends-nothing w)
 
--- a call that wrote an outcome, in a run that did nothing else
-pub run-of_put : (o : Outcome) (k k' : Counts) (w w' : Option (List ℕ)) (f f' : ℕ) (r : Result Ended Stopped)
-    → k' ≡ k → PutsOutcome o w w' f f' r → RunsAs o (world k w f) (world k' w' f') (status_of_run r)
-run-of_put o k k' w w' f f' (Ok ended.Done) e h = (h.0, (h.1, (ap (λ (c : Counts). c.failed) e, h.2)))
-run-of_put o k k' w w' f f' (Ok ended.SomeRefused) e h = (h.0, (h.1, (ap (λ (c : Counts). c.failed) e, h.2)))
-run-of_put o k k' w w' f f' (Ok ended.Usage) e h = (h.0, (h.1, (ap (λ (c : Counts). c.failed) e, h.2)))
-run-of_put o k k' w w' f f' (Ok ended.BadConfig) e h = (h.0, (h.1, (ap (λ (c : Counts). c.failed) e, h.2)))
-run-of_put o k k' w w' f f' (Ok ended.NoFile) e h = (h.0, (h.1, (ap (λ (c : Counts). c.failed) e, h.2)))
-run-of_put o k k' w w' f f' (Err stopped.Fault) e h = (inr h.1, h.2)
-run-of_put o k k' w w' f f' (Err stopped.Memory) e h = ([], o.bytes, refl, still w w' h.0)
+-- a call that wrote an outcome that a script's lines don't matter to, in a run that did nothing else
+pub run-of_put : (Is : (List ℕ → List (List ℕ)) → Outcome → Type 0) (o : Outcome) (k k' : Counts) (w w' : Option (List ℕ)) (f f' : ℕ) (r : Result Ended Stopped)
+    → k' ≡ k → ((lines : List ℕ → List (List ℕ)) → Is lines o) → PutsOutcome o w w' f f' r → RunsAs Is (world k w f) (world k' w' f') (status_of_run r)
+run-of_put Is o k k' w w' f f' (Ok ended.Done) e is h = (o.bytes, subst (λ (x : Ended). Is lines_of (outcome o.bytes x)) h.0 (is lines_of), (h.1, (ap (λ (c : Counts). c.failed) e, h.2)))
+run-of_put Is o k k' w w' f f' (Ok ended.SomeRefused) e is h = (o.bytes, subst (λ (x : Ended). Is lines_of (outcome o.bytes x)) h.0 (is lines_of), (h.1, (ap (λ (c : Counts). c.failed) e, h.2)))
+run-of_put Is o k k' w w' f f' (Ok ended.Usage) e is h = (o.bytes, subst (λ (x : Ended). Is lines_of (outcome o.bytes x)) h.0 (is lines_of), (h.1, (ap (λ (c : Counts). c.failed) e, h.2)))
+run-of_put Is o k k' w w' f f' (Ok ended.BadConfig) e is h = (o.bytes, subst (λ (x : Ended). Is lines_of (outcome o.bytes x)) h.0 (is lines_of), (h.1, (ap (λ (c : Counts). c.failed) e, h.2)))
+run-of_put Is o k k' w w' f f' (Ok ended.NoFile) e is h = (o.bytes, subst (λ (x : Ended). Is lines_of (outcome o.bytes x)) h.0 (is lines_of), (h.1, (ap (λ (c : Counts). c.failed) e, h.2)))
+run-of_put Is o k k' w w' f f' (Err stopped.Fault) e is h = (inr h.1, (0, o, is (first_lines 0), h.2))
+run-of_put Is o k k' w w' f f' (Err stopped.Memory) e is h = (0, o, is (first_lines 0), ([], o.bytes, refl, still w w' h.0))
 
 -- a file that is there and not too long is counted
 counted-there : (a : Count) (file : Option (List ℕ)) (there bytes : List ℕ)
@@ -52,19 +61,23 @@ if_some-weaker (Some x) P Q h p = h x p
 pub run-of_file : (a : Count) (file : Option (List ℕ)) (bytes old new : List ℕ) (k k' : Counts) (w w' : Option (List ℕ)) (f f' : ℕ) (r : Result Ended Stopped)
     → k' ≡ k → PutsOutcome (count_outcome a (rows_of (wanted_by a) bytes)) w w' f f' r
     → bytes ≡ new → old ≡ [] → (there : List ℕ) × (file ≡ Some there) × (length there ≤ 33554432) × (new ≡ old ++ there)
-    → RunsAs (counted a file) (world k w f) (world k' w' f') (status_of_run r)
+    → RunsAs (λ lines o. o ≡ counted a file) (world k w f) (world k' w' f') (status_of_run r)
 run-of_file a file bytes old new k k' w w' f f' r e put b o h =
     let q : bytes ≡ [] ++ h.0 = b ∙ (rw o at h.3) in
-    rw (counted-there a file h.0 bytes h.1 h.2 q) (run-of_put _ k k' w w' f f' r e put)
+    run-of_put (λ lines o. o ≡ counted a file) (count_outcome a (rows_of (wanted_by a) bytes)) k k' w w' f f' r e (λ lines. sym (counted-there a file h.0 bytes h.1 h.2 q)) put
+
+-- ---- a script
 
 -- the lines of a script were told
-pub run-of_told : (told : Told) (old new : World) (refused : Bool) → TellsAll told old new (Ok refused) → RunsAs (told_outcome told) old new (status_of_run (Ok (ended_by refused)))
-run-of_told told old new true h = (ap ended_by (sym h.2), (h.0, h.1))
-run-of_told told old new false h = (ap ended_by (sym h.2), (h.0, h.1))
+pub run-of_told : (files : Files) (c : Settings) (script : List ℕ) (old new : World) (refused : Bool) → TellsAll files c (lines_of script) (nothing_held c.window.hours) old new (Ok refused)
+    → RunsAs (IsScriptOutcome files c (Some script)) old new (status_of_run (Ok (ended_by refused)))
+run-of_told files c script old new true h = (h.0.text, (h.0, h.1, ap (λ (b : Bool). outcome h.0.text (ended_by b)) h.4), (h.2, h.3))
+run-of_told files c script old new false h = (h.0.text, (h.0, h.1, ap (λ (b : Bool). outcome h.0.text (ended_by b)) h.4), (h.2, h.3))
 
-pub run-of_cut : (told : Told) (old new : World) (s : Stopped) → TellsAll told old new (Err s) → RunsAs (told_outcome told) old new (status_of_run (Err s))
-run-of_cut told old new stopped.Fault h = h
-run-of_cut told old new stopped.Memory h = h
+pub run-of_cut : (files : Files) (c : Settings) (script : List ℕ) (old new : World) (s : Stopped) → TellsAll files c (lines_of script) (nothing_held c.window.hours) old new (Err s)
+    → RunsAs (IsScriptOutcome files c (Some script)) old new (status_of_run (Err s))
+run-of_cut files c script old new stopped.Fault h = (h.0, (h.1.0, told_outcome h.1.1, (h.1.1, h.1.2, refl), h.1.3))
+run-of_cut files c script old new stopped.Memory h = (h.0, told_outcome h.1, (h.1, h.2, refl), h.3)
 
 pub cause-of_told : (old new : World) (refused : Bool) → IsCaused {T = Bool} old new (Ok refused) → ScriptCause old new (status_of_run (Ok (ended_by refused)))
 cause-of_told old new true h = h
@@ -74,46 +87,109 @@ pub cause-of_cut : (old new : World) (s : Stopped) → IsCaused {T = Bool} old n
 cause-of_cut old new stopped.Fault h = h
 cause-of_cut old new stopped.Memory h = tt
 
+-- ---- what may have been begun before anything was written
+
+pub script_begun : (files : Files) (c : Settings) (script : Option (List ℕ)) → (o : Outcome) × IsScriptOutcome files c script (first_lines 0) o
+script_begun files c None = (outcome [] ended.NoFile, refl)
+script_begun files c (Some script) = (told_outcome (nothing_told (nothing_held c.window.hours)), (nothing_told (nothing_held c.window.hours), told_nothing files c 1 (nothing_held c.window.hours), refl))
+
+pub config_begun : (files : Files) (script : List ℕ) (said : Read Settings) → (o : Outcome) × IsConfigOutcome files script said (first_lines 0) o
+config_begun files script (Err e) = (outcome (config_text e) ended.BadConfig, refl)
+config_begun files script (Ok c) = script_begun files c (limited (4 * 2 ^ 20) (files script))
+
+pub file_begun : (files : Files) (script : List ℕ) (bytes : Option (List ℕ)) → (o : Outcome) × IsFileOutcome files script bytes (first_lines 0) o
+file_begun files script None = (outcome [] ended.NoFile, refl)
+file_begun files script (Some bytes) = config_begun files script (config_of bytes)
+
+pub answer_begun : (asked : Option Asked) (files : Files) → (o : Outcome) × IsAnswer asked files (first_lines 0) o
+unfolding IsAnswer
+answer_begun None files = (outcome usage_text ended.Usage, refl)
+answer_begun (Some (for_run config script)) files = file_begun files script (limited (2 ^ 20) (files config))
+answer_begun (Some (for_count file signal day hour)) files = (counted (record { file = file; signal = signal; day = day; hour = hour }) (files file), refl)
+
 -- a run that stopped before it wrote anything
-pub run-of_nothing : (o : Outcome) (k : Counts) (w : Option (List ℕ)) (f : ℕ) → RunsAs o (world k w f) (world k w f) (status_of_run (Err stopped.Memory))
-run-of_nothing o k w f = ([], o.bytes, refl, appends-nothing w)
+pub run-of_nothing : (Is : (List ℕ → List (List ℕ)) → Outcome → Type 0) (k : Counts) (w : Option (List ℕ)) (f : ℕ) → (o : Outcome) × Is (first_lines 0) o → RunsAs Is (world k w f) (world k w f) (status_of_run (Err stopped.Memory))
+run-of_nothing Is k w f h = (0, h.0, h.1, ([], h.0.bytes, refl, appends-nothing w))
 
--- a run of the transcript is a run of some bytes and some end that are the transcript
-pub run-of_transcript : (words : List (List ℕ)) (told : Option Files) (old new : World) (s t : Status)
-    → s ≡ t → IfSome told (λ files. RunsAs (transcript words files) old new t) → IfSome told (λ files. IsRun words files old new s)
-run-of_transcript words told old new s t e h =
-    if_some-weaker told (λ files. RunsAs (transcript words files) old new t) (λ files. IsRun words files old new s)
-    (λ files r. ((transcript words files).bytes, (transcript words files).ended, refl, rw e r)) h
+-- a fetch that cut the run off before it wrote anything
+pub stop_told : (Is : (List ℕ → List (List ℕ)) → Outcome → Type 0) (k k' : Counts) (w : Option (List ℕ)) (f : ℕ) (s : Stopped) → (o : Outcome) × Is (first_lines 0) o → CountsText k k' (Stop s)
+    → RunsAs Is (world k w f) (world k' w f) (status_of_run (Err s))
+stop_told Is k k' w f stopped.Fault h counts = (inl counts.3, (0, h.0, h.1, ([], h.0.bytes, refl, appends-nothing w)))
+stop_told Is k k' w f stopped.Memory h counts = (0, h.0, h.1, ([], h.0.bytes, refl, appends-nothing w))
 
-pub one-transcript : HaveOneTranscript
-one-transcript words files bytes bytes' ended ended' h h' =
-    let same : outcome bytes ended ≡ outcome bytes' ended' = sym h ∙ h' in
-    (ap (λ (o : Outcome). o.bytes) same, ap (λ (o : Outcome). o.ended) same)
+-- a text that isn't there, before anything was written
+pub nothing_there : (Is : Option (List ℕ) → (List ℕ → List (List ℕ)) → Outcome → Type 0) (want : Option (List ℕ)) (k k' : Counts) (w : Option (List ℕ)) (f : ℕ) → want ≡ None → Is None lines_of (outcome [] ended.NoFile) → CountsText k k' Nothing
+    → RunsAs (Is want) (world k w f) (world k' w f) (status_of_run (Ok ended.NoFile))
+nothing_there Is want k k' w f e is counts = ([], rw e is, (appends-nothing w, (counts.1, refl)))
 
-pub some-transcript : HaveTranscript
-some-transcript words files = ((transcript words files).bytes, (transcript words files).ended, refl)
+-- a text that is there
+pub text_there : (Is : Option (List ℕ) → (List ℕ → List (List ℕ)) → Outcome → Type 0) (want : Option (List ℕ)) (bytes bytes' : List ℕ) (k k' : Counts) (w : Option (List ℕ)) (f : ℕ) (new : World) (st : Status)
+    → want ≡ Some bytes → bytes' ≡ bytes → k' ≡ k → RunsAs (Is (Some bytes')) (world k' w f) new st → RunsAs (Is want) (world k w f) new st
+text_there Is want bytes bytes' k k' w f new st e eb ek h =
+    let h' = rw (eb, ek) at h in
+    rw e h'
+
+-- the refusal of a configuration is the one that its definition has
+config_fails : (said : Read Settings) (e : ConfigError) → is_config_memory e ≡ false → Fails e said → said ≡ Err e
+config_fails said NotToml ne h = h
+config_fails said (Missing at) ne h = h
+config_fails said (BadValue at) ne h = h
+config_fails said (Unknown at) ne h = h
+config_fails said (Repeated at) ne h = h
+config_fails said (TooMany at) ne h = h
+config_fails said Memory ne h = absurd (cc)
+
+-- a configuration that is refused has its line, whatever lines a script has
+pub config_refused : (files : Files) (script : List ℕ) (said : Read Settings) (e : ConfigError) (k : Counts) (w w' : Option (List ℕ)) (f f' : ℕ) (r : Result Ended Stopped) → is_config_memory e ≡ false → Fails e said
+    → PutsOutcome (outcome (config_text e) ended.BadConfig) w w' f f' r → RunsAs (IsConfigOutcome files script said) (world k w f) (world k w' f') (status_of_run r)
+config_refused files script said e k w w' f f' r ne h put =
+    rw (config_fails said e ne h) (run-of_put (IsConfigOutcome files script (Err e)) (outcome (config_text e) ended.BadConfig) k k w w' f f' r refl (λ lines. refl) put)
+
+-- a session that holds nothing yet
+pub lines_told : (files : Files) (c : Settings) (script : List ℕ) (session : Kept) (old new : World) (refused : Bool) → session ≡ record { config = c; store = nothing_held c.window.hours }
+    → TellsAll files session.config (lines_of script) session.store old new (Ok refused) → RunsAs (IsScriptOutcome files c (Some script)) old new (status_of_run (Ok (ended_by refused)))
+lines_told files c script session old new refused e h =
+    run-of_told files c script old new refused (subst (λ (k : Kept). TellsAll files k.config (lines_of script) k.store old new (Ok refused)) e h)
+
+pub lines_cut : (files : Files) (c : Settings) (script : List ℕ) (session : Kept) (old new : World) (s : Stopped) → session ≡ record { config = c; store = nothing_held c.window.hours }
+    → TellsAll files session.config (lines_of script) session.store old new (Err s) → RunsAs (IsScriptOutcome files c (Some script)) old new (status_of_run (Err s))
+lines_cut files c script session old new s e h =
+    run-of_cut files c script old new s (subst (λ (k : Kept). TellsAll files k.config (lines_of script) k.store old new (Err s)) e h)
 
 -- ---- what the words ask for
 
-pub answer_run : (config script : List ℕ) (files : Files) → answer_of (Some (for_run config script)) files ≡ file_outcome files script (limited 1048576 (files config))
-unfolding answer_of
-answer_run config script files = refl
+-- the same by other words
+pub run_as : (Is Is' : (List ℕ → List (List ℕ)) → Outcome → Type 0) (old new : World) (s : Status) → ((lines : List ℕ → List (List ℕ)) (o : Outcome) → Is lines o → Is' lines o) → RunsAs Is old new s → RunsAs Is' old new s
+run_as Is Is' old new outer.Done k h = (h.0, k lines_of (outcome h.0 ended.Done) h.1, h.2)
+run_as Is Is' old new outer.SomeRefused k h = (h.0, k lines_of (outcome h.0 ended.SomeRefused) h.1, h.2)
+run_as Is Is' old new outer.Usage k h = (h.0, k lines_of (outcome h.0 ended.Usage) h.1, h.2)
+run_as Is Is' old new outer.BadConfig k h = (h.0, k lines_of (outcome h.0 ended.BadConfig) h.1, h.2)
+run_as Is Is' old new outer.NoFile k h = (h.0, k lines_of (outcome h.0 ended.NoFile) h.1, h.2)
+run_as Is Is' old new outer.Fault k h = (h.0, (h.1.0, h.1.1, k (first_lines h.1.0) h.1.1 h.1.2, h.1.3))
+run_as Is Is' old new outer.Memory k h = (h.0, h.1, k (first_lines h.0) h.1 h.2, h.3)
 
-pub answer_count : (file signal : List ℕ) (day : ℤ) (hour : ℕ) (files : Files) → answer_of (Some (for_count file signal day hour)) files ≡ counted (record { file = file; signal = signal; day = day; hour = hour }) (files file)
-unfolding answer_of
-answer_count file signal day hour files = refl
+answer_run : (config script : List ℕ) (files : Files) (lines : List ℕ → List (List ℕ)) (o : Outcome) → IsFileOutcome files script (limited 1048576 (files config)) lines o → IsAnswer (Some (for_run config script)) files lines o
+unfolding IsAnswer
+answer_run config script files lines o h = h
 
-pub answer_none : (files : Files) → answer_of None files ≡ outcome usage_text ended.Usage
-unfolding answer_of
-answer_none files = refl
+answer_count : (file signal : List ℕ) (day : ℤ) (hour : ℕ) (files : Files) (lines : List ℕ → List (List ℕ)) (o : Outcome) → o ≡ counted (record { file = file; signal = signal; day = day; hour = hour }) (files file)
+    → IsAnswer (Some (for_count file signal day hour)) files lines o
+unfolding IsAnswer
+answer_count file signal day hour files lines o h = h
+
+answer_none : (files : Files) (lines : List ℕ → List (List ℕ)) → IsAnswer None files lines (outcome usage_text ended.Usage)
+unfolding IsAnswer
+answer_none files lines = refl
 
 pub request_run : (files : Files) (x : Asked) (config script : List ℕ) (old new : World) (st : Status) → x ≡ for_run config script
-    → RunsAs (file_outcome files script (limited 1048576 (files config))) old new st → RunsAs (answer_of (Some x) files) old new st
-request_run files x config script old new st e h = rw (e, answer_run config script files) h
+    → RunsAs (IsFileOutcome files script (limited 1048576 (files config))) old new st → RunsAs (IsAnswer (Some x) files) old new st
+request_run files x config script old new st e h =
+    rw e (run_as (IsFileOutcome files script (limited 1048576 (files config))) (IsAnswer (Some (for_run config script)) files) old new st (answer_run config script files) h)
 
 pub request_count : (files : Files) (x : Asked) (file signal : List ℕ) (day : ℤ) (hour : ℕ) (old new : World) (st : Status) → x ≡ for_count file signal day hour
-    → RunsAs (counted (record { file = file; signal = signal; day = day; hour = hour }) (files file)) old new st → RunsAs (answer_of (Some x) files) old new st
-request_count files x file signal day hour old new st e h = rw (e, answer_count file signal day hour files) h
+    → RunsAs (λ lines o. o ≡ counted (record { file = file; signal = signal; day = day; hour = hour }) (files file)) old new st → RunsAs (IsAnswer (Some x) files) old new st
+request_count files x file signal day hour old new st e h =
+    rw e (run_as (λ lines o. o ≡ counted (record { file = file; signal = signal; day = day; hour = hour }) (files file)) (IsAnswer (Some (for_count file signal day hour)) files) old new st (answer_count file signal day hour files) h)
 
 -- a day of the years 0000 to 9999 as an i64 keeps it
 pub day_back : (day : ℤ) → IsDay day → to_z w64 (of_z w64 day) ≡ day
@@ -124,8 +200,8 @@ pub asked_is : (words : List (List ℕ)) (items items' : List (Bor (List ℕ))) 
 unfolding asked_of
 asked_is words items items' o e m h = ap request_of (sym (ap (map (λ (w : Bor (List ℕ)). w.now)) e ∙ m)) ∙ h
 
-pub transcript_as : (words : List (List ℕ)) (files : Files) (o : Option Asked) (old new : World) (st : Status) → asked_of words ≡ o → RunsAs (answer_of o files) old new st → RunsAs (transcript words files) old new st
-transcript_as words files o old new st e h = rw e h
+pub answer_as : (words : List (List ℕ)) (files : Files) (o : Option Asked) (old new : World) (st : Status) → asked_of words ≡ o → RunsAs (IsAnswer o files) old new st → RunsAs (IsAnswer (asked_of words) files) old new st
+answer_as words files o old new st e h = rw e h
 
 pub cause_as : (words : List (List ℕ)) (o : Option Asked) (old new : World) (st : Status) → asked_of words ≡ o → HasCause o old new st → HasCause (asked_of words) old new st
 cause_as words o old new st e h = rw e h
@@ -144,8 +220,8 @@ needs_as words x old new st e = rw e (needs_some x old new st)
 
 -- the usage line was written
 pub usage_told : (words : List (List ℕ)) (files : Files) (k : Counts) (w w' : Option (List ℕ)) (f f' : ℕ) (r : Result Ended Stopped) → asked_of words ≡ None
-    → PutsOutcome (outcome usage_text ended.Usage) w w' f f' r → RunsAs (transcript words files) (world k w f) (world k w' f') (status_of_run r)
-usage_told words files k w w' f f' r e h = rw (e, answer_none files) (run-of_put (outcome usage_text ended.Usage) k k w w' f f' r refl h)
+    → PutsOutcome (outcome usage_text ended.Usage) w w' f f' r → RunsAs (IsAnswer (asked_of words) files) (world k w f) (world k w' f') (status_of_run r)
+usage_told words files k w w' f f' r e h = rw e (run-of_put (IsAnswer None files) (outcome usage_text ended.Usage) k k w w' f f' r refl (answer_none files) h)
 
 pub usage_cause : (words : List (List ℕ)) (k : Counts) (w w' : Option (List ℕ)) (f f' : ℕ) (r : Result Ended Stopped) → asked_of words ≡ None
     → PutsOutcome (outcome usage_text ended.Usage) w w' f f' r → HasCause (asked_of words) (world k w f) (world k w' f') (status_of_run r)
@@ -161,7 +237,18 @@ pub if_some-from : {A : Type 0} (o : Option A) (P : A → Type 0) → ((x : A) �
 if_some-from None P h = tt
 if_some-from (Some x) P h = h x refl
 
--- a fetch that cut the run off before it wrote anything
-pub stop_told : (o : Outcome) (k k' : Counts) (w : Option (List ℕ)) (f : ℕ) (s : Stopped) → CountsText k k' (Stop s) → RunsAs o (world k w f) (world k' w f) (status_of_run (Err s))
-stop_told o k k' w f stopped.Fault h = (inl h.3, ([], o.bytes, refl, appends-nothing w))
-stop_told o k k' w f stopped.Memory h = ([], o.bytes, refl, appends-nothing w)
+-- the headline: a run of what the words ask for is a run of the transcript
+headline : (words : List (List ℕ)) (files : Files) (old new : World) (s : Status) → RunsAs (IsAnswer (asked_of words) files) old new s → IsRun words files old new s
+headline words files old new outer.Done h = h
+headline words files old new outer.SomeRefused h = h
+headline words files old new outer.Usage h = h
+headline words files old new outer.BadConfig h = h
+headline words files old new outer.NoFile h = h
+headline words files old new outer.Fault h = (h.0, (h.1.0, h.1.1.bytes, (h.1.1.ended, h.1.2), h.1.3))
+headline words files old new outer.Memory h = (h.0, h.1.bytes, (h.1.ended, h.2), h.3)
+
+pub run-of_answer : (words : List (List ℕ)) (told : Option Files) (old new : World) (s t : Status)
+    → s ≡ t → IfSome told (λ files. RunsAs (IsAnswer (asked_of words) files) old new t) → IfSome told (λ files. IsRun words files old new s)
+run-of_answer words told old new s t e h =
+    if_some-weaker told (λ files. RunsAs (IsAnswer (asked_of words) files) old new t) (λ files. IsRun words files old new s)
+    (λ files r. rw e (headline words files old new t r)) h

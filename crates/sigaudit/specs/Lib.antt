@@ -2,6 +2,8 @@ pub mod Asked
 pub mod Request
 pub mod Status
 pub mod ConfigText
+pub mod Turns
+pub mod Audit
 pub mod Script
 pub mod Transcript
 pub mod Run

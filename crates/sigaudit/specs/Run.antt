@@ -1,5 +1,5 @@
 -- What a run does to the shelf and the sink.
-use Rattle.std.specs.Prelude.{◌≡◌, ◌≤◌, ◌⊎◌, ℕ, List, [], length, Option, Some, None, IsSome, Result, Ok, Err, Bool, ⊤}
+use Rattle.std.specs.Prelude.{◌≡◌, ◌≤◌, ◌⊎◌, ℕ, List, [], length, take, Option, Some, None, IsSome, Result, Ok, Err, Bool, false, ⊤}
 use Rattle.std.specs.Io.KnownBytes.{Appends}
 use Rattle.outside.specs.Counted.{Rose}
 use Rattle.outside.specs.Shelf.{Counts, Files}
@@ -9,8 +9,14 @@ use Rattle.sig_base.specs.Window.{Span}
 use Rattle.report_text.specs.declared.refusal.Refusal.{Refusal}
 use Rattle.report_text.specs.Refusals.{IsOfWindow}
 use Rattle.command_line.specs.Words.{Asked, for_run, for_count}
-use Rattle.sigaudit.specs.Script.{Turn, Told}
-use Rattle.sigaudit.specs.Transcript.{Outcome, outcome, IsTranscript}
+use Rattle.ring_config.specs.Settings.{Settings}
+use Rattle.script_lines.specs.Lines.{lines_of}
+use Rattle.sigaudit.specs.Turns.{Turn}
+use Rattle.rule_audit.specs.declared.lines.AuditLine.{AuditLine}
+use Rattle.hour_work.specs.Verdicts.{AreAuditLines}
+use Rattle.sigaudit.specs.Audit.{IsHoursText, lines_text}
+use Rattle.sigaudit.specs.Script.{Told, IsTold}
+use Rattle.sigaudit.specs.Transcript.{Outcome, outcome, first_lines, IsBeginning, IsTranscript}
 use Rattle.sigaudit.specs.declared.status.Status.{Status}
 use Rattle.sigaudit.specs.declared.status.Status.TheVariants.{Done, SomeRefused, Usage, BadConfig, Fault, Memory, NoFile}
 use Rattle.sigaudit.specs.declared.status.Ended.{Ended}
@@ -40,8 +46,8 @@ abbrev pub HasFault : World → World → Type 0
 HasFault old new = Rose old.counts.failed new.counts.failed ⊎ Rose old.faults new.faults
 
 -- all the bytes were written and no fault came
-abbrev pub WritesAll : Outcome → World → World → Type 0
-WritesAll o old new = Appends old.written new.written o.bytes × NoFault old new
+abbrev pub WritesAll : List ℕ → World → World → Type 0
+WritesAll bytes old new = Appends old.written new.written bytes × NoFault old new
 
 -- the words ask for a script over a configuration
 abbrev pub AsksRun : Option Asked → Type 0
@@ -49,20 +55,41 @@ AsksRun None = ⊥
 AsksRun (Some (for_run config script)) = ⊤
 AsksRun (Some (for_count file signal day hour)) = ⊥
 
--- a run ends as the outcome says and wrote all of it, or it was cut off after a front of it, by a counted fault or want of memory
-abbrev pub RunsAs : Outcome → World → World → Status → Type 0
-RunsAs o old new Done = (o.ended ≡ ended.Done) × WritesAll o old new
-RunsAs o old new SomeRefused = (o.ended ≡ ended.SomeRefused) × WritesAll o old new
-RunsAs o old new Usage = (o.ended ≡ ended.Usage) × WritesAll o old new
-RunsAs o old new BadConfig = (o.ended ≡ ended.BadConfig) × WritesAll o old new
-RunsAs o old new NoFile = (o.ended ≡ ended.NoFile) × WritesAll o old new
-RunsAs o old new Fault = HasFault old new × AppendsFront old.written new.written o.bytes
-RunsAs o old new Memory = AppendsFront old.written new.written o.bytes
+-- the run wrote all of what the words and the files give where the run ends so, and no fault came
+abbrev pub Ends : ((List ℕ → List (List ℕ)) → Outcome → Type 0) → Ended → World → World → Type 0
+Ends Is e old new = (bytes : List ℕ) × Is lines_of (outcome bytes e) × WritesAll bytes old new
 
--- The headline: some bytes and some end are the transcript of the words and the files, and the run ended as they say and wrote exactly these bytes, or was cut off after a front of them by a counted fault or want of memory.
+-- what was written is a front of the text where the script ends after its first lines, for some number of them
+abbrev pub IsCutOff : ((List ℕ → List (List ℕ)) → Outcome → Type 0) → World → World → Type 0
+IsCutOff Is old new = (k : ℕ) × (o : Outcome) × Is (first_lines k) o × AppendsFront old.written new.written o.bytes
+
+-- a run ended as the outcome says and wrote all of it, or was cut off by a counted fault or want of memory
+abbrev pub RunsAs : ((List ℕ → List (List ℕ)) → Outcome → Type 0) → World → World → Status → Type 0
+RunsAs Is old new Done = Ends Is ended.Done old new
+RunsAs Is old new SomeRefused = Ends Is ended.SomeRefused old new
+RunsAs Is old new Usage = Ends Is ended.Usage old new
+RunsAs Is old new BadConfig = Ends Is ended.BadConfig old new
+RunsAs Is old new NoFile = Ends Is ended.NoFile old new
+RunsAs Is old new Fault = HasFault old new × IsCutOff Is old new
+RunsAs Is old new Memory = IsCutOff Is old new
+
+-- some bytes are the transcript of the words and the files with this end, and exactly these were written, without a fault
+abbrev pub WritesTranscript : List (List ℕ) → Files → Ended → World → World → Type 0
+WritesTranscript words files e old new = (bytes : List ℕ) × IsTranscript words files bytes e × WritesAll bytes old new
+
+-- some bytes are what the transcript begins with, up to some line of a script, and a front of these was written
+abbrev pub WritesBeginning : List (List ℕ) → Files → World → World → Type 0
+WritesBeginning words files old new = (k : ℕ) × (bytes : List ℕ) × IsBeginning k words files bytes × AppendsFront old.written new.written bytes
+
+-- The headline: the run ended as the transcript of the words and the files does and wrote exactly its bytes; or it was cut off, by a counted fault or want of memory, after a front of what the transcript begins with.
 abbrev pub IsRun : List (List ℕ) → Files → World → World → Status → Type 0
-IsRun words files old new status =
-    (bytes : List ℕ) × (ended : Ended) × IsTranscript words files bytes ended × RunsAs (outcome bytes ended) old new status
+IsRun words files old new Done = WritesTranscript words files ended.Done old new
+IsRun words files old new SomeRefused = WritesTranscript words files ended.SomeRefused old new
+IsRun words files old new Usage = WritesTranscript words files ended.Usage old new
+IsRun words files old new BadConfig = WritesTranscript words files ended.BadConfig old new
+IsRun words files old new NoFile = WritesTranscript words files ended.NoFile old new
+IsRun words files old new Fault = HasFault old new × WritesBeginning words files old new
+IsRun words files old new Memory = WritesBeginning words files old new
 
 -- why a run that was asked for this ended so, whether or not the files and the bytes are told
 abbrev pub HasCause : Option Asked → World → World → Status → Type 0
@@ -99,23 +126,49 @@ IsCaused old new (Ok _) = NoFault old new
 IsCaused old new (Err stopped.Fault) = HasFault old new
 IsCaused old new (Err stopped.Memory) = ⊤
 
--- a line of a script was taken: all that it writes was written, the store is the one after it, and the answer says whether it was refused; or the run was cut off in it
-abbrev pub Takes : Turn → World → World → Store → Result Bool Stopped → Type 0
-Takes t old new store (Ok refused) = Appends old.written new.written t.text × NoFault old new × (store ≡ t.store) × (refused ≡ t.refused)
-Takes t old new store (Err stopped.Fault) = HasFault old new × AppendsFront old.written new.written t.text
-Takes t old new store (Err stopped.Memory) = AppendsFront old.written new.written t.text
+-- nothing was written of a line, or a front of the text of a turn that it may have
+abbrev pub BeginsTurn : (Turn → Type 0) → Option (List ℕ) → Option (List ℕ) → Type 0
+BeginsTurn Is old new = Appends old new [] ⊎ ((t : Turn) × Is t × AppendsFront old new t.text)
+
+-- a line of a script was taken with a turn that it has: all that it writes was written, the store is the one after it, and the answer says whether it was refused; or the run was cut off in it
+abbrev pub Takes : (Turn → Type 0) → World → World → Store → Result Bool Stopped → Type 0
+Takes Is old new store (Ok refused) = (t : Turn) × Is t × Appends old.written new.written t.text × NoFault old new × (store ≡ t.store) × (refused ≡ t.refused)
+Takes Is old new store (Err stopped.Fault) = HasFault old new × BeginsTurn Is old.written new.written
+Takes Is old new store (Err stopped.Memory) = BeginsTurn Is old.written new.written
 
 -- the same of a call that uses no shelf
+abbrev pub TakesBy : (Turn → Type 0) → Option (List ℕ) → Option (List ℕ) → ℕ → ℕ → Store → Result Bool Stopped → Type 0
+TakesBy Is old new before now store (Ok refused) = (t : Turn) × Is t × Appends old new t.text × (now ≡ before) × (store ≡ t.store) × (refused ≡ t.refused)
+TakesBy Is old new before now store (Err stopped.Fault) = (t : Turn) × Is t × Stops old new before now t.text
+TakesBy Is old new before now store (Err stopped.Memory) = (now ≡ before) × BeginsTurn Is old new
+
+-- the same where the line has this turn
 abbrev pub TakesPut : Turn → Option (List ℕ) → Option (List ℕ) → ℕ → ℕ → Store → Result Bool Stopped → Type 0
 TakesPut t old new before now store (Ok refused) = Appends old new t.text × (now ≡ before) × (store ≡ t.store) × (refused ≡ t.refused)
 TakesPut t old new before now store (Err stopped.Fault) = Stops old new before now t.text
 TakesPut t old new before now store (Err stopped.Memory) = (new ≡ old) × (now ≡ before)
 
--- all lines of a script were taken, or a front of their text was written
-abbrev pub TellsAll : Told → World → World → Result Bool Stopped → Type 0
-TellsAll told old new (Ok refused) = Appends old.written new.written told.text × NoFault old new × (refused ≡ told.refused)
-TellsAll told old new (Err stopped.Fault) = HasFault old new × AppendsFront old.written new.written told.text
-TellsAll told old new (Err stopped.Memory) = AppendsFront old.written new.written told.text
+-- the broken and undecided lines of an hour were written, or a front of them
+abbrev pub PutsHour : Settings → Store → ℕ → Option (List ℕ) → Option (List ℕ) → ℕ → ℕ → Result (Unit {0}) Stopped → Type 0
+PutsHour c s hour old new before now (Ok _) = (lines : List AuditLine) × AreAuditLines c s hour lines × Appends old new (lines_text false c.window lines) × (now ≡ before)
+PutsHour c s hour old new before now (Err stopped.Fault) = (lines : List AuditLine) × AreAuditLines c s hour lines × Stops old new before now (lines_text false c.window lines)
+PutsHour c s hour old new before now (Err stopped.Memory) = (new ≡ old) × (now ≡ before)
+
+-- those of all hours
+abbrev pub PutsHours : Settings → Store → Option (List ℕ) → Option (List ℕ) → ℕ → ℕ → Result (Unit {0}) Stopped → Type 0
+PutsHours c s old new before now (Ok _) = (text : List ℕ) × IsHoursText c s 0 c.window.hours text × Appends old new text × (now ≡ before)
+PutsHours c s old new before now (Err stopped.Fault) = (text : List ℕ) × IsHoursText c s 0 c.window.hours text × Stops old new before now text
+PutsHours c s old new before now (Err stopped.Memory) = (text : List ℕ) × IsHoursText c s 0 c.window.hours text × AppendsFront old new text × (now ≡ before)
+
+-- a front of the text of the first k lines was written, for some k
+abbrev pub TellsFirst : Files → Settings → List (List ℕ) → Store → World → World → Type 0
+TellsFirst files c lines s old new = (k : ℕ) × (told : Told) × IsTold files c 1 (take k lines) s told × AppendsFront old.written new.written told.text
+
+-- all lines of a script were taken, or a front of the text of the first of them was written
+abbrev pub TellsAll : Files → Settings → List (List ℕ) → Store → World → World → Result Bool Stopped → Type 0
+TellsAll files c lines s old new (Ok refused) = (told : Told) × IsTold files c 1 lines s told × Appends old.written new.written told.text × NoFault old new × (refused ≡ told.refused)
+TellsAll files c lines s old new (Err stopped.Fault) = HasFault old new × TellsFirst files c lines s old new
+TellsAll files c lines s old new (Err stopped.Memory) = TellsFirst files c lines s old new
 
 -- an hour file was fetched, or there is a reason why not; of an empty buffer
 abbrev pub FetchesHour : Result (List ℕ) Refusal → List ℕ → Fetched → Type 0

@@ -1,10 +1,10 @@
 -- The transcript of a script.
-use Rattle.std.specs.Prelude.{ℕ, ◌+◌, ◌||◌, ◌*◌, ◌^◌, nat_lt, List, [], ◌∷◌, ◌++◌, length, slice_get, codes, decimal, if◌then◌else◌, Option, Some, None, Result, Ok, Err, Bool, true, false}
+use Rattle.std.specs.Prelude.{◌≡◌, ◌⊎◌, ℕ, ◌+◌, ◌||◌, ◌*◌, ◌^◌, nat_lt, List, [], ◌∷◌, ◌++◌, length, slice_get, codes, decimal, if◌then◌else◌, Option, Some, None, Result, Ok, Err, Bool, true, false}
 use Rattle.outside.specs.Shelf.{Files}
 use Rattle.sig_base.specs.HourRows.{Shown}
-use Rattle.sig_base.specs.declared.values.Applied.{Applied}
 use Rattle.sig_base.specs.declared.values.EditError.{EditError}
-use Rattle.sig_base.specs.declared.values.EditError.TheVariants.{OutOfWindow}
+use Rattle.sig_base.specs.declared.values.Row.{Row}
+use Rattle.sig_base.specs.declared.values.EditError.TheVariants.{OutOfWindow, Contradiction}
 use Rattle.sig_base.specs.declared.values.EditError.TheVariants as edits
 use Rattle.row_reader.specs.declared.row_error.RowError.{RowError}
 use Rattle.row_reader.specs.declared.row_error.RowError.TheVariants as rows
@@ -12,7 +12,7 @@ use Rattle.row_reader.specs.Rows.{Wanted, rows_of}
 use Rattle.ring_config.specs.Settings.{Settings}
 use Rattle.hour_store.specs.Store.{Store}
 use Rattle.hour_work.specs.Numbers.{Numbers, total_of}
-use Rattle.hour_work.specs.Reports.{report_of}
+use Rattle.signal_log.specs.Log.{HasHistory, IsContradiction, log_of}
 use Rattle.session.specs.Edits.{Change, step_of}
 use Rattle.session.specs.Edits as change
 use Rattle.script_lines.specs.Words.{Said, said}
@@ -22,7 +22,8 @@ use Rattle.report_text.specs.declared.refusal.Refusal.TheVariants.{BadLine, Miss
 use Rattle.report_text.specs.Line.{line_of}
 use Rattle.report_text.specs.Applied.{applied_text}
 use Rattle.report_text.specs.Measures.{measures_text}
-use Rattle.report_text.specs.Refusals.{refusal_text}
+use Rattle.sigaudit.specs.Turns.{Turn, passes, refuses, writes}
+use Rattle.sigaudit.specs.Audit.{AreVerdicts, IsAudited, IsReportOf}
 
 -- these are want of memory, which no definition gives
 abbrev pub is_edit_memory : EditError → Bool
@@ -45,33 +46,21 @@ is_row_memory (rows.Code n) = false
 is_row_memory (rows.Param n) = false
 is_row_memory rows.Memory = true
 
--- what a line writes, the store after it, and whether it was refused
-pub record Turn : Type 0 where
-  pub text : List ℕ
-  pub store : Store
-  pub refused : Bool
+-- an edit that is accepted is answered by the hours that moved, which are all of the window
+abbrev pub accepts : Settings → ℕ → Option (ℕ × ℕ) → Store → Turn
+accepts c n loaded new = record { text = applied_text n loaded (record { from = 0; to = c.window.hours }); store = new; refused = false }
 
--- a line that is passed over
-abbrev pub passes : Store → Turn
-passes s = record { text = []; store = s; refused = false }
-
--- a line that is refused: it is named and changes nothing
-abbrev pub refuses : Settings → ℕ → Refusal → Store → Turn
-refuses c n refusal s = record { text = refusal_text c.window (Some n) refusal; store = s; refused = true }
-
--- a line that writes a text and changes nothing
-abbrev pub writes : List ℕ → Store → Turn
-writes text s = record { text = text; store = s; refused = false }
-
--- an edit is answered by the hours that moved, which are all of the window
-abbrev pub edited : Settings → ℕ → Option (ℕ × ℕ) → Store → Result Store EditError → Turn
-edited c n loaded s (Ok new) = record { text = applied_text n loaded (record { from = 0; to = c.window.hours }); store = new; refused = false }
-edited c n loaded s (Err e) = refuses c n (Edit e) s
+-- an edit: what refuses it before it is made; else it is accepted where some history agrees with the new store, and refused where none does, by the row at which the new store contradicts itself
+abbrev pub IsEdited : Settings → ℕ → Option (ℕ × ℕ) → Store → Result Store EditError → Turn → Type 0
+IsEdited c n loaded s (Err e) t = t ≡ refuses c n (Edit e) s
+IsEdited c n loaded s (Ok new) t =
+    (HasHistory (log_of c.specs new) × (t ≡ accepts c n loaded new))
+    ⊎ ((row : Row) × IsContradiction (log_of c.specs new) row × (HasHistory (log_of c.specs new) → ⊥) × (t ≡ refuses c n (Edit (Contradiction row)) s))
 
 -- a load or a replacement of what the file says
-abbrev pub read_turn : Settings → ℕ → (Shown → Change) → Store → Result Shown RowError → Turn
-read_turn c n make s (Ok shown) = edited c n (Some (length shown.rows, shown.repeats)) s (step_of s (make shown))
-read_turn c n make s (Err e) = refuses c n (File e) s
+abbrev pub IsRead : Settings → ℕ → (Shown → Change) → Store → Result Shown RowError → Turn → Type 0
+IsRead c n make s (Ok shown) t = IsEdited c n (Some (length shown.rows, shown.repeats)) s (step_of s (make shown)) t
+IsRead c n make s (Err e) t = t ≡ refuses c n (File e) s
 
 -- the rows that a line wants for an hour
 abbrev pub wanted_for : Settings → ℕ → Wanted
@@ -82,23 +71,19 @@ abbrev pub hour_file : Option (List ℕ) → Result (List ℕ) Refusal
 hour_file None = Err MissingFile
 hour_file (Some bytes) = if nat_lt (32 * 2 ^ 20) (length bytes) then Err FileTooLong else Ok bytes
 
--- a load or a replacement of the hour by its file
-abbrev pub file_turn : Settings → ℕ → ℕ → (Shown → Change) → Store → Result (List ℕ) Refusal → Turn
-file_turn c n hour make s (Ok bytes) = read_turn c n make s (rows_of (wanted_for c hour) bytes)
-file_turn c n hour make s (Err refusal) = refuses c n refusal s
+-- the bytes of the file of an hour, or why there is nothing to read: the window hasn't the hour, or of its file
+abbrev pub hour_bytes : Files → Settings → ℕ → List ℕ → Result (List ℕ) Refusal
+hour_bytes files c hour name = if nat_lt hour c.window.hours then hour_file (files name) else Err (Edit OutOfWindow)
+
+-- a load or a replacement of the hour by these bytes
+abbrev pub IsFetched : Settings → ℕ → ℕ → (Shown → Change) → Store → Result (List ℕ) Refusal → Turn → Type 0
+IsFetched c n hour make s (Ok bytes) t = IsRead c n make s (rows_of (wanted_for c hour) bytes) t
+IsFetched c n hour make s (Err refusal) t = t ≡ refuses c n refusal s
 
 -- a change by the rows of a file: a replacement or a load
 abbrev pub hour_change : Bool → Shown → Change
 hour_change true = change.replace
 hour_change false = change.load
-
-unfoldable pub hour_file_turn : Files → Settings → ℕ → ℕ → List ℕ → (Shown → Change) → Store → Turn
-hour_file_turn files c n hour name make s =
-    if nat_lt hour c.window.hours then file_turn c n hour make s (hour_file (files name)) else refuses c n (Edit OutOfWindow) s
-
--- an edit that needs no file
-unfoldable pub edit_turn : Settings → ℕ → Change → Store → Turn
-edit_turn c n made s = edited c n None s (step_of s made)
 
 -- the line before the measures of the window, and that before those of one hour
 abbrev pub window_head : ℕ → List ℕ
@@ -107,17 +92,17 @@ window_head n = line_of (decimal n ∷ codes " measures" ∷ [])
 abbrev pub hour_head : ℕ → ℕ → List ℕ
 hour_head n hour = line_of (decimal n ∷ codes " measures " ∷ decimal hour ∷ [])
 
--- the measures of the window
-unfoldable pub measures_turn : ℕ → Store → Turn
-measures_turn n s = writes (window_head n ++ measures_text (total_of (report_of s))) s
+-- the measures of the window, by the store's report
+abbrev pub IsMeasured : Settings → ℕ → Store → Turn → Type 0
+IsMeasured c n s t = (report : List Numbers) × IsReportOf c s report × (t ≡ writes (window_head n ++ measures_text (total_of report)) s)
 
 -- the measures of one hour; an hour past the window has no numbers in the report
 abbrev pub numbers_turn : Settings → ℕ → ℕ → Store → Option Numbers → Turn
 numbers_turn c n hour s (Some numbers) = writes (hour_head n hour ++ measures_text numbers) s
 numbers_turn c n hour s None = refuses c n (Edit OutOfWindow) s
 
-unfoldable pub hour_turn : Settings → ℕ → ℕ → Store → Turn
-hour_turn c n hour s = numbers_turn c n hour s (slice_get (report_of s) hour)
+abbrev pub IsMeasuredOf : Settings → ℕ → ℕ → Store → Turn → Type 0
+IsMeasuredOf c n hour s t = (report : List Numbers) × IsReportOf c s report × (t ≡ numbers_turn c n hour s (slice_get report hour))
 
 -- the edit of a line that needs no file
 abbrev pub edit_said : Said → Option Change
@@ -128,30 +113,41 @@ edit_said (line.replace hour name) = None
 edit_said (line.withdraw hour) = Some (change.withdraw hour)
 edit_said (line.blank from to) = Some (change.blank from to)
 edit_said (line.unblank from to) = Some (change.unblank from to)
+edit_said line.audit = None
+edit_said (line.verdicts hour) = None
 edit_said line.measures = None
 edit_said (line.measures_of hour) = None
 
 -- what the line of this number does to a store, by what it says
-unfoldable pub turn : Files → Settings → ℕ → Said → Store → Turn
-turn files c n line.skip s = passes s
-turn files c n line.bad s = refuses c n BadLine s
-turn files c n (line.load hour name) s = hour_file_turn files c n hour name (hour_change false) s
-turn files c n (line.replace hour name) s = hour_file_turn files c n hour name (hour_change true) s
-turn files c n (line.withdraw hour) s = edit_turn c n (change.withdraw hour) s
-turn files c n (line.blank from to) s = edit_turn c n (change.blank from to) s
-turn files c n (line.unblank from to) s = edit_turn c n (change.unblank from to) s
-turn files c n line.measures s = measures_turn n s
-turn files c n (line.measures_of hour) s = hour_turn c n hour s
+unfoldable pub IsTurn : Files → Settings → ℕ → Said → Store → Turn → Type 0
+IsTurn files c n line.skip s t = t ≡ passes s
+IsTurn files c n line.bad s t = t ≡ refuses c n BadLine s
+IsTurn files c n (line.load hour name) s t = IsFetched c n hour (hour_change false) s (hour_bytes files c hour name) t
+IsTurn files c n (line.replace hour name) s t = IsFetched c n hour (hour_change true) s (hour_bytes files c hour name) t
+IsTurn files c n (line.withdraw hour) s t = IsEdited c n None s (step_of s (change.withdraw hour)) t
+IsTurn files c n (line.blank from to) s t = IsEdited c n None s (step_of s (change.blank from to)) t
+IsTurn files c n (line.unblank from to) s t = IsEdited c n None s (step_of s (change.unblank from to)) t
+IsTurn files c n line.audit s t = IsAudited c n s t
+IsTurn files c n (line.verdicts hour) s t = AreVerdicts c n hour s (nat_lt hour c.window.hours) t
+IsTurn files c n line.measures s t = IsMeasured c n s t
+IsTurn files c n (line.measures_of hour) s t = IsMeasuredOf c n hour s t
 
--- the text of some lines, and whether one of them is refused
+-- the text of some lines, the store after them, and whether one of them is refused
 pub record Told : Type 0 where
   pub text : List ℕ
+  pub store : Store
   pub refused : Bool
 
+-- nothing is told yet of the store
+abbrev pub nothing_told : Store → Told
+nothing_told s = record { text = []; store = s; refused = false }
+
+-- a line, and then what is told after it
+abbrev pub followed : Turn → Told → Told
+followed t rest = record { text = t.text ++ rest.text; store = rest.store; refused = t.refused || rest.refused }
+
 -- the lines in their order, numbered from n
-unfoldable pub told_of : Files → Settings → ℕ → List (List ℕ) → Store → Told
-told_of files c n [] s = record { text = []; refused = false }
-told_of files c n (l ∷ ls) s =
-    let t = turn files c n (said c.window l) s in
-    let rest = told_of files c (n + 1) ls t.store in
-    record { text = t.text ++ rest.text; refused = t.refused || rest.refused }
+unfoldable pub IsTold : Files → Settings → ℕ → List (List ℕ) → Store → Told → Type 0
+IsTold files c n [] s told = told ≡ nothing_told s
+IsTold files c n (l ∷ ls) s told =
+    (t : Turn) × (rest : Told) × IsTurn files c n (said c.window l) s t × IsTold files c (n + 1) ls t.store rest × (told ≡ followed t rest)

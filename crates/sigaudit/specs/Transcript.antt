@@ -1,5 +1,5 @@
 -- What a run writes and how it ends, of the words and the files alone.
-use Rattle.std.specs.Prelude.{◌≡◌, ◌*◌, ◌^◌, nat_le, if◌then◌else◌, ℕ, List, [], length, codes, Option, Some, None, Result, Ok, Err, Bool, true, false}
+use Rattle.std.specs.Prelude.{◌≡◌, ◌++◌, ◌*◌, ◌^◌, nat_le, if◌then◌else◌, ℕ, List, [], length, take, codes, Option, Some, None, Result, Ok, Err, Bool, true, false}
 use Rattle.outside.specs.Shelf.{Files}
 use Rattle.sig_base.specs.HourRows.{Shown}
 use Rattle.sig_base.specs.Window.{Span}
@@ -15,7 +15,7 @@ use Rattle.command_line.specs.Words.{Asked, for_run, for_count}
 use Rattle.script_lines.specs.Lines.{lines_of}
 use Rattle.sigaudit.specs.Asked.{Count, asked_of}
 use Rattle.sigaudit.specs.ConfigText.{config_text}
-use Rattle.sigaudit.specs.Script.{Told, told_of}
+use Rattle.sigaudit.specs.Script.{Told, IsTold}
 use Rattle.sigaudit.specs.declared.status.Ended.{Ended}
 use Rattle.sigaudit.specs.declared.status.Ended.TheVariants as ended
 
@@ -62,33 +62,39 @@ ended_by false = ended.Done
 abbrev pub told_outcome : Told → Outcome
 told_outcome told = outcome told.text (ended_by told.refused)
 
--- of a script, over a store that holds and blanks nothing; a script has a limit of 4 MiB
-abbrev pub script_outcome : Files → Settings → Option (List ℕ) → Outcome
-script_outcome files c None = outcome [] ended.NoFile
-script_outcome files c (Some script) = told_outcome (told_of files c 1 (lines_of script) (nothing_held c.window.hours))
+-- of a script of which these lines are taken, over a store that holds and blanks nothing; a script has a limit of 4 MiB
+abbrev pub IsScriptOutcome : Files → Settings → Option (List ℕ) → (List ℕ → List (List ℕ)) → Outcome → Type 0
+IsScriptOutcome files c None lines o = o ≡ outcome [] ended.NoFile
+IsScriptOutcome files c (Some script) lines o =
+    (told : Told) × IsTold files c 1 (lines script) (nothing_held c.window.hours) told × (o ≡ told_outcome told)
 
 -- of what the configuration says
-abbrev pub config_outcome : Files → List ℕ → Read Settings → Outcome
-config_outcome files script (Err e) = outcome (config_text e) ended.BadConfig
-config_outcome files script (Ok c) = script_outcome files c (limited (4 * 2 ^ 20) (files script))
+abbrev pub IsConfigOutcome : Files → List ℕ → Read Settings → (List ℕ → List (List ℕ)) → Outcome → Type 0
+IsConfigOutcome files script (Err e) lines o = o ≡ outcome (config_text e) ended.BadConfig
+IsConfigOutcome files script (Ok c) lines o = IsScriptOutcome files c (limited (4 * 2 ^ 20) (files script)) lines o
 
 -- of the configuration's file, which has a limit of 1 MiB
-abbrev pub file_outcome : Files → List ℕ → Option (List ℕ) → Outcome
-file_outcome files script None = outcome [] ended.NoFile
-file_outcome files script (Some bytes) = config_outcome files script (config_of bytes)
+abbrev pub IsFileOutcome : Files → List ℕ → Option (List ℕ) → (List ℕ → List (List ℕ)) → Outcome → Type 0
+IsFileOutcome files script None lines o = o ≡ outcome [] ended.NoFile
+IsFileOutcome files script (Some bytes) lines o = IsConfigOutcome files script (config_of bytes) lines o
 
--- of what the words ask for
-unfoldable pub answer_of : Option Asked → Files → Outcome
-answer_of None files = outcome usage_text ended.Usage
-answer_of (Some (for_run config script)) files = file_outcome files script (limited (2 ^ 20) (files config))
-answer_of (Some (for_count file signal day hour)) files = counted (record { file = file; signal = signal; day = day; hour = hour }) (files file)
-
-abbrev pub transcript : List (List ℕ) → Files → Outcome
-transcript words files = answer_of (asked_of words) files
+-- of what the words ask for, where these lines are taken of a script
+unfoldable pub IsAnswer : Option Asked → Files → (List ℕ → List (List ℕ)) → Outcome → Type 0
+IsAnswer None files lines o = o ≡ outcome usage_text ended.Usage
+IsAnswer (Some (for_run config script)) files lines o = IsFileOutcome files script (limited (2 ^ 20) (files config)) lines o
+IsAnswer (Some (for_count file signal day hour)) files lines o = o ≡ counted (record { file = file; signal = signal; day = day; hour = hour }) (files file)
 
 -- these bytes and this end are the transcript of the words and the files
 abbrev pub IsTranscript : List (List ℕ) → Files → List ℕ → Ended → Type 0
-IsTranscript words files bytes ended = transcript words files ≡ outcome bytes ended
+IsTranscript words files bytes ended = IsAnswer (asked_of words) files lines_of (outcome bytes ended)
+
+-- the first lines of a script
+abbrev pub first_lines : ℕ → List ℕ → List (List ℕ)
+first_lines k script = take k (lines_of script)
+
+-- these bytes are what the transcript begins with: they are the transcript where a script ends after its first k lines
+abbrev pub IsBeginning : ℕ → List (List ℕ) → Files → List ℕ → Type 0
+IsBeginning k words files bytes = (ended : Ended) × IsAnswer (asked_of words) files (first_lines k) (outcome bytes ended)
 
 -- the words and the files have one transcript
 abbrev pub HaveOneTranscript : Type 0
@@ -96,6 +102,8 @@ HaveOneTranscript =
     (words : List (List ℕ)) (files : Files) (bytes bytes' : List ℕ) (ended ended' : Ended)
     → IsTranscript words files bytes ended → IsTranscript words files bytes' ended' → (bytes ≡ bytes') × (ended ≡ ended')
 
--- and they have one
-abbrev pub HaveTranscript : Type 0
-HaveTranscript = (words : List (List ℕ)) (files : Files) → (bytes : List ℕ) × (ended : Ended) × IsTranscript words files bytes ended
+-- and it begins with what is written for a script's first lines
+abbrev pub BeginsWithFirstLines : Type 0
+BeginsWithFirstLines =
+    (words : List (List ℕ)) (files : Files) (bytes front : List ℕ) (ended : Ended) (k : ℕ)
+    → IsTranscript words files bytes ended → IsBeginning k words files front → (rest : List ℕ) × (bytes ≡ front ++ rest)

@@ -83,7 +83,7 @@ pub fn count_file<L, S: Shelf, K: Sink>(
 ) -> Result<Ended, Stopped>
     requires day { IsDay asked.now.day }
     requires hour { asked.now.hour < 24 }
-    ensures told { IfSome (S.files shelf.old) (λ files. RunsAs (counted (plain_count asked.now) (files asked.now.file.now))
+    ensures told { IfSome (S.files shelf.old) (λ files. RunsAs (λ lines o. o ≡ counted (plain_count asked.now) (files asked.now.file.now))
         (world (S.counts shelf.old) (K.written sink.old) (K.faults sink.old)) (world (S.counts shelf.new) (K.written sink.new) (K.faults sink.new)) (status_of_run result)) }
     ensures cause { CountCause
         (world (S.counts shelf.old) (K.written sink.old) (K.faults sink.old)) (world (S.counts shelf.new) (K.written sink.new) (K.faults sink.new)) (status_of_run result) }

@@ -4,8 +4,10 @@
 //! file system and standard output, and ends with its status.
 #![tactic(auto)]
 
+mod audit;
 mod config_text;
 mod count;
+mod refused;
 mod run;
 mod script;
 mod status;

@@ -3,15 +3,12 @@ ghost use Rattle.std.specs.Prelude.{◌≡◌, ◌≤◌, ◌<◌, Some, [], len
 ghost use Rattle.outside.specs.Shelf.{Files};
 ghost use Rattle.sig_base.specs.Window.{IsDay};
 ghost use Rattle.session.specs.Sessions.{Grow};
-ghost use Rattle.script_lines.specs.Lines.{lines_of};
-ghost use Rattle.hour_store.specs.Store.{nothing_held};
 ghost use Rattle.ring_config.specs.Settings.{config_of};
 ghost use Rattle.command_line.specs.Words.{HasDay, seen};
 ghost use Rattle.sigaudit.specs.Asked.{asked_of};
 ghost use Rattle.sigaudit.specs.ConfigText.{config_text, is_config_memory};
-ghost use Rattle.sigaudit.specs.Script.{told_of};
 ghost use Rattle.sigaudit.specs.Status.{status_of_run};
-ghost use Rattle.sigaudit.specs.Transcript.{answer_of, ended_by, config_outcome, file_outcome, limited, outcome, script_outcome, told_outcome, transcript, usage_text, HaveOneTranscript, HaveTranscript};
+ghost use Rattle.sigaudit.specs.Transcript.{ended_by, limited, outcome, usage_text, BeginsWithFirstLines, HaveOneTranscript, IsAnswer, IsConfigOutcome, IsFileOutcome, IsScriptOutcome};
 ghost use Rattle.sigaudit.specs.Run.{world, CountsText, FetchesText, FewBytes, IsRun, RunsAs, HasCause, NeedsWords, NeverFall, PutsOutcome, ScriptCause};
 
 use crate::config_text::put_config_error;
@@ -20,10 +17,12 @@ use crate::script::run_script;
 use crate::status::{Ended, Status, Stopped, status_of};
 use crate::words::Words;
 use command_line::{Refused, Request, parse_words};
+use hour_work::reports_are_one;
 use outside::{FetchError, Shelf, Sink};
 use ring_config::{Config, ConfigError, read_config};
 use session::Session;
 use sig_base::Reads;
+use signal_log::some_history_agrees;
 use std::alloc::Global;
 
 const USAGE: &[u8] =
@@ -93,7 +92,7 @@ fn run_lines<L, S: Shelf, K: Sink>(
     reads: &mut Reads<L>,
 ) -> Result<Ended, Stopped>
     requires { length script.now ≤ 4194304 }
-    ensures told { (files : Files) → S.files shelf.old ≡ Some files → RunsAs (told_outcome (told_of files config 1 (lines_of script.now) (nothing_held config.window.hours))) (world (S.counts shelf.old) (K.written sink.old) (K.faults sink.old)) (world (S.counts shelf.new) (K.written sink.new) (K.faults sink.new)) (status_of_run result) }
+    ensures told { (files : Files) → S.files shelf.old ≡ Some files → RunsAs (IsScriptOutcome files config (Some script.now)) (world (S.counts shelf.old) (K.written sink.old) (K.faults sink.old)) (world (S.counts shelf.new) (K.written sink.new) (K.faults sink.new)) (status_of_run result) }
     ensures cause { ScriptCause (world (S.counts shelf.old) (K.written sink.old) (K.faults sink.old)) (world (S.counts shelf.new) (K.written sink.new) (K.faults sink.new)) (status_of_run result) }
     ensures never_fall { NeverFall (world (S.counts shelf.old) (K.written sink.old) (K.faults sink.old)) (world (S.counts shelf.new) (K.written sink.new) (K.faults sink.new)) }
     ensures grow { Grow reads.old reads.new }
@@ -128,7 +127,7 @@ fn run_script_file<L, S: Shelf, K: Sink>(
     sink: &mut K,
     reads: &mut Reads<L>,
 ) -> Result<Ended, Stopped>
-    ensures told { (files : Files) → S.files shelf.old ≡ Some files → RunsAs (script_outcome files config (limited 4194304 (files name.now))) (world (S.counts shelf.old) (K.written sink.old) (K.faults sink.old)) (world (S.counts shelf.new) (K.written sink.new) (K.faults sink.new)) (status_of_run result) }
+    ensures told { (files : Files) → S.files shelf.old ≡ Some files → RunsAs (IsScriptOutcome files config (limited 4194304 (files name.now))) (world (S.counts shelf.old) (K.written sink.old) (K.faults sink.old)) (world (S.counts shelf.new) (K.written sink.new) (K.faults sink.new)) (status_of_run result) }
     ensures cause { ScriptCause (world (S.counts shelf.old) (K.written sink.old) (K.faults sink.old)) (world (S.counts shelf.new) (K.written sink.new) (K.faults sink.new)) (status_of_run result) }
     ensures never_fall { NeverFall (world (S.counts shelf.old) (K.written sink.old) (K.faults sink.old)) (world (S.counts shelf.new) (K.written sink.new) (K.faults sink.new)) }
     ensures grow { Grow reads.old reads.new }
@@ -157,7 +156,7 @@ fn run_config<L, S: Shelf, K: Sink>(
     sink: &mut K,
     reads: &mut Reads<L>,
 ) -> Result<Ended, Stopped>
-    ensures told { (files : Files) → S.files shelf.old ≡ Some files → RunsAs (config_outcome files script.now (config_of bytes.now)) (world (S.counts shelf.old) (K.written sink.old) (K.faults sink.old)) (world (S.counts shelf.new) (K.written sink.new) (K.faults sink.new)) (status_of_run result) }
+    ensures told { (files : Files) → S.files shelf.old ≡ Some files → RunsAs (IsConfigOutcome files script.now (config_of bytes.now)) (world (S.counts shelf.old) (K.written sink.old) (K.faults sink.old)) (world (S.counts shelf.new) (K.written sink.new) (K.faults sink.new)) (status_of_run result) }
     ensures cause { ScriptCause (world (S.counts shelf.old) (K.written sink.old) (K.faults sink.old)) (world (S.counts shelf.new) (K.written sink.new) (K.faults sink.new)) (status_of_run result) }
     ensures never_fall { NeverFall (world (S.counts shelf.old) (K.written sink.old) (K.faults sink.old)) (world (S.counts shelf.new) (K.written sink.new) (K.faults sink.new)) }
     ensures grow { Grow reads.old reads.new }
@@ -183,7 +182,7 @@ fn run_files<L, S: Shelf, K: Sink>(
     sink: &mut K,
     reads: &mut Reads<L>,
 ) -> Result<Ended, Stopped>
-    ensures told { (files : Files) → S.files shelf.old ≡ Some files → RunsAs (file_outcome files script.now (limited 1048576 (files config.now))) (world (S.counts shelf.old) (K.written sink.old) (K.faults sink.old)) (world (S.counts shelf.new) (K.written sink.new) (K.faults sink.new)) (status_of_run result) }
+    ensures told { (files : Files) → S.files shelf.old ≡ Some files → RunsAs (IsFileOutcome files script.now (limited 1048576 (files config.now))) (world (S.counts shelf.old) (K.written sink.old) (K.faults sink.old)) (world (S.counts shelf.new) (K.written sink.new) (K.faults sink.new)) (status_of_run result) }
     ensures cause { ScriptCause (world (S.counts shelf.old) (K.written sink.old) (K.faults sink.old)) (world (S.counts shelf.new) (K.written sink.new) (K.faults sink.new)) (status_of_run result) }
     ensures never_fall { NeverFall (world (S.counts shelf.old) (K.written sink.old) (K.faults sink.old)) (world (S.counts shelf.new) (K.written sink.new) (K.faults sink.new)) }
     ensures grow { Grow reads.old reads.new }
@@ -206,7 +205,7 @@ fn run_request<L, S: Shelf, K: Sink>(
     reads: &mut Reads<L>,
 ) -> Result<Ended, Stopped>
     requires { HasDay request }
-    ensures told { (files : Files) → S.files shelf.old ≡ Some files → RunsAs (answer_of (Some (seen request.entry)) files) (world (S.counts shelf.old) (K.written sink.old) (K.faults sink.old)) (world (S.counts shelf.new) (K.written sink.new) (K.faults sink.new)) (status_of_run result) }
+    ensures told { (files : Files) → S.files shelf.old ≡ Some files → RunsAs (IsAnswer (Some (seen request.entry)) files) (world (S.counts shelf.old) (K.written sink.old) (K.faults sink.old)) (world (S.counts shelf.new) (K.written sink.new) (K.faults sink.new)) (status_of_run result) }
     ensures cause { HasCause (Some (seen request.entry)) (world (S.counts shelf.old) (K.written sink.old) (K.faults sink.old)) (world (S.counts shelf.new) (K.written sink.new) (K.faults sink.new)) (status_of_run result) }
     ensures never_fall { NeverFall (world (S.counts shelf.old) (K.written sink.old) (K.faults sink.old)) (world (S.counts shelf.new) (K.written sink.new) (K.faults sink.new)) }
     ensures grow { Grow reads.old reads.new }
@@ -239,7 +238,7 @@ fn run_to_end<L, S: Shelf, K: Sink>(
     sink: &mut K,
     reads: &mut Reads<L>,
 ) -> Result<Ended, Stopped>
-    ensures told { (files : Files) → S.files shelf.old ≡ Some files → RunsAs (transcript words.now files) (world (S.counts shelf.old) (K.written sink.old) (K.faults sink.old)) (world (S.counts shelf.new) (K.written sink.new) (K.faults sink.new)) (status_of_run result) }
+    ensures told { (files : Files) → S.files shelf.old ≡ Some files → RunsAs (IsAnswer (asked_of words.now) files) (world (S.counts shelf.old) (K.written sink.old) (K.faults sink.old)) (world (S.counts shelf.new) (K.written sink.new) (K.faults sink.new)) (status_of_run result) }
     ensures cause { HasCause (asked_of words.now) (world (S.counts shelf.old) (K.written sink.old) (K.faults sink.old)) (world (S.counts shelf.new) (K.written sink.new) (K.faults sink.new)) (status_of_run result) }
     ensures usage { NeedsWords (asked_of words.now) (world (S.counts shelf.old) (K.written sink.old) (K.faults sink.old)) (world (S.counts shelf.new) (K.written sink.new) (K.faults sink.new)) (status_of_run result) }
     ensures never_fall { NeverFall (world (S.counts shelf.old) (K.written sink.old) (K.faults sink.old)) (world (S.counts shelf.new) (K.written sink.new) (K.faults sink.new)) }
@@ -258,7 +257,8 @@ fn run_to_end<L, S: Shelf, K: Sink>(
 
 /// Does all that the program does: it writes the transcript of the words and the files, and answers
 /// how the run ended. Where the shelf tells its files and the sink its bytes, the bytes that this
-/// call adds are the transcript, or a front of it where the answer is `Fault` or `Memory`.
+/// call adds are the transcript. Where the answer is `Fault` or `Memory` they are a front of what
+/// the transcript begins with: of the text of the script's first lines, for some number of them.
 pub fn run<L, S: Shelf, K: Sink>(
     alloc: Global,
     words: &Words,
@@ -279,8 +279,12 @@ pub fn run<L, S: Shelf, K: Sink>(
     status_of(run_to_end(alloc, words, shelf, sink, reads))
 }
 
-/// Law: the words and the files have a transcript, and no other.
+/// Law: the words and the files have no more than one transcript, and it begins with what is written
+/// for a script's first lines.
 pub fn transcripts_are_one()
     ensures one { HaveOneTranscript }
-    ensures some { HaveTranscript }
-{}
+    ensures begins { BeginsWithFirstLines }
+{
+    some_history_agrees();
+    reports_are_one();
+}

@@ -6,20 +6,20 @@ ghost use Rattle.report_text.specs.Line.{line_of};
 ghost use Rattle.sig_base.specs.HourRows.{Shown};
 ghost use Rattle.hour_store.specs.Store.{Store};
 ghost use Rattle.row_reader.specs.Rows.{rows_of};
-ghost use Rattle.report_text.specs.Refusals.{IsOfWindow};
 ghost use Rattle.session.specs.Edits.{change_of, step_of};
 ghost use Rattle.session.specs.Sessions.{Grow};
 ghost use Rattle.script_lines.specs.Lines.{lines_of};
 ghost use Rattle.script_lines.specs.Words.{said};
 ghost use Rattle.script_lines.specs.Seen.{seen};
-ghost use Rattle.sigaudit.specs.Script.{Turn, edit_said, hour_head, window_head, is_edit_memory, is_row_memory, hour_file, edit_turn, edited, file_turn, hour_change, hour_file_turn, hour_turn, measures_turn, passes, read_turn, refuses, told_of, turn, wanted_for, writes};
-ghost use Rattle.sigaudit.specs.Run.{world, CountsFetch, FetchesHour, NamesNoRow, IsCaused, NeverFall, Takes, TakesPut, TellsAll};
+ghost use Rattle.sigaudit.specs.Script.{edit_said, hour_head, window_head, is_edit_memory, is_row_memory, hour_bytes, hour_change, hour_file, wanted_for, IsEdited, IsFetched, IsMeasured, IsMeasuredOf, IsRead, IsTurn};
+ghost use Rattle.sigaudit.specs.Run.{world, CountsFetch, FetchesHour, NamesNoRow, IsCaused, NeverFall, Takes, TakesBy, TellsAll};
 
+use crate::audit::{audit_line, verdicts_line};
+use crate::refused::refuse;
 use crate::status::Stopped;
 use itoa::Buffer;
 use outside::{FetchError, PutFailed, Shelf, Sink, put_parts};
-use report_text::{Refusal, put_applied, put_measures, put_refusal};
-use ring_config::Config;
+use report_text::{Refusal, put_applied, put_measures};
 use row_reader::{RowError, read_rows};
 use script_lines::{Line, read_line, split_line};
 use session::{Edit, Session};
@@ -49,22 +49,6 @@ fn is_row_memory(error: RowError) -> bool
     matches!(error, RowError::Memory)
 }
 
-// Refuses a line.
-fn refuse<K: Sink>(
-    config: &Config,
-    number: u32,
-    refusal: Refusal,
-    sink: &mut K,
-) -> Result<bool, Stopped>
-    requires { IsOfWindow config.now.window refusal }
-    ensures { (s : Store) → TakesPut (refuses config.now number refusal s) (K.written sink.old) (K.written sink.new) (K.faults sink.old) (K.faults sink.new) s result }
-{
-    match put_refusal(config.window(), Some(number), &refusal, sink) {
-        Ok(()) => Ok(true),
-        Err(_) => Err(Stopped::Fault),
-    }
-}
-
 // Makes an edit and answers its line; a load or a replacement names its rows and repeats.
 fn edit_line<L, K: Sink>(
     number: u32,
@@ -74,7 +58,7 @@ fn edit_line<L, K: Sink>(
     sink: &mut K,
     reads: &mut Reads<L>,
 ) -> Result<bool, Stopped>
-    ensures turn { TakesPut (edited session.old.config number loaded session.old.store (step_of session.old.store (change_of edit))) (K.written sink.old) (K.written sink.new) (K.faults sink.old) (K.faults sink.new) session.new.store result }
+    ensures turn { TakesBy (IsEdited session.old.config number loaded session.old.store (step_of session.old.store (change_of edit))) (K.written sink.old) (K.written sink.new) (K.faults sink.old) (K.faults sink.new) session.new.store result }
     ensures config { session.new.config ≡ session.old.config }
     ensures grow { Grow reads.old reads.new }
 {
@@ -116,7 +100,7 @@ fn bytes_line<L, K: Sink>(
     reads: &mut Reads<L>,
 ) -> Result<bool, Stopped>
     requires { hour < 744 }
-    ensures turn { TakesPut (read_turn session.old.config number (hour_change replaces) session.old.store (rows_of (wanted_for session.old.config hour) bytes.now)) (K.written sink.old) (K.written sink.new) (K.faults sink.old) (K.faults sink.new) session.new.store result }
+    ensures turn { TakesBy (IsRead session.old.config number (hour_change replaces) session.old.store (rows_of (wanted_for session.old.config hour) bytes.now)) (K.written sink.old) (K.written sink.new) (K.faults sink.old) (K.faults sink.new) session.new.store result }
     ensures config { session.new.config ≡ session.old.config }
     ensures grow { Grow reads.old reads.new }
 {
@@ -174,7 +158,7 @@ fn fetch_line<L, S: Shelf, K: Sink>(
 ) -> Result<bool, Stopped>
     requires { hour < 744 }
     ensures turn { (files : Files) → S.files shelf.old ≡ Some files
-        → Takes (file_turn session.old.config number hour (hour_change replaces) session.old.store (hour_file (files name.now))) (world (S.counts shelf.old) (K.written sink.old) (K.faults sink.old)) (world (S.counts shelf.new) (K.written sink.new) (K.faults sink.new)) session.new.store result }
+        → Takes (IsFetched session.old.config number hour (hour_change replaces) session.old.store (hour_file (files name.now))) (world (S.counts shelf.old) (K.written sink.old) (K.faults sink.old)) (world (S.counts shelf.new) (K.written sink.new) (K.faults sink.new)) session.new.store result }
     ensures cause { IsCaused (world (S.counts shelf.old) (K.written sink.old) (K.faults sink.old)) (world (S.counts shelf.new) (K.written sink.new) (K.faults sink.new)) result }
     ensures never_fall { NeverFall (world (S.counts shelf.old) (K.written sink.old) (K.faults sink.old)) (world (S.counts shelf.new) (K.written sink.new) (K.faults sink.new)) }
     ensures files { S.files shelf.new ≡ S.files shelf.old }
@@ -203,7 +187,7 @@ fn file_line<L, S: Shelf, K: Sink>(
     reads: &mut Reads<L>,
 ) -> Result<bool, Stopped>
     ensures turn { (files : Files) → S.files shelf.old ≡ Some files
-        → Takes (hour_file_turn files session.old.config number hour name.now (hour_change replaces) session.old.store) (world (S.counts shelf.old) (K.written sink.old) (K.faults sink.old)) (world (S.counts shelf.new) (K.written sink.new) (K.faults sink.new)) session.new.store result }
+        → Takes (IsFetched session.old.config number hour (hour_change replaces) session.old.store (hour_bytes files session.old.config hour name.now)) (world (S.counts shelf.old) (K.written sink.old) (K.faults sink.old)) (world (S.counts shelf.new) (K.written sink.new) (K.faults sink.new)) session.new.store result }
     ensures cause { IsCaused (world (S.counts shelf.old) (K.written sink.old) (K.faults sink.old)) (world (S.counts shelf.new) (K.written sink.new) (K.faults sink.new)) result }
     ensures never_fall { NeverFall (world (S.counts shelf.old) (K.written sink.old) (K.faults sink.old)) (world (S.counts shelf.new) (K.written sink.new) (K.faults sink.new)) }
     ensures files { S.files shelf.new ≡ S.files shelf.old }
@@ -252,13 +236,14 @@ fn measures_line<L, K: Sink>(
     session: &Session<L>,
     sink: &mut K,
 ) -> Result<bool, Stopped>
-    ensures { TakesPut (measures_turn number session.now.store) (K.written sink.old) (K.written sink.new) (K.faults sink.old) (K.faults sink.new) session.now.store result }
+    ensures { TakesBy (IsMeasured session.now.config number session.now.store) (K.written sink.old) (K.written sink.new) (K.faults sink.old) (K.faults sink.new) session.now.store result }
 {
+    let total = session.report().total();
     match put_head(number, sink) {
         Ok(()) => {}
         Err(_) => return Err(Stopped::Fault),
     }
-    match put_measures(session.config(), session.report().total(), sink) {
+    match put_measures(session.config(), total, sink) {
         Ok(()) => Ok(false),
         Err(_) => Err(Stopped::Fault),
     }
@@ -271,7 +256,7 @@ fn hour_line<L, K: Sink>(
     session: &Session<L>,
     sink: &mut K,
 ) -> Result<bool, Stopped>
-    ensures { TakesPut (hour_turn session.now.config number hour session.now.store) (K.written sink.old) (K.written sink.new) (K.faults sink.old) (K.faults sink.new) session.now.store result }
+    ensures { TakesBy (IsMeasuredOf session.now.config number hour session.now.store) (K.written sink.old) (K.written sink.new) (K.faults sink.old) (K.faults sink.new) session.now.store result }
 {
     let Some(part) = session.report().hour(hour) else {
         return refuse(
@@ -315,7 +300,7 @@ fn take_said<L, S: Shelf, K: Sink>(
     reads: &mut Reads<L>,
 ) -> Result<bool, Stopped>
     ensures turn { (files : Files) → S.files shelf.old ≡ Some files
-        → Takes (turn files session.old.config number (seen line.entry) session.old.store) (world (S.counts shelf.old) (K.written sink.old) (K.faults sink.old)) (world (S.counts shelf.new) (K.written sink.new) (K.faults sink.new)) session.new.store result }
+        → Takes (IsTurn files session.old.config number (seen line.entry) session.old.store) (world (S.counts shelf.old) (K.written sink.old) (K.faults sink.old)) (world (S.counts shelf.new) (K.written sink.new) (K.faults sink.new)) session.new.store result }
     ensures cause { IsCaused (world (S.counts shelf.old) (K.written sink.old) (K.faults sink.old)) (world (S.counts shelf.new) (K.written sink.new) (K.faults sink.new)) result }
     ensures never_fall { NeverFall (world (S.counts shelf.old) (K.written sink.old) (K.faults sink.old)) (world (S.counts shelf.new) (K.written sink.new) (K.faults sink.new)) }
     ensures files { S.files shelf.new ≡ S.files shelf.old }
@@ -336,6 +321,8 @@ fn take_said<L, S: Shelf, K: Sink>(
         Line::Replace(hour, name) => {
             file_line(alloc, number, hour, name, true, session, shelf, sink, reads)
         }
+        Line::Audit => audit_line(number, session, sink, reads),
+        Line::Verdicts(hour) => verdicts_line(number, hour, session, sink, reads),
         Line::Measures => measures_line(number, session, sink),
         Line::MeasuresOf(hour) => hour_line(number, hour, session, sink),
         Line::Withdraw(_) => unreachable!(),
@@ -355,7 +342,7 @@ fn take_line<L, S: Shelf, K: Sink>(
     reads: &mut Reads<L>,
 ) -> Result<bool, Stopped>
     ensures turn { (files : Files) → S.files shelf.old ≡ Some files
-        → Takes (turn files session.old.config number (said session.old.config.window line.now) session.old.store) (world (S.counts shelf.old) (K.written sink.old) (K.faults sink.old)) (world (S.counts shelf.new) (K.written sink.new) (K.faults sink.new)) session.new.store result }
+        → Takes (IsTurn files session.old.config number (said session.old.config.window line.now) session.old.store) (world (S.counts shelf.old) (K.written sink.old) (K.faults sink.old)) (world (S.counts shelf.new) (K.written sink.new) (K.faults sink.new)) session.new.store result }
     ensures cause { IsCaused (world (S.counts shelf.old) (K.written sink.old) (K.faults sink.old)) (world (S.counts shelf.new) (K.written sink.new) (K.faults sink.new)) result }
     ensures never_fall { NeverFall (world (S.counts shelf.old) (K.written sink.old) (K.faults sink.old)) (world (S.counts shelf.new) (K.written sink.new) (K.faults sink.new)) }
     ensures files { S.files shelf.new ≡ S.files shelf.old }
@@ -379,7 +366,7 @@ pub fn run_script<L, S: Shelf, K: Sink>(
 ) -> Result<bool, Stopped>
     requires { length script.now < 2 ^ 32 }
     ensures transcript { (files : Files) → S.files shelf.old ≡ Some files
-        → TellsAll (told_of files session.old.config 1 (lines_of script.now) session.old.store) (world (S.counts shelf.old) (K.written sink.old) (K.faults sink.old)) (world (S.counts shelf.new) (K.written sink.new) (K.faults sink.new)) result }
+        → TellsAll files session.old.config (lines_of script.now) session.old.store (world (S.counts shelf.old) (K.written sink.old) (K.faults sink.old)) (world (S.counts shelf.new) (K.written sink.new) (K.faults sink.new)) result }
     ensures cause { IsCaused (world (S.counts shelf.old) (K.written sink.old) (K.faults sink.old)) (world (S.counts shelf.new) (K.written sink.new) (K.faults sink.new)) result }
     ensures never_fall { NeverFall (world (S.counts shelf.old) (K.written sink.old) (K.faults sink.old)) (world (S.counts shelf.new) (K.written sink.new) (K.faults sink.new)) }
     ensures grow { Grow reads.old reads.new }

@@ -1,6 +1,6 @@
 use Rattle.std.proofs.Common.{◌≡◌, ◌<◌, ◌≤◌, ◌+◌, ◌-◌, ◌++◌, ◌∷◌, [], ℕ, List, suc, zero, refl, ap, arith, codes, decimal, length}
 use Rattle.sig_base.specs.declared.values.Row.{Row}
-use Rattle.outside.proofs.PutsFacts.{Going, going-on, going-stops, going-end, stops-front}
+use Rattle.outside.proofs.PutsFacts.{going-on, going-stops, going-end, stops-front}
 use Rattle.report_text.specs.Line.{line_of}
 use Rattle.report_text.specs.Counts.{code_count_line, code_line, code_lines, count_text}
 use Rattle.report_text.proofs.counts.put_counts.Goals as goal

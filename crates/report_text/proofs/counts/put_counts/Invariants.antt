@@ -1,4 +1,4 @@
-use Rattle.std.proofs.Common.{◌-◌, ◌≤◌}
+use Rattle.std.proofs.Common.{◌-◌}
 use Rattle.outside.proofs.PutsFacts.{Going}
 use Rattle.report_text.specs.Counts.{count_text, code_lines}
 use Rattle.report_text.proofs.counts.put_counts.Given as goal

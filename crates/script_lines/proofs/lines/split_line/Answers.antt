@@ -1,6 +1,6 @@
-use Rattle.std.proofs.Common.{◌≡◌, ◌++◌, ◌+◌, length, take, drop, sym, ap, ◌∙◌, arith, refl}
+use Rattle.std.proofs.Common.{◌≡◌, ◌+◌, length, take, drop, sym, ap, ◌∙◌, arith, refl}
 use Rattle.std.proofs.lemmas.List.{append-nil, take_rest, drop_all, take_all}
-use Rattle.script_lines.specs.Lines.{end_length, first_line, after_line}
+use Rattle.script_lines.specs.Lines.{end_length, first_line}
 use Rattle.script_lines.proofs.LineLaws.{line_ends, line_goes, line_over, further}
 use Rattle.script_lines.proofs.lines.split_line.Goals as goal
 

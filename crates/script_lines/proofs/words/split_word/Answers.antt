@@ -1,6 +1,6 @@
-use Rattle.std.proofs.Common.{◌≡◌, ◌++◌, ◌+◌, length, take, drop, sym, ap, ◌∙◌, arith, refl}
-use Rattle.std.proofs.lemmas.List.{append-nil, take_rest, drop_all, take_all}
-use Rattle.script_lines.specs.Words.{word, after_word}
+use Rattle.std.proofs.Common.{◌+◌, length, take, drop, sym, ◌∙◌, arith, refl}
+use Rattle.std.proofs.lemmas.List.{append-nil, drop_all, take_all}
+use Rattle.script_lines.specs.Words.{word}
 use Rattle.script_lines.proofs.LineLaws.{word_ends, word_goes, word_over, further}
 use Rattle.script_lines.proofs.words.split_word.Goals as goal
 

@@ -1,4 +1,4 @@
-use Rattle.std.proofs.Common.{◌≡◌, ◌++◌, ◌+◌, length, take, drop, sym, ap, ◌∙◌, arith, refl}
+use Rattle.std.proofs.Common.{length, sym, ◌∙◌, arith}
 use Rattle.std.proofs.lemmas.List.{take_rest, drop_all}
 use Rattle.script_lines.proofs.LineLaws.{spaces_end, spaces_go, spaces_over}
 use Rattle.script_lines.proofs.words.without_spaces.Goals as goal

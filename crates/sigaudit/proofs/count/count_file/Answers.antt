@@ -1,4 +1,3 @@
-use Rattle.std.proofs.Common.{List, ℕ}
 use Rattle.outside.specs.Shelf.{Files}
 use Rattle.sigaudit.specs.Request.{plain_count}
 use Rattle.sigaudit.proofs.RunFacts.{if_some-weaker, run-of_file}

@@ -1,12 +1,10 @@
-use Rattle.std.proofs.Common.{◌≡◌, ap, List, ℕ}
-use Rattle.outside.specs.Shelf.{Files}
-use Rattle.command_line.specs.Words.{HasDay, seen}
-use Rattle.sigaudit.specs.Run.{world, RunsAs}
+use Rattle.std.proofs.Common.{ap}
+use Rattle.command_line.specs.Words.{seen}
+use Rattle.sigaudit.specs.Run.{world}
 use Rattle.sigaudit.specs.Status.{status_of_run}
-use Rattle.sigaudit.specs.Transcript.{counted}
 use Rattle.sigaudit.proofs.GrowFacts.{grow_once}
 use Rattle.sigaudit.proofs.RunFacts.{request_run, request_count, day_back}
-use Rattle.sigaudit.proofs.ScriptFacts.{told_file}
+use Rattle.sigaudit.proofs.LineFacts.{told_file}
 use Rattle.sigaudit.proofs.run.run_request.Goals as goal
 
 pub returns-in-Run-clause-told : goal.returns-in-Run-clause-told

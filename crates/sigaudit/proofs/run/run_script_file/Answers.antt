@@ -1,7 +1,20 @@
-use Rattle.sigaudit.specs.Transcript.{script_outcome, limited}
-use Rattle.sigaudit.proofs.RunFacts.{stop_told}
+use Rattle.std.proofs.Common.{◌∙◌, refl}
+use Rattle.sigaudit.specs.Run.{world}
+use Rattle.sigaudit.specs.Status.{status_of_run}
+use Rattle.sigaudit.specs.Transcript.{IsScriptOutcome, limited}
+use Rattle.sigaudit.proofs.RunFacts.{nothing_there, script_begun, stop_told, text_there}
 use Rattle.sigaudit.proofs.run.run_script_file.Goals as goal
+
+pub returns-in-Have-clause-told : goal.returns-in-Have-clause-told
+returns-in-Have-clause-told g c = λ files told.
+    text_there (IsScriptOutcome files c.args.config) (limited 4194304 (files c.args.name.now)) c.fetch_text.new.bytes.items c.deref.result.now (g.S.Shelf.counts c.args.shelf.now) (g.S.Shelf.counts c.fetch_text.new.shelf) (g.K.Sink.written c.args.sink.now) (g.K.Sink.faults c.args.sink.now) (world (g.S.Shelf.counts c.run_lines.new.shelf) (g.K.Sink.written c.run_lines.new.sink) (g.K.Sink.faults c.run_lines.new.sink)) (status_of_run c.run_lines.result)
+    (c.in-Have.ensures.told files told) c.deref.ensures.value c.in-Have.ensures.counts (c.run_lines.ensures.told files (c.in-Have.ensures.files ∙ told))
+
+pub returns-in-Nothing-clause-told : goal.returns-in-Nothing-clause-told
+returns-in-Nothing-clause-told g c = λ files told.
+    nothing_there (IsScriptOutcome files c.args.config) (limited 4194304 (files c.args.name.now)) (g.S.Shelf.counts c.args.shelf.now) (g.S.Shelf.counts c.fetch_text.new.shelf) (g.K.Sink.written c.args.sink.now) (g.K.Sink.faults c.args.sink.now) (c.in-Nothing.ensures.told files told) refl c.in-Nothing.ensures.counts
 
 pub returns-in-Stop-clause-told : goal.returns-in-Stop-clause-told
 returns-in-Stop-clause-told g c = λ files told.
-    stop_told (script_outcome files c.args.config (limited 4194304 (files c.args.name.now))) (g.S.Shelf.counts c.args.shelf.now) (g.S.Shelf.counts c.fetch_text.new.shelf) (g.K.Sink.written c.args.sink.now) (g.K.Sink.faults c.args.sink.now) c.in-Stop.stopped c.in-Stop.ensures.counts
+    stop_told (IsScriptOutcome files c.args.config (limited 4194304 (files c.args.name.now))) (g.S.Shelf.counts c.args.shelf.now) (g.S.Shelf.counts c.fetch_text.new.shelf) (g.K.Sink.written c.args.sink.now) (g.K.Sink.faults c.args.sink.now) c.in-Stop.stopped
+    (script_begun files c.args.config (limited 4194304 (files c.args.name.now))) c.in-Stop.ensures.counts

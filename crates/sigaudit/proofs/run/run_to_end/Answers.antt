@@ -1,15 +1,16 @@
-use Rattle.std.proofs.Common.{◌≡◌, ap, List, ℕ, Some, None}
+use Rattle.std.proofs.Common.{◌≡◌, Some, None}
 use Rattle.command_line.specs.Words.{seen}
 use Rattle.sigaudit.specs.Asked.{asked_of}
 use Rattle.sigaudit.specs.Run.{world}
 use Rattle.sigaudit.specs.Status.{status_of_run}
-use Rattle.sigaudit.proofs.RunFacts.{asked_is, transcript_as, cause_as, needs_as, usage_told, usage_cause}
+use Rattle.sigaudit.specs.Transcript.{IsAnswer}
+use Rattle.sigaudit.proofs.RunFacts.{answer_begun, run-of_nothing, asked_is, answer_as, cause_as, needs_as, usage_told, usage_cause}
 use Rattle.sigaudit.proofs.run.run_to_end.Goals as goal
 
 pub returns-in-Ok-parse_words-clause-told : goal.returns-in-Ok-parse_words-clause-told
 returns-in-Ok-parse_words-clause-told g c = λ files told.
     let asked : asked_of c.args.words.now ≡ Some (seen c.in-Ok-parse_words.request) = asked_is c.args.words.now c.in-Ok.all.items c.deref.result.now (Some (seen c.in-Ok-parse_words.request)) c.deref.ensures.value c.in-Ok.ensures c.in-Ok-parse_words.ensures.value in
-    transcript_as c.args.words.now files (Some (seen c.in-Ok-parse_words.request)) (world (g.S.Shelf.counts c.args.shelf.now) (g.K.Sink.written c.args.sink.now) (g.K.Sink.faults c.args.sink.now)) (world (g.S.Shelf.counts c.run_request.new.shelf) (g.K.Sink.written c.run_request.new.sink) (g.K.Sink.faults c.run_request.new.sink)) (status_of_run c.run_request.result) asked (c.run_request.ensures.told files told)
+    answer_as c.args.words.now files (Some (seen c.in-Ok-parse_words.request)) (world (g.S.Shelf.counts c.args.shelf.now) (g.K.Sink.written c.args.sink.now) (g.K.Sink.faults c.args.sink.now)) (world (g.S.Shelf.counts c.run_request.new.shelf) (g.K.Sink.written c.run_request.new.sink) (g.K.Sink.faults c.run_request.new.sink)) (status_of_run c.run_request.result) asked (c.run_request.ensures.told files told)
 
 pub returns-in-Ok-parse_words-clause-cause : goal.returns-in-Ok-parse_words-clause-cause
 returns-in-Ok-parse_words-clause-cause g c =
@@ -30,3 +31,9 @@ pub returns-in-Err-Usage-clause-cause : goal.returns-in-Err-Usage-clause-cause
 returns-in-Err-Usage-clause-cause g c =
     let asked : asked_of c.args.words.now ≡ None = asked_is c.args.words.now c.in-Ok.all.items c.deref.result.now None c.deref.ensures.value c.in-Ok.ensures (rw c.in-Err-Usage.field-0-is at c.in-Err-Usage.ensures.value) in
     usage_cause c.args.words.now (g.S.Shelf.counts c.args.shelf.now) _ _ _ _ c.show_usage.result asked c.show_usage.ensures
+
+pub returns-in-Err-clause-told : goal.returns-in-Err-clause-told
+returns-in-Err-clause-told g c = λ files told. run-of_nothing (IsAnswer (asked_of c.args.words.now) files) (g.S.Shelf.counts c.args.shelf.now) (g.K.Sink.written c.args.sink.now) (g.K.Sink.faults c.args.sink.now) (answer_begun (asked_of c.args.words.now) files)
+
+pub returns-clause-told : goal.returns-clause-told
+returns-clause-told g c = λ files told. run-of_nothing (IsAnswer (asked_of c.args.words.now) files) (g.S.Shelf.counts c.args.shelf.now) (g.K.Sink.written c.args.sink.now) (g.K.Sink.faults c.args.sink.now) (answer_begun (asked_of c.args.words.now) files)

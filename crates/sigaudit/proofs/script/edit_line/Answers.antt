@@ -1,22 +1,37 @@
-use Rattle.std.proofs.Common.{◌≡◌, ◌∙◌, false, sym}
+use Rattle.std.proofs.Common.{◌≡◌, ◌∙◌, false, sym, ap}
+use Rattle.ring_config.specs.Settings.{Settings}
 use Rattle.session.specs.Edits.{change_of, step_of}
-use Rattle.sigaudit.specs.Script.{is_edit_memory}
-use Rattle.sigaudit.proofs.EditFacts.{names_row, step_refused}
-use Rattle.sigaudit.proofs.ScriptFacts.{refused_edit}
+use Rattle.sigaudit.specs.Script.{is_edit_memory, IsEdited}
+use Rattle.sigaudit.proofs.TakeFacts.{by_nothing}
+use Rattle.sigaudit.proofs.EditFacts.{edit_cut, edit_made, edit_refused, names_row}
 use Rattle.sigaudit.proofs.script.edit_line.Goals as goal
+
+pub returns-in-Ok-put_applied-clause-turn : goal.returns-in-Ok-put_applied-clause-turn
+returns-in-Ok-put_applied-clause-turn g c =
+    edit_made c.args.session.now.config c.args.number c.args.loaded c.args.session.now.store c.apply.new.self.store (step_of c.args.session.now.store (change_of c.args.edit)) c.in-Ok.applied _ _ _ _
+    c.in-Ok.ensures.step c.in-Ok.ensures.moved c.in-Ok-put_applied.ensures.0 c.in-Ok-put_applied.ensures.1
+
+pub returns-in-Err-put_applied-clause-turn : goal.returns-in-Err-put_applied-clause-turn
+returns-in-Err-put_applied-clause-turn g c =
+    edit_cut c.args.session.now.config c.args.number c.args.loaded c.args.session.now.store c.apply.new.self.store (step_of c.args.session.now.store (change_of c.args.edit)) c.in-Ok.applied _ _ _ _
+    c.in-Ok.ensures.step c.in-Ok.ensures.moved c.in-Err-put_applied.ensures
+
+pub returns-then-is_edit_memory-clause-turn : goal.returns-then-is_edit_memory-clause-turn
+returns-then-is_edit_memory-clause-turn g c =
+    by_nothing (IsEdited c.args.session.now.config c.args.number c.args.loaded c.args.session.now.store (step_of c.args.session.now.store (change_of c.args.edit))) (g.K.Sink.written c.args.sink.now) (g.K.Sink.faults c.args.sink.now) c.apply.new.self.store
 
 pub refuse-requires : goal.refuse-requires
 refuse-requires g c =
-    let ne : is_edit_memory c.in-Err.error ≡ false = sym c.is_edit_memory.ensures ∙ c.if-is_edit_memory.false in
-    names_row c.config.result.now.window c.args.session.now.store (change_of c.args.edit) c.in-Err.error (step_refused _ _ _ c.in-Err.error ne c.in-Err.ensures.step).1
+    let same = c.config.ensures.value ∙ c.in-Err.ensures.config in
+    names_row c.args.session.now.config c.config.result.now.window c.args.session.now.store c.apply.new.self.store (change_of c.args.edit) c.in-Err.error (ap (λ (k : Settings). k.window) same)
+    (c.config.ensures.hours ∙ ap (λ (k : Settings). k.window.hours) c.in-Err.ensures.config) c.in-Err.ensures.step
 
 pub returns-else-is_edit_memory : goal.returns-else-is_edit_memory
 returns-else-is_edit_memory g c =
     let ne : is_edit_memory c.in-Err.error ≡ false = sym c.is_edit_memory.ensures ∙ c.if-is_edit_memory.false in
-    let s = step_refused _ _ _ c.in-Err.error ne c.in-Err.ensures.step in
     record {
-      turn = refused_edit c.args.session.now.config c.config.result.now c.args.number c.args.loaded c.args.session.now.store c.apply.new.self.store _ c.in-Err.error _ _ _ _ c.refuse.result
-          (c.config.ensures ∙ c.in-Err.ensures.config) s.0 s.1 c.refuse.ensures;
+      turn = edit_refused c.args.session.now.config c.config.result.now c.args.number c.args.loaded c.args.session.now.store c.apply.new.self.store (step_of c.args.session.now.store (change_of c.args.edit)) c.in-Err.error _ _ _ _ c.refuse.result
+          ne (c.config.ensures.value ∙ c.in-Err.ensures.config) c.in-Err.ensures.step c.refuse.ensures;
       config = c.in-Err.ensures.config;
       grow = c.in-Err.ensures.grow;
     }

@@ -1,6 +1,8 @@
-use Rattle.std.proofs.Common.{◌≡◌, ◌∙◌, refl, arith}
-use Rattle.sigaudit.specs.Script.{hour_change, hour_file, refuses}
-use Rattle.sigaudit.proofs.ScriptFacts.{refused_file, read_file, caused_of_put, never_of_put}
+use Rattle.std.proofs.Common.{◌≡◌, arith}
+use Rattle.sigaudit.specs.Turns.{Turn, refuses}
+use Rattle.sigaudit.specs.Script.{hour_change, hour_file, IsFetched}
+use Rattle.sigaudit.proofs.TakeFacts.{caused_of_by, never_of_by, takes_of_by}
+use Rattle.sigaudit.proofs.LineFacts.{by_bad, fetch_refused}
 use Rattle.sigaudit.proofs.script.fetch_line.Goals as goal
 
 pub refuse-requires : goal.refuse-requires
@@ -8,14 +10,12 @@ refuse-requires g c = c.in-Missed.ensures.plain c.config.result.now.window
 
 pub returns-in-Missed-clause-turn : goal.returns-in-Missed-clause-turn
 returns-in-Missed-clause-turn g c = λ files told.
-    refused_file c.args.session.now.config c.config.result.now c.args.number c.args.hour (hour_change c.args.replaces) c.args.session.now.store (hour_file (files c.args.name.now)) c.in-Missed.refusal
-    (g.S.Shelf.counts c.args.shelf.now) (g.S.Shelf.counts c.fetch_hour.new.shelf) _ _ _ _ c.refuse.result c.config.ensures (c.in-Missed.ensures.told files told) c.in-Missed.ensures.counts.1 c.refuse.ensures
+    takes_of_by (IsFetched c.args.session.now.config c.args.number c.args.hour (hour_change c.args.replaces) c.args.session.now.store (hour_file (files c.args.name.now))) (g.S.Shelf.counts c.args.shelf.now) (g.S.Shelf.counts c.fetch_hour.new.shelf) _ _ _ _ c.args.session.now.store c.refuse.result c.in-Missed.ensures.counts.1
+    (fetch_refused c.args.session.now.config c.config.result.now c.args.number c.args.hour (hour_change c.args.replaces) c.args.session.now.store (hour_file (files c.args.name.now)) c.in-Missed.refusal _ _ _ _ c.refuse.result c.config.ensures.value (c.in-Missed.ensures.told files told) c.refuse.ensures)
 
 pub returns-in-Missed-clause-cause : goal.returns-in-Missed-clause-cause
-returns-in-Missed-clause-cause g c =
-    caused_of_put (refuses c.config.result.now c.args.number c.in-Missed.refusal c.args.session.now.store) (g.S.Shelf.counts c.args.shelf.now) (g.S.Shelf.counts c.fetch_hour.new.shelf) _ _ _ _ c.args.session.now.store c.refuse.result c.in-Missed.ensures.counts.1 (c.refuse.ensures c.args.session.now.store)
+returns-in-Missed-clause-cause g c = caused_of_by (λ (t : Turn). t ≡ refuses c.args.session.now.config c.args.number c.in-Missed.refusal c.args.session.now.store) (g.S.Shelf.counts c.args.shelf.now) (g.S.Shelf.counts c.fetch_hour.new.shelf) _ _ _ _ c.args.session.now.store c.refuse.result c.in-Missed.ensures.counts.1 (by_bad c.args.session.now.config c.config.result.now c.args.number c.in-Missed.refusal c.args.session.now.store _ _ _ _ c.refuse.result c.config.ensures.value c.refuse.ensures)
 
 pub returns-in-Missed-clause-never_fall : goal.returns-in-Missed-clause-never_fall
 returns-in-Missed-clause-never_fall g c =
-    never_of_put (refuses c.config.result.now c.args.number c.in-Missed.refusal c.args.session.now.store) (g.S.Shelf.counts c.args.shelf.now) (g.S.Shelf.counts c.fetch_hour.new.shelf) _ _ _ _ c.args.session.now.store c.refuse.result
-    c.in-Missed.ensures.counts.0 (let e = c.in-Missed.ensures.counts.1 in omega arith) c.in-Missed.ensures.counts.2 (c.refuse.ensures c.args.session.now.store)
+    never_of_by (λ (t : Turn). t ≡ refuses c.args.session.now.config c.args.number c.in-Missed.refusal c.args.session.now.store) (g.S.Shelf.counts c.args.shelf.now) (g.S.Shelf.counts c.fetch_hour.new.shelf) _ _ _ _ c.args.session.now.store c.refuse.result c.in-Missed.ensures.counts.0 (let e = c.in-Missed.ensures.counts.1 in omega arith) c.in-Missed.ensures.counts.2 (by_bad c.args.session.now.config c.config.result.now c.args.number c.in-Missed.refusal c.args.session.now.store _ _ _ _ c.refuse.result c.config.ensures.value c.refuse.ensures)

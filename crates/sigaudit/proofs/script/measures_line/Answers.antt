@@ -1,17 +1,15 @@
-use Rattle.std.proofs.Common.{◌∙◌, ap}
-use Rattle.hour_work.specs.Numbers.{total_of}
-use Rattle.sigaudit.proofs.ScriptFacts.{measures_head, measures_stop, measures_done}
+use Rattle.sigaudit.proofs.LineFacts.{measures_cut, measures_done, measures_stop}
 use Rattle.sigaudit.proofs.script.measures_line.Goals as goal
 
 pub returns-in-Err : goal.returns-in-Err
-returns-in-Err g c = measures_head c.args.number c.args.session.now.store _ _ _ _ c.in-Err.ensures
+returns-in-Err g c = measures_cut c.args.session.now.config c.args.number c.args.session.now.store c.report.result.now _ _ _ _ (c.report.ensures.history, c.report.ensures.report) c.in-Err.ensures
 
 pub returns-in-Ok-put_measures : goal.returns-in-Ok-put_measures
 returns-in-Ok-put_measures g c =
-    measures_done c.args.number c.args.session.now.store c.total.result.now _ _ _ _ _ _ (c.total.ensures ∙ ap total_of c.report.ensures)
+    measures_done c.args.session.now.config c.args.number c.args.session.now.store c.report.result.now c.total-total.result.now _ _ _ _ _ _ (c.report.ensures.history, c.report.ensures.report) c.total-total.ensures
     c.in-Ok.ensures.0 c.in-Ok.ensures.1 c.in-Ok-put_measures.ensures.0 c.in-Ok-put_measures.ensures.1
 
 pub returns-in-Err-put_measures : goal.returns-in-Err-put_measures
 returns-in-Err-put_measures g c =
-    measures_stop c.args.number c.args.session.now.store c.total.result.now _ _ _ _ _ _ (c.total.ensures ∙ ap total_of c.report.ensures)
+    measures_stop c.args.session.now.config c.args.number c.args.session.now.store c.report.result.now c.total-total.result.now _ _ _ _ _ _ (c.report.ensures.history, c.report.ensures.report) c.total-total.ensures
     c.in-Ok.ensures.0 c.in-Ok.ensures.1 c.in-Err-put_measures.ensures

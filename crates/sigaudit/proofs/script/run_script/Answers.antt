@@ -1,13 +1,14 @@
-use Rattle.std.proofs.Common.{◌≡◌, ◌∙◌, ◌<◌, ◌+◌, sym, refl, arith, length, eqb, true, false, rules, subst, Ok, Err}
-use Rattle.script_lines.specs.Words.{said}
+use Rattle.std.proofs.Common.{◌≡◌, ◌∙◌, ◌<◌, ◌+◌, sym, refl, arith, length, subst, Ok, Err}
 use Rattle.std.proofs.lemmas.Bool.{eqb-true}
 use Rattle.ring_config.specs.Settings.{Settings}
-use Rattle.script_lines.proofs.LineLaws.{after_shorter, nonempty}
+use Rattle.script_lines.specs.Words.{said}
 use Rattle.script_lines.specs.Lines.{lines_of}
-use Rattle.sigaudit.specs.Script.{told_of, turn}
+use Rattle.script_lines.proofs.LineLaws.{after_shorter, nonempty}
+use Rattle.sigaudit.specs.Script.{IsTurn}
 use Rattle.sigaudit.specs.Run.{world, Takes}
 use Rattle.sigaudit.proofs.GrowFacts.{grow_same, grow_on}
-use Rattle.sigaudit.proofs.ScriptFacts.{is_on_start, line_more, line_cut, cut_caused, lines_done, never_on, never_still}
+use Rattle.sigaudit.proofs.TakeFacts.{never_on, never_still}
+use Rattle.sigaudit.proofs.ScriptFacts.{is_on_start, line_more, line_cut, cut_caused, lines_done}
 use Rattle.sigaudit.proofs.script.run_script.Goals as goal
 
 pub loop-rest-init : goal.loop-rest-init
@@ -19,7 +20,7 @@ loop-rest-init g c = record {
   faults = refl;
   never = never_still _ _ _;
   grow = grow_same c.args.reads.now;
-  told = λ files told. is_on_start _ _ _;
+  told = λ files told. is_on_start files c.args.session.now.config (lines_of c.args.script.now) c.args.session.now.store (g.K.Sink.written c.args.sink.now) (g.K.Sink.faults c.args.sink.now) 1 refl;
 }
 
 pub loop-rest-smaller : goal.loop-rest-smaller
@@ -31,13 +32,15 @@ pub returns-in-Err-clause-transcript : goal.returns-in-Err-clause-transcript
 returns-in-Err-clause-transcript g c = λ files told.
     let some : 0 < length c.loop-rest.rest.now = nonempty c.loop-rest.rest.now c.is_empty.result c.is_empty.ensures c.loop-rest-test.true in
     let i = c.loop-rest.invariant in
-    let turn = subst (λ (k : Settings). Takes (turn files k (c.loop-rest.number + 1) (said k.window c.split_line.result.0.now) c.loop-rest.session.store) (world (g.S.Shelf.counts c.loop-rest.shelf) (g.K.Sink.written c.loop-rest.sink) (g.K.Sink.faults c.loop-rest.sink)) (world (g.S.Shelf.counts c.take_line.new.shelf) (g.K.Sink.written c.take_line.new.sink) (g.K.Sink.faults c.take_line.new.sink)) c.take_line.new.session.store (Err c.in-Err.stopped)) i.config (c.in-Err.ensures.turn files (i.files ∙ told)) in
-    line_cut files c.args.session.now.config (c.loop-rest.number + 1) c.loop-rest.rest.now c.split_line.result.0.now c.loop-rest.session.store c.take_line.new.session.store
-    (world (g.S.Shelf.counts c.args.shelf.now) (g.K.Sink.written c.args.sink.now) (g.K.Sink.faults c.args.sink.now))
-    (world (g.S.Shelf.counts c.loop-rest.shelf) (g.K.Sink.written c.loop-rest.sink) (g.K.Sink.faults c.loop-rest.sink))
-    (world (g.S.Shelf.counts c.take_line.new.shelf) (g.K.Sink.written c.take_line.new.sink) (g.K.Sink.faults c.take_line.new.sink))
-    (told_of files c.args.session.now.config 1 (lines_of c.args.script.now) c.args.session.now.store) c.loop-rest.refused c.in-Err.stopped
+    let turn = subst (λ (k : Settings). Takes (IsTurn files k (c.loop-rest.number + 1) (said k.window c.split_line.result.0.now) c.loop-rest.session.store) (world (g.S.Shelf.counts c.loop-rest.shelf) (g.K.Sink.written c.loop-rest.sink) (g.K.Sink.faults c.loop-rest.sink)) (world (g.S.Shelf.counts c.take_line.new.shelf) (g.K.Sink.written c.take_line.new.sink) (g.K.Sink.faults c.take_line.new.sink)) c.take_line.new.session.store (Err c.in-Err.stopped)) i.config (c.in-Err.ensures.turn files (i.files ∙ told)) in
+    line_cut files c.args.session.now.config (lines_of c.args.script.now) c.args.session.now.store (c.loop-rest.number + 1) c.loop-rest.rest.now c.split_line.result.0.now (world (g.S.Shelf.counts c.args.shelf.now) (g.K.Sink.written c.args.sink.now) (g.K.Sink.faults c.args.sink.now)) (world (g.S.Shelf.counts c.loop-rest.shelf) (g.K.Sink.written c.loop-rest.sink) (g.K.Sink.faults c.loop-rest.sink)) (world (g.S.Shelf.counts c.take_line.new.shelf) (g.K.Sink.written c.take_line.new.sink) (g.K.Sink.faults c.take_line.new.sink)) c.loop-rest.session.store c.take_line.new.session.store c.loop-rest.refused c.in-Err.stopped
     some c.split_line.ensures.line i.failed (i.told files told) turn
+
+pub returns-in-Err-clause-cause : goal.returns-in-Err-clause-cause
+returns-in-Err-clause-cause g c = cut_caused (world (g.S.Shelf.counts c.args.shelf.now) (g.K.Sink.written c.args.sink.now) (g.K.Sink.faults c.args.sink.now)) (world (g.S.Shelf.counts c.loop-rest.shelf) (g.K.Sink.written c.loop-rest.sink) (g.K.Sink.faults c.loop-rest.sink)) (world (g.S.Shelf.counts c.take_line.new.shelf) (g.K.Sink.written c.take_line.new.sink) (g.K.Sink.faults c.take_line.new.sink)) c.in-Err.stopped c.loop-rest.invariant.failed c.loop-rest.invariant.faults c.in-Err.ensures.cause
+
+pub returns-in-Err-clause-never_fall : goal.returns-in-Err-clause-never_fall
+returns-in-Err-clause-never_fall g c = never_on (world (g.S.Shelf.counts c.args.shelf.now) (g.K.Sink.written c.args.sink.now) (g.K.Sink.faults c.args.sink.now)) (world (g.S.Shelf.counts c.loop-rest.shelf) (g.K.Sink.written c.loop-rest.sink) (g.K.Sink.faults c.loop-rest.sink)) (world (g.S.Shelf.counts c.take_line.new.shelf) (g.K.Sink.written c.take_line.new.sink) (g.K.Sink.faults c.take_line.new.sink)) c.loop-rest.invariant.never c.in-Err.ensures.never_fall
 
 pub returns-in-Err-clause-grow : goal.returns-in-Err-clause-grow
 returns-in-Err-clause-grow g c = grow_on _ _ _ c.loop-rest.invariant.grow c.in-Err.ensures.grow
@@ -55,20 +58,13 @@ loop-rest-preserved g c =
       never = never_on _ _ _ i.never c.in-Ok.ensures.never_fall;
       grow = grow_on _ _ _ i.grow c.in-Ok.ensures.grow;
       told = λ files told.
-          let turn = subst (λ (k : Settings). Takes (turn files k (c.loop-rest.number + 1) (said k.window c.split_line.result.0.now) c.loop-rest.session.store) (world (g.S.Shelf.counts c.loop-rest.shelf) (g.K.Sink.written c.loop-rest.sink) (g.K.Sink.faults c.loop-rest.sink)) (world (g.S.Shelf.counts c.take_line.new.shelf) (g.K.Sink.written c.take_line.new.sink) (g.K.Sink.faults c.take_line.new.sink)) c.take_line.new.session.store (Ok c.in-Ok.is_refused)) i.config (c.in-Ok.ensures.turn files (i.files ∙ told)) in
-          line_more files c.args.session.now.config (c.loop-rest.number + 1) c.loop-rest.rest.now c.split_line.result.0.now c.split_line.result.1.now c.loop-rest.session.store c.take_line.new.session.store
-          (g.K.Sink.written c.args.sink.now) (g.K.Sink.faults c.args.sink.now)
-          (world (g.S.Shelf.counts c.loop-rest.shelf) (g.K.Sink.written c.loop-rest.sink) (g.K.Sink.faults c.loop-rest.sink))
-          (world (g.S.Shelf.counts c.take_line.new.shelf) (g.K.Sink.written c.take_line.new.sink) (g.K.Sink.faults c.take_line.new.sink))
-          (told_of files c.args.session.now.config 1 (lines_of c.args.script.now) c.args.session.now.store) c.loop-rest.refused c.in-Ok.is_refused
-          some c.split_line.ensures.line c.split_line.ensures.rest (i.told files told) turn;
+          let turn = subst (λ (k : Settings). Takes (IsTurn files k (c.loop-rest.number + 1) (said k.window c.split_line.result.0.now) c.loop-rest.session.store) (world (g.S.Shelf.counts c.loop-rest.shelf) (g.K.Sink.written c.loop-rest.sink) (g.K.Sink.faults c.loop-rest.sink)) (world (g.S.Shelf.counts c.take_line.new.shelf) (g.K.Sink.written c.take_line.new.sink) (g.K.Sink.faults c.take_line.new.sink)) c.take_line.new.session.store (Ok c.in-Ok.is_refused)) i.config (c.in-Ok.ensures.turn files (i.files ∙ told)) in
+          line_more files c.args.session.now.config (lines_of c.args.script.now) c.args.session.now.store (g.K.Sink.written c.args.sink.now) (g.K.Sink.faults c.args.sink.now) (c.loop-rest.number + 1) (c.loop-rest.number + 1 + 1) c.loop-rest.rest.now c.split_line.result.0.now c.split_line.result.1.now (world (g.S.Shelf.counts c.loop-rest.shelf) (g.K.Sink.written c.loop-rest.sink) (g.K.Sink.faults c.loop-rest.sink)) (world (g.S.Shelf.counts c.take_line.new.shelf) (g.K.Sink.written c.take_line.new.sink) (g.K.Sink.faults c.take_line.new.sink)) c.loop-rest.session.store c.take_line.new.session.store c.loop-rest.refused c.in-Ok.is_refused
+          some c.split_line.ensures.line c.split_line.ensures.rest refl (i.told files told) turn;
     }
 
 pub returns-clause-transcript : goal.returns-clause-transcript
 returns-clause-transcript g c = λ files told.
     let none : length c.loop-rest.rest.now ≡ 0 = eqb-true (length c.loop-rest.rest.now) 0 (sym c.is_empty.ensures ∙ c.loop-rest-test.false) in
     let i = c.loop-rest.invariant in
-    lines_done files c.args.session.now.config (c.loop-rest.number + 1) c.loop-rest.rest.now c.loop-rest.session.store
-    (world (g.S.Shelf.counts c.args.shelf.now) (g.K.Sink.written c.args.sink.now) (g.K.Sink.faults c.args.sink.now))
-    (world (g.S.Shelf.counts c.loop-rest.shelf) (g.K.Sink.written c.loop-rest.sink) (g.K.Sink.faults c.loop-rest.sink))
-    (told_of files c.args.session.now.config 1 (lines_of c.args.script.now) c.args.session.now.store) c.loop-rest.refused none i.failed (i.told files told)
+    lines_done files c.args.session.now.config (lines_of c.args.script.now) c.args.session.now.store (c.loop-rest.number + 1) c.loop-rest.rest.now (world (g.S.Shelf.counts c.args.shelf.now) (g.K.Sink.written c.args.sink.now) (g.K.Sink.faults c.args.sink.now)) (world (g.S.Shelf.counts c.loop-rest.shelf) (g.K.Sink.written c.loop-rest.sink) (g.K.Sink.faults c.loop-rest.sink)) c.loop-rest.session.store c.loop-rest.refused none i.failed (i.told files told)

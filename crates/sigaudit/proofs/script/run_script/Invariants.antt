@@ -2,12 +2,11 @@ use Rattle.std.proofs.Common.{◌≡◌, ◌+◌, ◌≤◌, length, Some}
 use Rattle.outside.specs.Shelf.{Files}
 use Rattle.script_lines.specs.Lines.{lines_of}
 use Rattle.session.specs.Sessions.{Grow}
-use Rattle.sigaudit.specs.Script.{told_of}
 use Rattle.sigaudit.specs.Run.{world, NeverFall}
 use Rattle.sigaudit.proofs.ScriptFacts.{IsOn}
 use Rattle.sigaudit.proofs.script.run_script.Given as goal
 
--- no fault came, and what is left to tell of the lines is what the rest of the script tells of the store as it is
+-- no fault came, the lines so far were taken, and those of the rest of the script are left
 abbrev pub invariant-loop-rest : goal.invariant-loop-rest
 invariant-loop-rest g l = record {
   room : l.number + length l.rest ≤ length l.script;
@@ -18,8 +17,7 @@ invariant-loop-rest g l = record {
   never : NeverFall (world (g.S.Shelf.counts l.fn.shelf) (g.K.Sink.written l.fn.sink) (g.K.Sink.faults l.fn.sink)) (world (g.S.Shelf.counts l.shelf) (g.K.Sink.written l.sink) (g.K.Sink.faults l.sink));
   grow : Grow l.fn.reads l.reads;
   told : (files : Files) → g.S.Shelf.files l.fn.shelf ≡ Some files →
-      IsOn (g.K.Sink.written l.fn.sink) (g.K.Sink.written l.sink) (g.K.Sink.faults l.fn.sink) (g.K.Sink.faults l.sink)
-      (told_of files l.fn.session.config 1 (lines_of l.fn.script) l.fn.session.store) (told_of files l.fn.session.config (l.number + 1) (lines_of l.rest) l.session.store) l.refused;
+      IsOn files l.fn.session.config (lines_of l.fn.script) l.fn.session.store (g.K.Sink.written l.fn.sink) (g.K.Sink.written l.sink) (g.K.Sink.faults l.fn.sink) (g.K.Sink.faults l.sink) (l.number + 1) (lines_of l.rest) l.session.store l.refused;
 }
 
 abbrev pub decreases-loop-rest : goal.decreases-loop-rest

@@ -1,66 +1,86 @@
-use Rattle.std.proofs.Common.{◌≡◌, ◌∙◌, refl, ap, arith, true, false, None, Ok}
-use Rattle.script_lines.specs.Words.{Said}
+use Rattle.std.proofs.Common.{◌≡◌, refl, ap, arith, true, false, None, nat_lt}
 use Rattle.script_lines.specs.Words as line
 use Rattle.script_lines.specs.Seen.{seen}
-use Rattle.sigaudit.specs.Run.{world}
 use Rattle.report_text.specs.declared.refusal.Refusal.TheVariants.{BadLine}
 use Rattle.session.specs.Edits.{change_of, step_of}
-use Rattle.sigaudit.specs.Script.{turn, edited, hour_change, hour_file_turn, hour_turn, measures_turn, refuses}
-use Rattle.sigaudit.proofs.ScriptFacts.{caused_of_put, never_of_put, refuses_in, takes_file, takes_line, takes_skip, turn_bad, turn_hour, turn_load, turn_measures, turn_replace, turn_edit}
+use Rattle.sigaudit.specs.Run.{world}
+use Rattle.sigaudit.specs.Turns.{Turn, refuses}
+use Rattle.sigaudit.specs.Audit.{AreVerdicts, IsAudited}
+use Rattle.sigaudit.specs.Script.{hour_bytes, hour_change, IsEdited, IsFetched, IsMeasured, IsMeasuredOf}
+use Rattle.sigaudit.proofs.TakeFacts.{caused_of_by, never_of_by}
+use Rattle.sigaudit.proofs.LineFacts.{by_bad, line_as, line_by, line_skipped, turn_audit, turn_bad, turn_edit, turn_hour, turn_load, turn_measures, turn_replace, turn_verdicts}
 use Rattle.sigaudit.proofs.script.take_said.Goals as goal
 
 pub returns-in-Skip-clause-turn : goal.returns-in-Skip-clause-turn
 returns-in-Skip-clause-turn g c = λ files told.
-    takes_file (turn files c.args.session.now.config c.args.number line.skip c.args.session.now.store) (turn files c.args.session.now.config c.args.number (seen c.args.line) c.args.session.now.store)
-    (world (g.S.Shelf.counts c.args.shelf.now) (g.K.Sink.written c.args.sink.now) (g.K.Sink.faults c.args.sink.now)) (world (g.S.Shelf.counts c.args.shelf.now) (g.K.Sink.written c.args.sink.now) (g.K.Sink.faults c.args.sink.now)) c.args.session.now.store (Ok false)
-    (ap (λ (x : Said). turn files c.args.session.now.config c.args.number x c.args.session.now.store) (ap seen c.in-Skip.is))
-    (takes_skip files c.args.session.now.config c.args.number c.args.session.now.store (g.S.Shelf.counts c.args.shelf.now) (g.K.Sink.written c.args.sink.now) (g.K.Sink.faults c.args.sink.now))
+    line_skipped files c.args.session.now.config c.args.number (seen c.args.line) c.args.session.now.store (g.S.Shelf.counts c.args.shelf.now) (g.K.Sink.written c.args.sink.now) (g.K.Sink.faults c.args.sink.now) (ap seen c.in-Skip.is)
 
 pub returns-in-Bad-clause-turn : goal.returns-in-Bad-clause-turn
 returns-in-Bad-clause-turn g c = λ files told.
-    takes_line (refuses c.args.session.now.config c.args.number BadLine c.args.session.now.store) _ (g.S.Shelf.counts c.args.shelf.now) _ _ _ _ c.args.session.now.store c.refuse.result (ap (λ (x : Said). turn files c.args.session.now.config c.args.number x c.args.session.now.store) (ap seen c.in-Bad.is) ∙ turn_bad files c.args.session.now.config c.args.number c.args.session.now.store) (refuses_in c.args.session.now.config c.config.result.now c.args.number BadLine c.args.session.now.store _ _ _ _ c.refuse.result c.config.ensures c.refuse.ensures)
+    line_by files c.args.session.now.config c.args.number (seen c.args.line) line.bad c.args.session.now.store (λ (t : Turn). t ≡ refuses c.args.session.now.config c.args.number BadLine c.args.session.now.store) (g.S.Shelf.counts c.args.shelf.now) _ _ _ _ c.args.session.now.store c.refuse.result (ap seen c.in-Bad.is) (turn_bad files c.args.session.now.config c.args.number c.args.session.now.store) (by_bad c.args.session.now.config c.config.result.now c.args.number BadLine c.args.session.now.store _ _ _ _ c.refuse.result c.config.ensures.value c.refuse.ensures)
 
 pub returns-in-Bad-clause-cause : goal.returns-in-Bad-clause-cause
-returns-in-Bad-clause-cause g c = caused_of_put (refuses c.args.session.now.config c.args.number BadLine c.args.session.now.store) (g.S.Shelf.counts c.args.shelf.now) (g.S.Shelf.counts c.args.shelf.now) _ _ _ _ c.args.session.now.store c.refuse.result refl (refuses_in c.args.session.now.config c.config.result.now c.args.number BadLine c.args.session.now.store _ _ _ _ c.refuse.result c.config.ensures c.refuse.ensures)
+returns-in-Bad-clause-cause g c = caused_of_by (λ (t : Turn). t ≡ refuses c.args.session.now.config c.args.number BadLine c.args.session.now.store) (g.S.Shelf.counts c.args.shelf.now) (g.S.Shelf.counts c.args.shelf.now) _ _ _ _ c.args.session.now.store c.refuse.result refl (by_bad c.args.session.now.config c.config.result.now c.args.number BadLine c.args.session.now.store _ _ _ _ c.refuse.result c.config.ensures.value c.refuse.ensures)
 
 pub returns-in-Bad-clause-never_fall : goal.returns-in-Bad-clause-never_fall
-returns-in-Bad-clause-never_fall g c = never_of_put (refuses c.args.session.now.config c.args.number BadLine c.args.session.now.store) (g.S.Shelf.counts c.args.shelf.now) (g.S.Shelf.counts c.args.shelf.now) _ _ _ _ c.args.session.now.store c.refuse.result (omega arith) (omega arith) (omega arith) (refuses_in c.args.session.now.config c.config.result.now c.args.number BadLine c.args.session.now.store _ _ _ _ c.refuse.result c.config.ensures c.refuse.ensures)
+returns-in-Bad-clause-never_fall g c = never_of_by (λ (t : Turn). t ≡ refuses c.args.session.now.config c.args.number BadLine c.args.session.now.store) (g.S.Shelf.counts c.args.shelf.now) (g.S.Shelf.counts c.args.shelf.now) _ _ _ _ c.args.session.now.store c.refuse.result (omega arith) (omega arith) (omega arith) (by_bad c.args.session.now.config c.config.result.now c.args.number BadLine c.args.session.now.store _ _ _ _ c.refuse.result c.config.ensures.value c.refuse.ensures)
 
 pub returns-in-Some-clause-turn : goal.returns-in-Some-clause-turn
 returns-in-Some-clause-turn g c = λ files told.
-    takes_line (edited c.args.session.now.config c.args.number None c.args.session.now.store (step_of c.args.session.now.store (change_of c.in-Some.edit))) (turn files c.args.session.now.config c.args.number (seen c.args.line) c.args.session.now.store) (g.S.Shelf.counts c.args.shelf.now) _ _ _ _ c.edit_line.new.session.store c.edit_line.result
-    (turn_edit files c.args.session.now.config c.args.number (seen c.args.line) (change_of c.in-Some.edit) c.args.session.now.store c.in-Some.ensures) c.edit_line.ensures.turn
+    line_by files c.args.session.now.config c.args.number (seen c.args.line) (seen c.args.line) c.args.session.now.store (IsEdited c.args.session.now.config c.args.number None c.args.session.now.store (step_of c.args.session.now.store (change_of c.in-Some.edit))) (g.S.Shelf.counts c.args.shelf.now) _ _ _ _ c.edit_line.new.session.store c.edit_line.result refl (turn_edit files c.args.session.now.config c.args.number (seen c.args.line) (change_of c.in-Some.edit) c.args.session.now.store c.in-Some.ensures) (c.edit_line.ensures.turn)
 
 pub returns-in-Some-clause-cause : goal.returns-in-Some-clause-cause
-returns-in-Some-clause-cause g c = caused_of_put (edited c.args.session.now.config c.args.number None c.args.session.now.store (step_of c.args.session.now.store (change_of c.in-Some.edit))) (g.S.Shelf.counts c.args.shelf.now) (g.S.Shelf.counts c.args.shelf.now) _ _ _ _ c.edit_line.new.session.store c.edit_line.result refl c.edit_line.ensures.turn
+returns-in-Some-clause-cause g c = caused_of_by (IsEdited c.args.session.now.config c.args.number None c.args.session.now.store (step_of c.args.session.now.store (change_of c.in-Some.edit))) (g.S.Shelf.counts c.args.shelf.now) (g.S.Shelf.counts c.args.shelf.now) _ _ _ _ c.edit_line.new.session.store c.edit_line.result refl (c.edit_line.ensures.turn)
 
 pub returns-in-Some-clause-never_fall : goal.returns-in-Some-clause-never_fall
-returns-in-Some-clause-never_fall g c = never_of_put (edited c.args.session.now.config c.args.number None c.args.session.now.store (step_of c.args.session.now.store (change_of c.in-Some.edit))) (g.S.Shelf.counts c.args.shelf.now) (g.S.Shelf.counts c.args.shelf.now) _ _ _ _ c.edit_line.new.session.store c.edit_line.result (omega arith) (omega arith) (omega arith) c.edit_line.ensures.turn
+returns-in-Some-clause-never_fall g c = never_of_by (IsEdited c.args.session.now.config c.args.number None c.args.session.now.store (step_of c.args.session.now.store (change_of c.in-Some.edit))) (g.S.Shelf.counts c.args.shelf.now) (g.S.Shelf.counts c.args.shelf.now) _ _ _ _ c.edit_line.new.session.store c.edit_line.result (omega arith) (omega arith) (omega arith) (c.edit_line.ensures.turn)
+
+pub returns-in-Audit-clause-turn : goal.returns-in-Audit-clause-turn
+returns-in-Audit-clause-turn g c = λ files told.
+    line_by files c.args.session.now.config c.args.number (seen c.args.line) line.audit c.args.session.now.store (IsAudited c.args.session.now.config c.args.number c.args.session.now.store) (g.S.Shelf.counts c.args.shelf.now) _ _ _ _ c.args.session.now.store c.audit_line.result (ap seen c.in-Audit.is) (turn_audit files c.args.session.now.config c.args.number c.args.session.now.store) (c.audit_line.ensures.turn)
+
+pub returns-in-Audit-clause-cause : goal.returns-in-Audit-clause-cause
+returns-in-Audit-clause-cause g c = caused_of_by (IsAudited c.args.session.now.config c.args.number c.args.session.now.store) (g.S.Shelf.counts c.args.shelf.now) (g.S.Shelf.counts c.args.shelf.now) _ _ _ _ c.args.session.now.store c.audit_line.result refl (c.audit_line.ensures.turn)
+
+pub returns-in-Audit-clause-never_fall : goal.returns-in-Audit-clause-never_fall
+returns-in-Audit-clause-never_fall g c = never_of_by (IsAudited c.args.session.now.config c.args.number c.args.session.now.store) (g.S.Shelf.counts c.args.shelf.now) (g.S.Shelf.counts c.args.shelf.now) _ _ _ _ c.args.session.now.store c.audit_line.result (omega arith) (omega arith) (omega arith) (c.audit_line.ensures.turn)
+
+pub returns-in-Verdicts-clause-turn : goal.returns-in-Verdicts-clause-turn
+returns-in-Verdicts-clause-turn g c = λ files told.
+    line_by files c.args.session.now.config c.args.number (seen c.args.line) (line.verdicts c.in-Verdicts.hour) c.args.session.now.store (AreVerdicts c.args.session.now.config c.args.number c.in-Verdicts.hour c.args.session.now.store (nat_lt c.in-Verdicts.hour c.args.session.now.config.window.hours)) (g.S.Shelf.counts c.args.shelf.now) _ _ _ _ c.args.session.now.store c.verdicts_line.result (ap seen c.in-Verdicts.is) (turn_verdicts files c.args.session.now.config c.args.number c.in-Verdicts.hour c.args.session.now.store) (c.verdicts_line.ensures.turn)
+
+pub returns-in-Verdicts-clause-cause : goal.returns-in-Verdicts-clause-cause
+returns-in-Verdicts-clause-cause g c = caused_of_by (AreVerdicts c.args.session.now.config c.args.number c.in-Verdicts.hour c.args.session.now.store (nat_lt c.in-Verdicts.hour c.args.session.now.config.window.hours)) (g.S.Shelf.counts c.args.shelf.now) (g.S.Shelf.counts c.args.shelf.now) _ _ _ _ c.args.session.now.store c.verdicts_line.result refl (c.verdicts_line.ensures.turn)
+
+pub returns-in-Verdicts-clause-never_fall : goal.returns-in-Verdicts-clause-never_fall
+returns-in-Verdicts-clause-never_fall g c = never_of_by (AreVerdicts c.args.session.now.config c.args.number c.in-Verdicts.hour c.args.session.now.store (nat_lt c.in-Verdicts.hour c.args.session.now.config.window.hours)) (g.S.Shelf.counts c.args.shelf.now) (g.S.Shelf.counts c.args.shelf.now) _ _ _ _ c.args.session.now.store c.verdicts_line.result (omega arith) (omega arith) (omega arith) (c.verdicts_line.ensures.turn)
 
 pub returns-in-Measures-clause-turn : goal.returns-in-Measures-clause-turn
 returns-in-Measures-clause-turn g c = λ files told.
-    takes_line (measures_turn c.args.number c.args.session.now.store) _ (g.S.Shelf.counts c.args.shelf.now) _ _ _ _ c.args.session.now.store c.measures_line.result (ap (λ (x : Said). turn files c.args.session.now.config c.args.number x c.args.session.now.store) (ap seen c.in-Measures.is) ∙ turn_measures files c.args.session.now.config c.args.number c.args.session.now.store) c.measures_line.ensures
+    line_by files c.args.session.now.config c.args.number (seen c.args.line) line.measures c.args.session.now.store (IsMeasured c.args.session.now.config c.args.number c.args.session.now.store) (g.S.Shelf.counts c.args.shelf.now) _ _ _ _ c.args.session.now.store c.measures_line.result (ap seen c.in-Measures.is) (turn_measures files c.args.session.now.config c.args.number c.args.session.now.store) (c.measures_line.ensures)
 
 pub returns-in-Measures-clause-cause : goal.returns-in-Measures-clause-cause
-returns-in-Measures-clause-cause g c = caused_of_put (measures_turn c.args.number c.args.session.now.store) (g.S.Shelf.counts c.args.shelf.now) (g.S.Shelf.counts c.args.shelf.now) _ _ _ _ c.args.session.now.store c.measures_line.result refl c.measures_line.ensures
+returns-in-Measures-clause-cause g c = caused_of_by (IsMeasured c.args.session.now.config c.args.number c.args.session.now.store) (g.S.Shelf.counts c.args.shelf.now) (g.S.Shelf.counts c.args.shelf.now) _ _ _ _ c.args.session.now.store c.measures_line.result refl (c.measures_line.ensures)
 
 pub returns-in-Measures-clause-never_fall : goal.returns-in-Measures-clause-never_fall
-returns-in-Measures-clause-never_fall g c = never_of_put (measures_turn c.args.number c.args.session.now.store) (g.S.Shelf.counts c.args.shelf.now) (g.S.Shelf.counts c.args.shelf.now) _ _ _ _ c.args.session.now.store c.measures_line.result (omega arith) (omega arith) (omega arith) c.measures_line.ensures
+returns-in-Measures-clause-never_fall g c = never_of_by (IsMeasured c.args.session.now.config c.args.number c.args.session.now.store) (g.S.Shelf.counts c.args.shelf.now) (g.S.Shelf.counts c.args.shelf.now) _ _ _ _ c.args.session.now.store c.measures_line.result (omega arith) (omega arith) (omega arith) (c.measures_line.ensures)
 
 pub returns-in-MeasuresOf-clause-turn : goal.returns-in-MeasuresOf-clause-turn
 returns-in-MeasuresOf-clause-turn g c = λ files told.
-    takes_line (hour_turn c.args.session.now.config c.args.number c.in-MeasuresOf.hour c.args.session.now.store) _ (g.S.Shelf.counts c.args.shelf.now) _ _ _ _ c.args.session.now.store c.hour_line.result (ap (λ (x : Said). turn files c.args.session.now.config c.args.number x c.args.session.now.store) (ap seen c.in-MeasuresOf.is) ∙ turn_hour files c.args.session.now.config c.args.number c.in-MeasuresOf.hour c.args.session.now.store) c.hour_line.ensures
+    line_by files c.args.session.now.config c.args.number (seen c.args.line) (line.measures_of c.in-MeasuresOf.hour) c.args.session.now.store (IsMeasuredOf c.args.session.now.config c.args.number c.in-MeasuresOf.hour c.args.session.now.store) (g.S.Shelf.counts c.args.shelf.now) _ _ _ _ c.args.session.now.store c.hour_line.result (ap seen c.in-MeasuresOf.is) (turn_hour files c.args.session.now.config c.args.number c.in-MeasuresOf.hour c.args.session.now.store) (c.hour_line.ensures)
 
 pub returns-in-MeasuresOf-clause-cause : goal.returns-in-MeasuresOf-clause-cause
-returns-in-MeasuresOf-clause-cause g c = caused_of_put (hour_turn c.args.session.now.config c.args.number c.in-MeasuresOf.hour c.args.session.now.store) (g.S.Shelf.counts c.args.shelf.now) (g.S.Shelf.counts c.args.shelf.now) _ _ _ _ c.args.session.now.store c.hour_line.result refl c.hour_line.ensures
+returns-in-MeasuresOf-clause-cause g c = caused_of_by (IsMeasuredOf c.args.session.now.config c.args.number c.in-MeasuresOf.hour c.args.session.now.store) (g.S.Shelf.counts c.args.shelf.now) (g.S.Shelf.counts c.args.shelf.now) _ _ _ _ c.args.session.now.store c.hour_line.result refl (c.hour_line.ensures)
 
 pub returns-in-MeasuresOf-clause-never_fall : goal.returns-in-MeasuresOf-clause-never_fall
-returns-in-MeasuresOf-clause-never_fall g c = never_of_put (hour_turn c.args.session.now.config c.args.number c.in-MeasuresOf.hour c.args.session.now.store) (g.S.Shelf.counts c.args.shelf.now) (g.S.Shelf.counts c.args.shelf.now) _ _ _ _ c.args.session.now.store c.hour_line.result (omega arith) (omega arith) (omega arith) c.hour_line.ensures
+returns-in-MeasuresOf-clause-never_fall g c = never_of_by (IsMeasuredOf c.args.session.now.config c.args.number c.in-MeasuresOf.hour c.args.session.now.store) (g.S.Shelf.counts c.args.shelf.now) (g.S.Shelf.counts c.args.shelf.now) _ _ _ _ c.args.session.now.store c.hour_line.result (omega arith) (omega arith) (omega arith) (c.hour_line.ensures)
 
 pub returns-in-Load-clause-turn : goal.returns-in-Load-clause-turn
 returns-in-Load-clause-turn g c = λ files told.
-    takes_file (hour_file_turn files c.args.session.now.config c.args.number c.in-Load.hour c.in-Load.name.now (hour_change false) c.args.session.now.store) (turn files c.args.session.now.config c.args.number (seen c.args.line) c.args.session.now.store) (world (g.S.Shelf.counts c.args.shelf.now) (g.K.Sink.written c.args.sink.now) (g.K.Sink.faults c.args.sink.now)) (world (g.S.Shelf.counts c.file_line.new.shelf) (g.K.Sink.written c.file_line.new.sink) (g.K.Sink.faults c.file_line.new.sink)) c.file_line.new.session.store c.file_line.result (ap (λ (x : Said). turn files c.args.session.now.config c.args.number x c.args.session.now.store) (ap seen c.in-Load.is) ∙ turn_load files c.args.session.now.config c.args.number c.in-Load.hour c.in-Load.name.now c.args.session.now.store) (c.file_line.ensures.turn files told)
+    line_as files c.args.session.now.config c.args.number (seen c.args.line) (line.load c.in-Load.hour c.in-Load.name.now) c.args.session.now.store (IsFetched c.args.session.now.config c.args.number c.in-Load.hour (hour_change false) c.args.session.now.store (hour_bytes files c.args.session.now.config c.in-Load.hour c.in-Load.name.now)) (world (g.S.Shelf.counts c.args.shelf.now) (g.K.Sink.written c.args.sink.now) (g.K.Sink.faults c.args.sink.now)) (world (g.S.Shelf.counts c.file_line.new.shelf) (g.K.Sink.written c.file_line.new.sink) (g.K.Sink.faults c.file_line.new.sink)) c.file_line.new.session.store c.file_line.result
+    (ap seen c.in-Load.is) (turn_load files c.args.session.now.config c.args.number c.in-Load.hour c.in-Load.name.now c.args.session.now.store) (c.file_line.ensures.turn files told)
 
 pub returns-in-Replace-clause-turn : goal.returns-in-Replace-clause-turn
 returns-in-Replace-clause-turn g c = λ files told.
-    takes_file (hour_file_turn files c.args.session.now.config c.args.number c.in-Replace.hour c.in-Replace.name.now (hour_change true) c.args.session.now.store) (turn files c.args.session.now.config c.args.number (seen c.args.line) c.args.session.now.store) (world (g.S.Shelf.counts c.args.shelf.now) (g.K.Sink.written c.args.sink.now) (g.K.Sink.faults c.args.sink.now)) (world (g.S.Shelf.counts c.file_line-in-Replace.new.shelf) (g.K.Sink.written c.file_line-in-Replace.new.sink) (g.K.Sink.faults c.file_line-in-Replace.new.sink)) c.file_line-in-Replace.new.session.store c.file_line-in-Replace.result (ap (λ (x : Said). turn files c.args.session.now.config c.args.number x c.args.session.now.store) (ap seen c.in-Replace.is) ∙ turn_replace files c.args.session.now.config c.args.number c.in-Replace.hour c.in-Replace.name.now c.args.session.now.store) (c.file_line-in-Replace.ensures.turn files told)
+    line_as files c.args.session.now.config c.args.number (seen c.args.line) (line.replace c.in-Replace.hour c.in-Replace.name.now) c.args.session.now.store (IsFetched c.args.session.now.config c.args.number c.in-Replace.hour (hour_change true) c.args.session.now.store (hour_bytes files c.args.session.now.config c.in-Replace.hour c.in-Replace.name.now)) (world (g.S.Shelf.counts c.args.shelf.now) (g.K.Sink.written c.args.sink.now) (g.K.Sink.faults c.args.sink.now)) (world (g.S.Shelf.counts c.file_line-in-Replace.new.shelf) (g.K.Sink.written c.file_line-in-Replace.new.sink) (g.K.Sink.faults c.file_line-in-Replace.new.sink)) c.file_line-in-Replace.new.session.store c.file_line-in-Replace.result
+    (ap seen c.in-Replace.is) (turn_replace files c.args.session.now.config c.args.number c.in-Replace.hour c.in-Replace.name.now c.args.session.now.store) (c.file_line-in-Replace.ensures.turn files told)

@@ -1,0 +1,54 @@
+-- The names of audit rules.
+use Rattle.std.specs.Prelude.{◌++◌, ℕ, List, [], ◌∷◌, codes, decimal, Option, Some, None, slice_get, unwrap_or}
+use Rattle.event_codes.specs.declared.channels.Channel.{Channel}
+use Rattle.event_codes.specs.declared.channels.Kind.{Kind}
+use Rattle.event_codes.specs.declared.channels.Kind.TheVariants.{Phase, Ped, Overlap, Detector, PedDetector, PreemptInput, PreemptService, Coordination}
+use Rattle.reach.specs.declared.seen.AgeBound.{AgeBound}
+use Rattle.reach.specs.declared.seen.AgeBound.TheVariants.{Any, AtLeast, AtMost}
+use Rattle.channel_tables.specs.declared.spec.Spec.{Spec}
+use Rattle.channel_tables.specs.Tables.{table_of}
+use Rattle.ring_config.specs.declared.items.IntervalItem.{IntervalItem}
+use Rattle.rule_audit.specs.declared.rules.Rule.{Rule}
+use Rattle.rule_audit.specs.declared.rules.Rule.TheVariants.{Interval, Conflict, Companion, Parents}
+
+-- these parts, one after the other
+abbrev pub joined : List (List ℕ) → List ℕ
+joined [] = []
+joined (p ∷ ps) = p ++ joined ps
+
+-- what a kind of channel is called; interval rules are about phases, pedestrian signals, overlaps and preempt services alone
+abbrev pub kind_text : Kind → List ℕ
+kind_text Phase = codes "phase"
+kind_text Ped = codes "ped"
+kind_text Overlap = codes "overlap"
+kind_text PreemptService = codes "preempt"
+kind_text Detector = codes "detector"
+kind_text PedDetector = codes "ped detector"
+kind_text PreemptInput = codes "preempt input"
+kind_text Coordination = codes "coordination"
+
+-- the name of a colour of a kind of channel, where it has the colour
+abbrev pub colour_text : Kind → ℕ → List ℕ
+colour_text kind colour = unwrap_or (slice_get (table_of kind).names colour) []
+
+-- how old the colour is to be, in tenths
+abbrev pub bound_text : AgeBound → List ℕ
+bound_text Any = []
+bound_text (AtLeast n) = joined (codes " at least " ∷ decimal n ∷ [])
+bound_text (AtMost n) = joined (codes " at most " ∷ decimal n ∷ [])
+
+-- the channel and its colour
+abbrev pub coloured_text : Channel → ℕ → List ℕ
+coloured_text channel colour = joined (kind_text channel.kind ∷ codes " " ∷ decimal channel.number ∷ codes " " ∷ colour_text channel.kind colour ∷ [])
+
+-- an interval rule of this channel, if it is tracked
+abbrev pub interval_text : Option Spec → IntervalItem → List ℕ
+interval_text None item = []
+interval_text (Some spec) item = coloured_text spec.channel item.colour ++ bound_text item.bound
+
+-- what a rule is called, by its channel, colour and age, or by the numbers of its phases, its pedestrian signal or its overlap
+abbrev pub rule_name : List Spec → Rule → List ℕ
+rule_name specs (Interval item) = interval_text (slice_get specs item.spec) item
+rule_name specs (Conflict a b terms) = joined (codes "conflict " ∷ decimal a ∷ codes " " ∷ decimal b ∷ [])
+rule_name specs (Companion p terms) = joined (codes "companion " ∷ decimal p ∷ [])
+rule_name specs (Parents o terms) = joined (codes "parents " ∷ decimal o ∷ [])

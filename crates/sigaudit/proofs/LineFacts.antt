@@ -1,0 +1,193 @@
+-- What single lines of a script tell.
+use Rattle.std.proofs.Common.{◌≡◌, ◌<◌, ◌≤◌, ◌++◌, ◌∙◌, ℕ, List, [], length, Bool, true, false, Option, Some, None, Result, Ok, Err, refl, subst, nat_lt, IfSome}
+use Rattle.std.proofs.lemmas.Bool.{lt-ltb, le-ltb}
+use Rattle.std.specs.Prelude.{slice_get}
+use Rattle.std.specs.Io.KnownBytes.{Appends}
+use Rattle.outside.specs.Shelf.{Counts, Files}
+use Rattle.outside.specs.Sink.{Stops}
+use Rattle.outside.proofs.PutsFacts.{appends-nothing, appends-then, puts-then, stops-front}
+use Rattle.sig_base.specs.HourRows.{Shown}
+use Rattle.sig_base.specs.declared.values.EditError.TheVariants.{OutOfWindow}
+use Rattle.row_reader.specs.Rows.{rows_of}
+use Rattle.hour_store.specs.Store.{Store}
+use Rattle.hour_work.specs.Numbers.{Numbers, total_of}
+use Rattle.report_text.specs.Measures.{measures_text}
+use Rattle.report_text.specs.declared.refusal.Refusal.{Refusal}
+use Rattle.report_text.specs.declared.refusal.Refusal.TheVariants.{BadLine, FileTooLong, Edit}
+use Rattle.ring_config.specs.Settings.{Settings}
+use Rattle.session.specs.Edits.{Change, step_of}
+use Rattle.session.specs.Edits as change
+use Rattle.script_lines.specs.Words.{Said}
+use Rattle.script_lines.specs.Words as line
+use Rattle.sigaudit.specs.Turns.{Turn, passes, refuses, writes}
+use Rattle.sigaudit.specs.Audit.{AreVerdicts, IsAudited, IsReportOf}
+use Rattle.sigaudit.specs.Script.{edit_said, hour_bytes, hour_change, hour_file, hour_head, wanted_for, window_head, IsEdited, IsFetched, IsMeasured, IsMeasuredOf, IsRead, IsTurn}
+use Rattle.sigaudit.specs.Run.{World, world, Takes, TakesBy, TakesPut}
+use Rattle.sigaudit.specs.declared.status.Stopped.{Stopped}
+use Rattle.sigaudit.specs.declared.status.Stopped.TheVariants as stopped
+use Rattle.sigaudit.proofs.TakeFacts.{by_refusal, takes_as, takes_of_by}
+
+-- ---- files of hours
+
+-- the told files of a fetch
+pub told_file : (P : Files → Type 0) (o : Option Files) (files : Files) → o ≡ Some files → IfSome o P → P files
+told_file P None files e h = absurd (cc)
+told_file P (Some x) files e h = let same : x ≡ files = cc in subst P same h
+
+pub file_there : (file : Option (List ℕ)) (bytes old new : List ℕ) → file ≡ Some bytes → length bytes ≤ 33554432 → new ≡ old ++ bytes → old ≡ [] → hour_file file ≡ Ok new
+file_there file bytes old new e short n o =
+    let same : new ≡ bytes = rw o at n in
+    let k : hour_file (Some bytes) ≡ Ok bytes = rw (le-ltb 33554432 (length bytes) short) refl in
+    rw (e, same) k
+
+pub file_long : (file : Option (List ℕ)) (bytes : List ℕ) → file ≡ Some bytes → 33554432 < length bytes → hour_file file ≡ Err FileTooLong
+file_long file bytes e long =
+    let k : hour_file (Some bytes) ≡ Err FileTooLong = rw (lt-ltb 33554432 (length bytes) long) refl in
+    rw e k
+
+-- an hour file that can't be read
+pub fetch_refused : (c c' : Settings) (n hour : ℕ) (make : Shown → Change) (s : Store) (want : Result (List ℕ) Refusal) (refusal : Refusal) (w w' : Option (List ℕ)) (f f' : ℕ) (r : Result Bool Stopped)
+    → c' ≡ c → want ≡ Err refusal → ((x : Store) → TakesPut (refuses c' n refusal x) w w' f f' x r) → TakesBy (IsFetched c n hour make s want) w w' f f' s r
+fetch_refused c c' n hour make s want refusal w w' f f' r ec e h =
+    rw e (by_refusal (IsFetched c n hour make s (Err refusal)) c c' n refusal s w w' f f' r ec refl h)
+
+-- one that was read
+pub fetch_read : (c : Settings) (n hour : ℕ) (make : Shown → Change) (s s' : Store) (want : Result (List ℕ) Refusal) (bytes bytes' : List ℕ) (w w' : Option (List ℕ)) (f f' : ℕ) (r : Result Bool Stopped)
+    → want ≡ Ok bytes → bytes' ≡ bytes → TakesBy (IsRead c n make s (rows_of (wanted_for c hour) bytes')) w w' f f' s' r → TakesBy (IsFetched c n hour make s want) w w' f f' s' r
+fetch_read c n hour make s s' want bytes bytes' w w' f f' r e eb h =
+    let h' = rw eb at h in
+    rw e h'
+
+-- an hour that the window hasn't, or has
+pub outside_line : (files : Files) (c c' : Settings) (n hour : ℕ) (name : List ℕ) (make : Shown → Change) (s : Store) (w w' : Option (List ℕ)) (f f' : ℕ) (r : Result Bool Stopped)
+    → c' ≡ c → c.window.hours ≤ hour → ((x : Store) → TakesPut (refuses c' n (Edit OutOfWindow) x) w w' f f' x r) → TakesBy (IsFetched c n hour make s (hour_bytes files c hour name)) w w' f f' s r
+outside_line files c c' n hour name make s w w' f f' r ec past h =
+    let e : hour_bytes files c hour name ≡ Err (Edit OutOfWindow) = rw (le-ltb hour c.window.hours past) refl in
+    fetch_refused c c' n hour make s (hour_bytes files c hour name) (Edit OutOfWindow) w w' f f' r ec e h
+
+pub inside_line : (files : Files) (c : Settings) (n hour : ℕ) (name : List ℕ) (make : Shown → Change) (s s' : Store) (old new : World) (r : Result Bool Stopped)
+    → hour < c.window.hours → Takes (IsFetched c n hour make s (hour_file (files name))) old new s' r → Takes (IsFetched c n hour make s (hour_bytes files c hour name)) old new s' r
+inside_line files c n hour name make s s' old new r lt h =
+    let e : hour_bytes files c hour name ≡ hour_file (files name) = rw (lt-ltb hour c.window.hours lt) refl in
+    rw e h
+
+-- ---- measures
+
+measured : (c : Settings) (n : ℕ) (s : Store) (all : List Numbers) → IsReportOf c s all → IsMeasured c n s (writes (window_head n ++ measures_text (total_of all)) s)
+measured c n s all h = (all, h, refl)
+
+pub measures_cut : (c : Settings) (n : ℕ) (s : Store) (all : List Numbers) (w w' : Option (List ℕ)) (f f' : ℕ) → IsReportOf c s all → Stops w w' f f' (window_head n) → TakesBy (IsMeasured c n s) w w' f f' s (Err stopped.Fault)
+measures_cut c n s all w w' f f' h k =
+    (writes (window_head n ++ measures_text (total_of all)) s, measured c n s all h, stops-front w w' f f' (window_head n) (measures_text (total_of all)) k)
+
+pub measures_stop : (c : Settings) (n : ℕ) (s : Store) (all : List Numbers) (x : Numbers) (w w1 w2 : Option (List ℕ)) (f f1 f2 : ℕ) → IsReportOf c s all → x ≡ total_of all → f1 ≡ f → Appends w w1 (window_head n)
+    → Stops w1 w2 f1 f2 (measures_text x) → TakesBy (IsMeasured c n s) w w2 f f2 s (Err stopped.Fault)
+measures_stop c n s all x w w1 w2 f f1 f2 h ex e a k =
+    let k' = rw ex at k in (
+      writes (window_head n ++ measures_text (total_of all)) s,
+      measured c n s all h,
+      puts-then {T = Unit {0}} {E = Unit {0}} w w1 w2 f f1 f2 (window_head n) (measures_text (total_of all)) (Err tt) e a k',
+    )
+
+pub measures_done : (c : Settings) (n : ℕ) (s : Store) (all : List Numbers) (x : Numbers) (w w1 w2 : Option (List ℕ)) (f f1 f2 : ℕ) → IsReportOf c s all → x ≡ total_of all → f1 ≡ f → Appends w w1 (window_head n)
+    → f2 ≡ f1 → Appends w1 w2 (measures_text x) → TakesBy (IsMeasured c n s) w w2 f f2 s (Ok false)
+measures_done c n s all x w w1 w2 f f1 f2 h ex e a e' b =
+    let b' = rw ex at b in
+    (writes (window_head n ++ measures_text (total_of all)) s, measured c n s all h, appends-then w w1 w2 (window_head n) (measures_text (total_of all)) a b', e' ∙ e, refl, refl)
+
+-- the measures of an hour, which are there
+hour_measured : (c : Settings) (n hour : ℕ) (s : Store) (all : List Numbers) (x : Numbers) → IsReportOf c s all → Some x ≡ slice_get all hour → IsMeasuredOf c n hour s (writes (hour_head n hour ++ measures_text x) s)
+hour_measured c n hour s all x h e = (all, h, rw (← e) refl)
+
+pub hour_outside : (c c' : Settings) (n hour : ℕ) (s : Store) (all : List Numbers) (w w' : Option (List ℕ)) (f f' : ℕ) (r : Result Bool Stopped) → c' ≡ c → IsReportOf c s all → None ≡ slice_get all hour
+    → ((x : Store) → TakesPut (refuses c' n (Edit OutOfWindow) x) w w' f f' x r) → TakesBy (IsMeasuredOf c n hour s) w w' f f' s r
+hour_outside c c' n hour s all w w' f f' r ec h e k =
+    let is : IsMeasuredOf c n hour s (refuses c n (Edit OutOfWindow) s) = (all, h, rw (← e) refl) in
+    by_refusal (IsMeasuredOf c n hour s) c c' n (Edit OutOfWindow) s w w' f f' r ec is k
+
+pub hour_cut : (c : Settings) (n hour : ℕ) (s : Store) (all : List Numbers) (x : Numbers) (w w' : Option (List ℕ)) (f f' : ℕ) → IsReportOf c s all → Some x ≡ slice_get all hour → Stops w w' f f' (hour_head n hour)
+    → TakesBy (IsMeasuredOf c n hour s) w w' f f' s (Err stopped.Fault)
+hour_cut c n hour s all x w w' f f' h e k =
+    (writes (hour_head n hour ++ measures_text x) s, hour_measured c n hour s all x h e, stops-front w w' f f' (hour_head n hour) (measures_text x) k)
+
+pub hour_stop : (c : Settings) (n hour : ℕ) (s : Store) (all : List Numbers) (x : Numbers) (w w1 w2 : Option (List ℕ)) (f f1 f2 : ℕ) → IsReportOf c s all → Some x ≡ slice_get all hour → f1 ≡ f → Appends w w1 (hour_head n hour)
+    → Stops w1 w2 f1 f2 (measures_text x) → TakesBy (IsMeasuredOf c n hour s) w w2 f f2 s (Err stopped.Fault)
+hour_stop c n hour s all x w w1 w2 f f1 f2 h e ef a k = (
+  writes (hour_head n hour ++ measures_text x) s,
+  hour_measured c n hour s all x h e,
+  puts-then {T = Unit {0}} {E = Unit {0}} w w1 w2 f f1 f2 (hour_head n hour) (measures_text x) (Err tt) ef a k,
+)
+
+pub hour_done : (c : Settings) (n hour : ℕ) (s : Store) (all : List Numbers) (x : Numbers) (w w1 w2 : Option (List ℕ)) (f f1 f2 : ℕ) → IsReportOf c s all → Some x ≡ slice_get all hour → f1 ≡ f → Appends w w1 (hour_head n hour)
+    → f2 ≡ f1 → Appends w1 w2 (measures_text x) → TakesBy (IsMeasuredOf c n hour s) w w2 f f2 s (Ok false)
+hour_done c n hour s all x w w1 w2 f f1 f2 h e ef a eg b =
+    (writes (hour_head n hour ++ measures_text x) s, hour_measured c n hour s all x h e, appends-then w w1 w2 (hour_head n hour) (measures_text x) a b, eg ∙ ef, refl, refl)
+
+-- ---- what the lines do, by what they say
+
+pub turn_skip : (files : Files) (c : Settings) (n : ℕ) (s : Store) (t : Turn) → t ≡ passes s → IsTurn files c n line.skip s t
+unfolding IsTurn
+turn_skip files c n s t h = h
+
+pub turn_bad : (files : Files) (c : Settings) (n : ℕ) (s : Store) (t : Turn) → t ≡ refuses c n BadLine s → IsTurn files c n line.bad s t
+unfolding IsTurn
+turn_bad files c n s t h = h
+
+pub turn_load : (files : Files) (c : Settings) (n hour : ℕ) (name : List ℕ) (s : Store) (t : Turn) → IsFetched c n hour (hour_change false) s (hour_bytes files c hour name) t → IsTurn files c n (line.load hour name) s t
+unfolding IsTurn
+turn_load files c n hour name s t h = h
+
+pub turn_replace : (files : Files) (c : Settings) (n hour : ℕ) (name : List ℕ) (s : Store) (t : Turn) → IsFetched c n hour (hour_change true) s (hour_bytes files c hour name) t → IsTurn files c n (line.replace hour name) s t
+unfolding IsTurn
+turn_replace files c n hour name s t h = h
+
+pub turn_audit : (files : Files) (c : Settings) (n : ℕ) (s : Store) (t : Turn) → IsAudited c n s t → IsTurn files c n line.audit s t
+unfolding IsTurn
+turn_audit files c n s t h = h
+
+pub turn_verdicts : (files : Files) (c : Settings) (n hour : ℕ) (s : Store) (t : Turn) → AreVerdicts c n hour s (nat_lt hour c.window.hours) t → IsTurn files c n (line.verdicts hour) s t
+unfolding IsTurn
+turn_verdicts files c n hour s t h = h
+
+pub turn_measures : (files : Files) (c : Settings) (n : ℕ) (s : Store) (t : Turn) → IsMeasured c n s t → IsTurn files c n line.measures s t
+unfolding IsTurn
+turn_measures files c n s t h = h
+
+pub turn_hour : (files : Files) (c : Settings) (n hour : ℕ) (s : Store) (t : Turn) → IsMeasuredOf c n hour s t → IsTurn files c n (line.measures_of hour) s t
+unfolding IsTurn
+turn_hour files c n hour s t h = h
+
+-- a line that is an edit and needs no file
+pub turn_edit : (files : Files) (c : Settings) (n : ℕ) (x : Said) (ch : Change) (s : Store) → Some ch ≡ edit_said x → (t : Turn) → IsEdited c n None s (step_of s ch) t → IsTurn files c n x s t
+unfolding IsTurn
+turn_edit files c n line.skip ch s e t h = absurd (cc)
+turn_edit files c n line.bad ch s e t h = absurd (cc)
+turn_edit files c n (line.load hour name) ch s e t h = absurd (cc)
+turn_edit files c n (line.replace hour name) ch s e t h = absurd (cc)
+turn_edit files c n (line.withdraw hour) ch s e t h = let same : ch ≡ change.withdraw hour = cc in rw same at h
+turn_edit files c n (line.blank from to) ch s e t h = let same : ch ≡ change.blank from to = cc in rw same at h
+turn_edit files c n (line.unblank from to) ch s e t h = let same : ch ≡ change.unblank from to = cc in rw same at h
+turn_edit files c n line.audit ch s e t h = absurd (cc)
+turn_edit files c n (line.verdicts hour) ch s e t h = absurd (cc)
+turn_edit files c n line.measures ch s e t h = absurd (cc)
+turn_edit files c n (line.measures_of hour) ch s e t h = absurd (cc)
+
+-- a line that used the sink alone
+pub line_by : (files : Files) (c : Settings) (n : ℕ) (x y : Said) (s0 : Store) (Is : Turn → Type 0) (k : Counts) (w w' : Option (List ℕ)) (f f' : ℕ) (s : Store) (r : Result Bool Stopped) → x ≡ y
+    → ((t : Turn) → Is t → IsTurn files c n y s0 t) → TakesBy Is w w' f f' s r → Takes (IsTurn files c n x s0) (world k w f) (world k w' f') s r
+line_by files c n x y s0 Is k w w' f f' s r e turn h =
+    rw e (takes_as Is (IsTurn files c n y s0) (world k w f) (world k w' f') s r turn (takes_of_by Is k k w w' f f' s r refl h))
+
+-- one that used the shelf too
+pub line_as : (files : Files) (c : Settings) (n : ℕ) (x y : Said) (s0 : Store) (Is : Turn → Type 0) (old new : World) (s : Store) (r : Result Bool Stopped) → x ≡ y
+    → ((t : Turn) → Is t → IsTurn files c n y s0 t) → Takes Is old new s r → Takes (IsTurn files c n x s0) old new s r
+line_as files c n x y s0 Is old new s r e turn h = rw e (takes_as Is (IsTurn files c n y s0) old new s r turn h)
+
+-- a line that is passed over
+pub line_skipped : (files : Files) (c : Settings) (n : ℕ) (x : Said) (s : Store) (k : Counts) (w : Option (List ℕ)) (f : ℕ) → x ≡ line.skip → Takes (IsTurn files c n x s) (world k w f) (world k w f) s (Ok false)
+line_skipped files c n x s k w f e = rw e (passes s, turn_skip files c n s (passes s) refl, appends-nothing w, (refl, refl), refl, refl)
+
+-- a bad line
+pub by_bad : (c c' : Settings) (n : ℕ) (refusal : Refusal) (s : Store) (w w' : Option (List ℕ)) (f f' : ℕ) (r : Result Bool Stopped) → c' ≡ c → ((x : Store) → TakesPut (refuses c' n refusal x) w w' f f' x r)
+    → TakesBy (λ t. t ≡ refuses c n refusal s) w w' f f' s r
+by_bad c c' n refusal s w w' f f' r ec h = by_refusal (λ t. t ≡ refuses c n refusal s) c c' n refusal s w w' f f' r ec refl h

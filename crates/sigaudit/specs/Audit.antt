@@ -1,0 +1,68 @@
+-- The lines of an audit of a store.
+use Rattle.std.specs.Prelude.{◌≡◌, ℕ, zero, suc, ◌+◌, ◌||◌, not, List, [], ◌∷◌, ◌++◌, codes, decimal, if◌then◌else◌, Bool, true, false}
+use Rattle.sig_base.specs.Window.{Span}
+use Rattle.sig_base.specs.declared.values.EditError.TheVariants.{OutOfWindow}
+use Rattle.sig_base.specs.declared.values.Verdict.{Verdict}
+use Rattle.sig_base.specs.declared.values.Verdict.TheVariants.{Idle, Kept, Broken, Undecided}
+use Rattle.hour_store.specs.Store.{Store}
+use Rattle.channel_tables.specs.declared.spec.Spec.{Spec}
+use Rattle.ring_config.specs.Settings.{Settings}
+use Rattle.signal_log.specs.Log.{HasHistory, log_of}
+use Rattle.rule_audit.specs.declared.lines.AuditLine.{AuditLine}
+use Rattle.rule_audit.specs.declared.rules.Rule.{Rule}
+use Rattle.rule_audit.specs.Rules.{rules_for}
+use Rattle.hour_work.specs.Numbers.{Numbers, total_of}
+use Rattle.hour_work.specs.declared.counts.RuleCount.{RuleCount}
+use Rattle.hour_work.specs.Verdicts.{AreAuditLines}
+use Rattle.hour_work.specs.Reports.{IsReport}
+use Rattle.report_text.specs.declared.refusal.Refusal.TheVariants.{Edit}
+use Rattle.report_text.specs.Line.{line_of}
+use Rattle.report_text.specs.Audit.{audit_line_text, counts_text}
+use Rattle.sigaudit.specs.Turns.{Turn, refuses, writes}
+
+abbrev pub is_kept : Verdict → Bool
+is_kept Idle = false
+is_kept Kept = true
+is_kept Broken = false
+is_kept Undecided = false
+
+-- the text of a verdict's line; one that is kept has none unless these are asked for too
+abbrev pub shown_text : Bool → Span → AuditLine → List ℕ
+shown_text with_kept w l = if with_kept || not (is_kept l.verdict) then audit_line_text w l else []
+
+-- the text of the lines in their order
+unfoldable pub lines_text : Bool → Span → List AuditLine → List ℕ
+lines_text with_kept w [] = []
+lines_text with_kept w (l ∷ ls) = shown_text with_kept w l ++ lines_text with_kept w ls
+
+-- the broken and undecided lines of so many hours from this one on
+unfoldable pub IsHoursText : Settings → Store → ℕ → ℕ → List ℕ → Type 0
+IsHoursText c s hour zero text = text ≡ []
+IsHoursText c s hour (suc n) text =
+    (lines : List AuditLine) × (rest : List ℕ) × AreAuditLines c s hour lines × IsHoursText c s (hour + 1) n rest × (text ≡ lines_text false c.window lines ++ rest)
+
+-- this is the report of a store with which some history agrees, so that no obligation has two verdicts
+abbrev pub IsReportOf : Settings → Store → List Numbers → Type 0
+IsReportOf c s all = HasHistory (log_of c.specs s) × IsReport c s all
+
+-- the line before an audit, and that before the verdicts of one hour
+abbrev pub audit_head : ℕ → List ℕ
+audit_head n = line_of (decimal n ∷ codes " audit" ∷ [])
+
+abbrev pub verdicts_head : ℕ → ℕ → List ℕ
+verdicts_head n hour = line_of (decimal n ∷ codes " verdicts " ∷ decimal hour ∷ [])
+
+-- the line before an audit, and how many verdicts each rule has
+abbrev pub audit_start : ℕ → List Spec → List Rule → List RuleCount → List ℕ
+audit_start n specs rules counts = audit_head n ++ counts_text specs rules counts
+
+-- an audit: how many verdicts each rule has in the window, by the store's report, and then the broken and undecided ones hour by hour
+abbrev pub IsAudited : Settings → ℕ → Store → Turn → Type 0
+IsAudited c n s t =
+    (report : List Numbers) × (lines : List ℕ) × IsReportOf c s report × IsHoursText c s 0 c.window.hours lines
+    × (t ≡ writes (audit_start n c.specs (rules_for c) (total_of report).rules ++ lines) s)
+
+-- the verdicts of one hour, the kept ones among them; an hour past the window is refused
+abbrev pub AreVerdicts : Settings → ℕ → ℕ → Store → Bool → Turn → Type 0
+AreVerdicts c n hour s true t = (lines : List AuditLine) × HasHistory (log_of c.specs s) × AreAuditLines c s hour lines × (t ≡ writes (verdicts_head n hour ++ lines_text true c.window lines) s)
+AreVerdicts c n hour s false t = t ≡ refuses c n (Edit OutOfWindow) s

@@ -1,0 +1,26 @@
+// Refused lines of a script.
+ghost use Rattle.hour_store.specs.Store.{Store};
+ghost use Rattle.report_text.specs.Refusals.{IsOfWindow};
+ghost use Rattle.sigaudit.specs.Turns.{refuses};
+ghost use Rattle.sigaudit.specs.Run.{TakesPut};
+
+use crate::status::Stopped;
+use outside::Sink;
+use report_text::{Refusal, put_refusal};
+use ring_config::Config;
+
+/// Refuses a line: it is named and changes nothing.
+pub fn refuse<K: Sink>(
+    config: &Config,
+    number: u32,
+    refusal: Refusal,
+    sink: &mut K,
+) -> Result<bool, Stopped>
+    requires { IsOfWindow config.now.window refusal }
+    ensures { (s : Store) → TakesPut (refuses config.now number refusal s) (K.written sink.old) (K.written sink.new) (K.faults sink.old) (K.faults sink.new) s result }
+{
+    match put_refusal(config.window(), Some(number), &refusal, sink) {
+        Ok(()) => Ok(true),
+        Err(_) => Err(Stopped::Fault),
+    }
+}

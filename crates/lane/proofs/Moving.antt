@@ -14,7 +14,7 @@ use Rattle.reach.proofs.Arriving.{fills_later}
 use Rattle.lane.specs.declared.moves.Move.{Move}
 use Rattle.lane.specs.declared.moves.Move.TheVariants.{Letter, Gap}
 use Rattle.lane.specs.Walks.{limit_before, limit_after, IsMove, InOrder, Taken, Walk, AfterMove, AfterMoves, BeforeMove, BeforeMoves, EnteredBefore}
-use Rattle.lane.specs.Places.{EntersBefore, ArePasts, AreAheads, limit_of}
+use Rattle.lane.specs.Places.{EntersBefore, AreAheads, limit_of}
 
 -- a walk over one list and then another
 pub walk_join : (m : Rules) (xs ys : List Move) (s u : State) → Walk m (xs ++ ys) s u ↔ ((v : State) × Walk m xs s v × Walk m ys v u)
@@ -89,7 +89,7 @@ order_drop m low (suc j) [] o = tt
 order_drop m low (suc j) (x ∷ xs) o = order_drop m (limit_after x) j xs o.2
 
 -- the moves before a place end before the next one limit_before
-end_before : (m : Rules) (low i : ℕ) (xs : List Move) (d : Move) → i < length xs → InOrder m low xs → limit_of low (take i xs) ≤ limit_before (get_or xs i d)
+pub end_before : (m : Rules) (low i : ℕ) (xs : List Move) (d : Move) → i < length xs → InOrder m low xs → limit_of low (take i xs) ≤ limit_before (get_or xs i d)
 end_before m low i [] d lt o = absurd (omega arith)
 end_before m low zero (x ∷ xs) d lt o = o.0
 end_before m low (suc i) (x ∷ xs) d lt o = end_before m (limit_after x) i xs d (omega arith) o.2
@@ -113,12 +113,6 @@ some_after m old new x f t e k (s, h) a =
 
 pub after_all : (m : Rules) (old now : List (List Span)) (xs : List Move) (i : ℕ) → length xs ≤ i → ((u : State) → Holds now u ↔ AfterMoves m old (take i xs) u) → (u : State) → Holds now u ↔ AfterMoves m old xs u
 after_all m old now xs i h inv = subst (λ (ys : List Move). (u : State) → Holds now u ↔ AfterMoves m old ys u) (take_all i xs h) inv
-
-pub pasts_more : (m : Rules) (before : List (List Span)) (xs : List Move) (i n : ℕ) (pasts : List (List (List Span))) (set : List (List Span)) → n ≡ i + 1 → length pasts ≡ i → length set ≡ m.colours → ((u : State) → Holds set u ↔ AfterMoves m before (take i xs) u) → ArePasts m before xs i pasts → ArePasts m before xs n (pasts ++ set ∷ [])
-pasts_more m before xs i n pasts set same l k a p j lt = elim (cases_eq j i) [
-  | inl e ↦ let at : get_or (pasts ++ set ∷ []) j [] ≡ set = grind (arith, common_steps) in rw at (k, rw e a)
-  | inr ne ↦ let below : j < i = omega arith in let b2 : j < length pasts = omega arith in let at : get_or (pasts ++ set ∷ []) j [] ≡ get_or pasts j [] = grind (arith, common_steps) in rw at (p j below)
-]
 
 pub not_after : (m : Rules) (low : ℕ) (xs : List Move) (v : State) → InOrder m low xs → v.entry <ℤ pos low → EntersBefore xs v
 not_after m low [] v o e = tt

@@ -7,7 +7,7 @@ ghost use Rattle.lane.specs.Places.{IsLine, limit_of, TakesFrom, SeesPassing};
 
 use crate::ahead::aheads_of;
 use crate::moves::Move;
-use crate::past::pasts_of;
+use crate::past::{RunPasts, pasts_of};
 use colour_machine::Machine;
 use reach::{Ahead, Past, Seen, Test, possible};
 use sig_base::NoMemory;
@@ -19,8 +19,8 @@ use std::marker::Model;
 #[derive(Drop)]
 pub struct Line {
     moves: Vec<Move>,
-    // Before each move, and after the last.
-    pasts: Vec<Past>,
+    // One for each run of gaps between letters, and the run of each place.
+    pasts: RunPasts,
     // After the last move, before it, before the last two and so on.
     aheads: Vec<Ahead>,
 }
@@ -30,9 +30,9 @@ impl Model for Line {
 
     ghost Value = { Kept };
 
-    ghost view = { λ l. record { moves = l.moves.items; pasts = l.pasts.items; aheads = l.aheads.items } };
+    ghost view = { λ l. record { moves = l.moves.items; pasts = l.pasts.pasts.items; runs = l.pasts.runs.items; aheads = l.aheads.items } };
 
-    ghost invariant = { λ l. FitsMoves (record { moves = l.moves.items; pasts = l.pasts.items; aheads = l.aheads.items }) };
+    ghost invariant = { λ l. FitsMoves (record { moves = l.moves.items; pasts = l.pasts.pasts.items; runs = l.pasts.runs.items; aheads = l.aheads.items }) };
 }
 
 impl Line {
@@ -73,8 +73,9 @@ impl Line {
         requires high { test.now.at ≤ℤ pos (2 ^ 39) }
         ensures { (m : Rules) (low at : ℕ) (before : List (List Span)) (after : List (Option ℤ)) → IsLine m low before after self.now → limit_of low (take place self.now.moves) ≤ at + 1 → TakesFrom (at + 1) (drop place self.now.moves) → test.now.at ≡ pos at → SeesPassing m before after (take place self.now.moves) (drop place self.now.moves) test.now result }
     {
+        let run = self.pasts.runs[place] as usize;
         possible(
-            &self.pasts[place],
+            &self.pasts.pasts[run],
             &self.aheads[self.moves.len() - place],
             test,
         )

@@ -3,7 +3,7 @@ ghost use Rattle.std.specs.Prelude.{◌≡◌, ℕ, pos, ◌<◌, ◌+◌, ◌�
 ghost use Rattle.reach.specs.Runs.{State};
 ghost use Rattle.reach.specs.Past.{Holds, AfterGap};
 ghost use Rattle.lane.specs.Walks.{limit_before, IsMove, InOrder, AfterMove, AfterMoves, StopsAt, EnteredBefore};
-ghost use Rattle.lane.specs.Places.{ArePasts};
+ghost use Rattle.lane.specs.Places.{ArePasts, kept_before, letters};
 
 use crate::moves::Move;
 use colour_machine::Machine;
@@ -64,25 +64,62 @@ fn gap_past<M: Machine>(machine: &M, past: &mut Past, from: u32, to: u32) -> Res
     past_gap(machine, past, i64::from(from), i64::from(to))
 }
 
-// The states before each move, and after the last.
+// The Pasts of the runs of gaps: each is that before the next letter, or after the last move.
+#[derive(Drop)]
+pub struct RunPasts {
+    pub pasts: Vec<Past>,
+    // For each place, before a move or after the last, the number of its run.
+    pub runs: Vec<u32>,
+}
+
+// One Past for each run of gaps, and the run of each place.
 pub fn pasts_of<M: Machine>(
     alloc: Global,
     machine: &M,
     before: &Past,
     moves: &[Move],
-) -> Result<Vec<Past>, NoMemory>
+) -> Result<RunPasts, NoMemory>
     requires order { (low : ℕ) × EnteredBefore before.now low × InOrder (M.rules machine.now) low moves.now }
     requires colours { length before.now ≡ (M.rules machine.now).colours }
-    ensures places { IfOk result (λ v. length v.items ≡ length moves.now + 1) }
-    ensures pasts { IfOk result (λ v. ArePasts (M.rules machine.now) before.now moves.now (length v.items) v.items) }
+    ensures places { IfOk result (λ v. length v.runs.items ≡ length moves.now + 1) }
+    ensures count { IfOk result (λ v. length v.pasts.items ≡ letters moves.now + 1) }
+    ensures pasts { IfOk result (λ v. ArePasts (M.rules machine.now) before.now moves.now (length moves.now + 1) v.pasts.items v.runs.items) }
 {
     let mut pasts = Vec::new(alloc);
+    let mut runs = Vec::new(alloc);
     let mut past = before.copy()?;
     for i in 0..moves.len() {
-        let kept = past.copy()?;
-        pasts.push(kept)?;
+        let number = run_number(pasts.len())?;
+        runs.push(number)?;
+        end_run(&mut pasts, &past, moves[i])?;
         let _some = move_past(machine, &mut past, moves[i])?;
     }
+    let last = run_number(pasts.len())?;
+    runs.push(last)?;
     pasts.push(past)?;
-    Ok(pasts)
+    Ok(RunPasts { pasts, runs })
+}
+
+// The number of a run after so many others. More than a u32 can tell count as want of memory.
+fn run_number(others: usize) -> Result<u32, NoMemory>
+    ensures { IfOk result (λ n. n ≡ others) }
+{
+    match u32::try_from(others) {
+        Ok(number) => Ok(number),
+        Err(_) => Err(NoMemory),
+    }
+}
+
+// A letter ends the run before it, whose Past is kept. A gap goes on with it.
+fn end_run(pasts: &mut Vec<Past>, past: &Past, next: Move) -> Result<(), NoMemory>
+    ensures { OnOk result (pasts.new.items ≡ kept_before next pasts.old.items past.now) }
+{
+    match next {
+        Move::Letter { .. } => {
+            let kept = past.copy()?;
+            pasts.push(kept)?;
+            Ok(())
+        }
+        Move::Gap { .. } => Ok(()),
+    }
 }

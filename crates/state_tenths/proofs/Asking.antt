@@ -134,7 +134,7 @@ counted_all log i asked from at to count r new moves j e le et range en h =
     subst (λ (z : ℕ). IsCount (MeetsAt log i asked) from 36000 z) (sym same) (counts_hour (MeetsAt log i asked) from 36000 (count + r) all)
 
 no_line : Kept
-no_line = record { moves = []; pasts = []; aheads = [] }
+no_line = record { moves = []; pasts = []; runs = []; aheads = [] }
 
 pub counted_start : (log : HourLog) (view : List Kept) (i : ℕ) (asked : Asked) (from : ℕ) (moves : List Move) → IsViewOf log view → i < length view → ((d : Kept) → moves ≡ (get_or view i d).moves) → from ≡ first_tenth log.hour → IsCounted log i asked from from 0 moves
 counted_start log view i asked from moves is lt own e =

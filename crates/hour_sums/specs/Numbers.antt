@@ -24,6 +24,12 @@ abbrev pub greatest : List ℕ → Option ℕ
 greatest [] = None
 greatest (x ∷ xs) = greater (Some x) (greatest xs)
 
+-- item by item: what stands at one place of both lists is put together, and the rest of the longer one stays
+abbrev pub merged : {A : Type 0} → (A → A → A) → List A → List A → List A
+merged put [] ys = ys
+merged put (x ∷ xs) [] = x ∷ xs
+merged put (x ∷ xs) (y ∷ ys) = put x y ∷ merged put xs ys
+
 -- those of number p
 abbrev pub own : {I : Type 0} → (I → ℕ) → ℕ → List I → List I
 own number p xs = filter (λ x. number x == p) xs

@@ -2,8 +2,12 @@
 //! still at the last value of a u64, the least and the greatest.
 #![tactic(auto)]
 
+mod each;
+
 ghost use Rattle.std.specs.Prelude.{◌≡◌, ◌+◌};
 ghost use Rattle.hour_sums.specs.Numbers.{capped, lesser, greater};
+
+pub use each::{Sum, add_each};
 
 /// The sum of both, or the last value of a u64 where it is more.
 #[tactic(auto, unfolding(crate::specs::Numbers::capped))]

@@ -8,3 +8,5 @@ pub mod Rows
 pub mod Starts
 pub mod Seeing
 pub mod Hours
+pub mod Nothing
+pub mod Stores

@@ -16,18 +16,18 @@ use Rattle.state_tenths.specs.declared.asked.Asked.TheVariants.{Colour}
 use Rattle.state_tenths.specs.States.{IsCount, MeetsAt}
 use Rattle.other_measures.specs.States.{HasTenths, IsSeen, coordination}
 
-pub tenths_found : (c : Settings) (view : List Kept) (channel : Channel) (asked : Asked) (from i m n : ℕ) → n ≡ m → spec_place c.specs channel ≡ Some i → ((log : HourLog) → IsViewOf log view → from ≡ first_tenth log.hour → IsCount (MeetsAt log i asked) from 36000 m) → (log : HourLog) (rows : List Row) (ss : List Stretch) → IsSeen c view rows ss log → from ≡ first_tenth log.hour → HasTenths log c channel asked n
+pub tenths_found : (c : Settings) (view : List Kept) (channel : Channel) (asked : Asked) (from i m n : ℕ) → n ≡ m → spec_place c.specs channel ≡ Some i → ((log : HourLog) → IsViewOf log view → from ≡ first_tenth log.hour → IsCount (MeetsAt log i asked) from 36000 m) → (log : HourLog) (rows : List Row) (ss : List Stretch) → IsSeen c view rows ss log → from ≡ first_tenth log.hour → HasTenths (MeetsAt log) (first_tenth log.hour) c channel asked n
 tenths_found c view channel asked from i m n same at count log rows ss is e = (i, at, subst (λ (z : ℕ). IsCount (MeetsAt log i asked) (first_tenth log.hour) 36000 z) (sym same) (subst (λ (z : ℕ). IsCount (MeetsAt log i asked) z 36000 m) e (count log is.is_view e)))
 
-pub tenths_none : (c : Settings) (view : List Kept) (channel : Channel) (asked : Asked) (from n : ℕ) (o : Option ℕ) → is_tracked c channel ≡ true → is_some o ≡ is_tracked c channel → o ≡ None → (log : HourLog) (rows : List Row) (ss : List Stretch) → IsSeen c view rows ss log → from ≡ first_tenth log.hour → HasTenths log c channel asked n
+pub tenths_none : (c : Settings) (view : List Kept) (channel : Channel) (asked : Asked) (from n : ℕ) (o : Option ℕ) → is_tracked c channel ≡ true → is_some o ≡ is_tracked c channel → o ≡ None → (log : HourLog) (rows : List Row) (ss : List Stretch) → IsSeen c view rows ss log → from ≡ first_tenth log.hour → HasTenths (MeetsAt log) (first_tenth log.hour) c channel asked n
 tenths_none c view channel asked from n o t s e = absurd (let bad : is_some o ≡ true = s ∙ t in let none : false ≡ true = rw e at bad in cc)
 
-pub tenths_more : (log : HourLog) (c : Settings) (all : List ℕ) (state n : ℕ) → length all ≡ 7 → state < 7 → HasTenths log c coordination (Colour state) n → ((q : ℕ) → q < state → HasTenths log c coordination (Colour q) (get_or all q 0)) → (q : ℕ) → q < state + 1 → HasTenths log c coordination (Colour q) (get_or (set all state n) q 0)
+pub tenths_more : (log : HourLog) (c : Settings) (all : List ℕ) (state n : ℕ) → length all ≡ 7 → state < 7 → HasTenths (MeetsAt log) (first_tenth log.hour) c coordination (Colour state) n → ((q : ℕ) → q < state → HasTenths (MeetsAt log) (first_tenth log.hour) c coordination (Colour q) (get_or all q 0)) → (q : ℕ) → q < state + 1 → HasTenths (MeetsAt log) (first_tenth log.hour) c coordination (Colour q) (get_or (set all state n) q 0)
 tenths_more log c all state n len low h below q lt = elim (cases_eq q state) [
   | inl same ↦
       let at : get_or (set all state n) q 0 ≡ n = ap (λ z. get_or (set all state n) z 0) same ∙ get_or-set_same all state n 0 (omega arith) in
-      subst (λ (z : ℕ). HasTenths log c coordination (Colour q) z) (sym at) (subst (λ (z : ℕ). HasTenths log c coordination (Colour z) n) (sym same) h)
-  | inr ne ↦ subst (λ (z : ℕ). HasTenths log c coordination (Colour q) z) (sym (get_or-set_other all state q n 0 ne)) (below q (omega arith))
+      subst (λ (z : ℕ). HasTenths (MeetsAt log) (first_tenth log.hour) c coordination (Colour q) z) (sym at) (subst (λ (z : ℕ). HasTenths (MeetsAt log) (first_tenth log.hour) c coordination (Colour z) n) (sym same) h)
+  | inr ne ↦ subst (λ (z : ℕ). HasTenths (MeetsAt log) (first_tenth log.hour) c coordination (Colour q) z) (sym (get_or-set_other all state q n 0 ne)) (below q (omega arith))
 ]
 
 pub first_from : (ss : List Stretch) (a b : ℕ) (s : Stretch) → Some s ≡ slice_get ss 0 → FollowOn a b ss → s.from ≡ a

@@ -1,11 +1,11 @@
 -- The numbers of one hour.
 use Rattle.std.specs.Prelude.{ℕ, ◌≡◌, ◌+◌, ◌==◌, Bool, true, false, if◌then◌else◌, List, [], ◌∷◌, count_by}
 use Rattle.sig_base.specs.declared.values.Row.{Row}
-use Rattle.hour_sums.specs.Numbers.{capped}
+use Rattle.hour_sums.specs.Numbers.{capped, merged}
 use Rattle.hour_sweep.specs.Numbers.{outs_from}
-use Rattle.board.specs.Logs.{HourLog}
 use Rattle.ring_config.specs.Settings.{Settings}
 use Rattle.ring_config.specs.Values.{has_number}
+use Rattle.state_tenths.specs.declared.asked.Asked.{Asked}
 use Rattle.other_measures.specs.declared.peds.Delay.{Delay}
 use Rattle.other_measures.specs.declared.preempts.PreemptEvent.{PreemptEvent}
 use Rattle.other_measures.specs.declared.sums.PedSum.{PedSum}
@@ -14,7 +14,7 @@ use Rattle.other_measures.specs.declared.sums.CoordSum.{CoordSum}
 use Rattle.other_measures.specs.declared.coordination.CodeCount.{CodeCount}
 use Rattle.other_measures.specs.Peds.{delay_at}
 use Rattle.other_measures.specs.Preempts.{event_at}
-use Rattle.other_measures.specs.Sums.{ped_sum_of, preempt_sum_of, delays_of, events_of}
+use Rattle.other_measures.specs.Sums.{ped_sum_of, preempt_sum_of, delays_of, events_of, ped_added, preempt_added, coord_added}
 use Rattle.other_measures.specs.States.{EachOf, HasDetector, HasStates, HasCoordination}
 
 -- the delays of pedestrian signals that end among the rows, in their order, where the first rows stand before them
@@ -71,8 +71,16 @@ pub record AreNumbers (known : ℕ → Bool) (c : Settings) (before rows : List 
   pub coordination : c.coordination ≡ true → HasRows rows s.coordination
   pub off : c.coordination ≡ false → s.coordination ≡ no_coordination
 
--- the tenths of states in an hour
-pub record AreStates (log : HourLog) (c : Settings) (s : OtherNumbers) : Type 0 where
-  pub peds : EachOf (has_number c.peds) (HasDetector log c) 17 s.peds
-  pub preempts : EachOf (has_number c.preempts) (HasStates log c) 17 s.preempts
-  pub coordination : c.coordination ≡ true → HasCoordination log c s.coordination
+-- the tenths of states of an hour from tenth `from` on
+pub record AreStates (At : ℕ → Asked → ℕ → Type 0) (from : ℕ) (c : Settings) (s : OtherNumbers) : Type 0 where
+  pub peds : EachOf (has_number c.peds) (HasDetector At from c) 17 s.peds
+  pub preempts : EachOf (has_number c.preempts) (HasStates At from c) 17 s.preempts
+  pub coordination : c.coordination ≡ true → HasCoordination At from c s.coordination
+
+-- the numbers of nothing
+abbrev pub no_numbers : OtherNumbers
+no_numbers = record { peds = []; preempts = []; coordination = no_coordination }
+
+-- the numbers of both, item by item
+abbrev pub others_added : OtherNumbers → OtherNumbers → OtherNumbers
+others_added a b = record { peds = merged ped_added a.peds b.peds; preempts = merged preempt_added a.preempts b.preempts; coordination = coord_added a.coordination b.coordination }

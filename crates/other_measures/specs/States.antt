@@ -1,16 +1,16 @@
 -- How long channels were in each state, by a view of the hour.
-use Rattle.std.specs.Prelude.{ℕ, zero, suc, ◌≡◌, ◌<◌, ◌⊎◌, Bool, true, false, List, [], ◌∷◌, ◌++◌, Some, slice_index_or}
+use Rattle.std.specs.Prelude.{ℕ, zero, suc, ◌≡◌, ◌<◌, ◌⊎◌, Bool, true, false, List, [], ◌∷◌, ◌++◌, Some, length, slice_index_or}
 use Rattle.sig_base.specs.declared.values.Row.{Row}
 use Rattle.event_codes.specs.declared.channels.Channel.{Channel}
 use Rattle.event_codes.specs.declared.channels.Kind.TheVariants.{PedDetector, PreemptInput, PreemptService, Coordination}
 use Rattle.gap_map.specs.declared.stretch.Stretch.{Stretch}
 use Rattle.lane.specs.Places.{Kept}
-use Rattle.board.specs.Logs.{HourLog, first_tenth}
+use Rattle.board.specs.Logs.{HourLog}
 use Rattle.board.specs.Places.{IsViewOf}
 use Rattle.ring_config.specs.Settings.{Settings, spec_place}
 use Rattle.state_tenths.specs.declared.asked.Asked.{Asked}
 use Rattle.state_tenths.specs.declared.asked.Asked.TheVariants.{Colour, NoneOf}
-use Rattle.state_tenths.specs.States.{IsCount, MeetsAt}
+use Rattle.state_tenths.specs.States.{IsCount}
 use Rattle.other_measures.specs.declared.sums.PedSum.{PedSum}
 use Rattle.other_measures.specs.declared.sums.PreemptSum.{PreemptSum}
 use Rattle.other_measures.specs.declared.sums.CoordSum.{CoordSum}
@@ -22,9 +22,9 @@ pub record IsSeen (c : Settings) (view : List Kept) (rows : List Row) (ss : List
   pub same_rows : log.rows ≡ rows
   pub same_stretches : log.stretches ≡ ss
 
--- the channel is tracked, and at the ends of k tenths of the hour, which are known, it meets what is asked
-abbrev pub HasTenths : HourLog → Settings → Channel → Asked → ℕ → Type 0
-HasTenths log c channel asked k = (i : ℕ) × (spec_place c.specs channel ≡ Some i) × IsCount (MeetsAt log i asked) (first_tenth log.hour) 36000 k
+-- the channel is tracked, and of the tenths of an hour from `from` on it meets what is asked at k; At says of a channel's place, of what is asked and of a tenth whether it is met there
+abbrev pub HasTenths : (ℕ → Asked → ℕ → Type 0) → ℕ → Settings → Channel → Asked → ℕ → Type 0
+HasTenths At from c channel asked k = (i : ℕ) × (spec_place c.specs channel ≡ Some i) × IsCount (At i asked) from 36000 k
 
 abbrev pub ped_detector : ℕ → Channel
 ped_detector p = record { kind = PedDetector; number = p }
@@ -39,24 +39,25 @@ abbrev pub coordination : Channel
 coordination = record { kind = Coordination; number = 0 }
 
 -- the tenths of the detector: Off is colour 0, On colour 1
-pub record HasDetector (log : HourLog) (c : Settings) (p : ℕ) (s : PedSum) : Type 0 where
-  pub on : HasTenths log c (ped_detector p) (Colour 1) s.detector_on
-  pub undecided : HasTenths log c (ped_detector p) (NoneOf 2) s.detector_undecided
+pub record HasDetector (At : ℕ → Asked → ℕ → Type 0) (from : ℕ) (c : Settings) (p : ℕ) (s : PedSum) : Type 0 where
+  pub on : HasTenths At from c (ped_detector p) (Colour 1) s.detector_on
+  pub undecided : HasTenths At from c (ped_detector p) (NoneOf 2) s.detector_undecided
 
 -- the tenths of the call input, and of the service: Rest is colour 0, Entry 1, Track 2, Dwell 3
-pub record HasStates (log : HourLog) (c : Settings) (p : ℕ) (s : PreemptSum) : Type 0 where
-  pub input_on : HasTenths log c (input p) (Colour 1) s.input_on
-  pub input_undecided : HasTenths log c (input p) (NoneOf 2) s.input_undecided
-  pub rest : HasTenths log c (service p) (Colour 0) s.rest
-  pub entry : HasTenths log c (service p) (Colour 1) s.entry
-  pub track : HasTenths log c (service p) (Colour 2) s.track
-  pub dwell : HasTenths log c (service p) (Colour 3) s.dwell
-  pub undecided : HasTenths log c (service p) (NoneOf 4) s.undecided
+pub record HasStates (At : ℕ → Asked → ℕ → Type 0) (from : ℕ) (c : Settings) (p : ℕ) (s : PreemptSum) : Type 0 where
+  pub input_on : HasTenths At from c (input p) (Colour 1) s.input_on
+  pub input_undecided : HasTenths At from c (input p) (NoneOf 2) s.input_undecided
+  pub rest : HasTenths At from c (service p) (Colour 0) s.rest
+  pub entry : HasTenths At from c (service p) (Colour 1) s.entry
+  pub track : HasTenths At from c (service p) (Colour 2) s.track
+  pub dwell : HasTenths At from c (service p) (Colour 3) s.dwell
+  pub undecided : HasTenths At from c (service p) (NoneOf 4) s.undecided
 
 -- the tenths of the coordination, in its seven states
-pub record HasCoordination (log : HourLog) (c : Settings) (s : CoordSum) : Type 0 where
-  pub tenths : (q : ℕ) → q < 7 → HasTenths log c coordination (Colour q) (slice_index_or s.tenths q 0)
-  pub undecided : HasTenths log c coordination (NoneOf 7) s.undecided
+pub record HasCoordination (At : ℕ → Asked → ℕ → Type 0) (from : ℕ) (c : Settings) (s : CoordSum) : Type 0 where
+  pub size : length s.tenths ≡ 7
+  pub tenths : (q : ℕ) → q < 7 → HasTenths At from c coordination (Colour q) (slice_index_or s.tenths q 0)
+  pub undecided : HasTenths At from c coordination (NoneOf 7) s.undecided
 
 -- by number, of each number below n that is kept an element that is its own
 unfoldable pub EachOf : {A : Type 0} → (ℕ → Bool) → (ℕ → A → Type 0) → ℕ → List A → Type 0

@@ -20,7 +20,7 @@ pub struct OtherCarry {
     // The part of each stands at its number.
     pub(crate) peds: Vec<Option<PedPart>>,
     pub(crate) preempts: Vec<Option<PreemptPart>>,
-    alloc: Global,
+    pub(crate) alloc: Global,
 }
 
 impl Model for OtherCarry {

@@ -1,5 +1,5 @@
 // The numbers of an hour.
-ghost use Rattle.std.specs.Prelude.{◌≡◌, ◌+◌, ◌<◌, ◌++◌, ℕ, Bool, true, List, length, slice_index_or, IfOk, OnErr};
+ghost use Rattle.std.specs.Prelude.{◌≡◌, ◌+◌, ◌<◌, ◌++◌, ℕ, Bool, true, List, length, slice_index_or, IfOk, OnOk, OnErr, []};
 ghost use Rattle.sig_base.specs.declared.values.Row.{Row};
 ghost use Rattle.gap_map.specs.declared.stretch.Stretch.{Stretch};
 ghost use Rattle.hour_sweep.specs.Rows.{known_rows};
@@ -7,11 +7,13 @@ ghost use Rattle.hour_sweep.specs.Hours.{IsHour};
 ghost use Rattle.board.specs.Logs.{HourLog, first_tenth};
 ghost use Rattle.ring_config.specs.Values.{has_number};
 ghost use Rattle.other_measures.specs.Crossing.{IsCarry};
-ghost use Rattle.other_measures.specs.Hours.{AreNumbers, AreStates, HasDelays, HasEvents, with_detector, with_states};
+ghost use Rattle.other_measures.specs.Hours.{AreNumbers, AreStates, HasDelays, HasEvents, delays_from, events_from, no_numbers, others_added, with_detector, with_states};
 ghost use Rattle.other_measures.specs.States.{EachOf, HasDetector, HasStates, IsSeen};
+ghost use Rattle.state_tenths.specs.States.{MeetsAt};
 
 use crate::carry::{OtherCarry, has_number};
-use crate::coordination_sums::coordination_of;
+use crate::coordination_sums::{coordination_of, no_coordination};
+use crate::none::{no_peds, no_preempts, no_states};
 use crate::ped_sums::ped_table;
 use crate::peds::Delay;
 use crate::preempt_sums::preempt_table;
@@ -21,6 +23,7 @@ use crate::sums::{CoordSum, PedSum, PreemptSum};
 use board::HourView;
 use event_codes::{Channel, Kind};
 use gap_map::Stretch;
+use hour_sums::{Sum, add_each};
 use hour_sweep::track_hour;
 use ring_config::Config;
 use sig_base::{NoMemory, Row};
@@ -45,6 +48,42 @@ impl Model for OtherSums {
 }
 
 impl OtherSums {
+    /// The numbers of nothing. Takes no memory.
+    pub fn new(alloc: Global) -> OtherSums
+        ensures { result ≡ no_numbers }
+    {
+        OtherSums {
+            peds: Vec::new(alloc),
+            preempts: Vec::new(alloc),
+            coordination: no_coordination(),
+        }
+    }
+
+    /// The numbers of an hour of which no tenth is known.
+    pub fn none(alloc: Global, config: &Config) -> Result<OtherSums, NoMemory>
+        ensures numbers { IfOk result (λ sums. (known : ℕ → Bool) (before : List Row) → AreNumbers known config.now before [] sums) }
+        ensures states { IfOk result (λ sums. (from : ℕ) → AreStates (λ _ _ _. ⊥) from config.now sums) }
+    {
+        let peds = no_peds(alloc, config)?;
+        let preempts = no_preempts(alloc, config)?;
+        Ok(OtherSums {
+            peds,
+            preempts,
+            coordination: no_states(config),
+        })
+    }
+
+    /// Adds the numbers of each pedestrian signal and each preempt to its own, and those of the
+    /// coordination. After want of memory some of them may have been added.
+    pub fn add(&mut self, more: &OtherSums) -> Result<(), NoMemory>
+        ensures { OnOk result (self.new ≡ others_added self.old more.now) }
+    {
+        add_each(&mut self.peds, &more.peds)?;
+        add_each(&mut self.preempts, &more.preempts)?;
+        self.coordination = self.coordination.sum(&more.coordination);
+        Ok(())
+    }
+
     /// One entry for each pedestrian signal, by number.
     pub fn peds(&self) -> &[PedSum]
         ensures { result.now ≡ self.now.peds }
@@ -72,7 +111,7 @@ fn ped_sum(config: &Config, view: &HourView, from: u32, ped: u8, delays: &PedSum
     requires view { length view.now ≡ length config.now.specs }
     requires ped { has_number config.now.peds ped ≡ true }
     ensures delays { result ≡ with_detector delays.now result.detector_on result.detector_undecided }
-    ensures detector { (log : HourLog) (rows : List Row) (ss : List Stretch) → IsSeen config.now view.now rows ss log → from ≡ first_tenth log.hour → HasDetector log config.now ped result }
+    ensures detector { (log : HourLog) (rows : List Row) (ss : List Stretch) → IsSeen config.now view.now rows ss log → from ≡ first_tenth log.hour → HasDetector (MeetsAt log) (first_tenth log.hour) config.now ped result }
 {
     let detector = Channel {
         kind: Kind::PedDetector,
@@ -96,7 +135,7 @@ fn preempt_sum(
     requires view { length view.now ≡ length config.now.specs }
     requires preempt { has_number config.now.preempts preempt ≡ true }
     ensures events { result ≡ with_states events.now result }
-    ensures states { (log : HourLog) (rows : List Row) (ss : List Stretch) → IsSeen config.now view.now rows ss log → from ≡ first_tenth log.hour → HasStates log config.now preempt result }
+    ensures states { (log : HourLog) (rows : List Row) (ss : List Stretch) → IsSeen config.now view.now rows ss log → from ≡ first_tenth log.hour → HasStates (MeetsAt log) (first_tenth log.hour) config.now preempt result }
 {
     let input = Channel {
         kind: Kind::PreemptInput,
@@ -127,7 +166,7 @@ fn ped_sums(
 ) -> Result<Vec<PedSum>, NoMemory>
     requires view { length view.now ≡ length config.now.specs }
     ensures delays { IfOk result (λ v. EachOf (has_number config.now.peds) (HasDelays delays.now) 17 v.items) }
-    ensures detector { IfOk result (λ v. (log : HourLog) (rows : List Row) (ss : List Stretch) → IsSeen config.now view.now rows ss log → from ≡ first_tenth log.hour → EachOf (has_number config.now.peds) (HasDetector log config.now) 17 v.items) }
+    ensures detector { IfOk result (λ v. (log : HourLog) (rows : List Row) (ss : List Stretch) → IsSeen config.now view.now rows ss log → from ≡ first_tenth log.hour → EachOf (has_number config.now.peds) (HasDetector (MeetsAt log) (first_tenth log.hour) config.now) 17 v.items) }
 {
     let table = ped_table(delays);
     let mut sums = Vec::new(alloc);
@@ -148,7 +187,7 @@ fn preempt_sums(
 ) -> Result<Vec<PreemptSum>, NoMemory>
     requires view { length view.now ≡ length config.now.specs }
     ensures events { IfOk result (λ v. EachOf (has_number config.now.preempts) (HasEvents events.now) 17 v.items) }
-    ensures states { IfOk result (λ v. (log : HourLog) (rows : List Row) (ss : List Stretch) → IsSeen config.now view.now rows ss log → from ≡ first_tenth log.hour → EachOf (has_number config.now.preempts) (HasStates log config.now) 17 v.items) }
+    ensures states { IfOk result (λ v. (log : HourLog) (rows : List Row) (ss : List Stretch) → IsSeen config.now view.now rows ss log → from ≡ first_tenth log.hour → EachOf (has_number config.now.preempts) (HasStates (MeetsAt log) (first_tenth log.hour) config.now) 17 v.items) }
 {
     let table = preempt_table(events);
     let mut sums = Vec::new(alloc);
@@ -158,6 +197,65 @@ fn preempt_sums(
         }
     }
     Ok(sums)
+}
+
+// What crosses the point after an hour, and the delays, entries and exits that end in it.
+#[derive(Drop)]
+struct Tracked {
+    carry: OtherCarry,
+    delays: Vec<Delay>,
+    events: Vec<PreemptEvent>,
+}
+
+fn track_others(
+    alloc: Global,
+    config: &Config,
+    carry: &OtherCarry,
+    rows: &[Row],
+    stretches: &[Stretch],
+) -> Result<Tracked, NoMemory>
+    ensures carry { IfOk result (λ t. (known : ℕ → Bool) (before : List Row) (hour : ℕ)
+        → IsHour known hour rows.now stretches.now → IsCarry known config.now before hour carry.now
+        → IsCarry known config.now (before ++ known_rows known rows.now) (hour + 1) t.carry) }
+    ensures delays { IfOk result (λ t. (known : ℕ → Bool) (before : List Row) (hour : ℕ)
+        → IsHour known hour rows.now stretches.now → IsCarry known config.now before hour carry.now
+        → t.delays.items ≡ delays_from known config.now before (known_rows known rows.now)) }
+    ensures events { IfOk result (λ t. (known : ℕ → Bool) (before : List Row) (hour : ℕ)
+        → IsHour known hour rows.now stretches.now → IsCarry known config.now before hour carry.now
+        → t.events.items ≡ events_from known config.now before (known_rows known rows.now)) }
+{
+    let (peds, delays) = track_hour(alloc, &carry.peds, rows, stretches)?.into_parts();
+    let (preempts, events) = track_hour(alloc, &carry.preempts, rows, stretches)?.into_parts();
+    numbers_are_low(config);
+    Ok(Tracked {
+        carry: OtherCarry {
+            peds,
+            preempts,
+            alloc,
+        },
+        delays,
+        events,
+    })
+}
+
+/// What crosses the point after an hour, in `carry`, in place of what crosses the point before it,
+/// without the hour's numbers.
+pub fn others_carried(
+    alloc: Global,
+    config: &Config,
+    carry: &mut OtherCarry,
+    rows: &[Row],
+    stretches: &[Stretch],
+) -> Result<(), NoMemory>
+    ensures carry { OnOk result ((known : ℕ → Bool) (before : List Row) (hour : ℕ)
+        → IsHour known hour rows.now stretches.now → IsCarry known config.now before hour carry.old
+        → IsCarry known config.now (before ++ known_rows known rows.now) (hour + 1) carry.new) }
+    ensures err { OnErr result (carry.new ≡ carry.old) }
+{
+    let tracked = track_others(alloc, config, carry, rows, stretches)?;
+    let Tracked { carry: next, .. } = tracked;
+    *carry = next;
+    Ok(())
 }
 
 /// The hour's numbers, and in `carry` what crosses the point after it in place of what crosses the
@@ -174,21 +272,23 @@ pub fn others_hour(
     ensures numbers { IfOk result (λ sums. (known : ℕ → Bool) (before : List Row) (hour : ℕ)
         → IsHour known hour rows.now stretches.now → IsCarry known config.now before hour carry.old
         → AreNumbers known config.now before (known_rows known rows.now) sums) }
-    ensures states { IfOk result (λ sums. (log : HourLog) → IsSeen config.now view.now rows.now stretches.now log → AreStates log config.now sums) }
+    ensures states { IfOk result (λ sums. (log : HourLog) → IsSeen config.now view.now rows.now stretches.now log → AreStates (MeetsAt log) (first_tenth log.hour) config.now sums) }
     ensures carry { IfOk result (λ _. (known : ℕ → Bool) (before : List Row) (hour : ℕ)
         → IsHour known hour rows.now stretches.now → IsCarry known config.now before hour carry.old
         → IsCarry known config.now (before ++ known_rows known rows.now) (hour + 1) carry.new) }
     ensures err { OnErr result (carry.new ≡ carry.old) }
 {
-    let (ped_parts, delays) = track_hour(alloc, &carry.peds, rows, stretches)?.into_parts();
-    let (preempt_parts, events) = track_hour(alloc, &carry.preempts, rows, stretches)?.into_parts();
-    numbers_are_low(config);
+    let tracked = track_others(alloc, config, carry, rows, stretches)?;
+    let Tracked {
+        carry: next,
+        delays,
+        events,
+    } = tracked;
     let from = first_of(stretches);
     let peds = ped_sums(alloc, config, view, from, &delays)?;
     let preempts = preempt_sums(alloc, config, view, from, &events)?;
     let coordination = coordination_of(config, view, from, rows, stretches)?;
-    carry.peds = ped_parts;
-    carry.preempts = preempt_parts;
+    *carry = next;
     Ok(OtherSums {
         peds,
         preempts,

@@ -12,6 +12,7 @@ mod coordination_sums;
 mod hour;
 mod last_rows;
 mod laws;
+mod none;
 mod ped_sums;
 mod peds;
 mod preempt_sums;
@@ -19,8 +20,10 @@ mod preempts;
 mod same;
 mod states;
 mod sums;
+#[cfg(test)]
+mod tests;
 
 pub use carry::OtherCarry;
-pub use hour::{OtherSums, others_hour};
+pub use hour::{OtherSums, others_carried, others_hour};
 pub use laws::{hours_add_up, numbers_add_up};
 pub use sums::{CoordSum, PedSum, PreemptSum};

@@ -6,8 +6,9 @@ ghost use Rattle.other_measures.specs.Sums.{no_ped_sum, ped_added, ped_sum_of};
 use crate::last_rows::Lapse;
 use crate::peds::Delay;
 use crate::sums::PedSum;
+use hour_sums::Sum;
 
-fn nothing() -> PedSum
+pub(crate) fn nothing() -> PedSum
     ensures zero { result ≡ no_ped_sum }
     ensures none { result ≡ ped_sum_of [] }
 {
@@ -60,7 +61,7 @@ fn note(sums: &mut [PedSum], ped: u8, more: &PedSum)
 {
     let place = usize::from(ped);
     if place < sums.len() {
-        sums[place] = sums[place].add(more);
+        sums[place] = sums[place].sum(more);
     }
 }
 

@@ -6,8 +6,9 @@ ghost use Rattle.other_measures.specs.Sums.{entry_sum, exit_sum, no_preempt_sum,
 use crate::last_rows::Lapse;
 use crate::preempts::{Event, PreemptEvent};
 use crate::sums::PreemptSum;
+use hour_sums::Sum;
 
-fn nothing() -> PreemptSum
+pub(crate) fn nothing() -> PreemptSum
     ensures zero { result ≡ no_preempt_sum }
     ensures none { result ≡ preempt_sum_of [] }
 {
@@ -79,7 +80,7 @@ fn note(sums: &mut [PreemptSum], preempt: u8, more: &PreemptSum)
 {
     let place = usize::from(preempt);
     if place < sums.len() {
-        sums[place] = sums[place].add(more);
+        sums[place] = sums[place].sum(more);
     }
 }
 

@@ -6,7 +6,7 @@ ghost use Rattle.gap_map.specs.Stretches.{FollowOn};
 ghost use Rattle.board.specs.Logs.{HourLog, first_tenth};
 ghost use Rattle.ring_config.specs.Settings.{is_tracked};
 ghost use Rattle.ring_config.specs.Values.{has_number};
-ghost use Rattle.state_tenths.specs.States.{IsAsked};
+ghost use Rattle.state_tenths.specs.States.{IsAsked, MeetsAt};
 ghost use Rattle.other_measures.specs.States.{HasTenths, IsSeen};
 
 use board::HourView;
@@ -46,7 +46,7 @@ pub(crate) fn tenths(
     requires view { length view.now ≡ length config.now.specs }
     requires tracked { is_tracked config.now channel ≡ true }
     requires asked { IsAsked asked }
-    ensures { (log : HourLog) (rows : List Row) (ss : List Stretch) → IsSeen config.now view.now rows ss log → from ≡ first_tenth log.hour → HasTenths log config.now channel asked result }
+    ensures { (log : HourLog) (rows : List Row) (ss : List Stretch) → IsSeen config.now view.now rows ss log → from ≡ first_tenth log.hour → HasTenths (MeetsAt log) (first_tenth log.hour) config.now channel asked result }
 {
     match config.spec_of(channel) {
         Some(spec) => u64::from(tenths_of(view, spec, asked, from)),

@@ -3,7 +3,7 @@ ghost use Rattle.std.specs.Prelude.{◌≡◌, slice_index_or, ◌<◌, ℕ};
 ghost use Rattle.hour_sums.specs.Numbers.{capped};
 ghost use Rattle.other_measures.specs.Sums.{coord_added, ped_added, preempt_added};
 
-use hour_sums::{greatest_of, total};
+use hour_sums::{Sum, greatest_of, total};
 
 /// The numbers of one pedestrian signal. Counts and sums stand still at the last value of a u64.
 #[derive(Clone, Copy, Debug, PartialEq, Eq)]
@@ -65,11 +65,11 @@ pub struct CoordSum {
     pub begins: u64,
 }
 
-impl PedSum {
+impl Sum for PedSum {
+    ghost both = { ped_added };
+
     /// The numbers of both: sums add, and the greatest is the greatest of both.
-    pub fn add(&self, other: &PedSum) -> PedSum
-        ensures { result ≡ ped_added self.now other.now }
-    {
+    fn sum(&self, other: &PedSum) -> PedSum {
         PedSum {
             walks: total(self.walks, other.walks),
             delays: total(self.delays, other.delays),
@@ -83,11 +83,11 @@ impl PedSum {
     }
 }
 
-impl PreemptSum {
+impl Sum for PreemptSum {
+    ghost both = { preempt_added };
+
     /// The numbers of both.
-    pub fn add(&self, other: &PreemptSum) -> PreemptSum
-        ensures { result ≡ preempt_added self.now other.now }
-    {
+    fn sum(&self, other: &PreemptSum) -> PreemptSum {
         PreemptSum {
             entries: total(self.entries, other.entries),
             delays: total(self.delays, other.delays),
@@ -107,11 +107,11 @@ impl PreemptSum {
     }
 }
 
-impl CoordSum {
+impl Sum for CoordSum {
+    ghost both = { coord_added };
+
     /// The numbers of both.
-    pub fn add(&self, other: &CoordSum) -> CoordSum
-        ensures { result ≡ coord_added self.now other.now }
-    {
+    fn sum(&self, other: &CoordSum) -> CoordSum {
         let a = &self.tenths;
         let b = &other.tenths;
         CoordSum {

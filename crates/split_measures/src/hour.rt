@@ -1,11 +1,12 @@
 // The numbers of an hour.
-ghost use Rattle.std.specs.Prelude.{◌≡◌, ◌<◌, ◌+◌, ◌++◌, [], IfOk, OnErr, length, slice_set, slice_index_or, None};
+ghost use Rattle.std.specs.Prelude.{◌≡◌, ◌<◌, ◌+◌, ◌++◌, [], IfOk, OnErr, OnOk, length, slice_set, slice_index_or, None};
 ghost use Rattle.service_cut.specs.Parts.{has_phase};
-ghost use Rattle.hour_sums.specs.Numbers.{AreSums, by_number};
+ghost use Rattle.hour_sums.specs.Numbers.{AreSums, by_number, merged};
 ghost use Rattle.split_measures.specs.Phases.{added, phase_sum, phase_sum_of, phase_sums, cycles_of, services_of, zero_sum};
 
 use crate::carry::SplitCarry;
 use crate::sums::{PhaseSum, nothing, of_cycle, of_service};
+use hour_sums::{Sum, add_each};
 use ring_config::Config;
 use service_cut::{Cuts, Cycle, Service};
 use sig_base::{Hour, NoMemory, PhaseItem};
@@ -28,6 +29,31 @@ impl Model for SplitSums {
 }
 
 impl SplitSums {
+    /// The numbers of no phase. Takes no memory.
+    pub fn new(alloc: Global) -> SplitSums
+        ensures { result ≡ [] }
+    {
+        SplitSums {
+            phases: Vec::new(alloc),
+        }
+    }
+
+    /// The numbers of an hour that has no service and no cycle.
+    pub fn none(alloc: Global, config: &Config) -> Result<SplitSums, NoMemory>
+        ensures { IfOk result (λ sums. sums ≡ phase_sums config.now.phases [] []) }
+    {
+        let phases = of_phases(alloc, config.phases(), &table_of(&[], &[]))?;
+        Ok(SplitSums { phases })
+    }
+
+    /// Adds the numbers of each phase to its own. After want of memory some of them may have been
+    /// added.
+    pub fn add(&mut self, more: &SplitSums) -> Result<(), NoMemory>
+        ensures { OnOk result (self.new ≡ merged added self.old more.now) }
+    {
+        add_each(&mut self.phases, &more.phases)
+    }
+
     /// One entry for each phase, by number.
     pub fn phases(&self) -> &[PhaseSum]
         ensures { result.now ≡ self.now }
@@ -42,7 +68,7 @@ fn note(sums: &mut [PhaseSum], phase: u8, more: &PhaseSum)
 {
     let place = usize::from(phase);
     if place < sums.len() {
-        sums[place] = sums[place].add(more);
+        sums[place] = sums[place].sum(more);
     }
 }
 

@@ -2,7 +2,7 @@
 ghost use Rattle.std.specs.Prelude.{◌≡◌, [], ◌∷◌, None};
 ghost use Rattle.split_measures.specs.Phases.{added, ends_by, phase_sum_of};
 
-use hour_sums::{greatest_of, least_of, total};
+use hour_sums::{Sum, greatest_of, least_of, total};
 use service_cut::{Cycle, Service, Termination};
 
 /// What the whole services and the whole cycles of one phase give. Numbers of services and cycles
@@ -87,11 +87,11 @@ pub(crate) fn of_cycle(cycle: &Cycle) -> PhaseSum
     }
 }
 
-impl PhaseSum {
+impl Sum for PhaseSum {
+    ghost both = { added };
+
     /// The numbers of both: sums add, a least is the least of both and a greatest the greatest.
-    pub fn add(&self, other: &PhaseSum) -> PhaseSum
-        ensures { result ≡ added self.now other.now }
-    {
+    fn sum(&self, other: &PhaseSum) -> PhaseSum {
         PhaseSum {
             services: total(self.services, other.services),
             least: least_of(self.least, other.least),

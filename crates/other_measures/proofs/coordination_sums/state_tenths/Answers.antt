@@ -9,5 +9,8 @@ loop-state-preserved c = record {
   tenths = λ log rows ss is e. rw c.from.ensures (tenths_more log c.args.config.now c.loop-state.all c.loop-state.state c.tenths.result c.loop-state.invariant.len c.loop-state-test.true (c.tenths.ensures log rows ss is e) (c.loop-state.invariant.tenths log rows ss is e));
 }
 
-pub returns : goal.returns
-returns c = λ log rows ss is e q lt. c.loop-state.invariant.tenths log rows ss is e q (omega (arith, c.loop-state-test.false))
+pub returns-clause-size : goal.returns-clause-size
+returns-clause-size c = c.loop-state.invariant.len
+
+pub returns-clause-tenths : goal.returns-clause-tenths
+returns-clause-tenths c = λ log rows ss is e q lt. c.loop-state.invariant.tenths log rows ss is e q (omega (arith, c.loop-state-test.false))

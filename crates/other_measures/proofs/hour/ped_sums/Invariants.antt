@@ -6,9 +6,10 @@ use Rattle.ring_config.specs.Values.{has_number}
 use Rattle.other_measures.specs.Hours.{HasDelays}
 use Rattle.other_measures.specs.States.{EachOf, HasDetector, IsSeen}
 use Rattle.other_measures.proofs.hour.ped_sums.Given as goal
+use Rattle.state_tenths.specs.States.{MeetsAt}
 
 abbrev pub invariant-loop-ped : goal.invariant-loop-ped
 invariant-loop-ped l = record {
   delays : EachOf (has_number l.config.peds) (HasDelays l.delays) l.ped l.sums.items;
-  states : (log : HourLog) (rows : List Row) (ss : List Stretch) → IsSeen l.config l.view rows ss log → l.from ≡ first_tenth log.hour → EachOf (has_number l.config.peds) (HasDetector log l.config) l.ped l.sums.items;
+  states : (log : HourLog) (rows : List Row) (ss : List Stretch) → IsSeen l.config l.view rows ss log → l.from ≡ first_tenth log.hour → EachOf (has_number l.config.peds) (HasDetector (MeetsAt log) (first_tenth log.hour) l.config) l.ped l.sums.items;
 }

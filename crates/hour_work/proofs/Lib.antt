@@ -1,6 +1,5 @@
 pub mod CountLaws
 pub mod ReportLaws
-pub mod SpecLaws
 pub mod PlacedLaws
 pub mod LinkLaws
 pub mod VerdictLaws
@@ -8,3 +7,8 @@ pub mod TallyLaws
 pub mod OneLaws
 pub mod NumberLaws
 pub mod PointLaws
+pub mod MeasureLaws
+pub mod WholeLog
+pub mod Totals
+pub mod SeenLaws
+pub mod PatchLaws

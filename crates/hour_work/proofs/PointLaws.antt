@@ -1,5 +1,5 @@
 -- What is kept at hour points, and what is known between two of them.
-use Rattle.std.proofs.Common.{◌≡◌, ◌∙◌, ℕ, ◌+◌, ◌*◌, ◌-◌, ◌<◌, ◌≤◌, ℤ, pos, Bool, true, false, nat_lt, List, [], length, Option, Some, None, refl, sym, ap, subst, arith}
+use Rattle.std.proofs.Common.{◌≡◌, ◌∙◌, ℕ, ◌+◌, ◌*◌, ◌-◌, ◌<◌, ◌≤◌, ℤ, pos, Bool, true, false, nat_lt, List, [], ◌∷◌, length, take, Option, Some, None, refl, sym, ap, subst, arith}
 use Rattle.std.specs.Prelude.{is_some, option_map}
 use Rattle.std.specs.List.{All}
 use Rattle.std.proofs.lemmas.Bool.Decides.{nat_tests}
@@ -7,9 +7,13 @@ use Rattle.span_set.specs.declared.set.Span.{Span}
 use Rattle.sig_base.specs.HourRows.{AreRowsOf, Shown}
 use Rattle.sig_base.specs.declared.values.Row.{Row}
 use Rattle.gap_map.specs.declared.stretch.Stretch.{Stretch}
-use Rattle.gap_map.specs.Stretches.{IsCut, known_in}
+use Rattle.gap_map.specs.Stretches.{IsCut as IsStretched, known_in}
 use Rattle.gap_map.proofs.Following.{follow}
-use Rattle.hour_store.specs.Store.{Store, count_in, held_at, is_known, rows_at}
+use Rattle.hour_store.specs.Store.{Store, count_in, held_at, is_known, rows_at, rows_of}
+use Rattle.hour_sweep.specs.Rows.{known_rows}
+use Rattle.service_cut.specs.declared.parts.Part.{Part}
+use Rattle.service_cut.specs.Parts.{IsCarry as IsCut}
+use Rattle.other_measures.specs.Crossing.{Crossing, IsCarry as IsCrossing}
 use Rattle.board.specs.Hours.{AreEnds, AreStarts}
 use Rattle.board.specs.Logs.{IsHour, first_tenth, hour_log}
 use Rattle.board.specs.Places.{AreAheadsOf, IsViewOf}
@@ -21,7 +25,7 @@ use Rattle.signal_log.specs.Log.{log_of}
 use Rattle.signal_log.specs.Points.{HasHour, rows_or_none}
 use Rattle.signal_log.specs.Views.{IsHourOf}
 use Rattle.signal_log.proofs.Lawful.{ends, starts}
-use Rattle.signal_log.proofs.Stored.{known_cut, known_hour}
+use Rattle.signal_log.proofs.Stored.{cut_known, known_cut, known_hour}
 use Rattle.signal_log.proofs.Viewed.{hours_tell}
 use Rattle.rule_audit.specs.declared.lines.AuditLine.{AuditLine}
 use Rattle.rule_audit.specs.Rules.{rules_for}
@@ -29,19 +33,36 @@ use Rattle.rule_audit.specs.Lines.{AreLines, IsAudited}
 use Rattle.hour_work.specs.Numbers.{FitsCount, count_in_hour, one_if}
 use Rattle.hour_work.specs.Counts.{counts_of}
 use Rattle.hour_work.specs.Points.{Carried, FitPoint, IsCarryAt, IsFutureAt, is_known_before}
-use Rattle.hour_work.specs.Verdicts.{AreAuditLines, HasStoreVerdict, hour_rows, obligations_in}
+use Rattle.hour_work.specs.Verdicts.{AreAuditLines, HasStoreVerdict, obligations_in}
+use Rattle.hour_work.specs.Rows.{earlier_rows, hour_rows}
 use Rattle.hour_work.specs.declared.counts.RuleCount.{RuleCount}
+use Rattle.split_measures.specs.declared.sums.PhaseSum.{PhaseSum}
+use Rattle.other_measures.specs.Hours.{OtherNumbers}
+use Rattle.hour_work.specs.Measures.{AreMeasures}
 use Rattle.hour_work.specs.Reports.{IsHourBetween, IsHourPart}
 use Rattle.hour_work.proofs.CountLaws.{count_all, count_same}
-use Rattle.hour_work.proofs.SpecLaws.{specs_follow}
+use Rattle.rule_audit.proofs.Tracked.{channels_are}
 use Rattle.hour_work.proofs.PlacedLaws.{all_numbered, each_all}
 use Rattle.hour_work.proofs.TallyLaws.{counts_at, counts_fit, length-counts_of, lines_each}
 use Rattle.hour_work.proofs.VerdictLaws.{lines_in, no_lines, runs_are}
 
 -- ---- points
 
-pub first_carry : (c : Settings) (pasts : List (List (List Span))) → AreBefore c.specs pasts → AreStarts c.specs (length c.specs) pasts → (s : Store) → IsCarryAt c s 0 (record { pasts = pasts; known = false })
-first_carry c pasts shape are s = record { pasts = starts (log_of c.specs s) pasts shape are; known = refl }
+no_rows : (hours : List (Option Shown)) → rows_of (take 0 hours) ≡ []
+no_rows [] = refl
+no_rows (o ∷ hours) = refl
+
+pub none_earlier : (s : Store) → earlier_rows s 0 ≡ []
+none_earlier s = ap (λ rs. known_rows (is_known s) rs) (no_rows s.hours)
+
+pub first_carry : (c : Settings) (pasts : List (List (List Span))) (cuts : List (Option Part)) (others : Crossing) → AreBefore c.specs pasts → AreStarts c.specs (length c.specs) pasts → ((known : ℕ → Bool) → IsCut known c.phases [] 0 cuts) → ((known : ℕ → Bool) → IsCrossing known c [] 0 others)
+    → (s : Store) → IsCarryAt c s 0 (record { pasts = pasts; known = false; cuts = cuts; others = others })
+first_carry c pasts cuts others shape are cut crossing s = record {
+  pasts = starts (log_of c.specs s) pasts shape are;
+  known = refl;
+  cuts = rw (none_earlier s) (cut (is_known s));
+  others = rw (none_earlier s) (crossing (is_known s));
+}
 
 pub carry_fits : (c : Settings) (s : Store) (k : ℕ) (carry : Carried) → IsCarryAt c s k carry → FitPoint c k carry
 carry_fits c s k carry is = record { shape = is.pasts.shape; early = is.pasts.early }
@@ -56,21 +77,21 @@ pub known_after : (s : Store) (hour : ℕ) (rows : Option (List Row)) (blanks : 
 known_after s hour rows blanks held has e =
     let last : 36000 * (hour + 1) - 1 ≡ 36000 * hour + 35999 = omega arith in
     let some : nat_lt 0 (36000 * (hour + 1)) ≡ true = grind (arith, nat_tests) in
-    let known = known_hour s hour (36000 * hour + 35999) rows has.held (omega arith) (omega arith) in
-    rw (some, last, known, e, has.blanked) refl
+    let known = has.known (36000 * hour + 35999) (omega arith) (omega arith) in
+    rw (some, last, e) known
 
 -- ---- an hour
 
-pub hour_cut : (hour : ℕ) (rows : List Row) (blanks : List Span) (ss : List Stretch) → AreRowsOf hour rows → IsCut (known_in true blanks) (36000 * hour) (36000 * hour + 36000) ss → IsHour hour rows ss
+pub hour_cut : (hour : ℕ) (rows : List Row) (blanks : List Span) (ss : List Stretch) → AreRowsOf hour rows → IsStretched (known_in true blanks) (36000 * hour) (36000 * hour + 36000) ss → IsHour hour rows ss
 hour_cut hour rows blanks ss are cut = record { are_rows = are; follow = follow (known_in true blanks) (36000 * hour) (36000 * hour + 36000) ss cut.stretches }
 
-module _ (c : Settings) (sound : IsSound c) (s : Store) (hour : ℕ) (before : Carried) (rows : List Row) (blanks : List Span) (after : List (List (Option ℤ))) (ss : List Stretch) (is : IsHourBetween c s hour before (Some rows) blanks after) (cut : IsCut (known_in true blanks) (36000 * hour) (36000 * hour + 36000) ss) where
-  hour_of : IsHourOf s (hour_log hour c.specs rows ss before.pasts after)
-  hour_of = record {
+module _ (c : Settings) (sound : IsSound c) (s : Store) (hour : ℕ) (before : Carried) (rows : List Row) (blanks : List Span) (after : List (List (Option ℤ))) (ss : List Stretch) (is : IsHourBetween c s hour before (Some rows) blanks after) (cut : IsStretched (known_in true blanks) (36000 * hour) (36000 * hour + 36000) ss) where
+  pub between_hour : IsHourOf s (hour_log hour c.specs rows ss before.pasts after)
+  between_hour = record {
     is_store = is.has_hour.is_store;
     within = is.has_hour.within;
     held = is.has_hour.held;
-    cut = subst (λ bs. IsCut (known_in true bs) (36000 * hour) (36000 * hour + 36000) ss) is.has_hour.blanked cut;
+    cut = cut_known s hour (Some rows) blanks ss is.has_hour cut;
     before = is.is_before.pasts;
     after = is.is_after;
   }
@@ -82,12 +103,12 @@ module _ (c : Settings) (sound : IsSound c) (s : Store) (hour : ℕ) (before : C
     same_specs = refl;
     same_rows = refl;
     same_stretches = refl;
-    runs = runs_are (hour_log hour c.specs rows ss before.pasts after) ((hours_tell s (hour_log hour c.specs rows ss before.pasts after) (specs_follow c sound) hour_of).history.runs.0 is.history);
+    runs = runs_are (hour_log hour c.specs rows ss before.pasts after) ((hours_tell s (hour_log hour c.specs rows ss before.pasts after) (channels_are c sound) between_hour).history.runs.0 is.history);
   }
 
   -- its lines are those of the store
   pub lines_done : (lines : List AuditLine) → AreLines (hour_log hour c.specs rows ss before.pasts after) (rules_for c) before.known lines → AreAuditLines c s hour lines
-  lines_done lines = lines_in c s hour rows ss before.pasts after (hours_tell s (hour_log hour c.specs rows ss before.pasts after) (specs_follow c sound) hour_of) is.history before.known lines sound is.has_hour.held (λ x low high. known_cut s hour x (Some rows) blanks ss is.has_hour.held is.has_hour.blanked cut low high) is.is_before.known
+  lines_done lines = lines_in c s hour rows ss before.pasts after (hours_tell s (hour_log hour c.specs rows ss before.pasts after) (channels_are c sound) between_hour) is.history before.known lines sound is.has_hour.held (λ x low high. known_cut s hour x ss between_hour.cut low high) is.is_before.known
 
 -- an hour that isn't held
 pub unheld_lines : (c : Settings) (s : Store) (hour : ℕ) → rows_at s hour ≡ None → AreAuditLines c s hour []
@@ -109,9 +130,7 @@ held_count s hour rows e = ap (λ (o : Option (List Row)). length (rows_or_none 
 
 -- known tenths of an hour
 pub known_count : (s : Store) (hour : ℕ) (rows : Option (List Row)) (blanks : List Span) (held : Bool) → HasHour s hour rows blanks → held ≡ is_some rows → count_in_hour (known_in held blanks) hour ≡ count_in_hour (is_known s) hour
-known_count s hour rows blanks held has e = count_same (known_in held blanks) (is_known s) (36000 * hour) 36000 (λ t low high.
-    let known = known_hour s hour t rows has.held low (omega arith) in
-    rw (known, e, has.blanked) refl)
+known_count s hour rows blanks held has e = count_same (known_in held blanks) (is_known s) (36000 * hour) 36000 (λ t low high. rw e (has.known t low (omega arith)))
 
 -- each line has the number of a rule
 pub lines_numbered : (c : Settings) (s : Store) (hour : ℕ) (lines : List AuditLine) → AreAuditLines c s hour lines → All (λ l. (1 ≤ l.rule) × (l.rule ≤ length (rules_for c))) lines
@@ -128,14 +147,15 @@ lines_fit c s hour n rows lines held few are =
     counts_fit (HasStoreVerdict c s hour) (is_known s) c.specs (rules_for c) (hour_rows s hour) (is_known_before (is_known s) (first_tenth hour)) (first_tenth hour) n lines (omega arith) are
 
 -- the numbers of an hour that isn't held
-pub unheld_part : (c : Settings) (s : Store) (hour n : ℕ) (rules : List RuleCount) → rules ≡ counts_of n [] → rows_at s hour ≡ None → n ≡ length (rules_for c) → IsHourPart c s hour (record { held_hours = 0; held_rows = 0; known_tenths = 0; rules = rules })
-unheld_part c s hour n rules e none m = record {
+pub unheld_part : (c : Settings) (s : Store) (hour n : ℕ) (rules : List RuleCount) (splits : List PhaseSum) (others : OtherNumbers) → rules ≡ counts_of n [] → AreMeasures c s hour splits others → rows_at s hour ≡ None → n ≡ length (rules_for c) → IsHourPart c s hour (record { held_hours = 0; held_rows = 0; known_tenths = 0; rules = rules; splits = splits; others = others })
+unheld_part c s hour n rules splits others e measures none m = record {
   held_hours = held_one s hour None none;
   held_rows = held_count s hour None none;
   known_tenths = sym (count_all (is_known s) (36000 * hour) 36000 false (λ t low high. known_hour s hour t None none low (omega arith)));
   lines = [];
   are_lines = unheld_lines c s hour none;
   rules = e ∙ ap (λ k. counts_of k []) m;
+  measures = measures;
 }
 
 pub none_fit : (n : ℕ) → All (FitsCount 1) (counts_of n [])

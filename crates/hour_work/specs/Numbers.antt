@@ -1,13 +1,20 @@
 -- What is counted of one hour, and the sums over hours.
-use Rattle.std.specs.Prelude.{◌≤◌, ◌+◌, ◌*◌, ℕ, zero, suc, Bool, true, false, List, [], ◌∷◌, map, sum_by, All}
+use Rattle.std.specs.Prelude.{◌≡◌, ◌≤◌, ◌+◌, ◌*◌, ◌++◌, ℕ, zero, suc, Bool, true, false, List, [], length, take, drop, map, sum_by, All}
+use Rattle.std.specs.List.{fold}
+use Rattle.hour_sums.specs.Numbers.{merged}
+use Rattle.split_measures.specs.declared.sums.PhaseSum.{PhaseSum}
+use Rattle.split_measures.specs.Phases.{added}
+use Rattle.other_measures.specs.Hours.{OtherNumbers, no_numbers, others_added}
 use Rattle.hour_work.specs.declared.counts.RuleCount.{RuleCount}
 
--- the numbers of one hour, or of several together; the rules stand by their numbers, from 1
+-- the numbers of one hour, or of several together; the rules stand by their numbers, from 1, and the phases by theirs
 pub record Numbers : Type 0 where
   pub held_hours : ℕ
   pub held_rows : ℕ
   pub known_tenths : ℕ
   pub rules : List RuleCount
+  pub splits : List PhaseSum
+  pub others : OtherNumbers
 
 abbrev pub one_if : Bool → ℕ
 one_if true = 1
@@ -26,28 +33,26 @@ count_in_hour test hour = count_from test (36000 * hour) 36000
 abbrev pub count_sum : RuleCount → RuleCount → RuleCount
 count_sum a b = record { kept = a.kept + b.kept; broken = a.broken + b.broken; undecided = a.undecided + b.undecided }
 
--- both counts of each rule together; a rule that one list lacks has the count of the other
-abbrev pub counts_sum : List RuleCount → List RuleCount → List RuleCount
-counts_sum [] bs = bs
-counts_sum (a ∷ rest) [] = a ∷ rest
-counts_sum (a ∷ rest) (b ∷ bs) = count_sum a b ∷ counts_sum rest bs
-
--- all counts of each rule together
-abbrev pub sum_of_counts : List (List RuleCount) → List RuleCount
-sum_of_counts [] = []
-sum_of_counts (x ∷ xs) = counts_sum x (sum_of_counts xs)
-
 -- both numbers together
 abbrev pub numbers_sum : Numbers → Numbers → Numbers
-numbers_sum a b = record { held_hours = a.held_hours + b.held_hours; held_rows = a.held_rows + b.held_rows; known_tenths = a.known_tenths + b.known_tenths; rules = counts_sum a.rules b.rules }
+numbers_sum a b = record {
+  held_hours = a.held_hours + b.held_hours;
+  held_rows = a.held_rows + b.held_rows;
+  known_tenths = a.known_tenths + b.known_tenths;
+  rules = merged count_sum a.rules b.rules;
+  splits = merged added a.splits b.splits;
+  others = others_added a.others b.others;
+}
 
--- the sums of the numbers
+-- the sums of the numbers, hour by hour
 abbrev pub total_of : List Numbers → Numbers
 total_of all = record {
   held_hours = sum_by (λ n. n.held_hours) all;
   held_rows = sum_by (λ n. n.held_rows) all;
   known_tenths = sum_by (λ n. n.known_tenths) all;
-  rules = sum_of_counts (map (λ n. n.rules) all);
+  rules = fold (merged count_sum) [] (map (λ n. n.rules) all);
+  splits = fold (merged added) [] (map (λ n. n.splits) all);
+  others = fold others_added no_numbers (map (λ n. n.others) all);
 }
 
 -- so many hours can give a rule this count: it is judged at most once before each row, of which an hour has at most 400,000, or once at the end of each tenth
@@ -62,3 +67,18 @@ pub record FitHours (hours : ℕ) (n : Numbers) : Type 0 where
   pub held_rows : n.held_rows ≤ 400000 * hours
   pub known_tenths : n.known_tenths ≤ 36000 * hours
   pub rules : All (FitsCount hours) n.rules
+
+-- these are the sums over these hours, and so many hours can have them
+pub record IsTotal (hours : List Numbers) (total : Numbers) : Type 0 where
+  pub sums : total ≡ total_of hours
+  pub fits : FitHours (length hours) total
+
+-- the hours of a window, at most 744, and the sums over them
+pub record AreSummed (hours : List Numbers) (total : Numbers) : Type 0 where
+  pub sums : total ≡ total_of hours
+  pub few : length hours ≤ 744
+  pub small : All (FitHours 1) hours
+
+-- the list with these elements in place of as many from this place on
+abbrev pub patched : {A : Type 0} → List A → ℕ → List A → List A
+patched xs from ys = take from xs ++ (ys ++ drop (from + length ys) xs)

@@ -8,13 +8,19 @@ use Rattle.board.specs.Places.{AllEarly}
 use Rattle.ring_config.specs.Settings.{Settings}
 use Rattle.signal_log.specs.Log.{IsContradiction, Log, log_of}
 use Rattle.signal_log.specs.Points.{ArePastsAt, AreAheadsAt}
+use Rattle.service_cut.specs.declared.parts.Part.{Part}
+use Rattle.service_cut.specs.Parts.{IsCarry as IsCut}
+use Rattle.other_measures.specs.Crossing.{Crossing, IsCarry as IsCrossing}
+use Rattle.hour_work.specs.Rows.{earlier_rows}
 use Rattle.hour_work.specs.declared.steps.ForwardError.{ForwardError}
 use Rattle.hour_work.specs.declared.steps.ForwardError.TheVariants.{Contradiction, Memory}
 
--- the states of each channel, and whether the tenth before the point is known
+-- the states of each channel, whether the tenth before the point is known, and what is under way of phases, of pedestrian signals and preempts
 pub record Carried : Type 0 where
   pub pasts : List (List (List Span))
   pub known : Bool
+  pub cuts : List (Option Part)
+  pub others : Crossing
 
 -- the tenth before this one is known; before tenth 0 there is none
 abbrev pub is_known_before : (ℕ → Bool) → ℕ → Bool
@@ -29,6 +35,8 @@ pub record FitPoint (c : Settings) (k : ℕ) (carry : Carried) : Type 0 where
 pub record IsCarryAt (c : Settings) (s : Store) (k : ℕ) (carry : Carried) : Type 0 where
   pub pasts : ArePastsAt (log_of c.specs s) k carry.pasts
   pub known : carry.known ≡ is_known_before (is_known s) (first_tenth k)
+  pub cuts : IsCut (is_known s) c.phases (earlier_rows s k) k carry.cuts
+  pub others : IsCrossing (is_known s) c (earlier_rows s k) k carry.others
 
 -- these admit the states at point k with which the store can be completed
 abbrev pub IsFutureAt : Settings → Store → ℕ → List (List (Option ℤ)) → Type 0

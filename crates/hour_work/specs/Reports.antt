@@ -1,9 +1,15 @@
 -- The report of a store.
-use Rattle.std.specs.Prelude.{◌≡◌, ◌+◌, ◌<◌, ℕ, ℤ, List, Option, length, is_some, slice_index_or}
+use Rattle.std.specs.Prelude.{◌≡◌, ◌+◌, ◌*◌, ◌<◌, ℕ, ℤ, true, List, Option, Some, length, is_some, slice_index_or}
 use Rattle.sig_base.specs.declared.values.Row.{Row}
 use Rattle.span_set.specs.declared.set.Span.{Span}
+use Rattle.gap_map.specs.declared.stretch.Stretch.{Stretch}
+use Rattle.gap_map.specs.Stretches.{IsCut, known_in}
+use Rattle.lane.specs.Places.{Kept}
+use Rattle.board.specs.Logs.{hour_log}
+use Rattle.board.specs.Places.{IsViewOf}
 use Rattle.hour_store.specs.Store.{Store, count_in, held_at, is_known}
 use Rattle.ring_config.specs.Settings.{Settings}
+use Rattle.ring_config.specs.Sound.{IsSound}
 use Rattle.signal_log.specs.Log.{HasHistory, log_of}
 use Rattle.signal_log.specs.Points.{HasHour}
 use Rattle.rule_audit.specs.declared.lines.AuditLine.{AuditLine}
@@ -12,8 +18,9 @@ use Rattle.hour_work.specs.Numbers.{Numbers, count_in_hour, one_if}
 use Rattle.hour_work.specs.Counts.{counts_of}
 use Rattle.hour_work.specs.Points.{Carried, IsCarryAt, IsFutureAt}
 use Rattle.hour_work.specs.Verdicts.{AreAuditLines}
+use Rattle.hour_work.specs.Measures.{AreMeasures}
 
--- the numbers of an hour of a store: its rows count at blanked tenths too, each of its tenths counts where it is known, and each rule has the counts of the hour's audit lines
+-- the numbers of an hour of a store: its rows count at blanked tenths too, each of its tenths counts where it is known, each rule has the counts of the hour's audit lines, and the measures are those of the hour
 pub record IsHourPart (c : Settings) (s : Store) (hour : ℕ) (p : Numbers) : Type 0 where
   pub held_hours : p.held_hours ≡ one_if (is_some (held_at s hour))
   pub held_rows : p.held_rows ≡ count_in (held_at s hour)
@@ -21,6 +28,7 @@ pub record IsHourPart (c : Settings) (s : Store) (hour : ℕ) (p : Numbers) : Ty
   pub lines : List AuditLine
   pub are_lines : AreAuditLines c s hour lines
   pub rules : p.rules ≡ counts_of (length (rules_for c)) lines
+  pub measures : AreMeasures c s hour p.splits p.others
 
 -- the report of a store: the numbers of each hour; `total_of` them are those of the store
 pub record IsReport (c : Settings) (s : Store) (all : List Numbers) : Type 0 where
@@ -33,3 +41,12 @@ pub record IsHourBetween (c : Settings) (s : Store) (hour : ℕ) (before : Carri
   pub is_before : IsCarryAt c s hour before
   pub is_after : IsFutureAt c s (hour + 1) after
   pub history : HasHistory (log_of c.specs s)
+
+-- of a held hour of the store, under a configuration that can be read: it is cut into these stretches, and this is the view of it between what the store says at the points before and after it
+pub record IsHourSeen (c : Settings) (s : Store) (hour : ℕ) (before : Carried) (rows : List Row) (ss : List Stretch) (view : List Kept) : Type 0 where
+  pub sound : IsSound c
+  pub blanks : List Span
+  pub after : List (List (Option ℤ))
+  pub between : IsHourBetween c s hour before (Some rows) blanks after
+  pub cut : IsCut (known_in true blanks) (36000 * hour) (36000 * hour + 36000) ss
+  pub is_view : IsViewOf (hour_log hour c.specs rows ss before.pasts after) view

@@ -2,23 +2,19 @@
 use Rattle.std.specs.Prelude.{ℕ, List, length, take, slice_index_or}
 use Rattle.sig_base.specs.declared.values.Row.{Row}
 use Rattle.sig_base.specs.declared.values.Verdict.{Verdict}
-use Rattle.hour_store.specs.Store.{Store, is_known, rows_at}
+use Rattle.hour_store.specs.Store.{Store, is_known}
 use Rattle.board.specs.History.{events_at}
 use Rattle.board.specs.Logs.{first_tenth, no_row}
 use Rattle.ring_config.specs.Settings.{Settings}
 use Rattle.signal_log.specs.Log.{log_of}
 use Rattle.signal_log.specs.States.{MayBeAfter, MayBeAtEnd}
-use Rattle.signal_log.specs.Points.{rows_or_none}
 use Rattle.rule_audit.specs.declared.lines.AuditLine.{AuditLine}
 use Rattle.rule_audit.specs.Rules.{rules_for}
 use Rattle.rule_audit.specs.Obligations.{Obligation, obligations_from}
 use Rattle.rule_audit.specs.Judged.{IsRuleVerdict, States}
 use Rattle.rule_audit.specs.Lines.{AreLinesOf}
+use Rattle.hour_work.specs.Rows.{hour_rows}
 use Rattle.hour_work.specs.Points.{is_known_before}
-
--- the rows of an hour, none where it isn't held
-abbrev pub hour_rows : Store → ℕ → List Row
-hour_rows s hour = rows_or_none (rows_at s hour)
 
 -- how many rows of its tenth stand before row n
 abbrev pub rows_before : List Row → ℕ → ℕ

@@ -1,21 +1,27 @@
 // What is kept at an hour point.
-ghost use Rattle.std.specs.Prelude.{◌≡◌, length, IfOk};
+ghost use Rattle.std.specs.Prelude.{◌≡◌, ◌↔◌, length, IfOk, IsTrue};
 ghost use Rattle.hour_store.specs.Store.{Store};
 ghost use Rattle.board.specs.Places.{AreAheadsOf};
 ghost use Rattle.hour_work.specs.Points.{FitPoint, IsCarryAt, IsFutureAt};
 
 use board::{Aheads, Pasts};
+use other_measures::OtherCarry;
 use ring_config::Config;
+use service_cut::CutCarry;
 use sig_base::{NoMemory, Tenth};
+use split_measures::SplitCarry;
 use std::alloc::Global;
 use std::marker::Model;
 
-/// What the hours before an hour point say: the states in which each channel may be there, and
-/// whether the tenth before the point is known.
+/// What the hours before an hour point say: the states in which each channel may be there, whether
+/// the tenth before the point is known, and what is under way of each measure.
 #[derive(Drop)]
 pub struct Carry {
     pub(crate) pasts: Pasts,
     pub(crate) known: bool,
+    pub(crate) cuts: CutCarry,
+    pub(crate) splits: SplitCarry,
+    pub(crate) others: OtherCarry,
 }
 
 impl Model for Carry {
@@ -23,19 +29,26 @@ impl Model for Carry {
 
     ghost Value = { Carried };
 
-    ghost view = { λ c. record { pasts = c.pasts; known = c.known } };
+    ghost view = { λ c. record { pasts = c.pasts; known = c.known; cuts = c.cuts; others = c.others } };
 }
 
 impl Carry {
-    /// At the window's start: any state, entered before it, and no known tenth before it.
+    /// At the window's start: any state, entered before it, no known tenth before it, and nothing
+    /// under way.
     pub fn start(alloc: Global, config: &Config) -> Result<Carry, NoMemory>
         ensures fit { IfOk result (FitPoint config.now 0) }
         ensures carry { IfOk result (λ c. (s : Store) → IsCarryAt config.now s 0 c) }
     {
         let pasts = Pasts::start(alloc, config.specs())?;
+        let cuts = CutCarry::start(alloc, config.phases())?;
+        let splits = SplitCarry::start(alloc, config)?;
+        let others = OtherCarry::start(alloc, config)?;
         Ok(Carry {
             pasts,
             known: false,
+            cuts,
+            splits,
+            others,
         })
     }
 
@@ -44,6 +57,16 @@ impl Carry {
         ensures { result.now ≡ self.now.pasts }
     {
         &self.pasts
+    }
+
+    /// Whether both say the same.
+    pub fn same(&self, other: &Carry) -> bool
+        ensures { IsTrue result ↔ (self.now ≡ other.now) }
+    {
+        self.known == other.known
+            && self.pasts.same(&other.pasts)
+            && self.cuts.same(&other.cuts)
+            && self.others.same(&other.others)
     }
 }
 
@@ -71,5 +94,12 @@ impl Future {
         let point = 36_000 * i64::from(config.window().hours());
         let aheads = Aheads::end(alloc, config.specs(), point)?;
         Ok(Future { aheads })
+    }
+
+    /// Whether both admit the same states.
+    pub fn same(&self, other: &Future) -> bool
+        ensures { IsTrue result ↔ (self.now ≡ other.now) }
+    {
+        self.aheads.same(&other.aheads)
     }
 }

@@ -1,21 +1,17 @@
 // The numbers of one hour, and the lines of its audit.
-ghost use Rattle.std.specs.Prelude.{◌≡◌, ◌+◌, ◌≤◌, ◌<◌, ◌^◌, All, Some, is_some, length, option_copied, sum_by, IfOk, IfSome};
+ghost use Rattle.std.specs.Prelude.{◌≡◌, ◌<◌, Some, option_copied, IfOk, IfSome};
 ghost use Rattle.sig_base.specs.HourRows.{AreRowsOf};
-ghost use Rattle.gap_map.specs.Stretches.{known_in};
 ghost use Rattle.hour_store.specs.Store.{Store};
 ghost use Rattle.rule_audit.specs.Rules.{rules_for};
-ghost use Rattle.signal_log.specs.Points.{rows_or_none};
-ghost use Rattle.hour_work.specs.Numbers.{FitHours, count_in_hour, one_if};
-ghost use Rattle.hour_work.specs.Known.{known_len};
+ghost use Rattle.hour_work.specs.Numbers.{FitHours};
 ghost use Rattle.hour_work.specs.Verdicts.{AreAuditLines};
 ghost use Rattle.hour_work.specs.Reports.{IsHourBetween, IsHourPart};
 
 use crate::counts::counts_of;
+use crate::seen::{audit_seen, known_in, others_seen, seen_hour, splits_seen};
 use crate::{Carry, Future, Partial};
-use board::HourView;
-use gap_map::{Stretch, stretches};
 use ring_config::Config;
-use rule_audit::{AuditLine, Rule, audit_rows};
+use rule_audit::{AuditLine, Rule};
 use sig_base::{Hour, NoMemory, Row};
 use span_set::SpanSet;
 use std::alloc::Global;
@@ -39,16 +35,10 @@ pub fn partial(
     ensures value { IfOk result (λ p. (s : Store) → IsHourBetween config.now s hour before.now (option_copied rows.entry) blanked.now after.now → IsHourPart config.now s hour p) }
     ensures small { IfOk result (FitHours 1) }
 {
-    let lines = audit_lines(alloc, config, rules, hour, before, rows, blanked, after)?;
-    let counts = counts_of(alloc, rules.len(), &lines)?;
-    let known_tenths = known_tenths(alloc, hour, rows.is_some(), blanked)?;
-    let (held_hours, held_rows) = held(rows);
-    Ok(Partial {
-        held_hours,
-        held_rows,
-        known_tenths,
-        rules: counts,
-    })
+    match rows {
+        Some(rows) => held_part(alloc, config, rules, hour, before, rows, blanked, after),
+        None => Partial::not_held(alloc, config, rules.len()),
+    }
 }
 
 /// The lines of the audit of an hour, in their order: the verdicts that aren't idle, over all
@@ -75,6 +65,38 @@ pub fn audit_lines(
     }
 }
 
+// The numbers of an hour of which these rows are held.
+fn held_part(
+    alloc: Global,
+    config: &Config,
+    rules: &[Rule],
+    hour: Hour,
+    before: &Carry,
+    rows: &[Row],
+    blanked: &SpanSet,
+    after: &Future,
+) -> Result<Partial, NoMemory>
+    requires of_hour { AreRowsOf hour rows.now }
+    requires rules { rules.now ≡ rules_for config.now }
+    requires agrees { (s : Store) × IsHourBetween config.now s hour before.now (Some rows.now) blanked.now after.now }
+    ensures value { IfOk result (λ p. (s : Store) → IsHourBetween config.now s hour before.now (Some rows.now) blanked.now after.now → IsHourPart config.now s hour p) }
+    ensures small { IfOk result (FitHours 1) }
+{
+    let (parts, view) = seen_hour(alloc, config, hour, before, rows, blanked, after)?;
+    let lines = audit_seen(alloc, config, rules, hour, before, rows, &parts, &view)?;
+    let counts = counts_of(alloc, rules.len(), &lines)?;
+    let splits = splits_seen(alloc, config, hour, before, rows, &parts)?;
+    let others = others_seen(alloc, config, hour, before, rows, &parts, &view)?;
+    Ok(Partial {
+        held_hours: 1,
+        held_rows: rows.len() as u64,
+        known_tenths: known_in(&parts) as u64,
+        rules: counts,
+        splits,
+        others,
+    })
+}
+
 // The lines of an hour of which these rows are held.
 fn held_lines(
     alloc: Global,
@@ -91,55 +113,6 @@ fn held_lines(
     requires agrees { (s : Store) × IsHourBetween config.now s hour before.now (Some rows.now) blanked.now after.now }
     ensures { IfOk result (λ v. (s : Store) → IsHourBetween config.now s hour before.now (Some rows.now) blanked.now after.now → AreAuditLines config.now s hour v.items) }
 {
-    let stretches = stretches(alloc, hour, true, blanked)?;
-    let view = HourView::new(
-        alloc,
-        config.specs(),
-        &before.pasts,
-        rows,
-        &stretches,
-        &after.aheads,
-    )?;
-    audit_rows(alloc, config, rules, &view, rows, &stretches, before.known)
-}
-
-// How many hours these are, one or none, and how many rows they have.
-fn held(rows: Option<&[Row]>) -> (u64, u64)
-    ensures { (result.0 ≡ one_if (is_some (option_copied rows.entry))) × (result.1 ≡ length (rows_or_none (option_copied rows.entry))) }
-{
-    match rows {
-        Some(rows) => (1, rows.len() as u64),
-        None => (0, 0),
-    }
-}
-
-// How many tenths of an hour are known.
-fn known_tenths(alloc: Global, hour: Hour, held: bool, blanked: &SpanSet) -> Result<u64, NoMemory>
-    requires { hour < 744 }
-    ensures value { IfOk result (λ n. n ≡ count_in_hour (known_in held blanked.now) hour) }
-    ensures few { IfOk result (λ n. n ≤ 36000) }
-{
-    let parts = stretches(alloc, hour, held, blanked)?;
-    Ok(known_in(&parts) as u64)
-}
-
-// How many tenths of these stretches are known.
-fn known_in(parts: &[Stretch]) -> u32
-    requires order { All (λ s. s.from ≤ s.to) parts.now }
-    requires few { sum_by known_len parts.now < 2 ^ 32 }
-    ensures { result ≡ sum_by known_len parts.now }
-{
-    let mut known = 0;
-    for part in parts {
-        known += known_len(part);
-    }
-    known
-}
-
-// How many tenths of this stretch are known: all of them or none.
-fn known_len(part: &Stretch) -> u32
-    requires { part.now.from ≤ part.now.to }
-    ensures { result ≡ known_len part.now }
-{
-    if part.known { part.to - part.from } else { 0 }
+    let (parts, view) = seen_hour(alloc, config, hour, before, rows, blanked, after)?;
+    audit_seen(alloc, config, rules, hour, before, rows, &parts, &view)
 }

@@ -1,7 +1,8 @@
 //! One hour of the log, forward, backward and summed up.
 //!
 //! Going over the hours from the window's start, `forward` carries what the hours so far say to the
-//! next hour point, or names the row at which the log contradicts itself. Going back from the
+//! next hour point, or names the row at which the log contradicts itself; with the states of each
+//! channel go the services, cycles, walks and preempts that are under way. Going back from the
 //! window's end, `backward` carries which states can still be completed. Between the two stand the
 //! numbers of an hour (`partial`) and the lines of its audit (`audit_lines`), both over all
 //! histories of the whole window that agree with the log. A `Report` has the numbers of all hours.
@@ -16,6 +17,7 @@ mod hour;
 mod laws;
 mod numbers;
 mod reported;
+mod seen;
 mod steps;
 #[cfg(test)]
 mod tests;
@@ -23,7 +25,7 @@ mod tests;
 pub use carry::{Carry, Future};
 pub use counts::RuleCount;
 pub use hour::{audit_lines, partial};
-pub use laws::reports_are_one;
+pub use laws::{hours_make_up_the_log, reports_are_one, totals_are_of_the_log};
 pub use numbers::Partial;
 pub use reported::Report;
 pub use steps::{ForwardError, backward, forward};

@@ -1,14 +1,17 @@
 // The numbers of one hour, or of several together.
-ghost use Rattle.std.specs.Prelude.{◌≡◌, ◌≤◌, ℕ, None, All, length, IfOk, OnOk};
+ghost use Rattle.std.specs.Prelude.{◌≡◌, ◌≤◌, ◌+◌, ◌++◌, ℕ, None, List, [], All, length, IfOk, OnOk};
 ghost use Rattle.hour_store.specs.Store.{Store, rows_at};
-ghost use Rattle.ring_config.specs.Settings.{Settings};
+ghost use Rattle.hour_sums.specs.Numbers.{merged};
 ghost use Rattle.rule_audit.specs.Rules.{rules_for};
-ghost use Rattle.hour_work.specs.Numbers.{FitHours, FitsCount, count_sum, counts_sum, numbers_sum, total_of};
+ghost use Rattle.hour_work.specs.Numbers.{FitHours, FitsCount, IsTotal, Numbers, count_sum, numbers_sum, total_of};
 ghost use Rattle.hour_work.specs.Reports.{IsHourPart};
 
 use crate::RuleCount;
 use crate::counts::counts_of;
+use other_measures::OtherSums;
+use ring_config::Config;
 use sig_base::NoMemory;
+use split_measures::SplitSums;
 use std::alloc::Global;
 use std::marker::Model;
 
@@ -19,6 +22,8 @@ pub struct Partial {
     pub(crate) held_rows: u64,
     pub(crate) known_tenths: u64,
     pub(crate) rules: Vec<RuleCount>,
+    pub(crate) splits: SplitSums,
+    pub(crate) others: OtherSums,
 }
 
 impl Model for Partial {
@@ -26,21 +31,25 @@ impl Model for Partial {
 
     ghost Value = { Numbers };
 
-    ghost view = { λ p. record { held_hours = p.held_hours; held_rows = p.held_rows; known_tenths = p.known_tenths; rules = p.rules.items } };
+    ghost view = { λ p. record { held_hours = p.held_hours; held_rows = p.held_rows; known_tenths = p.known_tenths; rules = p.rules.items; splits = p.splits; others = p.others } };
 }
 
 impl Partial {
     /// The numbers of an hour that isn't held, where there are so many rules.
-    pub fn not_held(alloc: Global, rules: usize) -> Result<Partial, NoMemory>
-        ensures value { IfOk result (λ p. (c : Settings) (s : Store) (hour : ℕ) → rows_at s hour ≡ None → rules ≡ length (rules_for c) → IsHourPart c s hour p) }
+    pub fn not_held(alloc: Global, config: &Config, rules: usize) -> Result<Partial, NoMemory>
+        ensures value { IfOk result (λ p. (s : Store) (hour : ℕ) → rows_at s hour ≡ None → rules ≡ length (rules_for config.now) → IsHourPart config.now s hour p) }
         ensures small { IfOk result (FitHours 1) }
     {
         let rules = counts_of(alloc, rules, &[])?;
+        let splits = SplitSums::none(alloc, config)?;
+        let others = OtherSums::none(alloc, config)?;
         Ok(Partial {
             held_hours: 0,
             held_rows: 0,
             known_tenths: 0,
             rules,
+            splits,
+            others,
         })
     }
 
@@ -71,24 +80,46 @@ impl Partial {
     {
         self.rules.as_slice()
     }
+
+    /// The numbers of the phases' services and cycles.
+    pub fn splits(&self) -> &SplitSums
+        ensures { result.now ≡ self.now.splits }
+    {
+        &self.splits
+    }
+
+    /// The numbers of the pedestrian signals, the preempts and the coordination.
+    pub fn others(&self) -> &OtherSums
+        ensures { result.now ≡ self.now.others }
+    {
+        &self.others
+    }
 }
 
-// The sums over these hours.
-pub(crate) fn total_of(alloc: Global, parts: &[Partial]) -> Result<Partial, NoMemory>
-    requires few { length parts.now ≤ 744 }
-    requires small { All (FitHours 1) parts.now }
-    ensures { IfOk result (λ t. t ≡ total_of parts.now) }
+// The sums over no hours.
+pub(crate) fn no_total(alloc: Global) -> Partial
+    ensures { IsTotal [] result }
 {
-    let mut total = Partial {
+    Partial {
         held_hours: 0,
         held_rows: 0,
         known_tenths: 0,
         rules: Vec::new(alloc),
-    };
-    for part in parts {
-        add(&mut total, part)?;
+        splits: SplitSums::new(alloc),
+        others: OtherSums::new(alloc),
     }
-    Ok(total)
+}
+
+// Adds the numbers of these hours to those of the hours before.
+pub(crate) fn add_all(total: &mut Partial, parts: &[Partial]) -> Result<(), NoMemory>
+    requires before { (hours : List Numbers) × IsTotal hours total.old × (length hours + length parts.now ≤ 744) }
+    requires small { All (FitHours 1) parts.now }
+    ensures { OnOk result ((hours : List Numbers) → IsTotal hours total.old → IsTotal (hours ++ parts.now) total.new) }
+{
+    for part in parts {
+        add(total, part)?;
+    }
+    Ok(())
 }
 
 // Adds the numbers of one more hour.
@@ -100,14 +131,16 @@ fn add(total: &mut Partial, part: &Partial) -> Result<(), NoMemory>
     total.held_hours += part.held_hours;
     total.held_rows += part.held_rows;
     total.known_tenths += part.known_tenths;
-    add_counts(&mut total.rules, part.rules.as_slice())
+    add_counts(&mut total.rules, part.rules.as_slice())?;
+    total.splits.add(&part.splits)?;
+    total.others.add(&part.others)
 }
 
 // Adds rule by rule.
 fn add_counts(total: &mut Vec<RuleCount>, more: &[RuleCount]) -> Result<(), NoMemory>
     requires total { All (FitsCount 743) total.old.items }
     requires more { All (FitsCount 1) more.now }
-    ensures { OnOk result (total.new.items ≡ counts_sum total.old.items more.now) }
+    ensures { OnOk result (total.new.items ≡ merged count_sum total.old.items more.now) }
 {
     for i in 0..more.len() {
         if i < total.len() {

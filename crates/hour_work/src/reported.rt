@@ -1,8 +1,9 @@
 // The numbers of each hour, and their sums.
-ghost use Rattle.std.specs.Prelude.{◌≡◌, ◌≤◌, All, length, option_map, slice_get, IfOk};
-ghost use Rattle.hour_work.specs.Numbers.{FitHours, total_of};
+ghost use Rattle.std.specs.Prelude.{◌≡◌, ◌≤◌, ◌+◌, All, length, option_map, slice_get, IfOk};
+ghost use Rattle.hour_work.specs.Numbers.{FitHours, patched, total_of};
 
-use crate::{Partial, numbers};
+use crate::Partial;
+use crate::numbers::{add_all, no_total};
 use sig_base::{Hour, NoMemory};
 use std::alloc::Global;
 use std::marker::Model;
@@ -15,14 +16,14 @@ pub struct Report {
 }
 
 impl Model for Report {
-    ghost use Rattle.std.specs.Prelude.{◌≡◌, List};
-    ghost use Rattle.hour_work.specs.Numbers.{Numbers, total_of};
+    ghost use Rattle.std.specs.Prelude.{List};
+    ghost use Rattle.hour_work.specs.Numbers.{AreSummed, Numbers};
 
     ghost Value = { List Numbers };
 
     ghost view = { λ r. r.hours.items };
 
-    ghost invariant = { λ r. r.total ≡ total_of r.hours.items };
+    ghost invariant = { λ r. AreSummed r.hours.items r.total };
 }
 
 impl Report {
@@ -32,7 +33,8 @@ impl Report {
         requires small { All (FitHours 1) hours.items }
         ensures { IfOk result (λ r. r ≡ hours.items) }
     {
-        let total = numbers::total_of(alloc, &hours)?;
+        let mut total = no_total(alloc);
+        add_all(&mut total, &hours)?;
         Ok(Report { hours, total })
     }
 
@@ -49,4 +51,44 @@ impl Report {
     {
         &self.total
     }
+
+    /// The sums over all hours, with these numbers in place of those of as many hours from this one
+    /// on.
+    pub fn total_with(
+        &self,
+        alloc: Global,
+        from: usize,
+        parts: &[Partial],
+    ) -> Result<Partial, NoMemory>
+        requires within { from + length parts.now ≤ length self.now }
+        requires small { All (FitHours 1) parts.now }
+        ensures { IfOk result (λ t. t ≡ total_of (patched self.now from parts.now)) }
+    {
+        let mut total = no_total(alloc);
+        add_all(&mut total, &self.hours[..from])?;
+        add_all(&mut total, parts)?;
+        add_all(&mut total, &self.hours[from + parts.len()..])?;
+        Ok(total)
+    }
+
+    /// Exchanges the numbers of as many hours from this one on for these, with the sums that they
+    /// then have. Takes no memory.
+    pub fn exchange(&mut self, from: usize, parts: &mut [Partial], total: Partial)
+        requires within { from + length parts.old ≤ length self.old }
+        requires small { All (FitHours 1) parts.old }
+        requires total { total ≡ total_of (patched self.old from parts.old) }
+        ensures { self.new ≡ patched self.old from parts.old }
+    {
+        exchange_parts(&mut self.hours, from, parts);
+        self.total = total;
+    }
+}
+
+// Exchanges as many hours from this one on.
+fn exchange_parts(hours: &mut Vec<Partial>, from: usize, parts: &mut [Partial])
+    requires { from + length parts.old ≤ length hours.old.items }
+    ensures { hours.new.items ≡ patched hours.old.items from parts.old }
+{
+    let end = from + parts.len();
+    hours[from..end].swap_with_slice(parts);
 }

@@ -1,17 +1,25 @@
 // From one hour point to the next, and back.
 ghost use Rattle.std.specs.Prelude.{◌≡◌, ◌+◌, ◌*◌, ◌<◌, option_copied, IfOk, IfErr, IfSome};
 ghost use Rattle.sig_base.specs.HourRows.{AreRowsOf};
-ghost use Rattle.hour_store.specs.Store.{Store};
-ghost use Rattle.board.specs.Places.{AreAheadsOf};
+ghost use Rattle.hour_store.specs.Store.{Store, is_known};
+ghost use Rattle.board.specs.Logs.{first_tenth};
+ghost use Rattle.board.specs.Places.{AllEarly, AreAheadsOf};
+ghost use Rattle.board.specs.Stops.{AreBefore};
 ghost use Rattle.gap_map.specs.Stretches.{known_in};
 ghost use Rattle.signal_log.specs.Log.{Log, log_of};
-ghost use Rattle.signal_log.specs.Points.{HasHour, NamesContradiction};
+ghost use Rattle.signal_log.specs.Points.{ArePastsAt, HasHour, NamesContradiction, rows_or_none};
+ghost use Rattle.service_cut.specs.Parts.{IsCarry as IsCut};
+ghost use Rattle.other_measures.specs.Crossing.{IsCarry as IsCrossing};
+ghost use Rattle.hour_work.specs.Rows.{earlier_rows};
 ghost use Rattle.hour_work.specs.declared.steps.ForwardError.TheVariants.{Memory};
 ghost use Rattle.hour_work.specs.Points.{FitPoint, IsCarryAt, IsFutureAt, NamesRow};
 
 use crate::{Carry, Future};
-use board::PastsError;
+use board::{Pasts, PastsError};
+use gap_map::stretches;
+use other_measures::{OtherCarry, others_carried};
 use ring_config::Config;
+use service_cut::{CutCarry, cut_hour};
 use sig_base::{Hour, NoMemory, Row};
 use signal_log::{aheads_before, pasts_after};
 use span_set::SpanSet;
@@ -59,14 +67,70 @@ pub fn forward(
     ensures carry { IfOk result (λ c. (s : Store) → HasHour s hour (option_copied rows.entry) blanked.now → IsCarryAt config.now s hour before.now → IsCarryAt config.now s (hour + 1) c) }
     ensures stop { IfErr result (λ e. (s : Store) → HasHour s hour (option_copied rows.entry) blanked.now → IsCarryAt config.now s hour before.now → NamesRow (log_of config.now.specs s) e) }
 {
-    let pasts = match pasts_after(alloc, config.specs(), hour, &before.pasts, rows, blanked) {
-        Ok(pasts) => pasts,
-        Err(error) => return Err(forward_error(error)),
-    };
+    let pasts = pasts_over(alloc, config, hour, before, rows, blanked)?;
+    let (cuts, others) = under_way(alloc, config, hour, before, rows, blanked)?;
     Ok(Carry {
         pasts,
         known: is_last_known(hour, rows.is_some(), blanked),
+        cuts,
+        splits: before.splits.copy()?,
+        others,
     })
+}
+
+// The states of each channel at the point after an hour.
+fn pasts_over(
+    alloc: Global,
+    config: &Config,
+    hour: Hour,
+    before: &Carry,
+    rows: Option<&[Row]>,
+    blanked: &SpanSet,
+) -> Result<Pasts, ForwardError>
+    requires in_range { hour < 744 }
+    requires of_hour { IfSome rows (λ r. AreRowsOf hour r.now) }
+    requires fit { FitPoint config.now hour before.now }
+    ensures shape { IfOk result (λ p. AreBefore config.now.specs p × AllEarly (first_tenth (hour + 1)) p) }
+    ensures pasts { IfOk result (λ p. (s : Store) → HasHour s hour (option_copied rows.entry) blanked.now → IsCarryAt config.now s hour before.now → ArePastsAt (log_of config.now.specs s) (hour + 1) p) }
+    ensures stop { IfErr result (λ e. (s : Store) → HasHour s hour (option_copied rows.entry) blanked.now → IsCarryAt config.now s hour before.now → NamesRow (log_of config.now.specs s) e) }
+{
+    match pasts_after(alloc, config.specs(), hour, &before.pasts, rows, blanked) {
+        Ok(pasts) => Ok(pasts),
+        Err(error) => Err(forward_error(error)),
+    }
+}
+
+// What is under way of each measure at the point after an hour.
+fn under_way(
+    alloc: Global,
+    config: &Config,
+    hour: Hour,
+    before: &Carry,
+    rows: Option<&[Row]>,
+    blanked: &SpanSet,
+) -> Result<(CutCarry, OtherCarry), NoMemory>
+    requires in_range { hour < 744 }
+    requires of_hour { IfSome rows (λ r. AreRowsOf hour r.now) }
+    ensures cuts { IfOk result (λ u. (s : Store) → HasHour s hour (option_copied rows.entry) blanked.now → IsCut (is_known s) config.now.phases (earlier_rows s hour) hour before.now.cuts → IsCut (is_known s) config.now.phases (earlier_rows s (hour + 1)) (hour + 1) u.0) }
+    ensures others { IfOk result (λ u. (s : Store) → HasHour s hour (option_copied rows.entry) blanked.now → IsCrossing (is_known s) config.now (earlier_rows s hour) hour before.now.others → IsCrossing (is_known s) config.now (earlier_rows s (hour + 1)) (hour + 1) u.1) }
+{
+    let held = held_rows(rows);
+    let parts = stretches(alloc, hour, rows.is_some(), blanked)?;
+    let mut cuts = before.cuts.copy()?;
+    cut_hour(alloc, config.phases(), &mut cuts, held, &parts)?;
+    let mut others = before.others.copy()?;
+    others_carried(alloc, config, &mut others, held, &parts)?;
+    Ok((cuts, others))
+}
+
+// The rows of the hour, none where it isn't held.
+fn held_rows<'a>(rows: Option<&'a [Row]>) -> &'a [Row]
+    ensures { result.now ≡ rows_or_none (option_copied rows.entry) }
+{
+    match rows {
+        Some(rows) => rows,
+        None => &[],
+    }
 }
 
 /// The same backward: what is kept at the point before an hour, from what is kept at the one after

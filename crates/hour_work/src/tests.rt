@@ -88,7 +88,7 @@ fn a_green_of_at_least_15_seconds(rt: HostRuntime) -> Result<(), Fail> {
 fn sums_hours(rt: HostRuntime) -> Result<(), Fail> {
     let alloc = rt.alloc();
     let short = green_until(alloc, 1149)?;
-    let absent = Partial::not_held(alloc, 1)?;
+    let absent = Partial::not_held(alloc, &configured(alloc)?, 1)?;
     let long = green_until(alloc, 1150)?;
     let report = Report::new(alloc, vec![in alloc; short, absent, long]?)?;
     let total = report.total();
@@ -98,5 +98,22 @@ fn sums_hours(rt: HostRuntime) -> Result<(), Fail> {
     assert_eq!(rt; total.rules(), [count(1, 1)].as_slice());
     assert_eq!(rt; report.hour(1).ok_or("hour")?.known_tenths(), 0);
     assert!(rt; report.hour(3).is_none());
+    Ok(())
+}
+
+// Two hours, of which the second isn't held at first.
+#[test]
+fn exchanges_an_hour(rt: HostRuntime) -> Result<(), Fail> {
+    let alloc = rt.alloc();
+    let short = green_until(alloc, 1149)?;
+    let absent = Partial::not_held(alloc, &configured(alloc)?, 1)?;
+    let long = green_until(alloc, 1150)?;
+    let mut report = Report::new(alloc, vec![in alloc; short, absent]?)?;
+    let mut parts = vec![in alloc; long]?;
+    let total = report.total_with(alloc, 1, &parts)?;
+    report.exchange(1, &mut parts, total);
+    assert_eq!(rt; report.total().held_hours(), 2);
+    assert_eq!(rt; report.total().rules(), [count(1, 1)].as_slice());
+    assert_eq!(rt; report.hour(1).ok_or("hour")?.known_tenths(), 36_000);
     Ok(())
 }

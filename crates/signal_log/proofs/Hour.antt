@@ -14,7 +14,7 @@ use Rattle.gap_map.specs.declared.stretch.Stretch.{Stretch}
 use Rattle.gap_map.specs.Stretches.{IsCut, known_at, known_in}
 use Rattle.channel_tables.specs.declared.spec.Spec.{Spec}
 use Rattle.channel_tables.proofs.Machines.{spec_machine}
-use Rattle.hour_store.specs.Store.{Store, is_known, known_rows}
+use Rattle.hour_store.specs.Store.{IsStore, Store, is_known, known_rows, rows_at}
 use Rattle.board.specs.History.{Agreeing, Event, Track, events_at}
 use Rattle.board.specs.Channels.{AreSpecs, track}
 use Rattle.board.specs.Logs.{first_tenth, end_tenth, no_spec}
@@ -26,7 +26,7 @@ use Rattle.board.proofs.Bridge.{agreeing_join}
 use Rattle.signal_log.specs.Log.{IsBeforeWindow, log_of}
 use Rattle.signal_log.specs.Points.{AreAheadsAt, ArePastsAt, HasHour, rows_or_none}
 use Rattle.signal_log.proofs.Runs.{agreeing_colour, agreeing_early, agreeing_known}
-use Rattle.signal_log.proofs.Stored.{hour_events, known_cut}
+use Rattle.signal_log.proofs.Stored.{cut_known, hour_events, known_cut}
 
 -- a run of the channel from before the window leads to the state at tenth t
 abbrev pub Reached : Track → (ℕ → Bool) → (ℕ → List Event) → ℕ → State → Type 0
@@ -98,9 +98,12 @@ after_point k known given f t rows ss before laws lt same states u =
       clamp_to k.rules (pos f) (pos t -ℤ pos 36001) (Reached k known given t) (IsAfterHour k rows ss f t before) (omega (arith, ints)) (λ v r. run_back k laws known given f before states K G given t same (λ x l is. refl) (omega arith) v r) u,
     )
 
--- what an hour tells of the store
+-- what a cut hour tells of the store
+pub cut_tells : (s : Store) (hour : ℕ) (rows : Option (List Row)) (ss : List Stretch) → IsStore s → hour < length s.hours → rows_at s hour ≡ rows → IsCut (is_known s) (36000 * hour) (36000 * hour + 36000) ss → SameIn (known_at ss) (events_at (rows_or_none rows)) (is_known s) (events_at (known_rows s)) (first_tenth hour) (end_tenth hour)
+cut_tells s hour rows ss is lt held cut x l1 l2 = (known_cut s hour x ss cut l1 l2, λ there. sym (hour_events s hour x rows is lt held l1 l2 there))
+
 pub hour_same : (s : Store) (hour : ℕ) (rows : Option (List Row)) (blanks : List Span) (ss : List Stretch) → HasHour s hour rows blanks → IsCut (known_in (is_some rows) blanks) (36000 * hour) (36000 * hour + 36000) ss → SameIn (known_at ss) (events_at (rows_or_none rows)) (is_known s) (events_at (known_rows s)) (first_tenth hour) (end_tenth hour)
-hour_same s hour rows blanks ss has cut x l1 l2 = (known_cut s hour x rows blanks ss has.held has.blanked cut l1 l2, λ is. sym (hour_events s hour x rows has.is_store has.within has.held l1 l2 is))
+hour_same s hour rows blanks ss has cut = cut_tells s hour rows ss has.is_store has.within has.held (cut_known s hour rows blanks ss has cut)
 
 -- from one point to the next
 pub pasts_at : (specs : List Spec) (s : Store) (hour : ℕ) (rows : Option (List Row)) (blanks : List Span) (ss : List Stretch) (before pasts : List (List (List Span))) → AreSpecs specs → HasHour s hour rows blanks → IsCut (known_in (is_some rows) blanks) (36000 * hour) (36000 * hour + 36000) ss → ArePastsAt (log_of specs s) hour before → AreBefore specs pasts → AllEarly (end_tenth hour) pasts → AreClampedPasts specs (rows_or_none rows) ss (first_tenth hour) (end_tenth hour) before pasts → ArePastsAt (log_of specs s) (hour + 1) pasts

@@ -10,9 +10,10 @@ use Rattle.sig_base.specs.HourRows.{RiseIn, AreRowsOf, Shown}
 use Rattle.span_set.specs.declared.set.Span.{Span}
 use Rattle.gap_map.specs.declared.stretch.Stretch.{Stretch}
 use Rattle.gap_map.specs.Stretches.{IsCut, known_at, known_in}
+use Rattle.gap_map.proofs.Cutting.{cut_same}
 use Rattle.gap_map.proofs.Following.{known_at_is}
 use Rattle.hour_store.specs.Store.{IsOfHour, IsStore, Store, held_at, is_known, known_rows, rows_at, rows_of}
-use Rattle.signal_log.specs.Points.{rows_or_none}
+use Rattle.signal_log.specs.Points.{HasHour, rows_or_none}
 use Rattle.board.specs.History.{event_of, events_at}
 use Rattle.board.specs.Moves.{RowsIn}
 use Rattle.board.specs.Logs.{first_tenth, end_tenth, no_row}
@@ -38,9 +39,13 @@ known_hour s hour x rows e l1 l2 =
     let held : is_some (held_at s hour) ≡ is_some rows = sym (some_map (held_at s hour)) ∙ ap (λ (o : Option (List Row)). is_some o) e in
     rw (at, held) refl
 
--- the stretches of its cut say the same
-pub known_cut : (s : Store) (hour x : ℕ) (rows : Option (List Row)) (blanks : List Span) (ss : List Stretch) → rows_at s hour ≡ rows → blanks ≡ s.blanks → IsCut (known_in (is_some rows) blanks) (36000 * hour) (36000 * hour + 36000) ss → first_tenth hour ≤ x → x < end_tenth hour → known_at ss x ≡ is_known s x
-known_cut s hour x rows blanks ss e b cut l1 l2 = known_at_is (known_in (is_some rows) blanks) (36000 * hour) (36000 * hour + 36000) x ss cut.stretches l1 l2 ∙ (ap (λ (bs : List Span). known_in (is_some rows) bs x) b ∙ sym (known_hour s hour x rows e l1 l2))
+-- the hour's cut by blanked ranges is the one by what the store knows
+pub cut_known : (s : Store) (hour : ℕ) (rows : Option (List Row)) (blanks : List Span) (ss : List Stretch) → HasHour s hour rows blanks → IsCut (known_in (is_some rows) blanks) (36000 * hour) (36000 * hour + 36000) ss → IsCut (is_known s) (36000 * hour) (36000 * hour + 36000) ss
+cut_known s hour rows blanks ss has cut = cut_same (known_in (is_some rows) blanks) (is_known s) (36000 * hour) (36000 * hour + 36000) ss (λ t low high. has.known t low (omega arith)) cut
+
+-- and its stretches say the same
+pub known_cut : (s : Store) (hour x : ℕ) (ss : List Stretch) → IsCut (is_known s) (36000 * hour) (36000 * hour + 36000) ss → first_tenth hour ≤ x → x < end_tenth hour → known_at ss x ≡ is_known s x
+known_cut s hour x ss cut l1 l2 = known_at_is (is_known s) (36000 * hour) (36000 * hour + 36000) x ss cut.stretches l1 l2
 
 -- rows in order
 pub rows_end : (f t : ℕ) (rs : List Row) → RowsIn f t rs → f ≤ t

@@ -8,7 +8,7 @@ use Rattle.reach.specs.Runs.{State, state, Steps}
 use Rattle.reach.specs.Ahead.{Admits}
 use Rattle.reach.proofs.Later.{then_iff}
 use Rattle.sig_base.specs.declared.values.Row.{Row}
-use Rattle.gap_map.specs.Stretches.{known_at, known_in}
+use Rattle.gap_map.specs.Stretches.{known_at}
 use Rattle.gap_map.proofs.Following.{follow}
 use Rattle.channel_tables.proofs.Machines.{spec_machine}
 use Rattle.hour_store.specs.Store.{Store, is_known, known_rows}
@@ -29,7 +29,7 @@ use Rattle.signal_log.specs.Views.{HasHourRuns, IsHourOf, SeesEndPlaces, SeesEnd
 use Rattle.signal_log.specs.Laws.{HoursTell, ViewsTell}
 use Rattle.signal_log.proofs.Runs.{agreeing_early, agreeing_known, alike_later, from_other, from_place, from_same, place_join, since_place, to_place, upto_other, upto_place, upto_same}
 use Rattle.signal_log.proofs.Joined.{IsCompletedPlace, IsReachedPlace, after_events, at_end, end_of_one, events_after, history_runs, one_end}
-use Rattle.signal_log.proofs.Hour.{SameIn, held_reached, hour_same, reached_held, run_back, run_in, run_on}
+use Rattle.signal_log.proofs.Hour.{SameIn, cut_tells, held_reached, reached_held, run_back, run_in, run_on}
 
 -- the states that are admitted after the hour
 abbrev AreAdmitted : Track → (ℕ → Bool) → (ℕ → List Event) → ℕ → ℕ → List (Option ℤ) → Type 0
@@ -97,7 +97,7 @@ module _ (s : Store) (view : HourLog) (are : AreSpecs view.specs) (is : IsHourOf
   laws i lt = spec_machine (get_or view.specs i no_spec) (are.fit i no_spec lt)
 
   same : SameIn K G known given f t
-  same = hour_same s view.hour (Some view.rows) s.blanks view.stretches (record { is_store = is.is_store; within = is.within; held = is.held; blanked = refl }) is.cut
+  same = cut_tells s view.hour (Some view.rows) view.stretches is.is_store is.within is.held is.cut
 
   inside : t ≤ end
   inside = let w = is.within in omega arith
@@ -106,7 +106,7 @@ module _ (s : Store) (view : HourLog) (are : AreSpecs view.specs) (is : IsHourOf
   admitted i lt u = let next : first_tenth (view.hour + 1) ≡ t = omega arith in subst (λ (y : ℕ). Admits (after_of i) u ↔ ((u.colour < (channel i).rules.colours) × (u.entry <ℤ pos y) × ((e : State) × Agreeing (channel i) known given y end u e))) next (is.after.states i lt u)
 
   tenth_within : (x : ℕ) → K x ≡ true → (f ≤ x) × (x < t)
-  tenth_within x there = known_within f t x view.stretches (follow (known_in true s.blanks) f t view.stretches is.cut.stretches) there
+  tenth_within x there = known_within f t x view.stretches (follow (is_known s) f t view.stretches is.cut.stretches) there
 
   -- at the end of a tenth, one channel
   end_to : (i x : ℕ) (v : State) → i < length view.specs → f ≤ x → x < t → MayPass view x i v → (w : State) × (IsReached log i (x + 1) w × IsCompleted log i (x + 1) w) × Alike (channel i).rules (pos f) v w

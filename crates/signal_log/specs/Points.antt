@@ -1,11 +1,12 @@
 -- The states at an hour point: the place before an hour's first tenth, or the window's end.
-use Rattle.std.specs.Prelude.{◌≡◌, ◌↔◌, ℕ, ◌<◌, ℤ, pos, ◌-ℤ◌, ◌<ℤ◌, Option, Some, None, List, [], length, slice_index_or}
+use Rattle.std.specs.Prelude.{◌≡◌, ◌↔◌, ℕ, ◌+◌, ◌<◌, ◌≤◌, ℤ, pos, ◌-ℤ◌, ◌<ℤ◌, Option, Some, None, List, [], length, is_some, slice_index_or}
 use Rattle.span_set.specs.declared.set.Span.{Span}
 use Rattle.sig_base.specs.declared.values.Row.{Row}
+use Rattle.gap_map.specs.Stretches.{known_in}
 use Rattle.reach.specs.Runs.{State}
 use Rattle.reach.specs.Past.{Holds}
 use Rattle.reach.specs.Ahead.{Admits}
-use Rattle.hour_store.specs.Store.{IsStore, Store, rows_at}
+use Rattle.hour_store.specs.Store.{IsStore, Store, is_known, rows_at}
 use Rattle.board.specs.declared.pasts.PastsError.{PastsError}
 use Rattle.board.specs.declared.pasts.PastsError.TheVariants.{NoState, Memory}
 use Rattle.board.specs.Logs.{first_tenth}
@@ -31,12 +32,12 @@ abbrev pub rows_or_none : Option (List Row) → List Row
 rows_or_none None = []
 rows_or_none (Some rows) = rows
 
--- of the store these rows are held of the hour, and these tenths are blanked
+-- of the store these rows are held of the hour, and these blanked ranges say which of its tenths are known
 pub record HasHour (s : Store) (hour : ℕ) (rows : Option (List Row)) (blanks : List Span) : Type 0 where
   pub is_store : IsStore s
   pub within : hour < length s.hours
   pub held : rows_at s hour ≡ rows
-  pub blanked : blanks ≡ s.blanks
+  pub known : (t : ℕ) → first_tenth hour ≤ t → t < first_tenth (hour + 1) → known_in (is_some rows) blanks t ≡ is_known s t
 
 -- an error that isn't want of memory names the row at which the log contradicts itself
 abbrev pub NamesContradiction : Log → PastsError → Type 0

@@ -4,8 +4,8 @@ use Rattle.colour_machine.specs.Rules.{Rules}
 use Rattle.reach.specs.Runs.{State}
 use Rattle.reach.specs.Past.{Holds}
 use Rattle.reach.specs.Ahead.{Admits}
-use Rattle.gap_map.specs.Stretches.{IsCut, known_at, known_in}
-use Rattle.hour_store.specs.Store.{IsStore, Store, rows_at}
+use Rattle.gap_map.specs.Stretches.{IsCut, known_at}
+use Rattle.hour_store.specs.Store.{IsStore, Store, is_known, rows_at}
 use Rattle.board.specs.History.{Agreeing, events_at}
 use Rattle.board.specs.Channels.{track}
 use Rattle.board.specs.Logs.{HourLog, end_tenth, first_tenth, no_row, no_spec}
@@ -23,7 +23,7 @@ pub record IsHourOf (s : Store) (view : HourLog) : Type 0 where
   pub is_store : IsStore s
   pub within : view.hour < length s.hours
   pub held : rows_at s view.hour ≡ Some view.rows
-  pub cut : IsCut (known_in true s.blanks) (36000 * view.hour) (36000 * view.hour + 36000) view.stretches
+  pub cut : IsCut (is_known s) (36000 * view.hour) (36000 * view.hour + 36000) view.stretches
   pub before : ArePastsAt (log_in s view) view.hour view.before
   pub after : AreAheadsAt (log_in s view) (view.hour + 1) view.after
 

@@ -1,39 +1,25 @@
-use Rattle.std.proofs.Common.{◌≡◌, ◌∙◌, ℕ, ◌+◌, arith, subst, sym}
+use Rattle.std.proofs.Common.{◌∙◌, ◌+◌, List, subst, sym}
 use Rattle.std.specs.Prelude.{option_copied}
-use Rattle.board.specs.Logs.{end_tenth, first_tenth}
+use Rattle.span_set.specs.declared.set.Span.{Span}
+use Rattle.board.specs.Logs.{first_tenth}
 use Rattle.board.specs.Places.{AllEarly}
+use Rattle.board.specs.Stops.{AreBefore}
 use Rattle.signal_log.specs.Log.{log_of}
+use Rattle.signal_log.specs.Points.{ArePastsAt}
 use Rattle.signal_log.proofs.Calls.{copied_some}
-use Rattle.hour_work.specs.Points.{Carried, FitPoint, IsCarryAt}
 use Rattle.hour_work.proofs.PointLaws.{known_after}
-use Rattle.hour_work.proofs.SpecLaws.{specs_follow}
 use Rattle.hour_work.proofs.steps.forward.Goals as goal
 
-pub pasts_after-requires-clause-specs : goal.pasts_after-requires-clause-specs
-pasts_after-requires-clause-specs c = rw c.specs.ensures.value (specs_follow c.args.config.now c.specs.ensures.sound)
-
-pub pasts_after-requires-clause-shape : goal.pasts_after-requires-clause-shape
-pasts_after-requires-clause-shape c = rw c.specs.ensures.value (subst (λ (v : Carried). FitPoint c.args.config.now c.args.hour v) (sym c.before-2.view_is) c.requires.fit).shape
-
-pub returns-in-Err-clause-stop : goal.returns-in-Err-clause-stop
-returns-in-Err-clause-stop c = λ s has is.
-    let cfg = c.args.config.now in
-    let carry = subst (λ (v : Carried). IsCarryAt cfg s c.args.hour v) (sym c.before-2.view_is) is in
-    let stop = rw c.specs.ensures.value at c.in-Err.ensures.stop in
-    c.forward_error.ensures (log_of cfg.specs s) (stop s has carry.pasts)
-
 pub returns-clause-fit : goal.returns-clause-fit
-returns-clause-fit c =
-    let shape = rw c.specs.ensures.value at c.in-Ok.ensures.shape in
-    let at : end_tenth c.args.hour ≡ first_tenth (c.args.hour + 1) = omega arith in
-    record { shape = shape.0; early = subst (λ (t : ℕ). AllEarly t c.in-Ok.pasts) at shape.1 }
+returns-clause-fit c = record {
+  shape = subst (λ (p : List (List (List Span))). AreBefore c.args.config.now.specs p) (sym c.pasts.view_is) c.in_ok-pasts.ensures.shape.0;
+  early = subst (λ (p : List (List (List Span))). AllEarly (first_tenth (c.args.hour + 1)) p) (sym c.pasts.view_is) c.in_ok-pasts.ensures.shape.1;
+}
 
 pub returns-clause-carry : goal.returns-clause-carry
-returns-clause-carry c = λ s has is.
-    let cfg = c.args.config.now in
-    let carry = subst (λ (v : Carried). IsCarryAt cfg s c.args.hour v) (sym c.before-2.view_is) is in
-    let pasts = rw c.specs.ensures.value at c.in-Ok.ensures.pasts in
-    record {
-      pasts = pasts s has carry.pasts;
-      known = c.is_last_known.ensures ∙ known_after s c.args.hour (option_copied c.args.rows) c.args.blanked.now c.is_some.result has (c.is_some.ensures ∙ copied_some c.args.rows);
-    }
+returns-clause-carry c = λ s has is. record {
+  pasts = subst (λ (p : List (List (List Span))). ArePastsAt (log_of c.args.config.now.specs s) (c.args.hour + 1) p) (sym c.pasts.view_is) (c.in_ok-pasts.ensures.pasts s has is);
+  known = c.is_last_known.ensures ∙ known_after s c.args.hour (option_copied c.args.rows) c.args.blanked.now c.is_some.result has (c.is_some.ensures ∙ copied_some c.args.rows);
+  cuts = c.in_ok-cuts.ensures.cuts s has is.cuts;
+  others = c.in_ok-cuts.ensures.others s has is.others;
+}

@@ -1,4 +1,4 @@
-use Rattle.std.proofs.Common.{refl, ◌≡◌, ◌≤◌, ◌<◌, ◌∷◌, [], List, ℕ, zero, suc, Option, Some, None, arith, subst}
+use Rattle.std.proofs.Common.{refl, ◌≡◌, ◌≤◌, ◌<◌, ◌∷◌, [], List, ℕ, zero, suc, Option, Some, None, arith, subst, sym}
 use Rattle.sig_base.specs.declared.values.Row.{Row}
 use Rattle.sig_base.specs.HourRows.{AreRowsOf, Shown}
 use Rattle.span_set.specs.declared.set.Span.{Span}
@@ -6,8 +6,9 @@ use Rattle.hour_store.specs.Store.{AreInPlace, IsOfHour, Store}
 use Rattle.signal_log.specs.Log.{log_of}
 use Rattle.signal_log.specs.Points.{HasHour}
 use Rattle.signal_log.proofs.Lawful.{some_history}
+use Rattle.signal_log.proofs.Stored.{known_hour}
 use Rattle.board.proofs.Cases.{two_rows}
-use Rattle.hour_work.proofs.SpecLaws.{specs_follow}
+use Rattle.rule_audit.proofs.Tracked.{channels_are}
 use Rattle.hour_work.proofs.tests.green_until.Goals as goal
 
 -- a store of one hour with these rows
@@ -29,7 +30,7 @@ has_hour rows blanks is none = record {
   is_store = record { some = omega arith; few = omega arith; in_place = in_place rows is; blanked = λ e m. absurd m };
   within = omega arith;
   held = refl;
-  blanked = none;
+  known = λ t low high. rw none (sym (known_hour (one_hour rows) 0 t (Some rows) refl low (omega arith)));
 }
 
 two_rows_are : (a b : Row) (yellow : ℕ) → a ≡ record { at = 1000; code = 1; param = 2 } → b ≡ record { at = yellow; code = 8; param = 2 } → 1000 ≤ yellow → yellow < 36000 → AreRowsOf 0 (a ∷ b ∷ [])
@@ -54,6 +55,6 @@ partial-requires-clause-agrees c =
         has_hour = has;
         is_before = is_before;
         is_after = c.in_ok-after.ensures.future s one;
-        history = some_history (log_of cfg.specs s) c.in_ok-_later._later.pasts (specs_follow cfg c.hours.ensures.sound) (c.in_ok-_later.ensures.carry s has is_before).pasts;
+        history = some_history (log_of cfg.specs s) c.in_ok-_later._later.pasts (channels_are cfg c.hours.ensures.sound) (c.in_ok-_later.ensures.carry s has is_before).pasts;
       },
     )

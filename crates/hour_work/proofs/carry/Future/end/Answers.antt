@@ -2,11 +2,11 @@ use Rattle.std.proofs.Common.{ap, arith}
 use Rattle.std.proofs.lemmas.Int.{ints}
 use Rattle.sig_base.specs.Window.{Span}
 use Rattle.hour_work.proofs.PointLaws.{last_future}
-use Rattle.hour_work.proofs.SpecLaws.{specs_follow}
+use Rattle.rule_audit.proofs.Tracked.{channels_are}
 use Rattle.hour_work.proofs.carry.Future.end.Goals as goal
 
 pub end-requires-clause-specs : goal.end-requires-clause-specs
-end-requires-clause-specs c = rw c.specs.ensures.value (specs_follow c.args.config.now c.specs.ensures.sound)
+end-requires-clause-specs c = rw c.specs.ensures.value (channels_are c.args.config.now c.specs.ensures.sound)
 
 pub returns-clause-future : goal.returns-clause-future
 returns-clause-future c =

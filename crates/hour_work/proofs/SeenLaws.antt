@@ -1,0 +1,112 @@
+-- The measures of an hour, from what its calls have.
+use Rattle.std.proofs.Common.{◌≡◌, ◌∙◌, ◌↔◌, ℕ, ◌+◌, ◌<◌, ◌≤◌, pos, Bool, List, [], length, Option, Some, None, refl, sym, ap, subst}
+use Rattle.std.proofs.lemmas.Bool.{false≢true}
+use Rattle.std.proofs.lemmas.List.Quantifiers.{position-Some}
+use Rattle.channel_tables.specs.declared.spec.Spec.{Spec}
+use Rattle.sig_base.specs.declared.values.Row.{Row}
+use Rattle.event_codes.specs.declared.channels.Channel.{Channel}
+use Rattle.gap_map.specs.declared.stretch.Stretch.{Stretch}
+use Rattle.gap_map.specs.Stretches.{known_at}
+use Rattle.lane.specs.Places.{Kept}
+use Rattle.hour_store.specs.Store.{Store, is_known, rows_at}
+use Rattle.board.specs.Logs.{HourLog, first_tenth, hour_log, no_spec}
+use Rattle.board.specs.Verdicts.{MayPass}
+use Rattle.hour_sweep.specs.Rows.{known_rows}
+use Rattle.hour_sweep.specs.Hours.{IsHour}
+use Rattle.ring_config.specs.Settings.{Settings, is_same_channel, spec_place}
+use Rattle.signal_log.specs.Log.{log_of, track_at}
+use Rattle.signal_log.specs.States.{MayBeAtEndOf}
+use Rattle.signal_log.specs.Laws.{ViewsTell}
+use Rattle.signal_log.proofs.Stored.{cut_known, known_cut, known_hour}
+use Rattle.signal_log.proofs.Viewed.{hours_tell}
+use Rattle.state_tenths.specs.declared.asked.Asked.{Asked}
+use Rattle.state_tenths.specs.States.{MeetsAt}
+use Rattle.service_cut.specs.Cut.{CutLists, IsCut as IsCutOf, services_from, cycles_from}
+use Rattle.service_cut.specs.Parts.{IsCarry as IsCutCarry}
+use Rattle.split_measures.specs.declared.sums.PhaseSum.{PhaseSum}
+use Rattle.split_measures.specs.Phases.{phase_sums}
+use Rattle.other_measures.specs.Hours.{AreNumbers, AreStates, OtherNumbers}
+use Rattle.other_measures.specs.States.{IsSeen}
+use Rattle.other_measures.proofs.Stores.{states_as}
+use Rattle.rule_audit.specs.declared.lines.AuditLine.{AuditLine}
+use Rattle.rule_audit.specs.Rules.{rules_for}
+use Rattle.rule_audit.specs.Lines.{AreLines, IsAudited}
+use Rattle.service_cut.specs.declared.parts.Part.{Part}
+use Rattle.other_measures.specs.Crossing.{Crossing, IsCarry as IsCrossing}
+use Rattle.hour_work.specs.Points.{Carried}
+use Rattle.hour_work.specs.Verdicts.{AreAuditLines}
+use Rattle.hour_work.specs.Rows.{earlier_rows, own_rows}
+use Rattle.hour_work.specs.Measures.{AreMeasures, MeetsIn, cycles_in, services_in}
+use Rattle.hour_work.specs.Reports.{IsHourSeen}
+use Rattle.hour_work.proofs.MeasureLaws.{hour_is, meets_as, own_known}
+use Rattle.hour_work.proofs.PointLaws.{audited, between_hour, lines_done}
+use Rattle.rule_audit.proofs.Tracked.{channels_are}
+
+-- an hour that isn't held
+never : (c : Settings) (s : Store) (hour : ℕ) → rows_at s hour ≡ None → (channel : Channel) (i : ℕ) (asked : Asked) (t : ℕ) → spec_place c.specs channel ≡ Some i → first_tenth hour ≤ t → t < first_tenth hour + 36000 → ⊥ ↔ MeetsIn c s i asked t
+never c s hour none channel i asked t at low high = (λ b. absurd b, λ is. false≢true (sym (known_hour s hour t None none low high) ∙ is.0))
+
+pub unheld_measures : (c : Settings) (s : Store) (hour : ℕ) (splits : List PhaseSum) (others : OtherNumbers) → rows_at s hour ≡ None → splits ≡ phase_sums c.phases [] [] → ((known : ℕ → Bool) (before : List Row) → AreNumbers known c before [] others) → ((from : ℕ) → AreStates (λ _ _ _. ⊥) from c others) → AreMeasures c s hour splits others
+unheld_measures c s hour splits others none e numbers states =
+    let own : [] ≡ own_rows s hour = own_known s hour None none in
+    record {
+      phases = e ∙ ap (λ (rs : List Row). phase_sums c.phases (services_from (is_known s) c.phases (earlier_rows s hour) rs) (cycles_from (is_known s) c.phases (earlier_rows s hour) rs)) own;
+      numbers = subst (λ (rs : List Row). AreNumbers (is_known s) c (earlier_rows s hour) rs others) own (numbers (is_known s) (earlier_rows s hour));
+      states = states_as (λ _ _ _. ⊥) (MeetsIn c s) (first_tenth hour) c others (never c s hour none) (states (first_tenth hour));
+    }
+
+-- an hour that is seen
+module _ (c : Settings) (s : Store) (hour : ℕ) (before : Carried) (rows : List Row) (ss : List Stretch) (view : List Kept) (seen : IsHourSeen c s hour before rows ss view) where
+  seen_hour : IsHour (is_known s) hour rows ss
+  seen_hour = hour_is s hour (Some rows) seen.blanks ss seen.between.has_hour seen.is_view.is_hour.are_rows seen.cut
+
+  seen_rows : known_rows (is_known s) rows ≡ own_rows s hour
+  seen_rows = own_known s hour (Some rows) seen.between.has_hour.held
+
+  -- the numbers of the phases
+  pub seen_splits : (old : List (Option Part)) (cuts : CutLists) (splits : List PhaseSum) → old ≡ before.cuts → ((known : ℕ → Bool) (b : List Row) (h : ℕ) → IsHour known h rows ss → IsCutCarry known c.phases b h old → IsCutOf known c.phases b h rows cuts) → splits ≡ phase_sums c.phases cuts.services cuts.cycles → splits ≡ phase_sums c.phases (services_in c s hour) (cycles_in c s hour)
+  seen_splits old cuts splits same law e =
+      let is = law (is_known s) (earlier_rows s hour) hour seen_hour (subst (λ ps. IsCutCarry (is_known s) c.phases (earlier_rows s hour) hour ps) (sym same) seen.between.is_before.cuts) in
+      e
+      ∙ (ap (λ zs. phase_sums c.phases zs cuts.cycles) (is.services_are ∙ ap (λ (rs : List Row). services_from (is_known s) c.phases (earlier_rows s hour) rs) seen_rows)
+      ∙ ap (λ zs. phase_sums c.phases (services_in c s hour) zs) (is.cycles_are ∙ ap (λ (rs : List Row). cycles_from (is_known s) c.phases (earlier_rows s hour) rs) seen_rows))
+
+  -- those of the pedestrian signals, preempts and the coordination
+  pub seen_numbers : (old : Crossing) (others : OtherNumbers) → old ≡ before.others → ((known : ℕ → Bool) (b : List Row) (h : ℕ) → IsHour known h rows ss → IsCrossing known c b h old → AreNumbers known c b (known_rows known rows) others) → AreNumbers (is_known s) c (earlier_rows s hour) (own_rows s hour) others
+  seen_numbers old others same law = subst (λ (rs : List Row). AreNumbers (is_known s) c (earlier_rows s hour) rs others) seen_rows
+      (law (is_known s) (earlier_rows s hour) hour seen_hour (subst (λ x. IsCrossing (is_known s) c (earlier_rows s hour) hour x) (sym same) seen.between.is_before.others))
+
+  -- the log of its view
+  abbrev pub seen_log : HourLog
+  seen_log = hour_log hour c.specs rows ss before.pasts seen.after
+
+  pub seen_width : length view ≡ length c.specs
+  seen_width = seen.is_view.is_view.0
+
+  seen_view : IsSeen c view rows ss seen_log
+  seen_view = record { is_view = seen.is_view; same_specs = refl; same_rows = refl; same_stretches = refl }
+
+  tells : ViewsTell s seen_log
+  tells = hours_tell s seen_log (channels_are c seen.sound) (between_hour c seen.sound s hour before rows seen.blanks seen.after ss seen.between seen.cut)
+
+  ends_as : (channel : Channel) (i : ℕ) (asked : Asked) (t : ℕ) → spec_place c.specs channel ≡ Some i → first_tenth hour ≤ t → t < first_tenth hour + 36000 → MeetsAt seen_log i asked t ↔ MeetsIn c s i asked t
+  ends_as channel i asked t at low high =
+      let same : known_at ss t ≡ is_known s t = known_cut s hour t ss (cut_known s hour (Some rows) seen.blanks ss seen.between.has_hour seen.cut) low high in
+      let within : i < length c.specs = (position-Some (λ (z : Spec). is_same_channel z.channel channel) c.specs i no_spec at).0 in
+      let m = (track_at (log_of c.specs s) i).rules in
+      let p = pos (first_tenth hour) in
+      let P = MayPass seen_log t i in
+      let Q = MayBeAtEndOf (log_of c.specs s) i t in (
+        λ met. (sym same ∙ met.0, (meets_as m p P Q (tells.ends seen.between.history t i met.0 within) asked).0 met.1),
+        λ met. let here = same ∙ met.0 in (here, (meets_as m p P Q (tells.ends seen.between.history t i here within) asked).1 met.1),
+      )
+
+  pub seen_states : (others : OtherNumbers) → ((log : HourLog) → IsSeen c view rows ss log → AreStates (MeetsAt log) (first_tenth log.hour) c others) → AreStates (MeetsIn c s) (first_tenth hour) c others
+  seen_states others h = states_as (MeetsAt seen_log) (MeetsIn c s) (first_tenth hour) c others ends_as (h seen_log seen_view)
+
+  -- its audit
+  pub seen_audited : IsAudited c view rows ss seen_log
+  seen_audited = audited c seen.sound s hour before rows seen.blanks seen.after ss seen.between seen.cut view seen.is_view
+
+  pub seen_lines : (lines : List AuditLine) → AreLines seen_log (rules_for c) before.known lines → AreAuditLines c s hour lines
+  seen_lines = lines_done c seen.sound s hour before rows seen.blanks seen.after ss seen.between seen.cut

@@ -1,0 +1,38 @@
+-- What is measured of a store in each hour, by all its known rows.
+use Rattle.std.specs.Prelude.{ℕ, zero, suc, ◌≡◌, List, [], ◌++◌, true}
+use Rattle.hour_store.specs.Store.{Store, is_known}
+use Rattle.board.specs.Logs.{first_tenth}
+use Rattle.ring_config.specs.Settings.{Settings}
+use Rattle.signal_log.specs.Log.{log_of}
+use Rattle.signal_log.specs.States.{MayBeAtEndOf}
+use Rattle.state_tenths.specs.declared.asked.Asked.{Asked}
+use Rattle.state_tenths.specs.States.{Meets}
+use Rattle.service_cut.specs.declared.items.Service.{Service}
+use Rattle.service_cut.specs.declared.items.Cycle.{Cycle}
+use Rattle.service_cut.specs.Cut.{services_from, cycles_from}
+use Rattle.split_measures.specs.declared.sums.PhaseSum.{PhaseSum}
+use Rattle.split_measures.specs.Phases.{phase_sums}
+use Rattle.other_measures.specs.Hours.{AreNumbers, AreStates, OtherNumbers}
+use Rattle.hour_work.specs.Rows.{earlier_rows, own_rows}
+
+-- the whole services, and the whole cycles, whose last row is in the hour
+abbrev pub services_in : Settings → Store → ℕ → List Service
+services_in c s hour = services_from (is_known s) c.phases (earlier_rows s hour) (own_rows s hour)
+
+abbrev pub cycles_in : Settings → Store → ℕ → List Cycle
+cycles_in c s hour = cycles_from (is_known s) c.phases (earlier_rows s hour) (own_rows s hour)
+
+-- what is listed of each of the first n hours, one hour after another
+abbrev pub over_hours : {X : Type 0} → (ℕ → List X) → ℕ → List X
+over_hours of zero = []
+over_hours of (suc n) = over_hours of n ++ of n
+
+-- tenth t is known, and at its end the channel with this place meets what is asked in the histories that agree with the store
+abbrev pub MeetsIn : Settings → Store → ℕ → Asked → ℕ → Type 0
+MeetsIn c s i asked t = (is_known s t ≡ true) × Meets asked (MayBeAtEndOf (log_of c.specs s) i t)
+
+-- the measures of an hour: of its phases, and of its pedestrian signals, preempts and coordination
+pub record AreMeasures (c : Settings) (s : Store) (hour : ℕ) (splits : List PhaseSum) (others : OtherNumbers) : Type 0 where
+  pub phases : splits ≡ phase_sums c.phases (services_in c s hour) (cycles_in c s hour)
+  pub numbers : AreNumbers (is_known s) c (earlier_rows s hour) (own_rows s hour) others
+  pub states : AreStates (MeetsIn c s) (first_tenth hour) c others

@@ -1,20 +1,17 @@
 -- Stores before and after an edit, with their reports.
-use Rattle.std.proofs.Common.{◌≡◌, ◌≢◌, ◌∙◌, ◌⊎◌, inl, inr, ℕ, zero, suc, ℤ, pos, ◌+◌, ◌-◌, ◌*◌, ◌/◌, ◌<◌, ◌≤◌, ◌<ℤ◌, ◌≤ℤ◌, ◌↔◌, Bool, true, false, not, ◌&&◌, IsTrue, nat_le, nat_lt, int_lt, List, [], ◌∷◌, length, get_or, set, Option, Some, None, is_some, option_map, refl, sym, ap, subst, arith, length-set, get_or-set_other, OnOk, OnErr, IfErr, Result, Ok, Err}
+use Rattle.std.proofs.Common.{◌≡◌, ◌∙◌, ℕ, zero, suc, ℤ, pos, ◌+◌, ◌-◌, ◌*◌, ◌<◌, ◌≤◌, ◌<ℤ◌, ◌≤ℤ◌, true, false, nat_le, nat_lt, int_lt, List, [], ◌∷◌, length, set, Option, Some, None, is_some, refl, sym, ap, subst, arith, OnOk, OnErr, IfErr, Result, Ok, Err}
 use Rattle.std.proofs.lemmas.Int.{ints}
 use Rattle.std.proofs.lemmas.Bool.Decides.{nat_tests}
 use Rattle.std.specs.Int.Signed.{le_z}
 use Rattle.std.proofs.lemmas.List.{set-get_or}
 use Rattle.std.proofs.lemmas.List.Sums.{sum_by-set}
-use Rattle.std.specs.List.{sum_by}
 use Rattle.sig_base.specs.HourRows.{Shown}
-use Rattle.sig_base.specs.declared.values.Row.{Row}
 use Rattle.sig_base.specs.declared.values.Applied.{Applied}
 use Rattle.sig_base.specs.declared.values.EditError.{EditError}
 use Rattle.sig_base.specs.declared.values.EditError.TheVariants as edit
 use Rattle.span_set.specs.declared.set.Span.{Span}
-use Rattle.span_set.specs.Spans.{AreRanges, Member, is_member}
-use Rattle.span_set.proofs.Sets.{member_test, tested}
-use Rattle.hour_store.specs.Store.{LieWithin, Store, count_in, held_at, is_known, rows_at, rows_held, with_blanks, with_hour}
+use Rattle.span_set.specs.Spans.{AreRanges}
+use Rattle.hour_store.specs.Store.{LieWithin, Store, count_in, held_at, rows_held, with_blanks, with_hour}
 use Rattle.ring_config.specs.Settings.{Settings}
 use Rattle.signal_log.specs.Log.{HasHistory, log_of}
 use Rattle.session.specs.Edits.{blank, load, reaches_out, replace, withdraw, step_of, unblank, unless_many_blanks}

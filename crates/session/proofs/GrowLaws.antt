@@ -1,5 +1,5 @@
 -- Counts that never fall.
-use Rattle.std.proofs.Common.{◌≡◌, ℕ, zero, suc, ◌+◌, ◌-◌, ◌^◌, ◌≤◌, min, List, [], ◌∷◌, get_or, set, refl, ap, arith}
+use Rattle.std.proofs.Common.{◌≡◌, ℕ, zero, suc, ◌-◌, ◌^◌, ◌≤◌, min, List, [], ◌∷◌, get_or, set, refl, ap, arith}
 use Rattle.sig_base.specs.Reads.{one_more, raised}
 use Rattle.session.specs.Sessions.{Grow}
 

@@ -1,5 +1,5 @@
 -- A withdrawal and a blanking leave less to agree with.
-use Rattle.std.proofs.Common.{◌≡◌, ◌∙◌, ◌⊎◌, inl, inr, ℕ, zero, suc, ◌*◌, ◌/◌, ◌<◌, ℤ, pos, ◌↔◌, Bool, true, false, ◌&&◌, not, List, [], ◌∷◌, length, get_or, set, length-set, get_or-set_other, Option, Some, None, is_some, option_map, refl, sym, ap, subst, arith, IfErr, Result, Ok, Err}
+use Rattle.std.proofs.Common.{◌≡◌, ◌∙◌, ◌⊎◌, inl, inr, ℕ, zero, suc, ◌/◌, ℤ, pos, true, not, List, [], ◌∷◌, get_or, set, length-set, get_or-set_other, Option, Some, None, is_some, option_map, refl, sym, ap, IfErr, Result, Ok, Err}
 use Rattle.std.proofs.lemmas.Bool.{and_from, and_parts, cases_eq, cases_Bool, false≢true}
 use Rattle.sig_base.specs.HourRows.{Shown}
 use Rattle.sig_base.specs.declared.values.Row.{Row}
@@ -14,8 +14,8 @@ use Rattle.ring_config.specs.Settings.{Settings}
 use Rattle.ring_config.specs.Sound.{IsSound}
 use Rattle.signal_log.specs.Log.{HasHistory, log_of}
 use Rattle.signal_log.proofs.Lawful.{fewer}
-use Rattle.hour_work.proofs.SpecLaws.{specs_follow}
-use Rattle.session.specs.Edits.{Change, blank, withdraw}
+use Rattle.rule_audit.proofs.Tracked.{channels_are}
+use Rattle.session.specs.Edits.{blank, withdraw}
 use Rattle.session.specs.Ranges.{With}
 use Rattle.session.specs.Sessions.{MayRefuse, StopsAt}
 
@@ -58,7 +58,7 @@ withdrawn c s h edit.TooManyBlanks has stop = tt
 pub never_withdrawn : (c : Settings) (s : Store) (h : ℕ) (result : Result Applied EditError) → IsSound c → IsStore s → IsStore (with_hour s h None) → HasHistory (log_of c.specs s) → IfErr result (StopsAt c (with_hour s h None)) → IfErr result (MayRefuse (withdraw h))
 never_withdrawn c s h (Ok x) sound is less has stop = tt
 never_withdrawn c s h (Err e) sound is less has stop =
-    withdrawn c s h e (fewer c.specs s (with_hour s h None) (specs_follow c sound) is less (length-set s.hours h None) (known_less s h) (rows_less s h) has) stop
+    withdrawn c s h e (fewer c.specs s (with_hour s h None) (channels_are c sound) is less (length-set s.hours h None) (known_less s h) (rows_less s h) has) stop
 
 -- ---- blanking
 
@@ -86,4 +86,4 @@ blanked c s ns f t edit.TooManyBlanks has stop = tt
 pub never_blanked : (c : Settings) (s : Store) (ns : List Span) (f t : ℤ) (result : Result Applied EditError) → IsSound c → IsStore s → IsStore (with_blanks s ns) → HasHistory (log_of c.specs s) → With s.blanks f t ns → IfErr result (StopsAt c (with_blanks s ns)) → IfErr result (MayRefuse (blank f t))
 never_blanked c s ns f t (Ok x) sound is less has made stop = tt
 never_blanked c s ns f t (Err e) sound is less has made stop =
-    blanked c s ns f t e (fewer c.specs s (with_blanks s ns) (specs_follow c sound) is less refl (λ k known. known_blanked s ns k (λ z m. (made z).1 (inl m)) known) (λ hour rows e2. e2) has) stop
+    blanked c s ns f t e (fewer c.specs s (with_blanks s ns) (channels_are c sound) is less refl (λ k known. known_blanked s ns k (λ z m. (made z).1 (inl m)) known) (λ hour rows e2. e2) has) stop

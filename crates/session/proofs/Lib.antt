@@ -1,6 +1,12 @@
 pub mod GrowLaws
 pub mod RangeLaws
 pub mod EditLaws
+pub mod PatchLaws
+pub mod KeptLaws
 pub mod ReportLaws
-pub mod WorkLaws
+pub mod ForwardLaws
+pub mod BackLaws
+pub mod RenewLaws
+pub mod BeginLaws
+pub mod MaskLaws
 pub mod LessLaws

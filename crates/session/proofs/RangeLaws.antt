@@ -1,11 +1,11 @@
 -- The ranges of the tenths that pass a test, and what is in them.
-use Rattle.std.proofs.Common.{◌≡◌, ◌≢◌, ◌∙◌, ◌-ℤ◌, ◌⊎◌, inl, inr, ℕ, zero, suc, ℤ, pos, negsuc, ◌+◌, ◌-◌, ◌*◌, ◌^◌, ◌<◌, ◌≤◌, ◌<ℤ◌, ◌≤ℤ◌, ◌↔◌, Bool, true, false, ◌&&◌, ◌||◌, not, IsTrue, int_le, int_lt, List, [], ◌∷◌, refl, sym, ap, subst, arith}
+use Rattle.std.proofs.Common.{◌≡◌, ◌≢◌, ◌∙◌, ◌⊎◌, inl, inr, ℕ, zero, suc, ℤ, pos, negsuc, ◌+◌, ◌*◌, ◌^◌, ◌<◌, ◌≤◌, ◌<ℤ◌, ◌≤ℤ◌, ◌↔◌, Bool, true, false, not, int_le, int_lt, List, [], ◌∷◌, refl, sym, ap, subst, arith}
 use Rattle.std.proofs.lemmas.Int.{ints}
-use Rattle.std.proofs.lemmas.Bool.{cases_eq, cases_lt, false≢true, or_left, or_right, or_cases, and_parts, and_from, true_from_ne_false, false_from_ne_true}
+use Rattle.std.proofs.lemmas.Bool.{cases_eq, false≢true, or_left, or_right, or_cases, and_parts, and_from, false_from_ne_true}
 use Rattle.std.proofs.lemmas.Bool.Decides.{Decides-int_eq}
 use Rattle.std.specs.Ordering.{int_eq}
 use Rattle.span_set.specs.declared.set.Span.{Span}
-use Rattle.span_set.specs.Spans.{Above, AreRanges, Member, Within, is_member}
+use Rattle.span_set.specs.Spans.{Above, AreRanges, Member, Within}
 use Rattle.span_set.specs.Changes.{span}
 use Rattle.span_set.proofs.Sets.{member_test, same_ranges}
 use Rattle.hour_store.specs.Store.{LieWithin, Store}

@@ -1,5 +1,5 @@
 -- Edits of a store, and what each makes of it.
-use Rattle.std.specs.Prelude.{◌≡◌, ◌+◌, ◌*◌, ◌/◌, ℕ, ℤ, pos, int_lt, nat_lt, nat_le, Bool, ◌||◌, if◌then◌else◌, is_some, List, length, Option, Some, None, Result, Ok, Err}
+use Rattle.std.specs.Prelude.{◌*◌, ℕ, ℤ, pos, int_lt, nat_lt, nat_le, Bool, ◌||◌, if◌then◌else◌, is_some, length, Some, None, Result, Ok, Err}
 use Rattle.sig_base.specs.HourRows.{Shown}
 use Rattle.sig_base.specs.declared.values.EditError.{EditError}
 use Rattle.sig_base.specs.declared.values.EditError.TheVariants.{OutOfWindow, AlreadyHeld, NotHeld, EmptyRange, TooManyRows, TooManyBlanks}

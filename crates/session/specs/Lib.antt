@@ -1,4 +1,5 @@
 pub mod Ranges
 pub mod Edits
+pub mod Links
 pub mod Sessions
-pub mod Work
+pub mod Renewed

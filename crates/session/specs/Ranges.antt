@@ -1,5 +1,5 @@
 -- Ranges of the tenths that pass a test.
-use Rattle.std.specs.Prelude.{◌≡◌, ◌+◌, ◌*◌, ◌↔◌, ◌⊎◌, ℕ, zero, suc, ℤ, pos, int_le, int_lt, Bool, ◌&&◌, ◌||◌, not, if◌then◌else◌, List, [], ◌∷◌}
+use Rattle.std.specs.Prelude.{◌+◌, ◌*◌, ◌↔◌, ◌⊎◌, ℕ, zero, suc, ℤ, pos, int_le, int_lt, Bool, ◌&&◌, ◌||◌, not, if◌then◌else◌, List, [], ◌∷◌}
 use Rattle.std.specs.Ordering.{int_eq}
 use Rattle.span_set.specs.declared.set.Span.{Span}
 use Rattle.span_set.specs.Spans.{Member, Within, is_member}
@@ -45,3 +45,7 @@ With old from to new = (e : ℤ) → Member new e ↔ (Member old e ⊎ Within (
 -- the new ranges have the tenths of the old ones without those of the range
 abbrev pub Without : List Span → ℤ → ℤ → List Span → Type 0
 Without old from to new = (e : ℤ) → Member new e ↔ (Member old e × (Within (span from to) e → ⊥))
+
+-- the new ranges have the tenths of the old ones, but for those of the range
+abbrev pub SameApart : List Span → ℤ → ℤ → List Span → Type 0
+SameApart old from to new = (e : ℤ) → (Within (span from to) e → ⊥) → Member new e ↔ Member old e

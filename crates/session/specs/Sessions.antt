@@ -10,8 +10,9 @@ use Rattle.signal_log.specs.Log.{HasHistory, IsContradiction, log_of}
 use Rattle.rule_audit.specs.declared.rules.Rule.{Rule}
 use Rattle.rule_audit.specs.Rules.{rules_for}
 use Rattle.hour_work.specs.Numbers.{Numbers, total_of}
-use Rattle.hour_work.specs.Reports.{IsReport}
+use Rattle.hour_work.specs.Points.{Carried}
 use Rattle.session.specs.Edits.{Change, withdraw, blank}
+use Rattle.session.specs.Links.{Ahead, AreKept}
 
 -- a session: its configuration, and what is held and blanked
 pub record Kept : Type 0 where
@@ -58,11 +59,11 @@ pub record AreCounted (rules : ℕ) (all : List Numbers) : Type 0 where
   pub hours : (hour : ℕ) (d : Numbers) → hour < length all → length (slice_index_or all hour d).rules ≡ rules
   pub total : length (total_of all).rules ≡ rules
 
--- what is kept beside a store belongs to it: a window of as many hours, the rules of the configuration, and the store's report; some history agrees with the store
-pub record Belong (config : Settings) (store : Store) (own : List Rule) (kept : List Numbers) : Type 0 where
+-- what is kept beside a store belongs to it: a window of as many hours, the rules of the configuration, and what the hours lead to at each hour point and count; some history agrees with the store
+pub record Belong (config : Settings) (store : Store) (own : List Rule) (carries : List Carried) (futures : List Ahead) (parts : List Numbers) : Type 0 where
   pub sound : IsSound config
   pub is_store : IsStore store
   pub hours : length store.hours ≡ config.window.hours
   pub rules : own ≡ rules_for config
   pub history : HasHistory (log_of config.specs store)
-  pub report : IsReport config store kept
+  pub kept : AreKept config store carries futures parts

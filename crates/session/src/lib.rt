@@ -4,13 +4,19 @@
 //! An edit is made whole, or it is refused and the session is as before.
 #![tactic(auto)]
 
+mod audit;
+mod backward;
+mod begin;
 mod blanks;
 mod edit;
+mod forward;
 mod hours;
+mod lists;
+mod renew;
 mod session;
+mod steps;
 #[cfg(test)]
 mod tests;
-mod work;
 
 pub use edit::Edit;
 pub use session::Session;

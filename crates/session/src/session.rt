@@ -11,12 +11,15 @@ ghost use Rattle.hour_work.specs.Points.{NamesRow};
 ghost use Rattle.hour_work.specs.Verdicts.{AreAuditLines};
 ghost use Rattle.hour_work.specs.Reports.{IsReport};
 ghost use Rattle.session.specs.Edits.{blank, change_of, load, replace, step_of, unblank, withdraw};
+ghost use Rattle.session.specs.Ranges.{SameApart};
 ghost use Rattle.session.specs.Sessions.{AreCounted, Grow, Kept, MayRefuse, OpensNone, Steps, StopsAt};
 
 use crate::Edit;
+use crate::audit::lines_of;
+use crate::begin::begin;
 use crate::blanks::{reaches_out, with_range, without_range};
-use crate::hours::exchange;
-use crate::work::{first_report, lines_of, report_of};
+use crate::hours::{end_of, exchange, held_ends, hour_at};
+use crate::renew::{Worked, adopt, renew};
 use hour_store::HourStore;
 use hour_work::{ForwardError, Report};
 use ring_config::Config;
@@ -38,7 +41,7 @@ pub struct Session<L> {
     config: Config,
     rules: Vec<Rule>,
     store: HourStore<L>,
-    report: Report,
+    worked: Worked,
 }
 
 impl<L> Model for Session<L> {
@@ -48,7 +51,7 @@ impl<L> Model for Session<L> {
 
     ghost view = { λ s. record { config = s.config; store = s.store } };
 
-    ghost invariant = { λ s. Belong s.config s.store s.rules.items s.report };
+    ghost invariant = { λ s. Belong s.config s.store s.rules.items s.worked.carries.items s.worked.futures.items s.worked.report };
 }
 
 // How many rows are held once the hour has so many.
@@ -78,13 +81,13 @@ impl<L> Session<L> {
         let rules = rules_of(alloc, &config)?;
         let hours = config.hours();
         let store = HourStore::new(alloc, hours)?;
-        let report = first_report(alloc, &rules, hours)?;
+        let worked = begin(alloc, &config, &rules, hours)?;
         Ok(Session {
             alloc,
             config,
             rules,
             store,
-            report,
+            worked,
         })
     }
 
@@ -108,7 +111,7 @@ impl<L> Session<L> {
         ensures counted { AreCounted (length (rules_for self.now.config)) result.now }
         ensures history { HasHistory (log_of self.now.config.specs self.now.store) }
     {
-        &self.report
+        &self.worked.report
     }
 
     /// The lines of the audit of an hour, in their order: the verdicts that aren't idle, over all
@@ -124,6 +127,7 @@ impl<L> Session<L> {
             &self.config,
             &self.rules,
             &self.store,
+            &self.worked,
             hour,
             reads,
         )
@@ -157,10 +161,19 @@ impl<L> Session<L> {
         ensures grow { Grow reads.old reads.new }
     {
         let before = exchange(&mut self.store, hour, entry);
-        match report_of(self.alloc, &self.config, &self.rules, &self.store, reads) {
-            Ok(report) => {
+        match renew(
+            self.alloc,
+            &self.config,
+            &self.rules,
+            &self.store,
+            &self.worked,
+            hour,
+            hour,
+            reads,
+        ) {
+            Ok(fresh) => {
                 let_go(before);
-                self.report = report;
+                adopt(&mut self.worked, fresh);
                 Ok(self.whole_window())
             }
             Err(error) => {
@@ -170,9 +183,19 @@ impl<L> Session<L> {
         }
     }
 
-    // Blanks these tenths.
-    fn mask(&mut self, blanks: SpanSet, reads: &mut Reads<L>) -> Result<Applied, EditError>
+    // Blanks these tenths, of which those out of the range are blanked as before.
+    fn mask(
+        &mut self,
+        blanks: SpanSet,
+        from: Tenth,
+        to: Tenth,
+        reads: &mut Reads<L>,
+    ) -> Result<Applied, EditError>
         requires within { LieWithin (length self.old.store.hours) blanks }
+        requires low { pos 0 ≤ℤ from }
+        requires some { from <ℤ to }
+        requires high { to ≤ℤ pos (36000 * length self.old.store.hours) }
+        requires same { SameApart self.old.store.blanks from to blanks }
         ensures done { OnOk result ((self.new.store ≡ with_blanks self.old.store blanks) × HasHistory (log_of self.old.config.specs (with_blanks self.old.store blanks))) }
         ensures moved { IfOk result (λ x. x ≡ record { from = 0; to = self.old.config.window.hours }) }
         ensures back { OnErr result (self.new.store ≡ self.old.store) }
@@ -182,15 +205,27 @@ impl<L> Session<L> {
         ensures grow { Grow reads.old reads.new }
     {
         let before = self.store.set_blanks(blanks);
-        match report_of(self.alloc, &self.config, &self.rules, &self.store, reads) {
-            Ok(renewed) => {
-                self.report = renewed;
-                Ok(self.whole_window())
-            }
-            Err(error) => {
-                self.store.set_blanks(before);
-                Err(edit_error(error))
-            }
+        match held_ends(&self.store, hour_at(from), end_of(to)) {
+            None => Ok(self.whole_window()),
+            Some((first, last)) => match renew(
+                self.alloc,
+                &self.config,
+                &self.rules,
+                &self.store,
+                &self.worked,
+                first,
+                last,
+                reads,
+            ) {
+                Ok(fresh) => {
+                    adopt(&mut self.worked, fresh);
+                    Ok(self.whole_window())
+                }
+                Err(error) => {
+                    self.store.set_blanks(before);
+                    Err(edit_error(error))
+                }
+            },
         }
     }
 
@@ -276,7 +311,7 @@ impl<L> Session<L> {
         if blanks.ranges().len() > MOST_BLANKS {
             return Err(EditError::TooManyBlanks);
         }
-        self.mask(blanks, reads)
+        self.mask(blanks, from, to, reads)
     }
 
     #[tactic(auto, using(crate::proofs::EditLaws::steps_done, crate::proofs::EditLaws::opens_some, crate::proofs::GrowLaws::grow_same), unfolding(crate::specs::Edits::step_of))]
@@ -305,7 +340,7 @@ impl<L> Session<L> {
         if blanks.ranges().len() > MOST_BLANKS {
             return Err(EditError::TooManyBlanks);
         }
-        self.mask(blanks, reads)
+        self.mask(blanks, from, to, reads)
     }
 
     /// Makes the edit, or refuses it, with the session as before. The first refusal in the order of

@@ -1,13 +1,11 @@
-use Rattle.std.proofs.Common.{◌≡◌, ◌∙◌, ◌≤◌, ◌<◌, ℕ, ap, length, pos, ◌-ℤ◌, ◌<ℤ◌, ◌≤ℤ◌, refl, rules, sym, subst, w64}
-use Rattle.std.specs.Prelude.{FitsSigned}
-use Rattle.std.proofs.lemmas.Int.{ints, to_z-of_z}
-use Rattle.sig_base.specs.Window.{Span}
+use Rattle.std.proofs.Common.{◌≡◌, ◌∙◌, length, ◌<ℤ◌, refl, sym}
+use Rattle.std.proofs.lemmas.Int.{to_z-of_z}
 use Rattle.hour_store.specs.Store.{with_blanks}
-use Rattle.session.specs.Edits.{blank, step_of, unless_many_blanks}
+use Rattle.session.specs.Edits.{blank, step_of}
 use Rattle.session.specs.Ranges.{With}
-use Rattle.session.specs.Sessions.{Kept}
 use Rattle.session.proofs.EditLaws.{blank_step, few_blanks, in_order, inside, many_blanks, steps_done}
 use Rattle.session.proofs.LessLaws.{never_blanked}
+use Rattle.session.proofs.MaskLaws.{with_same}
 use Rattle.session.proofs.RangeLaws.{with_within}
 use Rattle.session.proofs.session.Session.blank.Goals as goal
 
@@ -40,8 +38,8 @@ returns-clause-step g c =
     let stop = rw (← c.self.view_is) at c.mask.ensures.stop in
     rw (← c.self.view_is) (steps_done c.self.inside.config (step_of s (blank c.args.from c.args.to)) s (with_blanks s c.in-Ok.blanks) c.mask.new.self.store c.mask.result (step ∙ few_blanks s c.in-Ok.blanks few) done back stop)
 
-pub mask-requires : goal.mask-requires
-mask-requires g c =
+pub mask-requires-clause-within : goal.mask-requires-clause-within
+mask-requires-clause-within g c =
     let s = c.self.inside.store in
     let rf = c.ranges.from in
     let rt = c.ranges.to in
@@ -50,7 +48,55 @@ mask-requires g c =
     let made : With s.blanks c.args.from c.args.to c.in-Ok.blanks = simp to_z-of_z at (rw c.blanked.ensures.value at c.in-Ok.ensures) in
     let n : c.hours.result ≡ length s.hours = c.hours.ensures.value ∙ sym c.self.invariant.hours in
     let p = rw n at (inside c.hours.result c.args.from c.args.to out) in
-    rw (← c.self.view_is) (record { within = with_within (length s.hours) s.blanks c.in-Ok.blanks c.args.from c.args.to c.blanked.ensures.within p.0 p.1 made })
+    rw (← c.self.view_is) (with_within (length s.hours) s.blanks c.in-Ok.blanks c.args.from c.args.to c.blanked.ensures.within p.0 p.1 made)
+
+pub mask-requires-clause-low : goal.mask-requires-clause-low
+mask-requires-clause-low g c =
+    let s = c.self.inside.store in
+    let rf = c.ranges.from in
+    let rt = c.ranges.to in
+    let out = simp to_z-of_z at (sym c.reaches_out.ensures ∙ c.if-reaches_out.false) in
+    let some : c.args.from <ℤ c.args.to = in_order c.args.to c.args.from (simp to_z-of_z at c.if-to-from.false) in
+    let made : With s.blanks c.args.from c.args.to c.in-Ok.blanks = simp to_z-of_z at (rw c.blanked.ensures.value at c.in-Ok.ensures) in
+    let n : c.hours.result ≡ length s.hours = c.hours.ensures.value ∙ sym c.self.invariant.hours in
+    let p = rw n at (inside c.hours.result c.args.from c.args.to out) in
+    simp to_z-of_z p.0
+
+pub mask-requires-clause-some : goal.mask-requires-clause-some
+mask-requires-clause-some g c =
+    let s = c.self.inside.store in
+    let rf = c.ranges.from in
+    let rt = c.ranges.to in
+    let out = simp to_z-of_z at (sym c.reaches_out.ensures ∙ c.if-reaches_out.false) in
+    let some : c.args.from <ℤ c.args.to = in_order c.args.to c.args.from (simp to_z-of_z at c.if-to-from.false) in
+    let made : With s.blanks c.args.from c.args.to c.in-Ok.blanks = simp to_z-of_z at (rw c.blanked.ensures.value at c.in-Ok.ensures) in
+    let n : c.hours.result ≡ length s.hours = c.hours.ensures.value ∙ sym c.self.invariant.hours in
+    let p = rw n at (inside c.hours.result c.args.from c.args.to out) in
+    simp to_z-of_z some
+
+pub mask-requires-clause-high : goal.mask-requires-clause-high
+mask-requires-clause-high g c =
+    let s = c.self.inside.store in
+    let rf = c.ranges.from in
+    let rt = c.ranges.to in
+    let out = simp to_z-of_z at (sym c.reaches_out.ensures ∙ c.if-reaches_out.false) in
+    let some : c.args.from <ℤ c.args.to = in_order c.args.to c.args.from (simp to_z-of_z at c.if-to-from.false) in
+    let made : With s.blanks c.args.from c.args.to c.in-Ok.blanks = simp to_z-of_z at (rw c.blanked.ensures.value at c.in-Ok.ensures) in
+    let n : c.hours.result ≡ length s.hours = c.hours.ensures.value ∙ sym c.self.invariant.hours in
+    let p = rw n at (inside c.hours.result c.args.from c.args.to out) in
+    rw (← c.self.view_is) (simp to_z-of_z p.1)
+
+pub mask-requires-clause-same : goal.mask-requires-clause-same
+mask-requires-clause-same g c =
+    let s = c.self.inside.store in
+    let rf = c.ranges.from in
+    let rt = c.ranges.to in
+    let out = simp to_z-of_z at (sym c.reaches_out.ensures ∙ c.if-reaches_out.false) in
+    let some : c.args.from <ℤ c.args.to = in_order c.args.to c.args.from (simp to_z-of_z at c.if-to-from.false) in
+    let made : With s.blanks c.args.from c.args.to c.in-Ok.blanks = simp to_z-of_z at (rw c.blanked.ensures.value at c.in-Ok.ensures) in
+    let n : c.hours.result ≡ length s.hours = c.hours.ensures.value ∙ sym c.self.invariant.hours in
+    let p = rw n at (inside c.hours.result c.args.from c.args.to out) in
+    rw (← c.self.view_is) (simp to_z-of_z (with_same s.blanks c.in-Ok.blanks c.args.from c.args.to made))
 
 pub returns-clause-never : goal.returns-clause-never
 returns-clause-never g c =

@@ -1,4 +1,4 @@
-use Rattle.std.proofs.Common.{◌≡◌, ◌∙◌, ◌<◌, ◌≤◌, Some, ap, arith, length, sym}
+use Rattle.std.proofs.Common.{◌∙◌, ◌<◌, ◌≤◌, Some, ap, arith, length, sym}
 use Rattle.sig_base.specs.Window.{Span}
 use Rattle.hour_store.specs.Store.{rows_held, with_hour}
 use Rattle.session.specs.Edits.{load, step_of}

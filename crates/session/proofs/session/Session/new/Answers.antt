@@ -1,9 +1,9 @@
-use Rattle.std.proofs.Common.{◌≡◌, ◌∙◌, Option, None}
+use Rattle.std.proofs.Common.{◌∙◌, Option, None}
 use Rattle.std.proofs.lemmas.List.{length-replicate}
 use Rattle.sig_base.specs.HourRows.{Shown}
 use Rattle.hour_store.proofs.StoreLaws.{nothing_is_store}
 use Rattle.signal_log.proofs.Lawful.{nothing}
-use Rattle.hour_work.proofs.SpecLaws.{specs_follow}
+use Rattle.rule_audit.proofs.Tracked.{channels_are}
 use Rattle.session.proofs.session.Session.new.Goals as goal
 
 abbrev no_rows : Option Shown
@@ -15,12 +15,11 @@ invariant_of-result g c =
     let n = c.hours-hours.result in
     let made = c.in_ok-store.ensures in
     let rules = c.in_ok-rules.ensures in
-    let report = c.in_ok-report.ensures cfg (c.deref.ensures.value ∙ rules) in
     rw made (record {
       sound = c.hours-hours.ensures.sound;
       is_store = nothing_is_store n c.hours-hours.ensures.some c.hours-hours.ensures.few;
       hours = length-replicate n (no_rows) ∙ c.hours-hours.ensures.value;
       rules = rules;
-      history = nothing cfg.specs n (specs_follow cfg c.hours-hours.ensures.sound);
-      report = report;
+      history = nothing cfg.specs n (channels_are cfg c.hours-hours.ensures.sound);
+      kept = c.in_ok-worked.ensures;
     })

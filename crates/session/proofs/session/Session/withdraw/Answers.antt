@@ -1,4 +1,4 @@
-use Rattle.std.proofs.Common.{◌≡◌, ◌∙◌, ◌<◌, None, ap, arith, length, sym}
+use Rattle.std.proofs.Common.{◌∙◌, ◌<◌, None, ap, arith, length, sym}
 use Rattle.sig_base.specs.Window.{Span}
 use Rattle.hour_store.specs.Store.{with_hour}
 use Rattle.session.specs.Edits.{step_of, withdraw}

@@ -1,0 +1,82 @@
+-- Forward over the hours that an edit changes.
+use Rattle.std.proofs.Common.{◌≡◌, ◌∙◌, ◌⊎◌, inl, inr, ℕ, ◌+◌, ◌<◌, ◌≤◌, List, [], ◌∷◌, ◌++◌, length, length-append, get_or, sym, subst, arith}
+use Rattle.std.proofs.lemmas.Bool.{cases_lt}
+use Rattle.hour_store.specs.Store.{IsStore, Store, rows_at}
+use Rattle.ring_config.specs.Settings.{Settings}
+use Rattle.hour_work.specs.Numbers.{patched}
+use Rattle.hour_work.specs.Points.{Carried, IsCarryAt}
+use Rattle.session.specs.Links.{AreCarriesBut, Leads, LeadsAt}
+use Rattle.session.specs.Renewed.{AreNewCarries}
+use Rattle.session.proofs.KeptLaws.{carry_up, has, leads_same}
+use Rattle.session.proofs.PatchLaws.{length-patched, patched-below, patched-last, patched-more, patched-none, patched-past}
+
+-- the way from the hour `first` has come to the point before the hour `hour`
+pub record IsGoing (c : Settings) (s : Store) (first : ℕ) (kept fresh : List Carried) (hour : ℕ) : Type 0 where
+  pub size : first + length fresh ≡ hour
+  pub here : (d : Carried) → IsCarryAt c s hour (get_or (patched kept (first + 1) fresh) hour d)
+  pub leads : (k : ℕ) → k < hour → LeadsAt c s (patched kept (first + 1) fresh) k
+
+pub going_start : (c : Settings) (s : Store) (first last : ℕ) (kept fresh : List Carried) → IsStore s → first ≤ last → last < length s.hours → AreCarriesBut c s first last kept → fresh ≡ [] → IsGoing c s first kept fresh first
+going_start c s first last kept fresh is order within but e =
+    let size = but.size in
+    let same : (k : ℕ) (d : Carried) → get_or (patched kept (first + 1) []) k d ≡ get_or kept k d = λ k d. patched-none kept (first + 1) k d (omega arith) in
+    rw e (record {
+      size = omega arith;
+      here = λ d. subst (λ (v : Carried). IsCarryAt c s first v) (sym (same first d)) (carry_up c s kept first is (omega arith) but.start (λ k lt. but.leads k (omega arith) (inl lt)) first d (omega arith));
+      leads = λ k lt. leads_same c s kept (patched kept (first + 1) []) k (same k) (same (k + 1)) (but.leads k (omega arith) (inl lt));
+    })
+
+pub going_here : (c : Settings) (s : Store) (first : ℕ) (kept fresh : List Carried) (hour : ℕ) (before : Carried) → IsGoing c s first kept fresh hour → ((d : Carried) → before ≡ get_or (patched kept (first + 1) fresh) hour d) → IsCarryAt c s hour before
+going_here c s first kept fresh hour before p at = subst (λ (v : Carried). IsCarryAt c s hour v) (sym (at before)) (p.here before)
+
+pub going_on : (c : Settings) (s : Store) (first : ℕ) (kept fresh items : List Carried) (hour : ℕ) (before next : Carried) → IsStore s → length kept ≡ length s.hours + 1 → hour < length s.hours → IsGoing c s first kept fresh hour
+    → ((d : Carried) → before ≡ get_or (patched kept (first + 1) fresh) hour d) → Leads c hour (rows_at s hour) s.blanks before next → items ≡ fresh ++ next ∷ [] → IsGoing c s first kept items (hour + 1)
+going_on c s first kept fresh items hour before next is size lt p at leads e =
+    let n = p.size in
+    let old : (k : ℕ) (d : Carried) → k < hour + 1 → get_or (patched kept (first + 1) (fresh ++ next ∷ [])) k d ≡ get_or (patched kept (first + 1) fresh) k d = λ k d l. patched-more kept (first + 1) fresh next k d (omega arith) (omega arith) in
+    let new : (d : Carried) → get_or (patched kept (first + 1) (fresh ++ next ∷ [])) (hour + 1) d ≡ next = λ d. patched-last kept (first + 1) fresh next (hour + 1) d (omega arith) (omega arith) in
+    rw e (record {
+      size = rw length-append (omega arith);
+      here = λ d. subst (λ (v : Carried). IsCarryAt c s (hour + 1) v) (sym (new d)) (leads s (has s hour is lt) (subst (λ (v : Carried). IsCarryAt c s hour v) (sym (at d)) (p.here d)));
+      leads = λ k l. elim (cases_lt k hour) [
+        | inl below ↦ leads_same c s (patched kept (first + 1) fresh) (patched kept (first + 1) (fresh ++ next ∷ [])) k (λ d. old k d (omega arith)) (λ d. old (k + 1) d (omega arith)) (p.leads k below)
+        | inr from ↦
+            let here : hour ≡ k = omega arith in
+            subst (λ (j : ℕ). LeadsAt c s (patched kept (first + 1) (fresh ++ next ∷ [])) j) here (λ d r has_it before_it.
+            subst (λ (v : Carried). IsCarryAt c r (hour + 1) v) (sym (new d)) (leads r has_it (subst (λ (v : Carried). IsCarryAt c r hour v) (old hour d (omega arith) ∙ sym (at d)) before_it)))
+      ];
+    })
+
+-- at the window's end, or where nothing changes
+pub going_done : (c : Settings) (s : Store) (first last : ℕ) (kept items : List Carried) (to : ℕ) → last < to → to ≤ length s.hours → AreCarriesBut c s first last kept → IsGoing c s first kept items to
+    → (to ≡ length s.hours) ⊎ ((d : Carried) → get_or (patched kept (first + 1) items) to d ≡ get_or kept to d) → AreNewCarries c s first last kept items
+going_done c s first last kept items to some within but p stop =
+    let n = p.size in
+    let size = but.size in
+    let room : first + 1 + length items ≤ length kept = omega arith in
+    let same : (k : ℕ) (d : Carried) → to ≤ k → k < length s.hours → get_or (patched kept (first + 1) items) k d ≡ get_or kept k d = λ k d le lt. elim stop [
+      | inl end ↦ absurd (omega arith)
+      | inr equal ↦ elim (cases_lt to k) [
+        | inl above ↦ patched-past kept (first + 1) items k d (omega arith) (omega arith)
+        | inr no_more ↦ let here : to ≡ k = omega arith in subst (λ (j : ℕ). get_or (patched kept (first + 1) items) j d ≡ get_or kept j d) here (equal d)
+      ]
+    ] in
+    record {
+      some = omega arith;
+      within = omega arith;
+      forth = record {
+        size = length-patched kept (first + 1) items room ∙ size;
+        start = λ d r. subst (λ (v : Carried). IsCarryAt c r 0 v) (sym (patched-below kept (first + 1) items 0 d (omega arith) (omega arith))) (but.start d r);
+        leads = λ k lt. elim (cases_lt k to) [
+          | inl below ↦ p.leads k below
+          | inr from ↦ leads_same c s kept (patched kept (first + 1) items) k (λ d. same k d from lt) (λ d. patched-past kept (first + 1) items (k + 1) d (omega arith) (omega arith)) (but.leads k lt (inr (omega arith)))
+        ];
+      };
+      same = λ k d le lt. same k d (omega arith) lt;
+    }
+
+-- what is kept says the same as what is new at the point after the hour
+pub going_same : (first : ℕ) (kept fresh items : List Carried) (hour : ℕ) (next there : Carried) → first + length fresh ≡ hour → hour + 1 < length kept → items ≡ fresh ++ next ∷ [] → next ≡ there → ((d : Carried) → there ≡ get_or kept (hour + 1) d)
+    → (d : Carried) → get_or (patched kept (first + 1) items) (hour + 1) d ≡ get_or kept (hour + 1) d
+going_same first kept fresh items hour next there n lt e same at d =
+    rw e (patched-last kept (first + 1) fresh next (hour + 1) d (omega arith) (omega arith) ∙ same ∙ at d)

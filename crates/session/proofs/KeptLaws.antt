@@ -1,0 +1,83 @@
+-- What is kept of each hour holds of every store that has the hour so; so it gives the report.
+use Rattle.std.proofs.Common.{◌≡◌, ◌∙◌, ℕ, zero, suc, ◌+◌, ◌-◌, ◌<◌, ◌≤◌, List, length, get_or, [], true, Option, is_some, refl, sym, ap, subst, arith}
+use Rattle.sig_base.specs.declared.values.Row.{Row}
+use Rattle.span_set.specs.declared.set.Span.{Span}
+use Rattle.gap_map.specs.Stretches.{known_in}
+use Rattle.hour_store.specs.Store.{IsStore, Store, rows_at}
+use Rattle.ring_config.specs.Settings.{Settings}
+use Rattle.ring_config.specs.Sound.{IsSound}
+use Rattle.signal_log.specs.Log.{HasHistory, log_of}
+use Rattle.signal_log.specs.Points.{HasHour}
+use Rattle.signal_log.proofs.Lawful.{some_history}
+use Rattle.signal_log.proofs.Stored.{known_hour}
+use Rattle.rule_audit.proofs.Tracked.{channels_are}
+use Rattle.hour_work.specs.Numbers.{Numbers}
+use Rattle.hour_work.specs.Points.{Carried, IsCarryAt, IsFutureAt}
+use Rattle.hour_work.specs.Reports.{IsHourBetween, IsReport}
+use Rattle.session.specs.Links.{Ahead, AreCarries, AreFutures, AreKept, BacksAt, LeadsAt}
+
+pub has_hour : (s : Store) (hour : ℕ) (rows : Option (List Row)) (blanks : List Span) → IsStore s → hour < length s.hours → rows ≡ rows_at s hour → blanks ≡ s.blanks → HasHour s hour rows blanks
+has_hour s hour rows blanks is lt e b = record {
+  is_store = is;
+  within = lt;
+  held = sym e;
+  known = λ t low high. ap (λ (bs : List Span). known_in (is_some rows) bs t) b ∙ sym (known_hour s hour t rows (sym e) low (omega arith));
+}
+
+pub has : (s : Store) (k : ℕ) → IsStore s → k < length s.hours → HasHour s k (rows_at s k) s.blanks
+has s k is lt = has_hour s k (rows_at s k) s.blanks is lt refl refl
+
+-- ---- from point to point
+
+pub carry_up : (c : Settings) (s : Store) (xs : List Carried) (n : ℕ) → IsStore s → n ≤ length s.hours → ((d : Carried) (r : Store) → IsCarryAt c r 0 (get_or xs 0 d)) → ((k : ℕ) → k < n → LeadsAt c s xs k) → (k : ℕ) (d : Carried) → k ≤ n → IsCarryAt c s k (get_or xs k d)
+carry_up c s xs n is within start leads zero d le = start d s
+carry_up c s xs n is within start leads (suc k) d le =
+    let e : k + 1 ≡ suc k = omega arith in
+    subst (λ (j : ℕ). IsCarryAt c s j (get_or xs j d)) e (leads k (omega arith) d s (has s k is (omega arith)) (carry_up c s xs n is within start leads k d (omega arith)))
+
+pub future_down : (c : Settings) (s : Store) (xs : List Ahead) (low : ℕ) → IsStore s → ((d : Ahead) (r : Store) → length r.hours ≡ length s.hours → IsFutureAt c r (length s.hours) (get_or xs (length s.hours) d)) → ((k : ℕ) → low ≤ k → k < length s.hours → BacksAt c s xs k) → (n k : ℕ) (d : Ahead) → low ≤ k → k + n ≡ length s.hours → IsFutureAt c s k (get_or xs k d)
+future_down c s xs low is end backs zero k d from e =
+    let at : length s.hours ≡ k = omega arith in
+    subst (λ (j : ℕ). IsFutureAt c s j (get_or xs j d)) at (end d s refl)
+future_down c s xs low is end backs (suc n) k d from e = backs k from (omega arith) d s (has s k is (omega arith)) (future_down c s xs low is end backs n (k + 1) d (omega arith) (omega arith))
+
+pub carry_kept : (c : Settings) (s : Store) (xs : List Carried) → IsStore s → AreCarries c s xs → (k : ℕ) (d : Carried) → k ≤ length s.hours → IsCarryAt c s k (get_or xs k d)
+carry_kept c s xs is are = carry_up c s xs (length s.hours) is (omega arith) are.start are.leads
+
+pub future_kept : (c : Settings) (s : Store) (xs : List Ahead) → IsStore s → AreFutures c s xs → (k : ℕ) (d : Ahead) → k ≤ length s.hours → IsFutureAt c s k (get_or xs k d)
+future_kept c s xs is are k d le = future_down c s xs 0 is are.end (λ j low. are.backs j) (length s.hours - k) k d (omega arith) (omega arith)
+
+-- the same of a value that stands at the point
+pub carry_is : (c : Settings) (s : Store) (xs : List Carried) (k : ℕ) (x : Carried) → IsStore s → AreCarries c s xs → k ≤ length s.hours → x ≡ get_or xs k x → IsCarryAt c s k x
+carry_is c s xs k x is are le e = subst (λ (v : Carried). IsCarryAt c s k v) (sym e) (carry_kept c s xs is are k x le)
+
+pub future_is : (c : Settings) (s : Store) (xs : List Ahead) (k : ℕ) (x : Ahead) → IsStore s → AreFutures c s xs → k ≤ length s.hours → x ≡ get_or xs k x → IsFutureAt c s k x
+future_is c s xs k x is are le e = subst (λ (v : Ahead). IsFutureAt c s k v) (sym e) (future_kept c s xs is are k x le)
+
+-- some history agrees, where the carries reach the window's end
+pub history_kept : (c : Settings) (s : Store) (xs : List Carried) → IsSound c → IsStore s → AreCarries c s xs → HasHistory (log_of c.specs s)
+history_kept c s xs sound is are =
+    let d : Carried = record { pasts = []; known = true; cuts = []; others = record { peds = []; preempts = [] } } in
+    some_history (log_of c.specs s) (get_or xs (length s.hours) d).pasts (channels_are c sound) (carry_kept c s xs is are (length s.hours) d (omega arith)).pasts
+
+pub between_kept : (c : Settings) (s : Store) (xs : List Carried) (ys : List Ahead) → IsStore s → AreCarries c s xs → AreFutures c s ys → HasHistory (log_of c.specs s) → (k : ℕ) (d : Carried) (e : Ahead) → k < length s.hours → IsHourBetween c s k (get_or xs k d) (rows_at s k) s.blanks (get_or ys (k + 1) e)
+between_kept c s xs ys is forth back some k d e lt = record { has_hour = has s k is lt; is_before = carry_kept c s xs is forth k d (omega arith); is_after = future_kept c s ys is back (k + 1) e (omega arith); history = some }
+
+-- the numbers that are kept are the store's report
+pub report_kept : (c : Settings) (s : Store) (xs : List Carried) (ys : List Ahead) (ps : List Numbers) → IsStore s → AreKept c s xs ys ps → HasHistory (log_of c.specs s) → IsReport c s ps
+report_kept c s xs ys ps is kept some =
+    let d : Carried = record { pasts = []; known = true; cuts = []; others = record { peds = []; preempts = [] } } in
+    record {
+      size = kept.size;
+      each = λ k f lt. kept.counts k lt d [] f s (between_kept c s xs ys is kept.forth kept.back some k d [] lt);
+    }
+
+-- ---- the same list, the same links
+
+pub leads_same : (c : Settings) (s : Store) (xs ys : List Carried) (k : ℕ) → ((d : Carried) → get_or ys k d ≡ get_or xs k d) → ((d : Carried) → get_or ys (k + 1) d ≡ get_or xs (k + 1) d) → LeadsAt c s xs k → LeadsAt c s ys k
+leads_same c s xs ys k a b p d r has before =
+    subst (λ (v : Carried). IsCarryAt c r (k + 1) v) (sym (b d)) (p d r has (subst (λ (v : Carried). IsCarryAt c r k v) (a d) before))
+
+pub backs_same : (c : Settings) (s : Store) (xs ys : List Ahead) (k : ℕ) → ((d : Ahead) → get_or ys k d ≡ get_or xs k d) → ((d : Ahead) → get_or ys (k + 1) d ≡ get_or xs (k + 1) d) → BacksAt c s xs k → BacksAt c s ys k
+backs_same c s xs ys k a b p d r has after =
+    subst (λ (v : Ahead). IsFutureAt c r k v) (sym (a d)) (p d r has (subst (λ (v : Ahead). IsFutureAt c r (k + 1) v) (b d) after))

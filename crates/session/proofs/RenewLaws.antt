@@ -1,0 +1,170 @@
+-- The numbers between what is kept, and all that is new in its place.
+use Rattle.std.proofs.Common.{◌≡◌, ◌∙◌, inl, inr, ℕ, zero, suc, ◌+◌, ◌-◌, ◌<◌, ◌≤◌, ◌≢◌, List, [], ◌∷◌, ◌++◌, length, length-append, length-set, get_or, get_or-set_other, option_map, Option, None, refl, sym, ap, subst, arith}
+use Rattle.std.specs.List.{All}
+use Rattle.std.proofs.lemmas.Bool.{cases_lt}
+use Rattle.std.proofs.lemmas.List.{get_or_append_left}
+use Rattle.std.proofs.lemmas.List.Elements.{All-append}
+use Rattle.std.proofs.Math.Seq.{get_or-append_seam}
+use Rattle.sig_base.specs.HourRows.{Shown}
+use Rattle.sig_base.specs.declared.values.Row.{Row}
+use Rattle.hour_store.specs.Store.{Store, rows_at, with_hour}
+use Rattle.ring_config.specs.Settings.{Settings}
+use Rattle.signal_log.specs.Points.{HasHour}
+use Rattle.hour_work.specs.Numbers.{FitHours, Numbers, patched, total_of}
+use Rattle.hour_work.specs.Points.{Carried, IsFutureAt}
+use Rattle.session.specs.Links.{Ahead, Apart, AreKept, AreKeptBut, BacksAt, Counts, CountsAt, LeadsAt}
+use Rattle.session.specs.Renewed.{AreNewCarries, AreNewFutures, AreNewParts, IsRenewed}
+use Rattle.session.proofs.PatchLaws.{length-patched, patched-at, patched-below, patched-past}
+
+-- ---- the numbers
+
+pub no_parts : (c : Settings) (s : Store) (carries : List Carried) (futures : List Ahead) (from : ℕ) (ps : List Numbers) → ps ≡ [] → AreNewParts c s carries futures from from ps
+no_parts c s carries futures from ps e = rw e (record { size = omega arith; counts = λ i k d x f lt at. absurd (omega arith); small = λ k d lt. absurd (omega arith) })
+
+one_small : (p : Numbers) → FitHours 1 p → All (FitHours 1) (p ∷ [])
+one_small p f zero d lt = f
+one_small p f (suc i) d lt = absurd (omega arith)
+
+pub parts_more : (c : Settings) (s : Store) (carries : List Carried) (futures : List Ahead) (from hour : ℕ) (ps items : List Numbers) (before : Carried) (after : Ahead) (p : Numbers) → AreNewParts c s carries futures from hour ps → ((d : Carried) → before ≡ get_or carries hour d) → ((d : Ahead) → after ≡ get_or futures (hour + 1) d)
+    → Counts c hour (rows_at s hour) s.blanks before after p → FitHours 1 p → items ≡ ps ++ p ∷ [] → AreNewParts c s carries futures from (hour + 1) items
+parts_more c s carries futures from hour ps items before after p are b a is fit e =
+    let size = are.size in
+    rw e (record {
+      size = rw length-append (omega arith);
+      counts = λ i k d x f lt at.
+          let l : i < length ps + 1 = rw length-append at lt in
+          elim (cases_lt i (length ps)) [
+            | inl below ↦ subst (λ (v : Numbers). Counts c k (rows_at s k) s.blanks (get_or carries k d) (get_or futures (k + 1) x) v) (sym (get_or_append_left ps (p ∷ []) f i below)) (are.counts i k d x f below at)
+            | inr last ↦
+                let q : i ≡ length ps = omega arith in
+                let here : hour ≡ k = omega arith in
+                let v : get_or (ps ++ p ∷ []) i f ≡ p = ap (λ (j : ℕ). get_or (ps ++ p ∷ []) j f) q ∙ get_or-append_seam ps p [] f in
+                let one : Counts c hour (rows_at s hour) s.blanks (get_or carries hour d) (get_or futures (hour + 1) x) p = subst (λ (w : Ahead). Counts c hour (rows_at s hour) s.blanks (get_or carries hour d) w p) (a x) (subst (λ (w : Carried). Counts c hour (rows_at s hour) s.blanks w after p) (b d) is) in
+                subst (λ (w : Numbers). Counts c k (rows_at s k) s.blanks (get_or carries k d) (get_or futures (k + 1) x) w) (sym v) (subst (λ (j : ℕ). Counts c j (rows_at s j) s.blanks (get_or carries j d) (get_or futures (j + 1) x) p) here one)
+          ];
+      small = All-append (FitHours 1) ps (p ∷ []) are.small (one_small p fit);
+    })
+
+-- ---- all that is new
+
+-- the same of three lists
+counts_same : (c : Settings) (s : Store) (xs xs2 : List Carried) (ys ys2 : List Ahead) (ps ps2 : List Numbers) (k : ℕ) → ((d : Carried) → get_or xs2 k d ≡ get_or xs k d) → ((d : Ahead) → get_or ys2 (k + 1) d ≡ get_or ys (k + 1) d) → ((d : Numbers) → get_or ps2 k d ≡ get_or ps k d) → CountsAt c s xs ys ps k → CountsAt c s xs2 ys2 ps2 k
+counts_same c s xs xs2 ys ys2 ps ps2 k a b n p d x f =
+    subst (λ (v : Numbers). Counts c k (rows_at s k) s.blanks (get_or xs2 k d) (get_or ys2 (k + 1) x) v) (sym (n f))
+    (subst (λ (v : Ahead). Counts c k (rows_at s k) s.blanks (get_or xs2 k d) v (get_or ps k f)) (sym (b x))
+    (subst (λ (v : Carried). Counts c k (rows_at s k) s.blanks v (get_or ys (k + 1) x) (get_or ps k f)) (sym (a d)) (p d x f)))
+
+pub kept_new : (c : Settings) (s : Store) (first last : ℕ) (carries new_carries : List Carried) (futures : List Ahead) (from to : ℕ) (new_futures : List Ahead) (parts new_parts : List Numbers) → to ≡ first + length new_carries
+    → AreKeptBut c s first last carries futures parts → AreNewCarries c s first last carries new_carries → AreNewFutures c s first last futures from new_futures → AreNewParts c s (patched carries (first + 1) new_carries) (patched futures from new_futures) from to new_parts
+    → AreKept c s (patched carries (first + 1) new_carries) (patched futures from new_futures) (patched parts from new_parts)
+kept_new c s first last carries new_carries futures from to new_futures parts new_parts te but x y z =
+    let within = x.within in
+    let some = x.some in
+    let low = y.low in
+    let n = but.size in
+    let nf = but.back.size in
+    let m = y.size in
+    let size = z.size in
+    let last_in = but.within in
+    let order = but.order in
+    let room : from + length new_parts ≤ length parts = omega arith in
+    record {
+      forth = x.forth;
+      back = y.back;
+      size = length-patched parts from new_parts room ∙ n;
+      counts = λ k lt. elim (cases_lt k from) [
+        | inl below ↦ counts_same c s carries (patched carries (first + 1) new_carries) futures (patched futures from new_futures) parts (patched parts from new_parts) k
+            (λ d. let nc = but.forth.size in patched-below carries (first + 1) new_carries k d (omega arith) (omega arith))
+            (λ d. y.same k d below)
+            (λ d. patched-below parts from new_parts k d (omega arith) below)
+            (but.counts k lt (inl (omega arith)))
+        | inr above ↦ elim (cases_lt k to) [
+          | inl in_it ↦ λ d e f.
+              let i : k ≡ from + (k - from) = omega arith in
+              let l : k - from < length new_parts = omega arith in
+              subst (λ (v : Numbers). Counts c k (rows_at s k) s.blanks (get_or (patched carries (first + 1) new_carries) k d) (get_or (patched futures from new_futures) (k + 1) e) v) (sym (patched-at parts from new_parts k (k - from) f (omega arith) i l)) (z.counts (k - from) k d e f l i)
+          | inr past ↦ counts_same c s carries (patched carries (first + 1) new_carries) futures (patched futures from new_futures) parts (patched parts from new_parts) k
+              (λ d. x.same k d (omega arith) lt)
+              (λ d. patched-past futures from new_futures (k + 1) d (omega arith) (omega arith))
+              (λ d. patched-past parts from new_parts k d (omega arith) (omega arith))
+              (but.counts k lt (inr (omega arith)))
+        ]
+      ];
+    }
+
+pub renewed : (c : Settings) (s : Store) (first last : ℕ) (carries new_carries : List Carried) (futures : List Ahead) (from : ℕ) (new_futures : List Ahead) (parts new_parts : List Numbers) (total : Numbers)
+    → AreKeptBut c s first last carries futures parts → AreNewCarries c s first last carries new_carries → AreNewFutures c s first last futures from new_futures → AreNewParts c s (patched carries (first + 1) new_carries) (patched futures from new_futures) from (first + length new_carries) new_parts
+    → total ≡ total_of (patched parts from new_parts) → IsRenewed c s carries first new_carries futures from new_futures parts new_parts total
+renewed c s first last carries new_carries futures from new_futures parts new_parts total but x y z sum =
+    let within = x.within in
+    let nc = but.forth.size in
+    let nf = but.back.size in
+    let n = but.size in
+    let m = y.size in
+    let size = z.size in
+    let last_in = but.within in
+    record {
+      carry_room = omega arith;
+      future_room = omega arith;
+      part_room = omega arith;
+      kept = kept_new c s first last carries new_carries futures from (first + length new_carries) new_futures parts new_parts refl but x y z;
+      small = z.small;
+      sums = sum;
+    }
+
+-- ---- what still fits once the store is changed
+
+-- what has the hour as the second store has it, has it as the first one
+abbrev pub SameHour : Store → Store → ℕ → Type 0
+SameHour s t k = (r : Store) → HasHour r k (rows_at t k) t.blanks → HasHour r k (rows_at s k) s.blanks
+
+leads_stay : (c : Settings) (s t : Store) (k : ℕ) (xs : List Carried) → SameHour s t k → LeadsAt c s xs k → LeadsAt c t xs k
+leads_stay c s t k xs same p d r has = p d r (same r has)
+
+backs_stay : (c : Settings) (s t : Store) (k : ℕ) (ys : List Ahead) → SameHour s t k → BacksAt c s ys k → BacksAt c t ys k
+backs_stay c s t k ys same p d r has = p d r (same r has)
+
+counts_stay : (c : Settings) (s t : Store) (k : ℕ) (xs : List Carried) (ys : List Ahead) (ps : List Numbers) → SameHour s t k → CountsAt c s xs ys ps k → CountsAt c t xs ys ps k
+counts_stay c s t k xs ys ps same p d e f r b = p d e f r (record { has_hour = same r b.has_hour; is_before = b.is_before; is_after = b.is_after; history = b.history })
+
+-- what is kept of a store, of another one that has all hours alike but those from `first` to `last`
+pub kept_but : (c : Settings) (s t : Store) (first last : ℕ) (xs : List Carried) (ys : List Ahead) (ps : List Numbers) → first ≤ last → last < length s.hours → length t.hours ≡ length s.hours → ((k : ℕ) → Apart first last k → SameHour s t k) → AreKept c s xs ys ps → AreKeptBut c t first last xs ys ps
+kept_but c s t first last xs ys ps order within size same kept = record {
+  order = order;
+  within = rw size within;
+  forth = record {
+    size = rw size kept.forth.size;
+    start = kept.forth.start;
+    leads = λ k lt out. leads_stay c s t k xs (same k out) (kept.forth.leads k (omega arith));
+  };
+  back = record {
+    size = rw size kept.back.size;
+    end = λ d r e. subst (λ (n : ℕ). IsFutureAt c r n (get_or ys n d)) (sym size) (kept.back.end d r (e ∙ size));
+    backs = λ k lt out. backs_stay c s t k ys (same k out) (kept.back.backs k (omega arith));
+  };
+  size = kept.size ∙ sym size;
+  counts = λ k lt out. counts_stay c s t k xs ys ps (same k out) (kept.counts k (omega arith));
+}
+
+-- the same where it has all hours alike
+pub kept_same : (c : Settings) (s t : Store) (xs : List Carried) (ys : List Ahead) (ps : List Numbers) → length t.hours ≡ length s.hours → ((k : ℕ) → SameHour s t k) → AreKept c s xs ys ps → AreKept c t xs ys ps
+kept_same c s t xs ys ps size same kept = record {
+  forth = record {
+    size = rw size kept.forth.size;
+    start = kept.forth.start;
+    leads = λ k lt. leads_stay c s t k xs (same k) (kept.forth.leads k (omega arith));
+  };
+  back = record {
+    size = rw size kept.back.size;
+    end = λ d r e. subst (λ (n : ℕ). IsFutureAt c r n (get_or ys n d)) (sym size) (kept.back.end d r (e ∙ size));
+    backs = λ k lt. backs_stay c s t k ys (same k) (kept.back.backs k (omega arith));
+  };
+  size = kept.size ∙ sym size;
+  counts = λ k lt. counts_stay c s t k xs ys ps (same k) (kept.counts k (omega arith));
+}
+
+pub kept_but_hour : (c : Settings) (s : Store) (h : ℕ) (x : Option Shown) (xs : List Carried) (ys : List Ahead) (ps : List Numbers) → h < length s.hours → AreKept c s xs ys ps → AreKeptBut c (with_hour s h x) h h xs ys ps
+kept_but_hour c s h x xs ys ps lt = kept_but c s (with_hour s h x) h h xs ys ps (omega arith) lt (length-set s.hours h x) (λ k out r.
+    let other : k ≢ h = elim out [ inl a ↦ λ e. omega arith | inr b ↦ λ e. omega arith ] in
+    let rows : rows_at (with_hour s h x) k ≡ rows_at s k = ap (λ (o : Option Shown). option_map (λ v. v.rows) o) (get_or-set_other s.hours h k x None other) in
+    subst (λ (o : Option (List Row)). HasHour r k o s.blanks) rows)

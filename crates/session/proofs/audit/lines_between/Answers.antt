@@ -1,0 +1,28 @@
+use Rattle.std.specs.Prelude.{option_copied}
+use Rattle.std.proofs.lemmas.Result.{IfOk-weaker}
+use Rattle.hour_store.specs.Store.{Store}
+use Rattle.hour_work.specs.Verdicts.{AreAuditLines}
+use Rattle.hour_work.specs.Reports.{IsHourBetween}
+use Rattle.session.proofs.KeptLaws.{has_hour}
+use Rattle.session.proofs.GrowLaws.{grow_raised_to}
+use Rattle.session.proofs.audit.lines_between.Goals as goal
+
+pub returns-clause-grow : goal.returns-clause-grow
+returns-clause-grow g c = grow_raised_to _ _ c.args.hour c.open_hour-rows.ensures.raised
+
+pub audit_lines-requires-clause-agrees : goal.audit_lines-requires-clause-agrees
+audit_lines-requires-clause-agrees g c =
+    let has = has_hour c.args.store.now c.args.hour (option_copied c.open_hour-rows.result) c.blanked-blanked.result.now c.blanked-blanked.ensures.store c.requires.in_store c.open_hour-rows.ensures.rows c.blanked-blanked.ensures.value in
+    (c.args.store.now, record { has_hour = has; is_before = c.requires.before; is_after = c.requires.after; history = c.requires.history })
+
+pub returns-clause-lines : goal.returns-clause-lines
+returns-clause-lines g c =
+    let cfg = c.args.config.now in
+    let s = c.args.store.now in
+    let rows = option_copied c.open_hour-rows.result in
+    let has = has_hour s c.args.hour rows c.blanked-blanked.result.now c.blanked-blanked.ensures.store c.requires.in_store c.open_hour-rows.ensures.rows c.blanked-blanked.ensures.value in
+    IfOk-weaker c.audit_lines.result
+    (λ v. (s : Store) → IsHourBetween cfg s c.args.hour c.args.before.now rows c.blanked-blanked.result.now c.args.after.now → AreAuditLines cfg s c.args.hour v.items)
+    (λ v. AreAuditLines cfg s c.args.hour v.items)
+    (λ v h. h s (record { has_hour = has; is_before = c.requires.before; is_after = c.requires.after; history = c.requires.history }))
+    c.audit_lines.ensures

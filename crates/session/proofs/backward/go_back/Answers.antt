@@ -1,0 +1,60 @@
+use Rattle.std.proofs.Common.{◌≡◌, ◌∙◌, ◌+◌, ◌-◌, ◌<◌, arith, inl, inr, length, refl}
+use Rattle.std.proofs.lemmas.List.{get_or_default}
+use Rattle.session.proofs.BackLaws.{returning_done, returning_here, returning_on, returning_same, returning_start}
+use Rattle.session.proofs.GrowLaws.{grow_on, grow_same}
+use Rattle.session.proofs.backward.go_back.Goals as goal
+
+pub loop-hour-init : goal.loop-hour-init
+loop-hour-init g c =
+    let p = returning_start c.args.config.now c.args.store.now c.args.first c.args.last c.args.kept.now c.new-fresh.result.items c.requires.store c.requires.order c.requires.within c.requires.kept c.new-fresh.ensures.items in
+    record { returning = p; size = p.size; grow = grow_same c.args.reads.now }
+
+pub future_before-requires-clause-after : goal.future_before-requires-clause-after
+future_before-requires-clause-after g c =
+    let at = rw c.as_slice.ensures.value at c.pick-after.ensures in
+    let fe : c.loop-hour.hour ≡ (c.loop-hour.hour - 1) + 1 = omega arith in
+    returning_here c.args.config.now c.args.store.now c.args.last c.args.kept.now c.loop-hour.fresh.items (c.loop-hour.hour - 1) c.loop-hour.hour c.pick-after.result.now fe c.loop-hour.invariant.returning at
+
+pub returns-in_err-next-clause-grow : goal.returns-in_err-next-clause-grow
+returns-in_err-next-clause-grow g c = grow_on _ _ _ c.loop-hour.invariant.grow c.future_before.ensures.grow
+
+pub returns-in_err-insert-clause-grow : goal.returns-in_err-insert-clause-grow
+returns-in_err-insert-clause-grow g c = grow_on _ _ _ c.loop-hour.invariant.grow c.future_before.ensures.grow
+
+pub returns-then-done-clause-grow : goal.returns-then-done-clause-grow
+returns-then-done-clause-grow g c = grow_on _ _ _ c.loop-hour.invariant.grow c.future_before.ensures.grow
+
+pub loop-hour-preserved : goal.loop-hour-preserved
+loop-hour-preserved g c =
+    let at = rw c.as_slice.ensures.value at c.pick-after.ensures in
+    let fe : c.loop-hour.hour ≡ (c.loop-hour.hour - 1) + 1 = omega arith in
+    let within = c.requires.within in
+    let low = c.loop-hour.auto.hour in
+    let lt : c.loop-hour.hour - 1 < length c.args.store.now.hours = omega arith in
+    let p = returning_on c.args.config.now c.args.store.now c.args.last c.args.kept.now c.loop-hour.fresh.items c.insert.new.self.items (c.loop-hour.hour - 1) c.loop-hour.hour c.pick-after.result.now c.in_ok-next.next fe
+    c.requires.store c.requires.kept.size lt c.loop-hour.invariant.returning at c.in_ok-next.ensures.backs c.in_ok-insert.ensures.items in
+    record { returning = p; size = p.size; grow = grow_on _ _ _ c.loop-hour.invariant.grow c.future_before.ensures.grow }
+
+pub returns-then-done-clause-futures : goal.returns-then-done-clause-futures
+returns-then-done-clause-futures g c =
+    let at = rw c.as_slice.ensures.value at c.pick-after.ensures in
+    let fe : c.loop-hour.hour ≡ (c.loop-hour.hour - 1) + 1 = omega arith in
+    let within = c.requires.within in
+    let low = c.loop-hour.auto.hour in
+    let lt : c.loop-hour.hour - 1 < length c.args.store.now.hours = omega arith in
+    let size = c.requires.kept.size in
+    let there : c.loop-hour.hour - 1 < length c.args.kept.now = omega arith in
+    let held = c.if-done.ensures.0 refl in
+    let p = returning_on c.args.config.now c.args.store.now c.args.last c.args.kept.now c.loop-hour.fresh.items c.insert.new.self.items (c.loop-hour.hour - 1) c.loop-hour.hour c.pick-after.result.now c.in_ok-next.next fe
+    c.requires.store size lt c.loop-hour.invariant.returning at c.in_ok-next.ensures.backs c.in_ok-insert.ensures.items in
+    let n = p.size in
+    returning_done c.args.config.now c.args.store.now c.args.first c.args.last c.args.kept.now c.insert.new.self.items (c.loop-hour.hour - 1) _ (omega arith) held.0 c.requires.order within c.requires.kept p
+    (inr (returning_same c.args.kept.now c.loop-hour.fresh.items c.insert.new.self.items (c.loop-hour.hour - 1) c.in_ok-next.next c.index-kept-place.result there c.in_ok-insert.ensures.items held.1
+    (λ d. c.index-kept-place.is ∙ get_or_default c.args.kept.now (c.loop-hour.hour - 1) c.index-kept-place.result d there)))
+
+pub returns-clause-futures : goal.returns-clause-futures
+returns-clause-futures g c =
+    let end : c.loop-hour.hour ≡ 0 = omega arith in
+    let n = c.loop-hour.invariant.size in
+    let order = c.requires.order in
+    returning_done c.args.config.now c.args.store.now c.args.first c.args.last c.args.kept.now c.loop-hour.fresh.items c.loop-hour.hour _ (omega arith) (omega arith) order c.requires.within c.requires.kept c.loop-hour.invariant.returning (inl end)

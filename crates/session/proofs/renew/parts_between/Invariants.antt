@@ -1,0 +1,11 @@
+use Rattle.std.proofs.Common.{◌+◌}
+use Rattle.hour_work.specs.Numbers.{patched}
+use Rattle.session.specs.Renewed.{AreNewParts}
+use Rattle.session.specs.Sessions.{Grow}
+use Rattle.session.proofs.renew.parts_between.Given as goal
+
+abbrev pub invariant-loop-hour : goal.invariant-loop-hour
+invariant-loop-hour g l = record {
+  parts : AreNewParts l.config l.store (patched l.worked.carries.items (l.first + 1) l.carries) (patched l.worked.futures.items l.from l.futures) l.from l.hour l.parts.items;
+  grow : Grow l.fn.reads l.reads;
+}

@@ -1,0 +1,18 @@
+use Rattle.std.proofs.Common.{List, Option, subst}
+use Rattle.std.specs.Prelude.{IfOk, option_copied}
+use Rattle.sig_base.specs.declared.values.Row.{Row}
+use Rattle.span_set.specs.declared.set.Span.{Span}
+use Rattle.session.specs.Links.{Counts}
+use Rattle.session.proofs.GrowLaws.{grow_raised_to}
+use Rattle.session.proofs.steps.part_between.Goals as goal
+
+pub returns-clause-grow : goal.returns-clause-grow
+returns-clause-grow g c = grow_raised_to _ _ c.args.hour c.open_hour-rows.ensures.raised
+
+pub returns-clause-counts : goal.returns-clause-counts
+returns-clause-counts g c =
+    let cfg = c.args.config.now in
+    let x = c.args.before.now in
+    let y = c.args.after.now in
+    subst (λ (o : Option (List Row)). IfOk c.partial.result (Counts cfg c.args.hour o c.args.store.now.blanks x y)) c.open_hour-rows.ensures.rows
+    (subst (λ (bs : List Span). IfOk c.partial.result (Counts cfg c.args.hour (option_copied c.open_hour-rows.result) bs x y)) c.blanked.ensures.value c.partial.ensures.value)

@@ -1,0 +1,80 @@
+-- What is kept of a store: at each hour point, and of each hour.
+use Rattle.std.specs.Prelude.{◌≡◌, ◌+◌, ◌≤◌, ◌<◌, ◌⊎◌, ℕ, ℤ, List, Option, length, slice_index_or}
+use Rattle.sig_base.specs.declared.values.Row.{Row}
+use Rattle.span_set.specs.declared.set.Span.{Span}
+use Rattle.hour_store.specs.Store.{Store, rows_at}
+use Rattle.ring_config.specs.Settings.{Settings}
+use Rattle.signal_log.specs.Points.{HasHour}
+use Rattle.hour_work.specs.Numbers.{Numbers}
+use Rattle.hour_work.specs.Points.{Carried, IsCarryAt, IsFutureAt}
+use Rattle.hour_work.specs.Reports.{IsHourBetween, IsHourPart}
+
+-- what is kept at an hour point of the hours after it
+abbrev pub Ahead : Type 0
+Ahead = List (List (Option ℤ))
+
+-- in every store that has the hour so: where this is what it says up to the point before the hour, that is what it says up to the point after it
+abbrev pub Leads : Settings → ℕ → Option (List Row) → List Span → Carried → Carried → Type 0
+Leads c hour rows blanks before after = (r : Store) → HasHour r hour rows blanks → IsCarryAt c r hour before → IsCarryAt c r (hour + 1) after
+
+-- the same back, from the point after the hour to the one before it
+abbrev pub Backs : Settings → ℕ → Option (List Row) → List Span → Ahead → Ahead → Type 0
+Backs c hour rows blanks after before = (r : Store) → HasHour r hour rows blanks → IsFutureAt c r (hour + 1) after → IsFutureAt c r hour before
+
+-- in every store that has the hour so, between what it says at both points, these are the numbers of the hour
+abbrev pub Counts : Settings → ℕ → Option (List Row) → List Span → Carried → Ahead → Numbers → Type 0
+Counts c hour rows blanks before after p = (r : Store) → IsHourBetween c r hour before rows blanks after → IsHourPart c r hour p
+
+-- what is kept at the points about an hour fits the hour as this store has it
+abbrev pub LeadsAt : Settings → Store → List Carried → ℕ → Type 0
+LeadsAt c s carries k = (d : Carried) → Leads c k (rows_at s k) s.blanks (slice_index_or carries k d) (slice_index_or carries (k + 1) d)
+
+abbrev pub BacksAt : Settings → Store → List Ahead → ℕ → Type 0
+BacksAt c s futures k = (d : Ahead) → Backs c k (rows_at s k) s.blanks (slice_index_or futures (k + 1) d) (slice_index_or futures k d)
+
+abbrev pub CountsAt : Settings → Store → List Carried → List Ahead → List Numbers → ℕ → Type 0
+CountsAt c s carries futures parts k = (d : Carried) (e : Ahead) (f : Numbers) → Counts c k (rows_at s k) s.blanks (slice_index_or carries k d) (slice_index_or futures (k + 1) e) (slice_index_or parts k f)
+
+-- what is kept at each hour point of the hours before it, from the window's start on
+pub record AreCarries (c : Settings) (s : Store) (carries : List Carried) : Type 0 where
+  pub size : length carries ≡ length s.hours + 1
+  pub start : (d : Carried) (r : Store) → IsCarryAt c r 0 (slice_index_or carries 0 d)
+  pub leads : (k : ℕ) → k < length s.hours → LeadsAt c s carries k
+
+-- what is kept at each hour point of the hours after it, back from the window's end
+pub record AreFutures (c : Settings) (s : Store) (futures : List Ahead) : Type 0 where
+  pub size : length futures ≡ length s.hours + 1
+  pub end : (d : Ahead) (r : Store) → length r.hours ≡ length s.hours → IsFutureAt c r (length s.hours) (slice_index_or futures (length s.hours) d)
+  pub backs : (k : ℕ) → k < length s.hours → BacksAt c s futures k
+
+-- what is kept at each hour point, and the numbers of each hour
+pub record AreKept (c : Settings) (s : Store) (carries : List Carried) (futures : List Ahead) (parts : List Numbers) : Type 0 where
+  pub forth : AreCarries c s carries
+  pub back : AreFutures c s futures
+  pub size : length parts ≡ length s.hours
+  pub counts : (k : ℕ) → k < length s.hours → CountsAt c s carries futures parts k
+
+-- ---- while an edit is made
+
+-- an hour before `first` or after `last`
+abbrev pub Apart : ℕ → ℕ → ℕ → Type 0
+Apart first last k = (k < first) ⊎ (last < k)
+
+-- the same, but at the hours from `first` to `last` it need not fit
+pub record AreCarriesBut (c : Settings) (s : Store) (first last : ℕ) (carries : List Carried) : Type 0 where
+  pub size : length carries ≡ length s.hours + 1
+  pub start : (d : Carried) (r : Store) → IsCarryAt c r 0 (slice_index_or carries 0 d)
+  pub leads : (k : ℕ) → k < length s.hours → Apart first last k → LeadsAt c s carries k
+
+pub record AreFuturesBut (c : Settings) (s : Store) (first last : ℕ) (futures : List Ahead) : Type 0 where
+  pub size : length futures ≡ length s.hours + 1
+  pub end : (d : Ahead) (r : Store) → length r.hours ≡ length s.hours → IsFutureAt c r (length s.hours) (slice_index_or futures (length s.hours) d)
+  pub backs : (k : ℕ) → k < length s.hours → Apart first last k → BacksAt c s futures k
+
+pub record AreKeptBut (c : Settings) (s : Store) (first last : ℕ) (carries : List Carried) (futures : List Ahead) (parts : List Numbers) : Type 0 where
+  pub order : first ≤ last
+  pub within : last < length s.hours
+  pub forth : AreCarriesBut c s first last carries
+  pub back : AreFuturesBut c s first last futures
+  pub size : length parts ≡ length s.hours
+  pub counts : (k : ℕ) → k < length s.hours → Apart first last k → CountsAt c s carries futures parts k

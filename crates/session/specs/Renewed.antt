@@ -1,0 +1,41 @@
+-- What an edit puts in the place of what is kept.
+use Rattle.std.specs.Prelude.{◌≡◌, ◌+◌, ◌≤◌, ◌<◌, ℕ, false, List, length, slice_index_or, Option, Some, None, is_some, All}
+use Rattle.hour_store.specs.Store.{Store, held_at, rows_at}
+use Rattle.ring_config.specs.Settings.{Settings}
+use Rattle.hour_work.specs.Numbers.{FitHours, Numbers, patched, total_of}
+use Rattle.hour_work.specs.Points.{Carried}
+use Rattle.session.specs.Links.{Ahead, Apart, AreCarries, AreFutures, AreKept, Counts}
+
+-- of the hours from `first` up to `to` these are the first and the last that are held
+abbrev pub AreHeldEnds : Store → ℕ → ℕ → Option (ℕ × ℕ) → Type 0
+AreHeldEnds s first to None = (k : ℕ) → first ≤ k → k < to → is_some (held_at s k) ≡ false
+AreHeldEnds s first to (Some p) = (p.0 ≤ p.1) × (p.1 < to) × ((k : ℕ) → first ≤ k → k < to → Apart p.0 p.1 k → is_some (held_at s k) ≡ false)
+
+-- what is kept at the points after the hour `first`, up to one after the hour `last` at which nothing changes, or up to the window's end
+pub record AreNewCarries (c : Settings) (s : Store) (first last : ℕ) (carries fresh : List Carried) : Type 0 where
+  pub some : last < first + length fresh
+  pub within : first + length fresh ≤ length s.hours
+  pub forth : AreCarries c s (patched carries (first + 1) fresh)
+  pub same : (k : ℕ) (d : Carried) → first + length fresh ≤ k → k < length s.hours → slice_index_or (patched carries (first + 1) fresh) k d ≡ slice_index_or carries k d
+
+-- what is kept at the points up to the hour `last`, from one before the hour `first` at which nothing changes, or from the window's start
+pub record AreNewFutures (c : Settings) (s : Store) (first last : ℕ) (futures : List Ahead) (from : ℕ) (fresh : List Ahead) : Type 0 where
+  pub size : from + length fresh ≡ last + 1
+  pub low : from ≤ first
+  pub back : AreFutures c s (patched futures from fresh)
+  pub same : (k : ℕ) (d : Ahead) → k < from → slice_index_or (patched futures from fresh) (k + 1) d ≡ slice_index_or futures (k + 1) d
+
+-- the numbers of the hours from `from` up to `to`, between what is kept at the points about them
+pub record AreNewParts (c : Settings) (s : Store) (carries : List Carried) (futures : List Ahead) (from to : ℕ) (fresh : List Numbers) : Type 0 where
+  pub size : from + length fresh ≡ to
+  pub counts : (i k : ℕ) (d : Carried) (e : Ahead) (f : Numbers) → i < length fresh → k ≡ from + i → Counts c k (rows_at s k) s.blanks (slice_index_or carries k d) (slice_index_or futures (k + 1) e) (slice_index_or fresh i f)
+  pub small : All (FitHours 1) fresh
+
+-- all that is new of an edit: once it stands in the place of what was kept, this is what is kept of the store
+pub record IsRenewed (c : Settings) (s : Store) (carries : List Carried) (first : ℕ) (new_carries : List Carried) (futures : List Ahead) (from : ℕ) (new_futures : List Ahead) (parts new_parts : List Numbers) (total : Numbers) : Type 0 where
+  pub carry_room : first + 1 + length new_carries ≤ length carries
+  pub future_room : from + length new_futures ≤ length futures
+  pub part_room : from + length new_parts ≤ length parts
+  pub kept : AreKept c s (patched carries (first + 1) new_carries) (patched futures from new_futures) (patched parts from new_parts)
+  pub small : All (FitHours 1) new_parts
+  pub sums : total ≡ total_of (patched parts from new_parts)

@@ -1,0 +1,53 @@
+// Back over the hours that an edit changes.
+ghost use Rattle.std.specs.Prelude.{◌≡◌, ◌↔◌, ◌+◌, ◌-◌, ◌≤◌, ◌<◌, length, IfOk, IsTrue};
+ghost use Rattle.hour_store.specs.Store.{IsStore};
+ghost use Rattle.session.specs.Links.{AreFuturesBut};
+ghost use Rattle.session.specs.Renewed.{AreNewFutures};
+ghost use Rattle.session.specs.Sessions.{Grow};
+
+use crate::lists::pick;
+use crate::steps::future_before;
+use hour_store::HourStore;
+use hour_work::Future;
+use ring_config::Config;
+use sig_base::{Hour, NoMemory, Reads};
+use std::alloc::Global;
+
+// Whether all hours that are changed are passed, and nothing changes at the point before this one.
+fn is_passed(first: Hour, hour: Hour, next: &Future, kept: &Future) -> bool
+    ensures { IsTrue result ↔ ((hour ≤ first) × (next.now ≡ kept.now)) }
+{
+    hour <= first && next.same(kept)
+}
+
+// What is kept going back at the points up to the last hour that is changed, from one before the
+// first at which nothing changes, or from the window's start.
+pub fn go_back<L>(
+    alloc: Global,
+    config: &Config,
+    store: &HourStore<L>,
+    first: Hour,
+    last: Hour,
+    kept: &[Future],
+    reads: &mut Reads<L>,
+) -> Result<Vec<Future>, NoMemory>
+    requires store { IsStore store.now }
+    requires order { first ≤ last }
+    requires within { last < length store.now.hours }
+    requires kept { AreFuturesBut config.now store.now first last kept.now }
+    ensures futures { IfOk result (λ v. AreNewFutures config.now store.now first last kept.now (last + 1 - length v.items) v.items) }
+    ensures grow { Grow reads.old reads.new }
+{
+    let mut fresh = Vec::new(alloc);
+    for hour in (0..last + 1).rev() {
+        let place = hour as usize;
+        let after = pick(kept, place + 1, fresh.as_slice(), place + 1);
+        let next = future_before(alloc, config, store, hour, after, reads)?;
+        let done = is_passed(first, hour, &next, &kept[place]);
+        fresh.insert(0, next)?;
+        if done {
+            return Ok(fresh);
+        }
+    }
+    Ok(fresh)
+}

@@ -1,0 +1,88 @@
+// What is kept of a store that holds nothing.
+ghost use Rattle.std.specs.Prelude.{◌≡◌, ◌≤◌, ◌<◌, ℕ, length, slice_index_or, IfOk};
+ghost use Rattle.hour_store.specs.Store.{Store, nothing_held};
+ghost use Rattle.ring_config.specs.Sound.{IsSound};
+ghost use Rattle.rule_audit.specs.Rules.{rules_for};
+ghost use Rattle.hour_work.specs.Points.{Carried, IsCarryAt, IsFutureAt};
+ghost use Rattle.session.specs.Links.{Ahead, AreKept};
+
+use crate::renew::{Worked, adopt, renew};
+use hour_store::HourStore;
+use hour_work::{Carry, ForwardError, Future, Partial, Report};
+use ring_config::Config;
+use rule_audit::Rule;
+use sig_base::{NoMemory, Reads};
+use std::alloc::Global;
+
+// The mark of rows that nobody has.
+#[derive(Drop)]
+struct NoRows;
+
+// So many times what is kept at the window's start.
+fn starts(alloc: Global, config: &Config, points: u32) -> Result<Vec<Carry>, NoMemory>
+    ensures size { IfOk result (λ v. length v.items ≡ points) }
+    ensures start { IfOk result (λ v. (k : ℕ) (d : Carried) (r : Store) → k < points → IsCarryAt config.now r 0 (slice_index_or v.items k d)) }
+{
+    let mut carries = Vec::new(alloc);
+    for _ in 0..points {
+        carries.push(Carry::start(alloc, config)?)?;
+    }
+    Ok(carries)
+}
+
+// So many times what is kept going back at the window's end.
+fn ends(alloc: Global, config: &Config, points: u32) -> Result<Vec<Future>, NoMemory>
+    ensures size { IfOk result (λ v. length v.items ≡ points) }
+    ensures end { IfOk result (λ v. (k : ℕ) (d : Ahead) (r : Store) → k < points → length r.hours ≡ config.now.window.hours → IsFutureAt config.now r (length r.hours) (slice_index_or v.items k d)) }
+{
+    let mut futures = Vec::new(alloc);
+    for _ in 0..points {
+        futures.push(Future::end(alloc, config)?)?;
+    }
+    Ok(futures)
+}
+
+// The numbers of so many hours that aren't held.
+fn no_parts(alloc: Global, config: &Config, rules: &[Rule], hours: u32) -> Result<Report, NoMemory>
+    requires { hours ≤ 744 }
+    ensures { IfOk result (λ r. length r ≡ hours) }
+{
+    let mut parts = Vec::new(alloc);
+    for _ in 0..hours {
+        parts.push(Partial::not_held(alloc, config, rules.len())?)?;
+    }
+    Report::new(alloc, parts)
+}
+
+// What is kept of a window of so many hours of which none is held.
+pub fn begin(alloc: Global, config: &Config, rules: &[Rule], hours: u32) -> Result<Worked, NoMemory>
+    requires some { 1 ≤ hours }
+    requires few { hours ≤ 744 }
+    requires sound { IsSound config.now }
+    requires rules { rules.now ≡ rules_for config.now }
+    requires window { hours ≡ config.now.window.hours }
+    ensures { IfOk result (λ k. AreKept config.now (nothing_held hours) k.carries.items k.futures.items k.report) }
+{
+    let mut worked = Worked {
+        carries: starts(alloc, config, hours + 1)?,
+        futures: ends(alloc, config, hours + 1)?,
+        report: no_parts(alloc, config, rules, hours)?,
+    };
+    let store = HourStore::new(alloc, hours)?;
+    let mut reads = Reads::new(NoRows);
+    match renew(
+        alloc,
+        config,
+        rules,
+        &store,
+        &worked,
+        0,
+        hours - 1,
+        &mut reads,
+    ) {
+        Ok(fresh) => adopt(&mut worked, fresh),
+        Err(ForwardError::Memory) => return Err(NoMemory),
+        Err(ForwardError::Contradiction(_)) => unreachable!(),
+    }
+    Ok(worked)
+}

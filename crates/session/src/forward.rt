@@ -1,0 +1,56 @@
+// Forward over the hours that an edit changes.
+ghost use Rattle.std.specs.Prelude.{◌≡◌, ◌↔◌, ◌≤◌, ◌<◌, length, IfOk, IfErr, IsTrue};
+ghost use Rattle.hour_store.specs.Store.{IsStore};
+ghost use Rattle.signal_log.specs.Log.{log_of};
+ghost use Rattle.hour_work.specs.Points.{NamesRow};
+ghost use Rattle.session.specs.Links.{AreCarriesBut};
+ghost use Rattle.session.specs.Renewed.{AreNewCarries};
+ghost use Rattle.session.specs.Sessions.{Grow};
+
+use crate::lists::pick;
+use crate::steps::carry_over;
+use hour_store::HourStore;
+use hour_work::{Carry, ForwardError};
+use ring_config::Config;
+use sig_base::{Hour, Reads};
+use std::alloc::Global;
+
+// Whether the last hour that is changed is behind, and nothing changes at the point after this one.
+fn is_behind(last: Hour, hour: Hour, next: &Carry, kept: &Carry) -> bool
+    ensures { IsTrue result ↔ ((last ≤ hour) × (next.now ≡ kept.now)) }
+{
+    last <= hour && next.same(kept)
+}
+
+// What is kept at the points after the first hour that is changed, up to one after the last at which
+// nothing changes, or up to the window's end.
+pub fn go_forward<L>(
+    alloc: Global,
+    config: &Config,
+    store: &HourStore<L>,
+    first: Hour,
+    last: Hour,
+    kept: &[Carry],
+    reads: &mut Reads<L>,
+) -> Result<Vec<Carry>, ForwardError>
+    requires order { first ≤ last }
+    requires within { last < length store.now.hours }
+    requires kept { AreCarriesBut config.now store.now first last kept.now }
+    ensures store { IsStore store.now }
+    ensures carries { IfOk result (λ v. AreNewCarries config.now store.now first last kept.now v.items) }
+    ensures stop { IfErr result (NamesRow (log_of config.now.specs store.now)) }
+    ensures grow { Grow reads.old reads.new }
+{
+    let mut fresh = Vec::new(alloc);
+    for hour in first..store.hours() {
+        let place = hour as usize;
+        let before = pick(kept, first as usize + 1, fresh.as_slice(), place);
+        let next = carry_over(alloc, config, store, hour, before, reads)?;
+        let done = is_behind(last, hour, &next, &kept[place + 1]);
+        fresh.push(next)?;
+        if done {
+            return Ok(fresh);
+        }
+    }
+    Ok(fresh)
+}

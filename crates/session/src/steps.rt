@@ -1,0 +1,86 @@
+// One hour of a store, which is opened.
+ghost use Rattle.std.specs.Prelude.{◌≡◌, ◌+◌, ◌<◌, length, IfOk, IfErr};
+ghost use Rattle.hour_store.specs.Store.{rows_at};
+ghost use Rattle.signal_log.specs.Log.{HasHistory, log_of};
+ghost use Rattle.rule_audit.specs.Rules.{rules_for};
+ghost use Rattle.hour_work.specs.Numbers.{FitHours};
+ghost use Rattle.hour_work.specs.Points.{IsCarryAt, IsFutureAt, NamesRow};
+ghost use Rattle.session.specs.Links.{Backs, Counts, Leads};
+ghost use Rattle.session.specs.Sessions.{Grow};
+
+use hour_store::HourStore;
+use hour_work::{Carry, ForwardError, Future, Partial, backward, forward, partial};
+use ring_config::Config;
+use rule_audit::Rule;
+use sig_base::{Hour, NoMemory, Reads};
+use std::alloc::Global;
+
+// What is kept at the point after the hour.
+pub fn carry_over<L>(
+    alloc: Global,
+    config: &Config,
+    store: &HourStore<L>,
+    hour: Hour,
+    before: &Carry,
+    reads: &mut Reads<L>,
+) -> Result<Carry, ForwardError>
+    requires in_store { hour < length store.now.hours }
+    requires before { IsCarryAt config.now store.now hour before.now }
+    ensures leads { IfOk result (Leads config.now hour (rows_at store.now hour) store.now.blanks before.now) }
+    ensures stop { IfErr result (NamesRow (log_of config.now.specs store.now)) }
+    ensures grow { Grow reads.old reads.new }
+{
+    let rows = store.open_hour(hour, reads);
+    forward(alloc, config, hour, before, rows, store.blanked())
+}
+
+// What is kept going back at the point before the hour.
+pub fn future_before<L>(
+    alloc: Global,
+    config: &Config,
+    store: &HourStore<L>,
+    hour: Hour,
+    after: &Future,
+    reads: &mut Reads<L>,
+) -> Result<Future, NoMemory>
+    requires in_store { hour < length store.now.hours }
+    requires after { IsFutureAt config.now store.now (hour + 1) after.now }
+    ensures backs { IfOk result (Backs config.now hour (rows_at store.now hour) store.now.blanks after.now) }
+    ensures grow { Grow reads.old reads.new }
+{
+    let rows = store.open_hour(hour, reads);
+    backward(alloc, config, hour, after, rows, store.blanked())
+}
+
+// The numbers of the hour.
+pub fn part_between<L>(
+    alloc: Global,
+    config: &Config,
+    rules: &[Rule],
+    store: &HourStore<L>,
+    hour: Hour,
+    before: &Carry,
+    after: &Future,
+    reads: &mut Reads<L>,
+) -> Result<Partial, NoMemory>
+    requires rules { rules.now ≡ rules_for config.now }
+    requires in_store { hour < length store.now.hours }
+    requires before { IsCarryAt config.now store.now hour before.now }
+    requires after { IsFutureAt config.now store.now (hour + 1) after.now }
+    requires history { HasHistory (log_of config.now.specs store.now) }
+    ensures counts { IfOk result (Counts config.now hour (rows_at store.now hour) store.now.blanks before.now after.now) }
+    ensures small { IfOk result (FitHours 1) }
+    ensures grow { Grow reads.old reads.new }
+{
+    let rows = store.open_hour(hour, reads);
+    partial(
+        alloc,
+        config,
+        rules,
+        hour,
+        before,
+        rows,
+        store.blanked(),
+        after,
+    )
+}

@@ -1,2 +1,3 @@
 mod Tallies
 pub mod RuleLines
+pub mod NumberLines

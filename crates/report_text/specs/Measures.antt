@@ -1,8 +1,116 @@
 -- The lines of a report.
-use Rattle.std.specs.Prelude.{ℕ, List, [], ◌∷◌, codes, decimal}
+use Rattle.std.specs.Prelude.{◌++◌, ◌-◌, if◌then◌else◌, ℕ, Bool, List, [], ◌∷◌, codes, decimal, Option, Some, None, filter, slice_index}
+use Rattle.std.specs.List.{range_with_len}
+use Rattle.ring_config.specs.Settings.{Settings}
+use Rattle.ring_config.specs.Values.{has_number, has_phase}
+use Rattle.split_measures.specs.declared.sums.PhaseSum.{PhaseSum}
+use Rattle.other_measures.specs.declared.sums.PedSum.{PedSum}
+use Rattle.other_measures.specs.declared.sums.PreemptSum.{PreemptSum}
+use Rattle.other_measures.specs.declared.sums.CoordSum.{CoordSum}
 use Rattle.hour_work.specs.Numbers.{Numbers}
 use Rattle.report_text.specs.Line.{line_of}
+use Rattle.report_text.specs.Rules.{joined}
 
--- the measures of an hour or of the window: how many hours and rows are held, and how many tenths are known
-abbrev pub measures_text : Numbers → List ℕ
-measures_text n = line_of (codes "held " ∷ decimal n.held_hours ∷ codes " rows " ∷ decimal n.held_rows ∷ codes " known " ∷ decimal n.known_tenths ∷ [])
+-- how many hours and rows are held, and how many tenths are known
+abbrev pub held_line : Numbers → List ℕ
+held_line n = line_of (codes "held " ∷ decimal n.held_hours ∷ codes " rows " ∷ decimal n.held_rows ∷ codes " known " ∷ decimal n.known_tenths ∷ [])
+
+-- the number, or `-` where there is none
+abbrev pub number_or_dash : Option ℕ → List ℕ
+number_or_dash None = codes "-"
+number_or_dash (Some n) = decimal n
+
+-- ---- a line for each number
+
+-- the numbers of those that there are, from n to 16, ascending
+unfoldable pub numbers_from : (ℕ → Bool) → ℕ → List ℕ
+numbers_from has n = filter has (range_with_len n (17 - n))
+
+-- all of them
+abbrev pub numbers_of : (ℕ → Bool) → List ℕ
+numbers_of has = numbers_from has 0
+
+-- the line of the first number with the first sums, that of the second number with the second, and so on
+unfoldable pub each_line : {A : Type 0} → (ℕ → A → List ℕ) → List ℕ → List A → List ℕ
+each_line line [] sums = []
+each_line line (n ∷ ns) [] = []
+each_line line (n ∷ ns) (s ∷ ss) = line n s ++ each_line line ns ss
+
+-- ---- phases
+
+-- the splits of phase p, and then the ends of its greens and its cycles
+abbrev pub phase_splits : ℕ → PhaseSum → List ℕ
+phase_splits p s =
+    joined (codes "phase " ∷ decimal p ∷ codes " services " ∷ decimal s.services ∷ codes " least " ∷ number_or_dash s.least ∷ codes " greatest " ∷ number_or_dash s.greatest ∷ codes " sum " ∷ decimal s.sum ∷ [])
+
+abbrev pub phase_ends : PhaseSum → List ℕ
+phase_ends s =
+    line_of (codes " gap " ∷ decimal s.gap_out ∷ codes " max " ∷ decimal s.max_out ∷ codes " force " ∷ decimal s.force_off ∷ codes " unlogged " ∷ decimal s.unlogged ∷ codes " cycles " ∷ decimal s.cycles ∷ codes " cycle_sum " ∷ decimal s.cycle_sum ∷ [])
+
+abbrev pub phase_line : ℕ → PhaseSum → List ℕ
+phase_line p s = phase_splits p s ++ phase_ends s
+
+-- ---- pedestrian signals
+
+-- the delays of pedestrian signal p, and then the walks without one and its detector
+abbrev pub ped_delays : ℕ → PedSum → List ℕ
+ped_delays p s =
+    joined (codes "ped " ∷ decimal p ∷ codes " walks " ∷ decimal s.walks ∷ codes " delays " ∷ decimal s.delays ∷ codes " sum " ∷ decimal s.sum ∷ codes " greatest " ∷ number_or_dash s.greatest ∷ [])
+
+abbrev pub ped_states : PedSum → List ℕ
+ped_states s =
+    line_of (codes " uncalled " ∷ decimal s.uncalled ∷ codes " partial " ∷ decimal s.partial ∷ codes " detector_on " ∷ decimal s.detector_on ∷ codes " detector_undecided " ∷ decimal s.detector_undecided ∷ [])
+
+abbrev pub ped_line : ℕ → PedSum → List ℕ
+ped_line p s = ped_delays p s ++ ped_states s
+
+-- ---- preempts
+
+-- the delays of preempt p and its dwells, and then its input and its service
+abbrev pub preempt_delays : ℕ → PreemptSum → List ℕ
+preempt_delays p s =
+    joined (codes "preempt " ∷ decimal p ∷ codes " entries " ∷ decimal s.entries ∷ codes " delays " ∷ decimal s.delays ∷ codes " sum " ∷ decimal s.sum ∷ codes " partial " ∷ decimal s.partial ∷ codes " dwells " ∷ decimal s.dwells ∷ codes " dwell_sum " ∷ decimal s.dwell_sum ∷ codes " dwell_partial " ∷ decimal s.dwell_partial ∷ [])
+
+abbrev pub preempt_states : PreemptSum → List ℕ
+preempt_states s =
+    line_of (codes " input_on " ∷ decimal s.input_on ∷ codes " input_undecided " ∷ decimal s.input_undecided ∷ codes " rest " ∷ decimal s.rest ∷ codes " entry " ∷ decimal s.entry ∷ codes " track " ∷ decimal s.track ∷ codes " dwell " ∷ decimal s.dwell ∷ codes " undecided " ∷ decimal s.undecided ∷ [])
+
+abbrev pub preempt_line : ℕ → PreemptSum → List ℕ
+preempt_line p s = preempt_delays p s ++ preempt_states s
+
+-- ---- the coordination
+
+-- the tenths in each state, by the state's number, and then those in no sure one and the rows
+abbrev pub coordination_states : CoordSum → List ℕ
+coordination_states s =
+    joined (codes "coordination 0 " ∷ decimal (slice_index s.tenths 0) ∷ codes " 1 " ∷ decimal (slice_index s.tenths 1) ∷ codes " 2 " ∷ decimal (slice_index s.tenths 2) ∷ codes " 3 " ∷ decimal (slice_index s.tenths 3) ∷ codes " 4 " ∷ decimal (slice_index s.tenths 4) ∷ codes " 5 " ∷ decimal (slice_index s.tenths 5) ∷ codes " 6 " ∷ decimal (slice_index s.tenths 6) ∷ [])
+
+abbrev pub coordination_rows : CoordSum → List ℕ
+coordination_rows s =
+    line_of (codes " undecided " ∷ decimal s.undecided ∷ codes " patterns " ∷ decimal s.patterns ∷ codes " cycle_changes " ∷ decimal s.cycle_changes ∷ codes " yields " ∷ decimal s.yields ∷ codes " begins " ∷ decimal s.begins ∷ [])
+
+abbrev pub coordination_line : CoordSum → List ℕ
+coordination_line s = coordination_states s ++ coordination_rows s
+
+-- the line, where it is on
+abbrev pub coordination_text : Bool → CoordSum → List ℕ
+coordination_text on s = if on then coordination_line s else []
+
+-- ---- all lines
+
+abbrev pub phases_text : Settings → Numbers → List ℕ
+phases_text c n = each_line phase_line (numbers_of (has_phase c.phases)) n.splits
+
+abbrev pub peds_text : Settings → Numbers → List ℕ
+peds_text c n = each_line ped_line (numbers_of (has_number c.peds)) n.others.peds
+
+abbrev pub preempts_text : Settings → Numbers → List ℕ
+preempts_text c n = each_line preempt_line (numbers_of (has_number c.preempts)) n.others.preempts
+
+-- those of the pedestrian signals, the preempts and the coordination
+abbrev pub others_text : Settings → Numbers → List ℕ
+others_text c n = peds_text c n ++ (preempts_text c n ++ coordination_text c.coordination n.others.coordination)
+
+-- the measures of an hour or of the window: what is held and known, and a line for each phase, each pedestrian signal and each preempt, and for the coordination
+abbrev pub measures_text : Settings → Numbers → List ℕ
+measures_text c n = held_line n ++ (phases_text c n ++ others_text c n)

@@ -4,8 +4,13 @@
 
 mod applied;
 mod audit;
+mod coordination;
 mod counts;
+mod lines;
 mod measures;
+mod peds;
+mod phases;
+mod preempts;
 mod refusal;
 mod rules;
 

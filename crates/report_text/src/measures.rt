@@ -1,16 +1,16 @@
 // The lines of a report.
 ghost use Rattle.outside.specs.Sink.{Puts};
-ghost use Rattle.report_text.specs.Measures.{measures_text};
+ghost use Rattle.report_text.specs.Measures.{held_line, measures_text, others_text};
 
+use crate::coordination::put_coordination;
+use crate::lines::put_lines;
 use hour_work::Partial;
 use itoa::Buffer;
 use outside::{PutFailed, Sink, put_parts};
 use ring_config::Config;
 
-/// Writes the measures of an hour, or those of the window: the held hours, their rows with those at
-/// blanked tenths, and the known tenths.
-pub fn put_measures<K: Sink>(config: &Config, part: &Partial, sink: &mut K) -> Result<(), PutFailed>
-    ensures { Puts (K.written sink.old) (K.written sink.new) (K.faults sink.old) (K.faults sink.new) (measures_text part.now) result }
+fn put_held<K: Sink>(part: &Partial, sink: &mut K) -> Result<(), PutFailed>
+    ensures { Puts (K.written sink.old) (K.written sink.new) (K.faults sink.old) (K.faults sink.new) (held_line part.now) result }
 {
     let mut hours = Buffer::new();
     let mut rows = Buffer::new();
@@ -27,4 +27,36 @@ pub fn put_measures<K: Sink>(config: &Config, part: &Partial, sink: &mut K) -> R
             b"\n",
         ],
     )
+}
+
+fn put_others<K: Sink>(config: &Config, part: &Partial, sink: &mut K) -> Result<(), PutFailed>
+    ensures { Puts (K.written sink.old) (K.written sink.new) (K.faults sink.old) (K.faults sink.new) (others_text config.now part.now) result }
+{
+    let others = part.others();
+    match put_lines(config, others.peds(), sink) {
+        Ok(()) => {}
+        Err(failed) => return Err(failed),
+    }
+    match put_lines(config, others.preempts(), sink) {
+        Ok(()) => {}
+        Err(failed) => return Err(failed),
+    }
+    put_coordination(config.coordination(), others.coordination(), sink)
+}
+
+/// Writes the measures of an hour, or those of the window: the held hours, their rows with those at
+/// blanked tenths, and the known tenths; then a line for each phase, each pedestrian signal and each
+/// preempt, by ascending number, and one for the coordination where it is on.
+pub fn put_measures<K: Sink>(config: &Config, part: &Partial, sink: &mut K) -> Result<(), PutFailed>
+    ensures { Puts (K.written sink.old) (K.written sink.new) (K.faults sink.old) (K.faults sink.new) (measures_text config.now part.now) result }
+{
+    match put_held(part, sink) {
+        Ok(()) => {}
+        Err(failed) => return Err(failed),
+    }
+    match put_lines(config, part.splits().phases(), sink) {
+        Ok(()) => {}
+        Err(failed) => return Err(failed),
+    }
+    put_others(config, part, sink)
 }

@@ -26,7 +26,8 @@ use Rattle.rule_audit.specs.Obligations.{Obligation, end_obligations, is_due, ob
 use Rattle.rule_audit.specs.Lines.{AreLinesOf, line_of, lines_of}
 use Rattle.hour_work.specs.Numbers.{Numbers, total_of}
 use Rattle.hour_work.specs.Points.{is_known_before}
-use Rattle.hour_work.specs.Verdicts.{AreAuditLines, HasStoreVerdict, hour_rows, obligations_in}
+use Rattle.hour_work.specs.Verdicts.{AreAuditLines, HasStoreVerdict, obligations_in}
+use Rattle.hour_work.specs.Rows.{hour_rows}
 use Rattle.hour_work.specs.Reports.{IsReport}
 use Rattle.sig_base.specs.declared.values.EditError.TheVariants.{OutOfWindow}
 use Rattle.report_text.specs.declared.refusal.Refusal.TheVariants.{Edit}
@@ -141,7 +142,7 @@ hour_cut_off c c' s hour lines lines' w w' f f' ec e h k = let k' = rw (ec, e) a
 -- ---- one hour after another
 
 none : Numbers
-none = record { held_hours = 0; held_rows = 0; known_tenths = 0; rules = [] }
+none = total_of []
 
 -- the hours of a store with a report have lines
 hours_exist : (c : Settings) (s : Store) (all : List Numbers) → IsReport c s all → (hour n : ℕ) → hour + n ≡ length s.hours → (text : List ℕ) × IsHoursText c s hour n text

@@ -73,30 +73,30 @@ inside_line files c n hour name make s s' old new r lt h =
 
 -- ---- measures
 
-measured : (c : Settings) (n : ℕ) (s : Store) (all : List Numbers) → IsReportOf c s all → IsMeasured c n s (writes (window_head n ++ measures_text (total_of all)) s)
+measured : (c : Settings) (n : ℕ) (s : Store) (all : List Numbers) → IsReportOf c s all → IsMeasured c n s (writes (window_head n ++ measures_text c (total_of all)) s)
 measured c n s all h = (all, h, refl)
 
 pub measures_cut : (c : Settings) (n : ℕ) (s : Store) (all : List Numbers) (w w' : Option (List ℕ)) (f f' : ℕ) → IsReportOf c s all → Stops w w' f f' (window_head n) → TakesBy (IsMeasured c n s) w w' f f' s (Err stopped.Fault)
 measures_cut c n s all w w' f f' h k =
-    (writes (window_head n ++ measures_text (total_of all)) s, measured c n s all h, stops-front w w' f f' (window_head n) (measures_text (total_of all)) k)
+    (writes (window_head n ++ measures_text c (total_of all)) s, measured c n s all h, stops-front w w' f f' (window_head n) (measures_text c (total_of all)) k)
 
-pub measures_stop : (c : Settings) (n : ℕ) (s : Store) (all : List Numbers) (x : Numbers) (w w1 w2 : Option (List ℕ)) (f f1 f2 : ℕ) → IsReportOf c s all → x ≡ total_of all → f1 ≡ f → Appends w w1 (window_head n)
-    → Stops w1 w2 f1 f2 (measures_text x) → TakesBy (IsMeasured c n s) w w2 f f2 s (Err stopped.Fault)
-measures_stop c n s all x w w1 w2 f f1 f2 h ex e a k =
-    let k' = rw ex at k in (
-      writes (window_head n ++ measures_text (total_of all)) s,
+pub measures_stop : (c c' : Settings) (n : ℕ) (s : Store) (all : List Numbers) (x : Numbers) (w w1 w2 : Option (List ℕ)) (f f1 f2 : ℕ) → c' ≡ c → IsReportOf c s all → x ≡ total_of all → f1 ≡ f → Appends w w1 (window_head n)
+    → Stops w1 w2 f1 f2 (measures_text c' x) → TakesBy (IsMeasured c n s) w w2 f f2 s (Err stopped.Fault)
+measures_stop c c' n s all x w w1 w2 f f1 f2 ec h ex e a k =
+    let k' = rw (ec, ex) at k in (
+      writes (window_head n ++ measures_text c (total_of all)) s,
       measured c n s all h,
-      puts-then {T = Unit {0}} {E = Unit {0}} w w1 w2 f f1 f2 (window_head n) (measures_text (total_of all)) (Err tt) e a k',
+      puts-then {T = Unit {0}} {E = Unit {0}} w w1 w2 f f1 f2 (window_head n) (measures_text c (total_of all)) (Err tt) e a k',
     )
 
-pub measures_done : (c : Settings) (n : ℕ) (s : Store) (all : List Numbers) (x : Numbers) (w w1 w2 : Option (List ℕ)) (f f1 f2 : ℕ) → IsReportOf c s all → x ≡ total_of all → f1 ≡ f → Appends w w1 (window_head n)
-    → f2 ≡ f1 → Appends w1 w2 (measures_text x) → TakesBy (IsMeasured c n s) w w2 f f2 s (Ok false)
-measures_done c n s all x w w1 w2 f f1 f2 h ex e a e' b =
-    let b' = rw ex at b in
-    (writes (window_head n ++ measures_text (total_of all)) s, measured c n s all h, appends-then w w1 w2 (window_head n) (measures_text (total_of all)) a b', e' ∙ e, refl, refl)
+pub measures_done : (c c' : Settings) (n : ℕ) (s : Store) (all : List Numbers) (x : Numbers) (w w1 w2 : Option (List ℕ)) (f f1 f2 : ℕ) → c' ≡ c → IsReportOf c s all → x ≡ total_of all → f1 ≡ f → Appends w w1 (window_head n)
+    → f2 ≡ f1 → Appends w1 w2 (measures_text c' x) → TakesBy (IsMeasured c n s) w w2 f f2 s (Ok false)
+measures_done c c' n s all x w w1 w2 f f1 f2 ec h ex e a e' b =
+    let b' = rw (ec, ex) at b in
+    (writes (window_head n ++ measures_text c (total_of all)) s, measured c n s all h, appends-then w w1 w2 (window_head n) (measures_text c (total_of all)) a b', e' ∙ e, refl, refl)
 
 -- the measures of an hour, which are there
-hour_measured : (c : Settings) (n hour : ℕ) (s : Store) (all : List Numbers) (x : Numbers) → IsReportOf c s all → Some x ≡ slice_get all hour → IsMeasuredOf c n hour s (writes (hour_head n hour ++ measures_text x) s)
+hour_measured : (c : Settings) (n hour : ℕ) (s : Store) (all : List Numbers) (x : Numbers) → IsReportOf c s all → Some x ≡ slice_get all hour → IsMeasuredOf c n hour s (writes (hour_head n hour ++ measures_text c x) s)
 hour_measured c n hour s all x h e = (all, h, rw (← e) refl)
 
 pub hour_outside : (c c' : Settings) (n hour : ℕ) (s : Store) (all : List Numbers) (w w' : Option (List ℕ)) (f f' : ℕ) (r : Result Bool Stopped) → c' ≡ c → IsReportOf c s all → None ≡ slice_get all hour
@@ -108,20 +108,22 @@ hour_outside c c' n hour s all w w' f f' r ec h e k =
 pub hour_cut : (c : Settings) (n hour : ℕ) (s : Store) (all : List Numbers) (x : Numbers) (w w' : Option (List ℕ)) (f f' : ℕ) → IsReportOf c s all → Some x ≡ slice_get all hour → Stops w w' f f' (hour_head n hour)
     → TakesBy (IsMeasuredOf c n hour s) w w' f f' s (Err stopped.Fault)
 hour_cut c n hour s all x w w' f f' h e k =
-    (writes (hour_head n hour ++ measures_text x) s, hour_measured c n hour s all x h e, stops-front w w' f f' (hour_head n hour) (measures_text x) k)
+    (writes (hour_head n hour ++ measures_text c x) s, hour_measured c n hour s all x h e, stops-front w w' f f' (hour_head n hour) (measures_text c x) k)
 
-pub hour_stop : (c : Settings) (n hour : ℕ) (s : Store) (all : List Numbers) (x : Numbers) (w w1 w2 : Option (List ℕ)) (f f1 f2 : ℕ) → IsReportOf c s all → Some x ≡ slice_get all hour → f1 ≡ f → Appends w w1 (hour_head n hour)
-    → Stops w1 w2 f1 f2 (measures_text x) → TakesBy (IsMeasuredOf c n hour s) w w2 f f2 s (Err stopped.Fault)
-hour_stop c n hour s all x w w1 w2 f f1 f2 h e ef a k = (
-  writes (hour_head n hour ++ measures_text x) s,
-  hour_measured c n hour s all x h e,
-  puts-then {T = Unit {0}} {E = Unit {0}} w w1 w2 f f1 f2 (hour_head n hour) (measures_text x) (Err tt) ef a k,
-)
+pub hour_stop : (c c' : Settings) (n hour : ℕ) (s : Store) (all : List Numbers) (x : Numbers) (w w1 w2 : Option (List ℕ)) (f f1 f2 : ℕ) → c' ≡ c → IsReportOf c s all → Some x ≡ slice_get all hour → f1 ≡ f → Appends w w1 (hour_head n hour)
+    → Stops w1 w2 f1 f2 (measures_text c' x) → TakesBy (IsMeasuredOf c n hour s) w w2 f f2 s (Err stopped.Fault)
+hour_stop c c' n hour s all x w w1 w2 f f1 f2 ec h e ef a k =
+    let k' = rw ec at k in (
+      writes (hour_head n hour ++ measures_text c x) s,
+      hour_measured c n hour s all x h e,
+      puts-then {T = Unit {0}} {E = Unit {0}} w w1 w2 f f1 f2 (hour_head n hour) (measures_text c x) (Err tt) ef a k',
+    )
 
-pub hour_done : (c : Settings) (n hour : ℕ) (s : Store) (all : List Numbers) (x : Numbers) (w w1 w2 : Option (List ℕ)) (f f1 f2 : ℕ) → IsReportOf c s all → Some x ≡ slice_get all hour → f1 ≡ f → Appends w w1 (hour_head n hour)
-    → f2 ≡ f1 → Appends w1 w2 (measures_text x) → TakesBy (IsMeasuredOf c n hour s) w w2 f f2 s (Ok false)
-hour_done c n hour s all x w w1 w2 f f1 f2 h e ef a eg b =
-    (writes (hour_head n hour ++ measures_text x) s, hour_measured c n hour s all x h e, appends-then w w1 w2 (hour_head n hour) (measures_text x) a b, eg ∙ ef, refl, refl)
+pub hour_done : (c c' : Settings) (n hour : ℕ) (s : Store) (all : List Numbers) (x : Numbers) (w w1 w2 : Option (List ℕ)) (f f1 f2 : ℕ) → c' ≡ c → IsReportOf c s all → Some x ≡ slice_get all hour → f1 ≡ f → Appends w w1 (hour_head n hour)
+    → f2 ≡ f1 → Appends w1 w2 (measures_text c' x) → TakesBy (IsMeasuredOf c n hour s) w w2 f f2 s (Ok false)
+hour_done c c' n hour s all x w w1 w2 f f1 f2 ec h e ef a eg b =
+    let b' = rw ec at b in
+    (writes (hour_head n hour ++ measures_text c x) s, hour_measured c n hour s all x h e, appends-then w w1 w2 (hour_head n hour) (measures_text c x) a b', eg ∙ ef, refl, refl)
 
 -- ---- what the lines do, by what they say
 

@@ -72,7 +72,7 @@ one_fetched laws c n hour make s (Err refusal) t t' h k = both h k
 one_measured : Laws → (c : Settings) (n : ℕ) (s : Store) (t t' : Turn) → IsMeasured c n s t → IsMeasured c n s t' → t ≡ t'
 one_measured laws c n s t t' h k =
     let same = laws.report c s h.0 k.0 h.1.0 h.1.1 k.1.1 in
-    h.2 ∙ ap (λ (all : List Numbers). writes (window_head n ++ measures_text (total_of all)) s) same ∙ sym k.2
+    h.2 ∙ ap (λ (all : List Numbers). writes (window_head n ++ measures_text c (total_of all)) s) same ∙ sym k.2
 
 one_measured_of : Laws → (c : Settings) (n hour : ℕ) (s : Store) (t t' : Turn) → IsMeasuredOf c n hour s t → IsMeasuredOf c n hour s t' → t ≡ t'
 one_measured_of laws c n hour s t t' h k =

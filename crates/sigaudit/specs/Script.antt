@@ -94,11 +94,11 @@ hour_head n hour = line_of (decimal n ∷ codes " measures " ∷ decimal hour �
 
 -- the measures of the window, by the store's report
 abbrev pub IsMeasured : Settings → ℕ → Store → Turn → Type 0
-IsMeasured c n s t = (report : List Numbers) × IsReportOf c s report × (t ≡ writes (window_head n ++ measures_text (total_of report)) s)
+IsMeasured c n s t = (report : List Numbers) × IsReportOf c s report × (t ≡ writes (window_head n ++ measures_text c (total_of report)) s)
 
 -- the measures of one hour; an hour past the window has no numbers in the report
 abbrev pub numbers_turn : Settings → ℕ → ℕ → Store → Option Numbers → Turn
-numbers_turn c n hour s (Some numbers) = writes (hour_head n hour ++ measures_text numbers) s
+numbers_turn c n hour s (Some numbers) = writes (hour_head n hour ++ measures_text c numbers) s
 numbers_turn c n hour s None = refuses c n (Edit OutOfWindow) s
 
 abbrev pub IsMeasuredOf : Settings → ℕ → ℕ → Store → Turn → Type 0

@@ -258,19 +258,15 @@ fn hour_line<L, K: Sink>(
 ) -> Result<bool, Stopped>
     ensures { TakesBy (IsMeasuredOf session.now.config number hour session.now.store) (K.written sink.old) (K.written sink.new) (K.faults sink.old) (K.faults sink.new) session.now.store result }
 {
+    let config = session.config();
     let Some(part) = session.report().hour(hour) else {
-        return refuse(
-            session.config(),
-            number,
-            Refusal::Edit(EditError::OutOfWindow),
-            sink,
-        );
+        return refuse(config, number, Refusal::Edit(EditError::OutOfWindow), sink);
     };
     match put_hour_head(number, hour, sink) {
         Ok(()) => {}
         Err(_) => return Err(Stopped::Fault),
     }
-    match put_measures(session.config(), part, sink) {
+    match put_measures(config, part, sink) {
         Ok(()) => Ok(false),
         Err(_) => Err(Stopped::Fault),
     }

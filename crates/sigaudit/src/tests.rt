@@ -2,6 +2,7 @@ mod audits;
 mod cases;
 mod cut_off;
 mod limits;
+mod measures;
 
 use crate::run::run;
 use crate::status::Status;

@@ -15,7 +15,7 @@ const CROSSING: &str =
     "signal = \"7\"\nstart = \"2024-03-04T06\"\nhours = 2\n[[phase]]\nnumber = 2\nring = 1\nside = 1\n[[phase]]\nnumber = 4\nring = 1\nside = 2\n";
 
 // How the run of a script over the files f and g ends, and whether it prints the text.
-fn run_of(
+pub fn run_of(
     alloc: Global,
     config: &str,
     script: &str,

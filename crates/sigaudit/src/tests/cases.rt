@@ -56,13 +56,13 @@ pub const SCRIPTS: [(&str, &str, Status, &str); 4] = [
         CONFIG,
         "load 0 e\nblank 2024-03-04T06:00:00.0 2024-03-04T06:00:10.0\nmeasures",
         Status::Done,
-        "1 ok rows 0 repeats 0 moved 0 2\n2 ok moved 0 2\n3 measures\nheld 1 rows 0 known 35900\n",
+        "1 ok rows 0 repeats 0 moved 0 2\n2 ok moved 0 2\n3 measures\nheld 1 rows 0 known 35900\nphase 2 services 0 least - greatest - sum 0 gap 0 max 0 force 0 unlogged 0 cycles 0 cycle_sum 0\n",
     ),
     (
         CONFIG,
         "# twice\r\nload 0 f\r\nload 0 f\r\nreplace 0 none\r\nload 2 f\r\nlod 0 f\r\nmeasures 0\r\nwithdraw 0\r\nmeasures 2\r\n",
         Status::SomeRefused,
-        "2 ok rows 1 repeats 1 moved 0 2\n3 refused already held\n4 refused missing file\n5 refused out of window\n6 refused bad line\n7 measures 0\nheld 1 rows 1 known 36000\n8 ok moved 0 2\n9 refused out of window\n",
+        "2 ok rows 1 repeats 1 moved 0 2\n3 refused already held\n4 refused missing file\n5 refused out of window\n6 refused bad line\n7 measures 0\nheld 1 rows 1 known 36000\nphase 2 services 0 least - greatest - sum 0 gap 0 max 0 force 0 unlogged 0 cycles 0 cycle_sum 0\n8 ok moved 0 2\n9 refused out of window\n",
     ),
     (
         "signal = \"7\"\nstart = \"2024-03-04T06\"\n",

@@ -11,7 +11,7 @@ use std::test::Fail;
 const SCRIPT: &[u8] = b"measures\nunblank 2024-03-04T06:00:00 2024-03-04T08:00:00\nload 0 f\n";
 
 const TEXT: &[u8] =
-    b"1 measures\nheld 0 rows 0 known 0\n2 ok moved 0 2\n3 ok rows 0 repeats 0 moved 0 2\n";
+    b"1 measures\nheld 0 rows 0 known 0\nphase 2 services 0 least - greatest - sum 0 gap 0 max 0 force 0 unlogged 0 cycles 0 cycle_sum 0\n2 ok moved 0 2\n3 ok rows 0 repeats 0 moved 0 2\n";
 
 // The configuration, a script that loads a file, and the file.
 fn shelf_of_three(alloc: Global) -> Result<MemShelf, NoMemory> {
@@ -29,7 +29,7 @@ fn each_put_fails(rt: HostRuntime) -> Result<(), Fail> {
     let words = run_words(alloc)?;
     let mut reads = Reads::new(Mark);
     let mut before = 0;
-    for put in 1..41u64 {
+    for put in 1..61u64 {
         let mut shelf = shelf_of_three(alloc)?;
         let mut sink = MemSink::new(alloc, 1000)?;
         sink.fail_put(put);
@@ -60,7 +60,7 @@ fn the_third_fetch_fails(rt: HostRuntime) -> Result<(), Fail> {
     );
     assert_eq!(rt;
         sink.bytes(),
-        b"1 measures\nheld 0 rows 0 known 0\n2 ok moved 0 2\n".as_slice()
+        b"1 measures\nheld 0 rows 0 known 0\nphase 2 services 0 least - greatest - sum 0 gap 0 max 0 force 0 unlogged 0 cycles 0 cycle_sum 0\n2 ok moved 0 2\n".as_slice()
     );
     Ok(())
 }

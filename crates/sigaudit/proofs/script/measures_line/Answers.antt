@@ -6,10 +6,10 @@ returns-in-Err g c = measures_cut c.args.session.now.config c.args.number c.args
 
 pub returns-in-Ok-put_measures : goal.returns-in-Ok-put_measures
 returns-in-Ok-put_measures g c =
-    measures_done c.args.session.now.config c.args.number c.args.session.now.store c.report.result.now c.total-total.result.now _ _ _ _ _ _ (c.report.ensures.history, c.report.ensures.report) c.total-total.ensures
+    measures_done c.args.session.now.config c.config.result.now c.args.number c.args.session.now.store c.report.result.now c.total-total.result.now _ _ _ _ _ _ c.config.ensures.value (c.report.ensures.history, c.report.ensures.report) c.total-total.ensures
     c.in-Ok.ensures.0 c.in-Ok.ensures.1 c.in-Ok-put_measures.ensures.0 c.in-Ok-put_measures.ensures.1
 
 pub returns-in-Err-put_measures : goal.returns-in-Err-put_measures
 returns-in-Err-put_measures g c =
-    measures_stop c.args.session.now.config c.args.number c.args.session.now.store c.report.result.now c.total-total.result.now _ _ _ _ _ _ (c.report.ensures.history, c.report.ensures.report) c.total-total.ensures
+    measures_stop c.args.session.now.config c.config.result.now c.args.number c.args.session.now.store c.report.result.now c.total-total.result.now _ _ _ _ _ _ c.config.ensures.value (c.report.ensures.history, c.report.ensures.report) c.total-total.ensures
     c.in-Ok.ensures.0 c.in-Ok.ensures.1 c.in-Err-put_measures.ensures

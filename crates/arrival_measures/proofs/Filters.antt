@@ -1,0 +1,54 @@
+-- Lists cut by tests.
+use Rattle.std.proofs.Common.{◌≡◌, ◌⊎◌, inl, inr, ℕ, zero, suc, ◌+◌, ◌<◌, ◌≤◌, Bool, true, false, not, ◌&&◌, cond, List, [], ◌∷◌, ◌++◌, length, get_or, take, drop, refl, ap, sym, ◌∙◌, arith}
+use Rattle.std.specs.Prelude.{All, count_by}
+use Rattle.std.specs.List.{filter, AllWithin}
+use Rattle.std.specs.List.Sorted.{IsPartitionPoint}
+use Rattle.std.proofs.lemmas.Bool.{cases_Bool}
+use Rattle.std.proofs.lemmas.List.Elements.{All-head, All-tail}
+use Rattle.std.proofs.lemmas.List.Sums.{length-filter}
+
+pub clash : (b : Bool) → b ≡ true → b ≡ false → ⊥
+clash b t f = let bad : true ≡ false = sym t ∙ f in absurd (cc)
+
+filter_if : {X : Type 0} (p : X → Bool) (v : Bool) (x : X) (xs : List X) → filter p (cond v (x ∷ xs) xs) ≡ cond (v && p x) (x ∷ filter p xs) (filter p xs)
+filter_if p true x xs = refl
+filter_if p false x xs = refl
+
+pub filter_filter : {X : Type 0} (p q : X → Bool) (xs : List X) → filter p (filter q xs) ≡ filter (λ x. q x && p x) xs
+filter_filter p q [] = refl
+filter_filter p q (x ∷ xs) = filter_if p (q x) x (filter q xs) ∙ ap (λ zs. cond (q x && p x) (x ∷ zs) zs) (filter_filter p q xs)
+
+pub filter_same : {X : Type 0} (p q : X → Bool) (xs : List X) → All (λ x. p x ≡ q x) xs → filter p xs ≡ filter q xs
+filter_same p q [] h = refl
+filter_same p q (x ∷ xs) h = rw (All-head (λ z. p z ≡ q z) x xs h, filter_same p q xs (All-tail (λ z. p z ≡ q z) x xs h)) refl
+
+pub filter_none : {X : Type 0} (p : X → Bool) (xs : List X) → All (λ x. p x ≡ false) xs → filter p xs ≡ []
+filter_none p [] h = refl
+filter_none p (x ∷ xs) h = rw (All-head (λ z. p z ≡ false) x xs h) (filter_none p xs (All-tail (λ z. p z ≡ false) x xs h))
+
+pub count_same : {X : Type 0} (p q : X → Bool) (xs : List X) → All (λ x. p x ≡ q x) xs → count_by p xs ≡ count_by q xs
+count_same p q xs h = sym (length-filter p xs) ∙ ap (λ zs. length zs) (filter_same p q xs h) ∙ length-filter q xs
+
+pub and_same : (s k t : Bool) → (t ≡ true → s ≡ k) → (s && t) ≡ (k && t)
+and_same s k true h = ap (λ v. v && true) (h refl)
+and_same true true false h = refl
+and_same true false false h = refl
+and_same false true false h = refl
+and_same false false false h = refl
+
+-- a partition point cuts a list as its test does
+
+all_true : {X : Type 0} (p : X → Bool) (xs : List X) → AllWithin (λ y. p y ≡ false) xs 0 (length xs) → (filter p xs ≡ []) × (filter (λ y. not (p y)) xs ≡ xs)
+all_true p [] h = (refl, refl)
+all_true p (x ∷ xs) h =
+    let here : p x ≡ false = h 0 x (omega arith) (omega arith) in
+    let more = all_true p xs (λ k d lo hi. h (suc k) d (omega arith) (omega arith)) in
+    rw here (more.0, ap (λ zs. x ∷ zs) more.1)
+
+pub cut_at : {X : Type 0} (p : X → Bool) (xs : List X) (i : ℕ) → i ≤ length xs → IsPartitionPoint (λ y. p y ≡ true) (λ y. p y ≡ false) xs i → (take i xs ≡ filter p xs) × (drop i xs ≡ filter (λ y. not (p y)) xs)
+cut_at p xs zero le h = let n = all_true p xs h.1 in (sym n.0, sym n.1)
+cut_at p [] (suc i) le h = absurd (omega arith)
+cut_at p (x ∷ xs) (suc i) le h =
+    let here : p x ≡ true = h.0 0 x (omega arith) (omega arith) in
+    let more = cut_at p xs i (omega arith) ((λ k d lo hi. h.0 (suc k) d (omega arith) (omega arith)), (λ k d lo hi. h.1 (suc k) d (omega arith) (omega arith))) in
+    rw here (ap (λ zs. x ∷ zs) more.0, more.1)

@@ -1,0 +1,12 @@
+pub mod Starts
+pub mod Each
+pub mod Filters
+pub mod Detectors
+pub mod Counting
+pub mod Opens
+pub mod Between
+pub mod Crossing
+pub mod Numbers
+pub mod Hours
+pub mod RowPoints
+pub mod OneSum

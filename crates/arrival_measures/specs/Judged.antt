@@ -1,0 +1,42 @@
+-- What a phase shows at the ends of tenths, over all states that it may have there.
+use Rattle.std.specs.Prelude.{ℕ, suc, ◌≡◌, ◌⊎◌, ◌==◌, ◌||◌, Bool, true, false, List, [], ◌∷◌, Some}
+use Rattle.sig_base.specs.declared.values.Row.{Row}
+use Rattle.event_codes.specs.declared.channels.Channel.{Channel}
+use Rattle.event_codes.specs.declared.channels.Kind.TheVariants.{Phase}
+use Rattle.channel_tables.specs.PhaseTable.{clear, clear_done, green, red, yellow_done}
+use Rattle.reach.specs.Runs.{State}
+use Rattle.ring_config.specs.Settings.{Settings, spec_place}
+
+-- the colour is Green
+abbrev pub is_green : ℕ → Bool
+is_green c = c == green
+
+-- the colour is Red, YellowDone, Clear or ClearDone
+abbrev pub is_red : ℕ → Bool
+is_red c = c == red || c == yellow_done || c == clear || c == clear_done
+
+-- all states that may be have a colour that passes; none has; some have, and others haven't
+abbrev pub AllPass : (ℕ → Bool) → (State → Type 0) → Type 0
+AllPass test May = (v : State) → May v → test v.colour ≡ true
+
+abbrev pub NonePass : (ℕ → Bool) → (State → Type 0) → Type 0
+NonePass test May = (v : State) → May v → test v.colour ≡ false
+
+abbrev pub OnlySomePass : (ℕ → Bool) → (State → Type 0) → Type 0
+OnlySomePass test May = (AllPass test May → ⊥) × (NonePass test May → ⊥)
+
+-- P holds of n of these
+unfoldable pub CountOf : {X : Type 0} → (X → Type 0) → List X → ℕ → Type 0
+CountOf P [] n = n ≡ 0
+CountOf P (x ∷ xs) n = (P x × ((m : ℕ) × (n ≡ suc m) × CountOf P xs m)) ⊎ ((P x → ⊥) × CountOf P xs n)
+
+abbrev pub phase_channel : ℕ → Channel
+phase_channel p = record { kind = Phase; number = p }
+
+-- of these rows of detectors, so many are at tenths at whose end the phase passes in all states that it may have, in none and only in some; May says of a channel's place and a tenth which states it may have at the tenth's end
+pub record AreJudged (May : ℕ → ℕ → State → Type 0) (c : Settings) (p : ℕ) (test : ℕ → Bool) (ons : List Row) (all none some : ℕ) : Type 0 where
+  pub place : ℕ
+  pub is_place : spec_place c.specs (phase_channel p) ≡ Some place
+  pub all_pass : CountOf (λ x. AllPass test (May place x.at)) ons all
+  pub none_pass : CountOf (λ x. NonePass test (May place x.at)) ons none
+  pub some_pass : CountOf (λ x. OnlySomePass test (May place x.at)) ons some

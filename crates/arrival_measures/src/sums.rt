@@ -1,0 +1,57 @@
+// The numbers of one approach.
+ghost use Rattle.std.specs.Prelude.{◌≡◌};
+ghost use Rattle.arrival_measures.specs.Hours.{added};
+
+use hour_sums::{Sum, total};
+
+/// The numbers of one approach. Those up to `cycle_tenths` are 0 where it has no advance detector,
+/// the others where it has no stop bar detector. Counts and sums stand still at the last value of a
+/// u64; times are in tenths of a second.
+#[derive(Clone, Copy, Debug, PartialEq, Eq)]
+pub struct ArrivalSum {
+    pub arrivals: u64,
+    /// The arrivals at whose tenth's end the phase is green in all histories.
+    pub green: u64,
+    /// Those at whose tenth's end it is green in none.
+    pub not_green: u64,
+    /// Those at whose tenth's end it is green only in some.
+    pub undecided: u64,
+    /// The arrivals in whole cycles.
+    pub cycle_arrivals: u64,
+    /// Those of them at whose tenth's end the phase is green.
+    pub cycle_green: u64,
+    /// The tenths of whole cycles at whose end the phase is green.
+    pub green_tenths: u64,
+    /// The lengths of all whole cycles.
+    pub cycle_tenths: u64,
+    pub actuations: u64,
+    /// The actuations at whose tenth's end the phase is red, at the end of its clearance or between
+    /// in all histories.
+    pub red: u64,
+    /// Those at whose tenth's end it is so in none.
+    pub not_red: u64,
+    /// Those at whose tenth's end it is so only in some.
+    pub red_undecided: u64,
+}
+
+impl Sum for ArrivalSum {
+    ghost both = { added };
+
+    /// The numbers of both.
+    fn sum(&self, other: &ArrivalSum) -> ArrivalSum {
+        ArrivalSum {
+            arrivals: total(self.arrivals, other.arrivals),
+            green: total(self.green, other.green),
+            not_green: total(self.not_green, other.not_green),
+            undecided: total(self.undecided, other.undecided),
+            cycle_arrivals: total(self.cycle_arrivals, other.cycle_arrivals),
+            cycle_green: total(self.cycle_green, other.cycle_green),
+            green_tenths: total(self.green_tenths, other.green_tenths),
+            cycle_tenths: total(self.cycle_tenths, other.cycle_tenths),
+            actuations: total(self.actuations, other.actuations),
+            red: total(self.red, other.red),
+            not_red: total(self.not_red, other.not_red),
+            red_undecided: total(self.red_undecided, other.red_undecided),
+        }
+    }
+}

@@ -1,0 +1,4 @@
+pub mod Within
+pub mod Counts
+pub mod Tenths
+pub mod Over

@@ -1,0 +1,4 @@
+pub mod Arrivals
+pub mod Green
+pub mod Opens
+pub mod InTenths

@@ -1,0 +1,17 @@
+-- What a cycle that has begun gives up to a tenth.
+use Rattle.std.specs.Prelude.{ℕ, false, List}
+use Rattle.sig_base.specs.declared.values.Row.{Row}
+use Rattle.hour_sums.specs.Numbers.{capped}
+use Rattle.cycle_arrivals.specs.declared.open.Open.{Open}
+use Rattle.cycle_arrivals.specs.Arrivals.{rows_within}
+use Rattle.cycle_arrivals.specs.Green.{arrivals_in, green_arrivals_in, green_tenths_in, greens}
+
+-- of a cycle of phase p that has begun at tenth a, and of detector d, what the tenths up to b give
+unfoldable pub open_at : ℕ → ℕ → ℕ → ℕ → List Row → Open
+open_at p d a b rows = record {
+  from = a;
+  arrivals = capped (arrivals_in d a b rows);
+  green = capped (green_arrivals_in p d a b rows);
+  green_tenths = green_tenths_in p a b rows;
+  is_green = greens p false (rows_within a b rows);
+}

@@ -1,0 +1,6 @@
+use Rattle.detector_state.specs.declared.shown.Filling.TheVariants.{Least}
+use Rattle.detector_state.proofs.Counting.{counted_in}
+use Rattle.detector_state.proofs.count.least_on.Goals as goal
+
+pub returns : goal.returns
+returns c = λ log is. counted_in log Least c.args.from c.args.to c.tenths_on.result c.args.switched.now c.requires is (rw c.parts.ensures at c.tenths_on.ensures)

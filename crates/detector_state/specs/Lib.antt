@@ -1,0 +1,4 @@
+pub mod Switches
+pub mod Tellings
+pub mod Parts
+pub mod Runs

@@ -8,7 +8,12 @@ pub mod OneLaws
 pub mod NumberLaws
 pub mod PointLaws
 pub mod MeasureLaws
+pub mod ArrivalLaws
 pub mod WholeLog
+pub mod ColourLaws
+pub mod CycleTotals
 pub mod Totals
 pub mod SeenLaws
 pub mod PatchLaws
+pub mod PhaseLaws
+pub mod GreenLaws

@@ -7,8 +7,6 @@ use Rattle.sig_base.specs.declared.values.Verdict.{Verdict}
 use Rattle.sig_base.specs.declared.values.Verdict.TheVariants.{Idle, Kept, Broken, Undecided}
 use Rattle.hour_store.specs.Store.{Store, is_known}
 use Rattle.board.specs.Logs.{first_tenth}
-use Rattle.split_measures.specs.declared.sums.PhaseSum.{PhaseSum}
-use Rattle.other_measures.specs.Hours.{OtherNumbers}
 use Rattle.other_measures.proofs.Stores.{numbers_are_one}
 use Rattle.board.specs.History.{Event, History, letters, start_of}
 use Rattle.board.specs.Verdicts.{IsVerdict, Keeps}
@@ -26,13 +24,13 @@ use Rattle.rule_audit.specs.Obligations.{Obligation}
 use Rattle.rule_audit.specs.Judged.{IsIntervalVerdict, IsRuleVerdict}
 use Rattle.rule_audit.specs.Lines.{AreLinesOf, lines_of}
 use Rattle.rule_audit.specs.Rules.{rules_for}
-use Rattle.hour_work.specs.declared.counts.RuleCount.{RuleCount}
 use Rattle.hour_work.specs.Numbers.{Numbers}
 use Rattle.hour_work.specs.Counts.{counts_of}
 use Rattle.hour_work.specs.Verdicts.{AreAuditLines, HasStoreVerdict, obligations_in, states_in}
 use Rattle.hour_work.specs.Rows.{earlier_rows, hour_rows, own_rows}
-use Rattle.hour_work.specs.Measures.{MeetsIn}
+use Rattle.hour_work.specs.Measures.{MayBeIn, MeetsIn}
 use Rattle.hour_work.specs.Reports.{IsHourPart, IsReport}
+use Rattle.arrival_measures.proofs.OneSum.{one_sums}
 
 one_interval : (P C K : State → Type 0) → ((v : State) → (C v → ⊥) → K v) → (x y : Verdict) → IsIntervalVerdict x P C K → IsIntervalVerdict y P C K → x ≡ y
 one_interval P C K free Idle Idle a b = refl
@@ -68,7 +66,7 @@ one_clause P K w h Undecided Broken ((v, p, k), _) b = absurd (b v p k)
 one_clause P K w h Undecided Undecided a b = refl
 
 -- the channels of a history are in some states at the end of a tenth
-end_state : (log : Log) (h : History) (x i : ℕ) → AgreesWith log h → i < length log.specs → (v : State) × IsAtEndOf log h i x v
+pub end_state : (log : Log) (h : History) (x i : ℕ) → AgreesWith log h → i < length log.specs → (v : State) × IsAtEndOf log h i x v
 end_state log h x i a lt =
     let k = track_at log i in
     let es = h.events in
@@ -104,21 +102,19 @@ same_lines Has (o ∷ os) a b one (x, hx, (ra, are_a, ea)) (y, hy, (rb, are_b, e
 pub one_lines : (c : Settings) (s : Store) (hour : ℕ) (a b : List AuditLine) → HasHistory (log_of c.specs s) → AreAuditLines c s hour a → AreAuditLines c s hour b → a ≡ b
 one_lines c s hour a b has = same_lines (HasStoreVerdict c s hour) (obligations_in c s hour) a b (λ o x y. one_verdict c s (hour_rows s hour) o.at o.place o.rule x y has)
 
-one_numbers : (p q : Numbers) → p.held_hours ≡ q.held_hours → p.held_rows ≡ q.held_rows → p.known_tenths ≡ q.known_tenths → p.rules ≡ q.rules → p.splits ≡ q.splits → p.others ≡ q.others → p ≡ q
-one_numbers p q a b e r m o =
-    let make : ℕ → ℕ → ℕ → List RuleCount → List PhaseSum → OtherNumbers → Numbers = λ h n k rs ps os. record { held_hours = h; held_rows = n; known_tenths = k; rules = rs; splits = ps; others = os } in
-    ap (λ h. make h p.held_rows p.known_tenths p.rules p.splits p.others) a
-    ∙ (ap (λ n. make q.held_hours n p.known_tenths p.rules p.splits p.others) b
-    ∙ (ap (λ k. make q.held_hours q.held_rows k p.rules p.splits p.others) e
-    ∙ (ap (λ rs. make q.held_hours q.held_rows q.known_tenths rs p.splits p.others) r
-    ∙ (ap (λ ps. make q.held_hours q.held_rows q.known_tenths q.rules ps p.others) m
-    ∙ ap (λ os. make q.held_hours q.held_rows q.known_tenths q.rules q.splits os) o))))
+one_numbers : (p q : Numbers) → p.held_hours ≡ q.held_hours → p.held_rows ≡ q.held_rows → p.known_tenths ≡ q.known_tenths → p.rules ≡ q.rules → p.splits ≡ q.splits → p.others ≡ q.others → p.arrivals ≡ q.arrivals → p ≡ q
+one_numbers p q a b e r m o v =
+    let one : Numbers = record { held_hours = p.held_hours; held_rows = p.held_rows; known_tenths = p.known_tenths; rules = p.rules; splits = p.splits; others = p.others; arrivals = p.arrivals } in
+    let other : Numbers = record { held_hours = q.held_hours; held_rows = q.held_rows; known_tenths = q.known_tenths; rules = q.rules; splits = q.splits; others = q.others; arrivals = q.arrivals } in
+    let same : one ≡ other = rw (a, b, e, r, m, o, v) refl in
+    same
 
 one_part : (c : Settings) (s : Store) (hour : ℕ) (p q : Numbers) → HasHistory (log_of c.specs s) → IsHourPart c s hour p → IsHourPart c s hour q → p ≡ q
 one_part c s hour p q has a b = one_numbers p q (a.held_hours ∙ sym b.held_hours) (a.held_rows ∙ sym b.held_rows) (a.known_tenths ∙ sym b.known_tenths)
     (a.rules ∙ (ap (λ ls. counts_of (length (rules_for c)) ls) (one_lines c s hour a.lines b.lines has a.are_lines b.are_lines) ∙ sym b.rules))
     (a.measures.phases ∙ sym b.measures.phases)
     (numbers_are_one (is_known s) (MeetsIn c s) (first_tenth hour) c (earlier_rows s hour) (own_rows s hour) p.others q.others a.measures.numbers a.measures.states b.measures.numbers b.measures.states)
+    (one_sums (MayBeIn c s) (is_known s) c (earlier_rows s hour) (own_rows s hour) (own_rows s hour) p.arrivals q.arrivals a.measures.judged b.measures.judged a.measures.whole_cycles b.measures.whole_cycles)
 
 pub one_report : (c : Settings) (s : Store) (a b : List Numbers) → HasHistory (log_of c.specs s) → IsReport c s a → IsReport c s b → a ≡ b
 one_report c s a b has p q = same_lists a b (p.size ∙ sym q.size) (λ hour d lt.

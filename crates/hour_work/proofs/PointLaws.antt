@@ -14,6 +14,9 @@ use Rattle.hour_sweep.specs.Rows.{known_rows}
 use Rattle.service_cut.specs.declared.parts.Part.{Part}
 use Rattle.service_cut.specs.Parts.{IsCarry as IsCut}
 use Rattle.other_measures.specs.Crossing.{Crossing, IsCarry as IsCrossing}
+use Rattle.cycle_arrivals.specs.declared.open.Open.{Open}
+use Rattle.arrival_measures.specs.Crossing.{IsCarry as AreOpen}
+use Rattle.arrival_measures.specs.declared.sums.ArrivalSum.{ArrivalSum}
 use Rattle.board.specs.Hours.{AreEnds, AreStarts}
 use Rattle.board.specs.Logs.{IsHour, first_tenth, hour_log}
 use Rattle.board.specs.Places.{AreAheadsOf, IsViewOf}
@@ -55,13 +58,14 @@ no_rows (o ∷ hours) = refl
 pub none_earlier : (s : Store) → earlier_rows s 0 ≡ []
 none_earlier s = ap (λ rs. known_rows (is_known s) rs) (no_rows s.hours)
 
-pub first_carry : (c : Settings) (pasts : List (List (List Span))) (cuts : List (Option Part)) (others : Crossing) → AreBefore c.specs pasts → AreStarts c.specs (length c.specs) pasts → ((known : ℕ → Bool) → IsCut known c.phases [] 0 cuts) → ((known : ℕ → Bool) → IsCrossing known c [] 0 others)
-    → (s : Store) → IsCarryAt c s 0 (record { pasts = pasts; known = false; cuts = cuts; others = others })
-first_carry c pasts cuts others shape are cut crossing s = record {
+pub first_carry : (c : Settings) (pasts : List (List (List Span))) (cuts : List (Option Part)) (others : Crossing) (arrivals : List (Option Open)) → AreBefore c.specs pasts → AreStarts c.specs (length c.specs) pasts → ((known : ℕ → Bool) → IsCut known c.phases [] 0 cuts) → ((known : ℕ → Bool) → IsCrossing known c [] 0 others) → ((known : ℕ → Bool) → AreOpen known c [] 0 arrivals)
+    → (s : Store) → IsCarryAt c s 0 (record { pasts = pasts; known = false; cuts = cuts; others = others; arrivals = arrivals })
+first_carry c pasts cuts others arrivals shape are cut crossing opens s = record {
   pasts = starts (log_of c.specs s) pasts shape are;
   known = refl;
   cuts = rw (none_earlier s) (cut (is_known s));
   others = rw (none_earlier s) (crossing (is_known s));
+  arrivals = rw (none_earlier s) (opens (is_known s));
 }
 
 pub carry_fits : (c : Settings) (s : Store) (k : ℕ) (carry : Carried) → IsCarryAt c s k carry → FitPoint c k carry
@@ -147,8 +151,8 @@ lines_fit c s hour n rows lines held few are =
     counts_fit (HasStoreVerdict c s hour) (is_known s) c.specs (rules_for c) (hour_rows s hour) (is_known_before (is_known s) (first_tenth hour)) (first_tenth hour) n lines (omega arith) are
 
 -- the numbers of an hour that isn't held
-pub unheld_part : (c : Settings) (s : Store) (hour n : ℕ) (rules : List RuleCount) (splits : List PhaseSum) (others : OtherNumbers) → rules ≡ counts_of n [] → AreMeasures c s hour splits others → rows_at s hour ≡ None → n ≡ length (rules_for c) → IsHourPart c s hour (record { held_hours = 0; held_rows = 0; known_tenths = 0; rules = rules; splits = splits; others = others })
-unheld_part c s hour n rules splits others e measures none m = record {
+pub unheld_part : (c : Settings) (s : Store) (hour n : ℕ) (rules : List RuleCount) (splits : List PhaseSum) (others : OtherNumbers) (arrivals : List ArrivalSum) → rules ≡ counts_of n [] → AreMeasures c s hour splits others arrivals → rows_at s hour ≡ None → n ≡ length (rules_for c) → IsHourPart c s hour (record { held_hours = 0; held_rows = 0; known_tenths = 0; rules = rules; splits = splits; others = others; arrivals = arrivals })
+unheld_part c s hour n rules splits others arrivals e measures none m = record {
   held_hours = held_one s hour None none;
   held_rows = held_count s hour None none;
   known_tenths = sym (count_all (is_known s) (36000 * hour) 36000 false (λ t low high. known_hour s hour t None none low (omega arith)));

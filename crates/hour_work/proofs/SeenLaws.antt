@@ -3,6 +3,7 @@ use Rattle.std.proofs.Common.{◌≡◌, ◌∙◌, ◌↔◌, ℕ, ◌+◌, ◌
 use Rattle.std.proofs.lemmas.Bool.{false≢true}
 use Rattle.std.proofs.lemmas.List.Quantifiers.{position-Some}
 use Rattle.channel_tables.specs.declared.spec.Spec.{Spec}
+use Rattle.reach.specs.Runs.{State}
 use Rattle.sig_base.specs.declared.values.Row.{Row}
 use Rattle.event_codes.specs.declared.channels.Channel.{Channel}
 use Rattle.gap_map.specs.declared.stretch.Stretch.{Stretch}
@@ -32,13 +33,21 @@ use Rattle.rule_audit.specs.declared.lines.AuditLine.{AuditLine}
 use Rattle.rule_audit.specs.Rules.{rules_for}
 use Rattle.rule_audit.specs.Lines.{AreLines, IsAudited}
 use Rattle.service_cut.specs.declared.parts.Part.{Part}
+use Rattle.cycle_arrivals.specs.declared.open.Open.{Open}
+use Rattle.arrival_measures.specs.declared.sums.ArrivalSum.{ArrivalSum}
+use Rattle.arrival_measures.specs.Crossing.{IsCarry as AreOpen}
+use Rattle.arrival_measures.specs.Hours.{AreAllJudged, HaveCycles}
+use Rattle.arrival_measures.specs.Judged.{phase_channel}
+use Rattle.arrival_measures.specs.Views.{IsSeen as IsShown}
 use Rattle.other_measures.specs.Crossing.{Crossing, IsCarry as IsCrossing}
 use Rattle.hour_work.specs.Points.{Carried}
 use Rattle.hour_work.specs.Verdicts.{AreAuditLines}
 use Rattle.hour_work.specs.Rows.{earlier_rows, own_rows}
-use Rattle.hour_work.specs.Measures.{AreMeasures, MeetsIn, cycles_in, services_in}
+use Rattle.hour_work.specs.Measures.{AreMeasures, MayBeIn, MeetsIn, cycles_in, services_in}
 use Rattle.hour_work.specs.Reports.{IsHourSeen}
 use Rattle.hour_work.proofs.MeasureLaws.{hour_is, meets_as, own_known}
+use Rattle.hour_work.proofs.PlacedLaws.{each_weaker}
+use Rattle.hour_work.proofs.ArrivalLaws.{HaveSameColours, IsSeenFrom, all_judged_as, known_within}
 use Rattle.hour_work.proofs.PointLaws.{audited, between_hour, lines_done}
 use Rattle.rule_audit.proofs.Tracked.{channels_are}
 
@@ -46,13 +55,15 @@ use Rattle.rule_audit.proofs.Tracked.{channels_are}
 never : (c : Settings) (s : Store) (hour : ℕ) → rows_at s hour ≡ None → (channel : Channel) (i : ℕ) (asked : Asked) (t : ℕ) → spec_place c.specs channel ≡ Some i → first_tenth hour ≤ t → t < first_tenth hour + 36000 → ⊥ ↔ MeetsIn c s i asked t
 never c s hour none channel i asked t at low high = (λ b. absurd b, λ is. false≢true (sym (known_hour s hour t None none low high) ∙ is.0))
 
-pub unheld_measures : (c : Settings) (s : Store) (hour : ℕ) (splits : List PhaseSum) (others : OtherNumbers) → rows_at s hour ≡ None → splits ≡ phase_sums c.phases [] [] → ((known : ℕ → Bool) (before : List Row) → AreNumbers known c before [] others) → ((from : ℕ) → AreStates (λ _ _ _. ⊥) from c others) → AreMeasures c s hour splits others
-unheld_measures c s hour splits others none e numbers states =
+pub unheld_measures : (c : Settings) (s : Store) (hour : ℕ) (splits : List PhaseSum) (others : OtherNumbers) (arrivals : List ArrivalSum) → rows_at s hour ≡ None → splits ≡ phase_sums c.phases [] [] → ((known : ℕ → Bool) (before : List Row) → AreNumbers known c before [] others) → ((from : ℕ) → AreStates (λ _ _ _. ⊥) from c others) → AreAllJudged (λ _ _ _. ⊥) c [] arrivals → ((known : ℕ → Bool) (before : List Row) → HaveCycles known c before [] arrivals) → AreMeasures c s hour splits others arrivals
+unheld_measures c s hour splits others arrivals none e numbers states judged cycles =
     let own : [] ≡ own_rows s hour = own_known s hour None none in
     record {
       phases = e ∙ ap (λ (rs : List Row). phase_sums c.phases (services_from (is_known s) c.phases (earlier_rows s hour) rs) (cycles_from (is_known s) c.phases (earlier_rows s hour) rs)) own;
       numbers = subst (λ (rs : List Row). AreNumbers (is_known s) c (earlier_rows s hour) rs others) own (numbers (is_known s) (earlier_rows s hour));
       states = states_as (λ _ _ _. ⊥) (MeetsIn c s) (first_tenth hour) c others (never c s hour none) (states (first_tenth hour));
+      judged = subst (λ (rs : List Row). AreAllJudged (MayBeIn c s) c rs arrivals) own (all_judged_as (λ _ _ _. ⊥) (MayBeIn c s) c [] (λ p i at. tt) arrivals judged);
+      whole_cycles = subst (λ (rs : List Row). HaveCycles (is_known s) c (earlier_rows s hour) rs arrivals) own (cycles (is_known s) (earlier_rows s hour));
     }
 
 -- an hour that is seen
@@ -103,6 +114,40 @@ module _ (c : Settings) (s : Store) (hour : ℕ) (before : Carried) (rows : List
 
   pub seen_states : (others : OtherNumbers) → ((log : HourLog) → IsSeen c view rows ss log → AreStates (MeetsAt log) (first_tenth log.hour) c others) → AreStates (MeetsIn c s) (first_tenth hour) c others
   seen_states others h = states_as (MeetsAt seen_log) (MeetsIn c s) (first_tenth hour) c others ends_as (h seen_log seen_view)
+
+  seen_shown : IsShown c view rows ss seen_log
+  seen_shown = record { is_view = seen.is_view; same_specs = refl; same_rows = refl; same_stretches = refl }
+
+  same_colours : (p i : ℕ) → spec_place c.specs (phase_channel p) ≡ Some i → (x : Row) → IsSeenFrom (is_known s) (first_tenth hour) (first_tenth hour + 36000) x → HaveSameColours (MayPass seen_log x.at i) (MayBeIn c s i x.at)
+  same_colours p i at x is =
+      let same : known_at ss x.at ≡ is_known s x.at = known_cut s hour x.at ss (cut_known s hour (Some rows) seen.blanks ss seen.between.has_hour seen.cut) is.low is.high in
+      let within : i < length c.specs = (position-Some (λ (z : Spec). is_same_channel z.channel (phase_channel p)) c.specs i no_spec at).0 in
+      let ends = tells.ends seen.between.history x.at i (same ∙ is.is_known) within in
+      record {
+        to = λ v may. let (w, q, alike) = ends.to v may in (w, q, alike.1);
+        back = λ w q. let (v, may, alike) = ends.back w q in (v, may, alike.1);
+      }
+
+  -- the judged arrivals and actuations
+  pub seen_judged : (sums : List ArrivalSum) → ((known : ℕ → Bool) (h : ℕ) (log : HourLog) → IsHour known h rows ss → IsShown c view rows ss log → AreAllJudged (λ i t v. MayPass log t i v) c (known_rows known rows) sums) → AreAllJudged (MayBeIn c s) c (own_rows s hour) sums
+  seen_judged sums law =
+      let M = λ (i : ℕ) (t : ℕ) (v : State). MayPass seen_log t i v in
+      let known = is_known s in
+      let from = first_tenth hour in
+      let places = known_within known from (from + 36000) rows seen.is_view.is_hour.are_rows.rise in
+      let same = all_judged_as M (MayBeIn c s) c (known_rows known rows)
+      (λ p i at. each_weaker (IsSeenFrom known from (from + 36000)) (λ (x : Row). HaveSameColours (MayPass seen_log x.at i) (MayBeIn c s i x.at)) (known_rows known rows) (same_colours p i at) places) sums in
+      subst (λ (rs : List Row). AreAllJudged (MayBeIn c s) c rs sums) seen_rows (same (law known hour seen_log seen_hour seen_shown))
+
+  -- the numbers of whole cycles
+  pub seen_cycles : (old : List (Option Part)) (cuts : CutLists) (opens : List (Option Open)) (sums : List ArrivalSum) → old ≡ before.cuts → opens ≡ before.arrivals → ((known : ℕ → Bool) (b : List Row) (h : ℕ) → IsHour known h rows ss → IsCutCarry known c.phases b h old → IsCutOf known c.phases b h rows cuts)
+      → ((known : ℕ → Bool) (b : List Row) (h : ℕ) → IsHour known h rows ss → AreOpen known c b h opens → IsCutOf known c.phases b h rows cuts → HaveCycles known c b (known_rows known rows) sums) → HaveCycles (is_known s) c (earlier_rows s hour) (own_rows s hour) sums
+  seen_cycles old cuts opens sums e f cut law =
+      let known = is_known s in
+      let b = earlier_rows s hour in
+      let is = cut known b hour seen_hour (subst (λ ps. IsCutCarry known c.phases b hour ps) (sym e) seen.between.is_before.cuts) in
+      let are = subst (λ os. AreOpen known c b hour os) (sym f) seen.between.is_before.arrivals in
+      subst (λ (rs : List Row). HaveCycles known c b rs sums) seen_rows (law known b hour seen_hour are is)
 
   -- its audit
   pub seen_audited : IsAudited c view rows ss seen_log

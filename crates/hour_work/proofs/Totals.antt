@@ -15,12 +15,14 @@ use Rattle.split_measures.specs.Phases.{added, phase_sum, phase_sums}
 use Rattle.split_measures.proofs.Adding.{numbers_add}
 use Rattle.sig_base.specs.declared.values.PhaseItem.{PhaseItem}
 use Rattle.other_measures.specs.Hours.{AreNumbers}
+use Rattle.arrival_measures.specs.Hours.{HaveCycles}
 use Rattle.other_measures.proofs.Stores.{delays_total, first_total}
 use Rattle.hour_work.specs.Numbers.{Numbers, numbers_sum, total_of}
 use Rattle.hour_work.specs.Rows.{earlier_rows, own_rows}
 use Rattle.hour_work.specs.Measures.{cycles_in, services_in}
 use Rattle.hour_work.specs.Reports.{IsHourPart, IsReport}
 use Rattle.hour_work.proofs.NumberLaws.{total_push}
+use Rattle.hour_work.proofs.CycleTotals.{cycles_total}
 use Rattle.hour_work.proofs.WholeLog.{all_rows, earlier_ordered, more_rows, own_ordered}
 
 -- ---- what each number has, added number by number
@@ -56,11 +58,13 @@ sums_add phases ss later cs more = merged_numbers added (has_phase phases) (phas
 pub record IsTotal (c : Settings) (s : Store) (rows : List Row) (t : Numbers) : Type 0 where
   pub splits : t.splits ≡ phase_sums c.phases (services_from (is_known s) c.phases [] rows) (cycles_from (is_known s) c.phases [] rows)
   pub others : AreNumbers (is_known s) c [] rows t.others
+  pub arrivals : HaveCycles (is_known s) c [] rows t.arrivals
 
 one_hour : (c : Settings) (s : Store) (p : Numbers) → IsHourPart c s 0 p → IsTotal c s (own_rows s 0) (numbers_sum (total_of []) p)
 one_hour c s p is = record {
   splits = is.measures.phases;
   others = first_total c (is_known s) p.others (own_rows s 0) is.measures.numbers;
+  arrivals = is.measures.whole_cycles;
 }
 
 hour_more : (c : Settings) (s : Store) (hour : ℕ) (t p : Numbers) → IsStore s → hour < length s.hours → IsTotal c s (earlier_rows s hour) t → IsHourPart c s hour p → IsTotal c s (earlier_rows s hour ++ own_rows s hour) (numbers_sum t p)
@@ -80,6 +84,7 @@ hour_more c s hour t p store lt so is =
           ∙ (ap (λ zs. phase_sums c.phases zs (cs ++ cycles_in c s hour)) (sym (services_add known c.phases (point hour) (point (hour + 1)) before own ob or))
           ∙ ap (λ zs. phase_sums c.phases (services_from known c.phases [] (before ++ own)) zs) (sym (cycles_add known c.phases (point hour) (point (hour + 1)) before own ob or)))));
       others = delays_total c known (point hour) (point (hour + 1)) before own t.others p.others ob or so.others is.measures.numbers;
+      arrivals = cycles_total known c (point hour) (point (hour + 1)) before own ob or t.arrivals p.arrivals so.arrivals is.measures.whole_cycles;
     }
 
 next_total : (all : List Numbers) (n : ℕ) (d : Numbers) → n < length all → total_of (take (suc n) all) ≡ numbers_sum (total_of (take n all)) (get_or all n d)

@@ -13,6 +13,9 @@ use Rattle.service_cut.specs.Cut.{services_from, cycles_from}
 use Rattle.split_measures.specs.declared.sums.PhaseSum.{PhaseSum}
 use Rattle.split_measures.specs.Phases.{phase_sums}
 use Rattle.other_measures.specs.Hours.{AreNumbers, AreStates, OtherNumbers}
+use Rattle.reach.specs.Runs.{State}
+use Rattle.arrival_measures.specs.declared.sums.ArrivalSum.{ArrivalSum}
+use Rattle.arrival_measures.specs.Hours.{AreAllJudged, HaveCycles}
 use Rattle.hour_work.specs.Rows.{earlier_rows, own_rows}
 
 -- the whole services, and the whole cycles, whose last row is in the hour
@@ -31,8 +34,14 @@ over_hours of (suc n) = over_hours of n ++ of n
 abbrev pub MeetsIn : Settings → Store → ℕ → Asked → ℕ → Type 0
 MeetsIn c s i asked t = (is_known s t ≡ true) × Meets asked (MayBeAtEndOf (log_of c.specs s) i t)
 
--- the measures of an hour: of its phases, and of its pedestrian signals, preempts and coordination
-pub record AreMeasures (c : Settings) (s : Store) (hour : ℕ) (splits : List PhaseSum) (others : OtherNumbers) : Type 0 where
+-- at the end of tenth t the channel with this place may be in the state, in some history that agrees with the store
+abbrev pub MayBeIn : Settings → Store → ℕ → ℕ → State → Type 0
+MayBeIn c s i t v = MayBeAtEndOf (log_of c.specs s) i t v
+
+-- the measures of an hour: of its phases, of its pedestrian signals, preempts and coordination, and of its approaches
+pub record AreMeasures (c : Settings) (s : Store) (hour : ℕ) (splits : List PhaseSum) (others : OtherNumbers) (arrivals : List ArrivalSum) : Type 0 where
   pub phases : splits ≡ phase_sums c.phases (services_in c s hour) (cycles_in c s hour)
   pub numbers : AreNumbers (is_known s) c (earlier_rows s hour) (own_rows s hour) others
   pub states : AreStates (MeetsIn c s) (first_tenth hour) c others
+  pub judged : AreAllJudged (MayBeIn c s) c (own_rows s hour) arrivals
+  pub whole_cycles : HaveCycles (is_known s) c (earlier_rows s hour) (own_rows s hour) arrivals

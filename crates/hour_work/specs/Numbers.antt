@@ -5,9 +5,11 @@ use Rattle.hour_sums.specs.Numbers.{merged}
 use Rattle.split_measures.specs.declared.sums.PhaseSum.{PhaseSum}
 use Rattle.split_measures.specs.Phases.{added}
 use Rattle.other_measures.specs.Hours.{OtherNumbers, no_numbers, others_added}
+use Rattle.arrival_measures.specs.declared.sums.ArrivalSum.{ArrivalSum}
+use Rattle.arrival_measures.specs.Hours.{added as arrivals_added}
 use Rattle.hour_work.specs.declared.counts.RuleCount.{RuleCount}
 
--- the numbers of one hour, or of several together; the rules stand by their numbers, from 1, and the phases by theirs
+-- the numbers of one hour, or of several together; the rules stand by their numbers, from 1, and the phases by theirs; the approaches in file order
 pub record Numbers : Type 0 where
   pub held_hours : ℕ
   pub held_rows : ℕ
@@ -15,6 +17,7 @@ pub record Numbers : Type 0 where
   pub rules : List RuleCount
   pub splits : List PhaseSum
   pub others : OtherNumbers
+  pub arrivals : List ArrivalSum
 
 abbrev pub one_if : Bool → ℕ
 one_if true = 1
@@ -42,6 +45,7 @@ numbers_sum a b = record {
   rules = merged count_sum a.rules b.rules;
   splits = merged added a.splits b.splits;
   others = others_added a.others b.others;
+  arrivals = merged arrivals_added a.arrivals b.arrivals;
 }
 
 -- the sums of the numbers, hour by hour
@@ -53,6 +57,7 @@ total_of all = record {
   rules = fold (merged count_sum) [] (map (λ n. n.rules) all);
   splits = fold (merged added) [] (map (λ n. n.splits) all);
   others = fold others_added no_numbers (map (λ n. n.others) all);
+  arrivals = fold (merged arrivals_added) [] (map (λ n. n.arrivals) all);
 }
 
 -- so many hours can give a rule this count: it is judged at most once before each row, of which an hour has at most 400,000, or once at the end of each tenth

@@ -28,7 +28,7 @@ pub record IsHourPart (c : Settings) (s : Store) (hour : ℕ) (p : Numbers) : Ty
   pub lines : List AuditLine
   pub are_lines : AreAuditLines c s hour lines
   pub rules : p.rules ≡ counts_of (length (rules_for c)) lines
-  pub measures : AreMeasures c s hour p.splits p.others
+  pub measures : AreMeasures c s hour p.splits p.others p.arrivals
 
 -- the report of a store: the numbers of each hour; `total_of` them are those of the store
 pub record IsReport (c : Settings) (s : Store) (all : List Numbers) : Type 0 where

@@ -4,6 +4,7 @@ ghost use Rattle.hour_store.specs.Store.{Store};
 ghost use Rattle.board.specs.Places.{AreAheadsOf};
 ghost use Rattle.hour_work.specs.Points.{FitPoint, IsCarryAt, IsFutureAt};
 
+use arrival_measures::ArrivalCarry;
 use board::{Aheads, Pasts};
 use other_measures::OtherCarry;
 use ring_config::Config;
@@ -22,6 +23,7 @@ pub struct Carry {
     pub(crate) cuts: CutCarry,
     pub(crate) splits: SplitCarry,
     pub(crate) others: OtherCarry,
+    pub(crate) arrivals: ArrivalCarry,
 }
 
 impl Model for Carry {
@@ -29,7 +31,7 @@ impl Model for Carry {
 
     ghost Value = { Carried };
 
-    ghost view = { λ c. record { pasts = c.pasts; known = c.known; cuts = c.cuts; others = c.others } };
+    ghost view = { λ c. record { pasts = c.pasts; known = c.known; cuts = c.cuts; others = c.others; arrivals = c.arrivals } };
 }
 
 impl Carry {
@@ -43,12 +45,14 @@ impl Carry {
         let cuts = CutCarry::start(alloc, config.phases())?;
         let splits = SplitCarry::start(alloc, config)?;
         let others = OtherCarry::start(alloc, config)?;
+        let arrivals = ArrivalCarry::start(alloc, config)?;
         Ok(Carry {
             pasts,
             known: false,
             cuts,
             splits,
             others,
+            arrivals,
         })
     }
 
@@ -67,6 +71,7 @@ impl Carry {
             && self.pasts.same(&other.pasts)
             && self.cuts.same(&other.cuts)
             && self.others.same(&other.others)
+            && self.arrivals.same(&other.arrivals)
     }
 }
 

@@ -8,7 +8,7 @@ ghost use Rattle.hour_work.specs.Verdicts.{AreAuditLines};
 ghost use Rattle.hour_work.specs.Reports.{IsHourBetween, IsHourPart};
 
 use crate::counts::counts_of;
-use crate::seen::{audit_seen, known_in, others_seen, seen_hour, splits_seen};
+use crate::seen::{audit_seen, cut_seen, known_in, others_seen, seen_hour};
 use crate::{Carry, Future, Partial};
 use ring_config::Config;
 use rule_audit::{AuditLine, Rule};
@@ -85,7 +85,7 @@ fn held_part(
     let (parts, view) = seen_hour(alloc, config, hour, before, rows, blanked, after)?;
     let lines = audit_seen(alloc, config, rules, hour, before, rows, &parts, &view)?;
     let counts = counts_of(alloc, rules.len(), &lines)?;
-    let splits = splits_seen(alloc, config, hour, before, rows, &parts)?;
+    let (splits, arrivals) = cut_seen(alloc, config, hour, before, rows, &parts, &view)?;
     let others = others_seen(alloc, config, hour, before, rows, &parts, &view)?;
     Ok(Partial {
         held_hours: 1,
@@ -94,6 +94,7 @@ fn held_part(
         rules: counts,
         splits,
         others,
+        arrivals,
     })
 }
 

@@ -1,18 +1,26 @@
 // What the definitions alone say. Each law is the contract of a function that does nothing.
-ghost use Rattle.std.specs.Prelude.{◌≡◌, ◌+◌, ◌<◌, ℕ, List, [], length};
+ghost use Rattle.std.specs.Prelude.{◌≡◌, ◌↔◌, ◌+◌, ◌++◌, ◌<◌, ◌≤◌, ℕ, true, false, List, [], Some, length, slice_index_or};
 ghost use Rattle.std.specs.List.{filter};
 ghost use Rattle.board.specs.Logs.{first_tenth};
 ghost use Rattle.hour_store.specs.Store.{IsStore, Store, is_known, known_rows};
 ghost use Rattle.ring_config.specs.Settings.{Settings};
 ghost use Rattle.signal_log.specs.Log.{HasHistory, log_of};
 ghost use Rattle.rule_audit.specs.declared.lines.AuditLine.{AuditLine};
+ghost use Rattle.board.specs.Channels.{AreSpecs};
+ghost use Rattle.ring_config.specs.Settings.{spec_place};
+ghost use Rattle.hour_sweep.specs.Hours.{AreOrdered};
+ghost use Rattle.service_cut.specs.declared.items.Cycle.{Cycle};
+ghost use Rattle.cycle_arrivals.specs.Green.{shows_green};
+ghost use Rattle.arrival_measures.specs.Judged.{AllPass, NonePass, is_green, phase_channel};
+ghost use Rattle.arrival_measures.specs.Hours.{HaveCycles};
+ghost use Rattle.arrival_measures.specs.Points.{points_of};
 ghost use Rattle.service_cut.specs.Cut.{cycle_is_in, cycles_from, service_is_in, services_from};
 ghost use Rattle.split_measures.specs.Phases.{phase_sums};
 ghost use Rattle.other_measures.specs.Hours.{AreNumbers, delays_from, events_from};
 ghost use Rattle.hour_work.specs.Numbers.{Numbers, total_of};
 ghost use Rattle.hour_work.specs.Rows.{earlier_rows, own_rows};
 ghost use Rattle.hour_work.specs.Verdicts.{AreAuditLines};
-ghost use Rattle.hour_work.specs.Measures.{cycles_in, over_hours, services_in};
+ghost use Rattle.hour_work.specs.Measures.{MayBeIn, cycles_in, over_hours, services_in};
 ghost use Rattle.hour_work.specs.Reports.{IsReport};
 
 /// Law: where some history agrees with a store, it has one report, and each hour has one list of
@@ -22,13 +30,15 @@ pub fn reports_are_one()
     ensures report { (c : Settings) (s : Store) (a b : List Numbers) → HasHistory (log_of c.specs s) → IsReport c s a → IsReport c s b → a ≡ b }
 {}
 
-/// Law: the services, cycles, delays, entries and exits of the hours, one hour after another, are
-/// those of the whole log. Each service and each cycle is in the hour of its last row.
+/// Law: the services, cycles, delays, entries, exits and arrivals of the hours, one hour after
+/// another, are those of the whole log. Each service and each cycle is in the hour of its last row.
 pub fn hours_make_up_the_log()
     ensures services { (c : Settings) (s : Store) → IsStore s → over_hours (services_in c s) (length s.hours) ≡ services_from (is_known s) c.phases [] (known_rows s) }
     ensures cycles { (c : Settings) (s : Store) → IsStore s → over_hours (cycles_in c s) (length s.hours) ≡ cycles_from (is_known s) c.phases [] (known_rows s) }
     ensures delays { (c : Settings) (s : Store) → IsStore s → over_hours (λ hour. delays_from (is_known s) c (earlier_rows s hour) (own_rows s hour)) (length s.hours) ≡ delays_from (is_known s) c [] (known_rows s) }
     ensures events { (c : Settings) (s : Store) → IsStore s → over_hours (λ hour. events_from (is_known s) c (earlier_rows s hour) (own_rows s hour)) (length s.hours) ≡ events_from (is_known s) c [] (known_rows s) }
+    ensures points { (c : Settings) (s : Store) (p : ℕ) → IsStore s → over_hours (λ hour. points_of c p (own_rows s hour)) (length s.hours) ≡ points_of c p (known_rows s) }
+    ensures ordered { (s : Store) → IsStore s → AreOrdered 0 (first_tenth (length s.hours)) (known_rows s) }
     ensures own_services { (c : Settings) (s : Store) (hour : ℕ) → IsStore s → hour < length s.hours
         → filter (service_is_in (first_tenth hour) (first_tenth (hour + 1))) (services_from (is_known s) c.phases [] (known_rows s)) ≡ services_in c s hour }
     ensures own_cycles { (c : Settings) (s : Store) (hour : ℕ) → IsStore s → hour < length s.hours
@@ -37,10 +47,27 @@ pub fn hours_make_up_the_log()
 
 /// Law: the sums over the hours of a report are the numbers of the whole log. For phases they are
 /// those of all its services and cycles; for pedestrian signals, preempts and the coordination,
-/// those of all its delays, entries, exits and rows. Tenths of states are no part of this law.
+/// those of all its delays, entries, exits and rows; for approaches those of all whole cycles.
+/// Tenths of states, and judged arrivals and actuations, are no part of this law.
 pub fn totals_are_of_the_log()
     ensures splits { (c : Settings) (s : Store) (all : List Numbers) → IsStore s → IsReport c s all
         → (total_of all).splits ≡ phase_sums c.phases (services_from (is_known s) c.phases [] (known_rows s)) (cycles_from (is_known s) c.phases [] (known_rows s)) }
     ensures others { (c : Settings) (s : Store) (all : List Numbers) → IsStore s → IsReport c s all
         → AreNumbers (is_known s) c [] (known_rows s) (total_of all).others }
+    ensures arrivals { (c : Settings) (s : Store) (all : List Numbers) → IsStore s → IsReport c s all
+        → HaveCycles (is_known s) c [] (known_rows s) (total_of all).arrivals }
+{}
+
+/// Law: in a whole cycle the rows alone say what its phase shows. At the end of each of its tenths
+/// it is green by the rows exactly where it is green in all histories that agree with the store,
+/// and not green by them exactly where it is green in none.
+pub fn cycles_show_green()
+    ensures green { (c : Settings) (s : Store) (hour n i t : ℕ) (d : Cycle) → AreSpecs c.specs → IsStore s → HasHistory (log_of c.specs s) → hour < length s.hours → n < length (cycles_in c s hour)
+        → let x = slice_index_or (cycles_in c s hour) n d in
+        spec_place c.specs (phase_channel x.phase) ≡ Some i → x.from ≤ t → t < x.to
+        → (shows_green x.phase x.from (earlier_rows s hour ++ own_rows s hour) t ≡ true) ↔ AllPass is_green (MayBeIn c s i t) }
+    ensures not_green { (c : Settings) (s : Store) (hour n i t : ℕ) (d : Cycle) → AreSpecs c.specs → IsStore s → HasHistory (log_of c.specs s) → hour < length s.hours → n < length (cycles_in c s hour)
+        → let x = slice_index_or (cycles_in c s hour) n d in
+        spec_place c.specs (phase_channel x.phase) ≡ Some i → x.from ≤ t → t < x.to
+        → (shows_green x.phase x.from (earlier_rows s hour ++ own_rows s hour) t ≡ false) ↔ NonePass is_green (MayBeIn c s i t) }
 {}

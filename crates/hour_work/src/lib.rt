@@ -2,10 +2,11 @@
 //!
 //! Going over the hours from the window's start, `forward` carries what the hours so far say to the
 //! next hour point, or names the row at which the log contradicts itself; with the states of each
-//! channel go the services, cycles, walks and preempts that are under way. Going back from the
-//! window's end, `backward` carries which states can still be completed. Between the two stand the
-//! numbers of an hour (`partial`) and the lines of its audit (`audit_lines`), both over all
-//! histories of the whole window that agree with the log. A `Report` has the numbers of all hours.
+//! channel go the services, cycles, walks, preempts and arrivals that are under way. Going back
+//! from the window's end, `backward` carries which states can still be completed. Between the two
+//! stand the numbers of an hour (`partial`) and the lines of its audit (`audit_lines`), both over
+//! all histories of the whole window that agree with the log. A `Report` has the numbers of all
+//! hours. `phase_cycles` and `phase_points` list an hour's whole cycles of a phase and its arrivals.
 //!
 //! A tenth is known where its hour is held and the tenth isn't blanked. Held rows count at blanked
 //! tenths too.
@@ -16,6 +17,7 @@ mod counts;
 mod hour;
 mod laws;
 mod numbers;
+mod points;
 mod reported;
 mod seen;
 mod steps;
@@ -25,7 +27,8 @@ mod tests;
 pub use carry::{Carry, Future};
 pub use counts::RuleCount;
 pub use hour::{audit_lines, partial};
-pub use laws::{hours_make_up_the_log, reports_are_one, totals_are_of_the_log};
+pub use laws::{cycles_show_green, hours_make_up_the_log, reports_are_one, totals_are_of_the_log};
 pub use numbers::Partial;
+pub use points::{phase_cycles, phase_points};
 pub use reported::Report;
 pub use steps::{ForwardError, backward, forward};

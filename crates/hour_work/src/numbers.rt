@@ -8,6 +8,7 @@ ghost use Rattle.hour_work.specs.Reports.{IsHourPart};
 
 use crate::RuleCount;
 use crate::counts::counts_of;
+use arrival_measures::ArrivalSums;
 use other_measures::OtherSums;
 use ring_config::Config;
 use sig_base::NoMemory;
@@ -24,6 +25,7 @@ pub struct Partial {
     pub(crate) rules: Vec<RuleCount>,
     pub(crate) splits: SplitSums,
     pub(crate) others: OtherSums,
+    pub(crate) arrivals: ArrivalSums,
 }
 
 impl Model for Partial {
@@ -31,7 +33,7 @@ impl Model for Partial {
 
     ghost Value = { Numbers };
 
-    ghost view = { λ p. record { held_hours = p.held_hours; held_rows = p.held_rows; known_tenths = p.known_tenths; rules = p.rules.items; splits = p.splits; others = p.others } };
+    ghost view = { λ p. record { held_hours = p.held_hours; held_rows = p.held_rows; known_tenths = p.known_tenths; rules = p.rules.items; splits = p.splits; others = p.others; arrivals = p.arrivals } };
 }
 
 impl Partial {
@@ -43,6 +45,7 @@ impl Partial {
         let rules = counts_of(alloc, rules, &[])?;
         let splits = SplitSums::none(alloc, config)?;
         let others = OtherSums::none(alloc, config)?;
+        let arrivals = ArrivalSums::none(alloc, config)?;
         Ok(Partial {
             held_hours: 0,
             held_rows: 0,
@@ -50,6 +53,7 @@ impl Partial {
             rules,
             splits,
             others,
+            arrivals,
         })
     }
 
@@ -94,6 +98,13 @@ impl Partial {
     {
         &self.others
     }
+
+    /// The numbers of the approaches' arrivals and actuations, in file order.
+    pub fn arrivals(&self) -> &ArrivalSums
+        ensures { result.now ≡ self.now.arrivals }
+    {
+        &self.arrivals
+    }
 }
 
 // The sums over no hours.
@@ -107,6 +118,7 @@ pub(crate) fn no_total(alloc: Global) -> Partial
         rules: Vec::new(alloc),
         splits: SplitSums::new(alloc),
         others: OtherSums::new(alloc),
+        arrivals: ArrivalSums::new(alloc),
     }
 }
 
@@ -133,7 +145,8 @@ fn add(total: &mut Partial, part: &Partial) -> Result<(), NoMemory>
     total.known_tenths += part.known_tenths;
     add_counts(&mut total.rules, part.rules.as_slice())?;
     total.splits.add(&part.splits)?;
-    total.others.add(&part.others)
+    total.others.add(&part.others)?;
+    total.arrivals.add(&part.arrivals)
 }
 
 // Adds rule by rule.

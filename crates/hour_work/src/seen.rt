@@ -11,10 +11,12 @@ ghost use Rattle.other_measures.specs.Hours.{AreNumbers, AreStates};
 ghost use Rattle.hour_work.specs.Known.{known_len};
 ghost use Rattle.hour_work.specs.Rows.{earlier_rows, own_rows};
 ghost use Rattle.hour_work.specs.Verdicts.{AreAuditLines};
-ghost use Rattle.hour_work.specs.Measures.{MeetsIn, cycles_in, services_in};
+ghost use Rattle.arrival_measures.specs.Hours.{AreAllJudged, HaveCycles};
+ghost use Rattle.hour_work.specs.Measures.{MayBeIn, MeetsIn, cycles_in, services_in};
 ghost use Rattle.hour_work.specs.Reports.{IsHourBetween, IsHourSeen};
 
 use crate::{Carry, Future};
+use arrival_measures::{ArrivalSums, arrivals_hour};
 use board::HourView;
 use gap_map::{Stretch, stretches};
 use other_measures::{OtherSums, others_hour};
@@ -71,21 +73,28 @@ pub(crate) fn audit_seen(
     audit_rows(alloc, config, rules, view, rows, parts, before.known)
 }
 
-/// The numbers of its phases.
-pub(crate) fn splits_seen(
+/// The numbers of its phases and its approaches.
+pub(crate) fn cut_seen(
     alloc: Global,
     config: &Config,
     hour: Hour,
     before: &Carry,
     rows: &[Row],
     parts: &[Stretch],
-) -> Result<SplitSums, NoMemory>
-    ensures { IfOk result (λ v. (s : Store) (view : List Kept) → IsHourSeen config.now s hour before.now rows.now parts.now view → v ≡ phase_sums config.now.phases (services_in config.now s hour) (cycles_in config.now s hour)) }
+    view: &HourView,
+) -> Result<(SplitSums, ArrivalSums), NoMemory>
+    requires seen { (s : Store) × IsHourSeen config.now s hour before.now rows.now parts.now view.now }
+    ensures splits { IfOk result (λ v. (s : Store) → IsHourSeen config.now s hour before.now rows.now parts.now view.now → v.0 ≡ phase_sums config.now.phases (services_in config.now s hour) (cycles_in config.now s hour)) }
+    ensures judged { IfOk result (λ v. (s : Store) → IsHourSeen config.now s hour before.now rows.now parts.now view.now → AreAllJudged (MayBeIn config.now s) config.now (own_rows s hour) v.1) }
+    ensures cycles { IfOk result (λ v. (s : Store) → IsHourSeen config.now s hour before.now rows.now parts.now view.now → HaveCycles (is_known s) config.now (earlier_rows s hour) (own_rows s hour) v.1) }
 {
     let mut cut_carry = before.cuts.copy()?;
     let cuts = cut_hour(alloc, config.phases(), &mut cut_carry, rows, parts)?;
-    let mut carry = before.splits.copy()?;
-    splits_hour(alloc, config, &mut carry, &cuts, hour)
+    let mut split_carry = before.splits.copy()?;
+    let splits = splits_hour(alloc, config, &mut split_carry, &cuts, hour)?;
+    let mut arrival_carry = before.arrivals.copy()?;
+    let arrivals = arrivals_hour(alloc, config, &mut arrival_carry, &cuts, view, rows, parts)?;
+    Ok((splits, arrivals))
 }
 
 /// The numbers of its pedestrian signals, preempts and coordination.

@@ -10,11 +10,13 @@ ghost use Rattle.signal_log.specs.Log.{Log, log_of};
 ghost use Rattle.signal_log.specs.Points.{ArePastsAt, HasHour, NamesContradiction, rows_or_none};
 ghost use Rattle.service_cut.specs.Parts.{IsCarry as IsCut};
 ghost use Rattle.other_measures.specs.Crossing.{IsCarry as IsCrossing};
+ghost use Rattle.arrival_measures.specs.Crossing.{IsCarry as AreOpen};
 ghost use Rattle.hour_work.specs.Rows.{earlier_rows};
 ghost use Rattle.hour_work.specs.declared.steps.ForwardError.TheVariants.{Memory};
 ghost use Rattle.hour_work.specs.Points.{FitPoint, IsCarryAt, IsFutureAt, NamesRow};
 
 use crate::{Carry, Future};
+use arrival_measures::{ArrivalCarry, arrivals_carried};
 use board::{Pasts, PastsError};
 use gap_map::stretches;
 use other_measures::{OtherCarry, others_carried};
@@ -68,13 +70,14 @@ pub fn forward(
     ensures stop { IfErr result (λ e. (s : Store) → HasHour s hour (option_copied rows.entry) blanked.now → IsCarryAt config.now s hour before.now → NamesRow (log_of config.now.specs s) e) }
 {
     let pasts = pasts_over(alloc, config, hour, before, rows, blanked)?;
-    let (cuts, others) = under_way(alloc, config, hour, before, rows, blanked)?;
+    let (cuts, others, arrivals) = under_way(alloc, config, hour, before, rows, blanked)?;
     Ok(Carry {
         pasts,
         known: is_last_known(hour, rows.is_some(), blanked),
         cuts,
         splits: before.splits.copy()?,
         others,
+        arrivals,
     })
 }
 
@@ -108,23 +111,26 @@ fn under_way(
     before: &Carry,
     rows: Option<&[Row]>,
     blanked: &SpanSet,
-) -> Result<(CutCarry, OtherCarry), NoMemory>
+) -> Result<(CutCarry, OtherCarry, ArrivalCarry), NoMemory>
     requires in_range { hour < 744 }
     requires of_hour { IfSome rows (λ r. AreRowsOf hour r.now) }
     ensures cuts { IfOk result (λ u. (s : Store) → HasHour s hour (option_copied rows.entry) blanked.now → IsCut (is_known s) config.now.phases (earlier_rows s hour) hour before.now.cuts → IsCut (is_known s) config.now.phases (earlier_rows s (hour + 1)) (hour + 1) u.0) }
     ensures others { IfOk result (λ u. (s : Store) → HasHour s hour (option_copied rows.entry) blanked.now → IsCrossing (is_known s) config.now (earlier_rows s hour) hour before.now.others → IsCrossing (is_known s) config.now (earlier_rows s (hour + 1)) (hour + 1) u.1) }
+    ensures arrivals { IfOk result (λ u. (s : Store) → HasHour s hour (option_copied rows.entry) blanked.now → IsCut (is_known s) config.now.phases (earlier_rows s hour) hour before.now.cuts → AreOpen (is_known s) config.now (earlier_rows s hour) hour before.now.arrivals → AreOpen (is_known s) config.now (earlier_rows s (hour + 1)) (hour + 1) u.2) }
 {
     let held = held_rows(rows);
     let parts = stretches(alloc, hour, rows.is_some(), blanked)?;
     let mut cuts = before.cuts.copy()?;
-    cut_hour(alloc, config.phases(), &mut cuts, held, &parts)?;
+    let cut = cut_hour(alloc, config.phases(), &mut cuts, held, &parts)?;
+    let mut arrivals = before.arrivals.copy()?;
+    arrivals_carried(alloc, config, &mut arrivals, &cut, held, &parts)?;
     let mut others = before.others.copy()?;
     others_carried(alloc, config, &mut others, held, &parts)?;
-    Ok((cuts, others))
+    Ok((cuts, others, arrivals))
 }
 
 // The rows of the hour, none where it isn't held.
-fn held_rows<'a>(rows: Option<&'a [Row]>) -> &'a [Row]
+pub(crate) fn held_rows<'a>(rows: Option<&'a [Row]>) -> &'a [Row]
     ensures { result.now ≡ rows_or_none (option_copied rows.entry) }
 {
     match rows {

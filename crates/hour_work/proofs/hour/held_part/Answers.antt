@@ -39,9 +39,11 @@ returns-clause-value c = λ s is.
       are_lines = c.in_ok-lines.ensures s (rw c.deref.ensures.value seen);
       rules = rw (c.deref-2.ensures.value, c.requires.rules) at c.in_ok-counts.ensures;
       measures = record {
-        phases = c.in_ok-splits.ensures s c.in_ok-parts.view (rw c.deref-3.ensures.value seen);
+        phases = c.in_ok-splits.ensures.splits s (rw c.deref-3.ensures.value seen);
         numbers = c.in_ok-others.ensures.numbers s (rw c.deref-4.ensures.value seen);
         states = c.in_ok-others.ensures.states s (rw c.deref-4.ensures.value seen);
+        judged = c.in_ok-splits.ensures.judged s (rw c.deref-3.ensures.value seen);
+        whole_cycles = c.in_ok-splits.ensures.cycles s (rw c.deref-3.ensures.value seen);
       };
     }
 

@@ -22,4 +22,5 @@ returns-clause-carry c = λ s has is. record {
   known = c.is_last_known.ensures ∙ known_after s c.args.hour (option_copied c.args.rows) c.args.blanked.now c.is_some.result has (c.is_some.ensures ∙ copied_some c.args.rows);
   cuts = c.in_ok-cuts.ensures.cuts s has is.cuts;
   others = c.in_ok-cuts.ensures.others s has is.others;
+  arrivals = c.in_ok-cuts.ensures.arrivals s has is.cuts is.arrivals;
 }

@@ -1,0 +1,74 @@
+// The cycles of a phase in one hour, and its arrivals.
+ghost use Rattle.std.specs.Prelude.{◌≡◌, ◌<◌, option_copied, IfOk, IfSome};
+ghost use Rattle.sig_base.specs.HourRows.{AreRowsOf};
+ghost use Rattle.hour_store.specs.Store.{Store};
+ghost use Rattle.hour_sums.specs.Numbers.{own};
+ghost use Rattle.signal_log.specs.Points.{HasHour};
+ghost use Rattle.arrival_measures.specs.Points.{points_of};
+ghost use Rattle.hour_work.specs.Rows.{own_rows};
+ghost use Rattle.hour_work.specs.Measures.{cycles_in};
+ghost use Rattle.hour_work.specs.Points.{IsCarryAt};
+
+use crate::steps::held_rows;
+use crate::{Carry, Future};
+use arrival_measures::{Points, row_points};
+use gap_map::stretches;
+use ring_config::Config;
+use service_cut::{Cycle, cut_hour};
+use sig_base::{Hour, NoMemory, Row};
+use span_set::SpanSet;
+use std::alloc::Global;
+
+/// The arrivals of an hour, 0 to 743, at the advance detectors of a phase's approaches, in row
+/// order, where these rows are held of the hour (`None`: it isn't held) and these tenths are
+/// blanked. An offset is here the row's tenth of the window.
+pub fn phase_points(
+    alloc: Global,
+    config: &Config,
+    phase: u8,
+    hour: Hour,
+    before: &Carry,
+    rows: Option<&[Row]>,
+    blanked: &SpanSet,
+    after: &Future,
+) -> Result<Points, NoMemory>
+    requires in_range { hour < 744 }
+    requires of_hour { IfSome rows (λ r. AreRowsOf hour r.now) }
+    ensures { IfOk result (λ p. (s : Store) → HasHour s hour (option_copied rows.entry) blanked.now → p ≡ points_of config.now phase (own_rows s hour)) }
+{
+    let parts = stretches(alloc, hour, rows.is_some(), blanked)?;
+    row_points(alloc, config, phase, held_rows(rows), &parts)
+}
+
+/// The whole cycles of a phase that end in an hour, 0 to 743, in their order, from what is kept at
+/// the point before it.
+pub fn phase_cycles(
+    alloc: Global,
+    config: &Config,
+    phase: u8,
+    hour: Hour,
+    before: &Carry,
+    rows: Option<&[Row]>,
+    blanked: &SpanSet,
+) -> Result<Vec<Cycle>, NoMemory>
+    requires in_range { hour < 744 }
+    requires of_hour { IfSome rows (λ r. AreRowsOf hour r.now) }
+    ensures { IfOk result (λ v. (s : Store) → HasHour s hour (option_copied rows.entry) blanked.now → IsCarryAt config.now s hour before.now → v.items ≡ own (λ x. x.phase) phase (cycles_in config.now s hour)) }
+{
+    let parts = stretches(alloc, hour, rows.is_some(), blanked)?;
+    let mut carry = before.cuts.copy()?;
+    let cuts = cut_hour(alloc, config.phases(), &mut carry, held_rows(rows), &parts)?;
+    own_cycles(alloc, cuts.cycles(), phase)
+}
+
+// Those of one phase.
+fn own_cycles(alloc: Global, cycles: &[Cycle], phase: u8) -> Result<Vec<Cycle>, NoMemory>
+    ensures { IfOk result (λ v. v.items ≡ own (λ x. x.phase) phase cycles.now) }
+{
+    let own = cycles
+        .iter()
+        .filter(|cycle| cycle.phase == phase)
+        .copied()
+        .collect(alloc)?;
+    Ok(own)
+}

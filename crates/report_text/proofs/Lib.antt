@@ -1,3 +1,4 @@
 mod Tallies
 pub mod RuleLines
 pub mod NumberLines
+pub mod ApproachLines

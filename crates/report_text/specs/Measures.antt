@@ -10,6 +10,7 @@ use Rattle.other_measures.specs.declared.sums.CoordSum.{CoordSum}
 use Rattle.hour_work.specs.Numbers.{Numbers}
 use Rattle.report_text.specs.Line.{line_of}
 use Rattle.report_text.specs.Rules.{joined}
+use Rattle.report_text.specs.Approaches.{approaches_text}
 
 -- how many hours and rows are held, and how many tenths are known
 abbrev pub held_line : Numbers → List ℕ
@@ -111,6 +112,6 @@ preempts_text c n = each_line preempt_line (numbers_of (has_number c.preempts)) 
 abbrev pub others_text : Settings → Numbers → List ℕ
 others_text c n = peds_text c n ++ (preempts_text c n ++ coordination_text c.coordination n.others.coordination)
 
--- the measures of an hour or of the window: what is held and known, and a line for each phase, each pedestrian signal and each preempt, and for the coordination
+-- the measures of an hour or of the window: what is held and known, a line for each phase, each pedestrian signal and each preempt, and for the coordination, and those of the approaches
 abbrev pub measures_text : Settings → Numbers → List ℕ
-measures_text c n = held_line n ++ (phases_text c n ++ others_text c n)
+measures_text c n = held_line n ++ (phases_text c n ++ (others_text c n ++ approaches_text c.approaches n.arrivals))

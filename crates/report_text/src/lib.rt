@@ -3,9 +3,11 @@
 #![tactic(auto)]
 
 mod applied;
+mod approaches;
 mod audit;
 mod coordination;
 mod counts;
+mod diagrams;
 mod lines;
 mod measures;
 mod peds;
@@ -17,5 +19,9 @@ mod rules;
 pub use applied::put_applied;
 pub use audit::{put_audit_counts, put_audit_line};
 pub use counts::put_counts;
+pub use diagrams::put_diagram;
 pub use measures::put_measures;
 pub use refusal::{Refusal, put_refusal};
+
+#[cfg(test)]
+mod tests;

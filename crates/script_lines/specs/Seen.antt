@@ -1,7 +1,7 @@
 -- What the code's lines say.
 use Rattle.script_lines.specs.declared.words.Line.{Line}
 use Rattle.script_lines.specs.declared.words.Line.TheVariants as code
-use Rattle.script_lines.specs.Words.{Said, skip, bad, load, replace, withdraw, blank, unblank, audit, verdicts, measures, measures_of}
+use Rattle.script_lines.specs.Words.{Said, skip, bad, load, replace, withdraw, blank, unblank, audit, verdicts, measures, measures_of, points}
 
 abbrev pub seen : Line → Said
 seen code.Skip = skip
@@ -15,3 +15,4 @@ seen code.Audit = audit
 seen (code.Verdicts hour) = verdicts hour
 seen code.Measures = measures
 seen (code.MeasuresOf hour) = measures_of hour
+seen (code.Points phase) = points phase

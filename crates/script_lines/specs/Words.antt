@@ -33,10 +33,15 @@ pub data Said : Type 0 where
   verdicts : ℕ → Said
   measures : Said
   measures_of : ℕ → Said
+  points : ℕ → Said
 
 -- an hour of one to six digits
 abbrev pub hour_at : List ℕ → Option ℕ
 hour_at text = number_of 1 6 999999 text
+
+-- a phase of one or two digits
+abbrev pub phase_at : List ℕ → Option ℕ
+phase_at text = number_of 1 2 99 text
 
 -- the name of a file, 1 to 255 bytes
 abbrev pub name_at : List ℕ → Option (List ℕ)
@@ -66,7 +71,8 @@ report_words verb a rest =
     if bytes_eq verb (codes "audit") then (if is_over a then audit else bad)
     else (if bytes_eq verb (codes "verdicts") then (if is_over rest then by_hour verdicts (hour_at a) else bad)
     else (if bytes_eq verb (codes "measures") then (if is_over a then measures else (if is_over rest then by_hour measures_of (hour_at a) else bad))
-    else bad))
+    else (if bytes_eq verb (codes "points") then (if is_over rest then by_hour points (phase_at a) else bad)
+    else bad)))
 
 -- the line of these words: the first, the second, the third, and what follows them
 abbrev pub of_words : Span → List ℕ → List ℕ → List ℕ → List ℕ → Said

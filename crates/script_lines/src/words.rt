@@ -1,8 +1,8 @@
 // What a line says.
 ghost use Rattle.std.specs.Prelude.{◌≡◌, true, option_map};
 ghost use Rattle.std.specs.List.{list_all};
-ghost use Rattle.script_lines.specs.Words.{skip_spaces, word, after_word, hour_at, name_at, by_hour, by_name, by_range, is_comment, is_printable, of_words, report_words, said, worded};
-ghost use Rattle.script_lines.specs.Words.{load, replace, withdraw, blank, unblank, measures_of as of_hour, verdicts};
+ghost use Rattle.script_lines.specs.Words.{skip_spaces, word, after_word, hour_at, name_at, phase_at, by_hour, by_name, by_range, is_comment, is_printable, of_words, report_words, said, worded};
+ghost use Rattle.script_lines.specs.Words.{load, replace, withdraw, blank, unblank, measures_of as of_hour, points, verdicts};
 ghost use Rattle.row_reader.specs.Stamp.{stamp_in};
 ghost use Rattle.script_lines.specs.Seen.{seen};
 
@@ -35,6 +35,9 @@ pub enum Line<'a> {
     Measures,
     /// The measures of one hour.
     MeasuresOf(Hour),
+    /// The cycles of a phase, 0 to 99, and the arrivals that end at it. Whether the phase is
+    /// configured isn't asked here.
+    Points(u8),
 }
 
 fn without_spaces(text: &[u8]) -> &[u8]
@@ -79,6 +82,13 @@ fn hour_of(word: &[u8]) -> Option<Hour>
     ensures { result ≡ hour_at word.now }
 {
     read_number(word, 1, 6, 999_999)
+}
+
+fn phase_of(word: &[u8]) -> Option<u8>
+    ensures { result ≡ phase_at word.now }
+{
+    let number = read_number(word, 1, 2, 99)?;
+    Some(number as u8)
 }
 
 fn name_of(word: &[u8]) -> Option<&str>
@@ -159,6 +169,15 @@ fn measures_of<'a>(hour: &[u8]) -> Line<'a>
     }
 }
 
+fn points_of<'a>(phase: &[u8]) -> Line<'a>
+    ensures { seen result ≡ by_hour points (phase_at phase.now) }
+{
+    match phase_of(phase) {
+        Some(phase) => Line::Points(phase),
+        None => Line::Bad,
+    }
+}
+
 // The line of these words, if it asks for a report: the first, the second, and what follows them.
 fn read_report<'a>(verb: &[u8], second: &[u8], rest: &[u8]) -> Line<'a>
     ensures { seen result ≡ report_words verb.now second.now rest.now }
@@ -183,6 +202,12 @@ fn read_report<'a>(verb: &[u8], second: &[u8], rest: &[u8]) -> Line<'a>
             return Line::Bad;
         }
         return measures_of(second);
+    }
+    if verb == b"points".as_slice() {
+        if !rest.is_empty() {
+            return Line::Bad;
+        }
+        return points_of(second);
     }
     Line::Bad
 }

@@ -10,3 +10,4 @@ pub mod RenewLaws
 pub mod BeginLaws
 pub mod MaskLaws
 pub mod LessLaws
+pub mod DiagramLaws

@@ -12,6 +12,7 @@ mod edit;
 mod forward;
 mod hours;
 mod lists;
+mod points;
 mod renew;
 mod session;
 mod steps;

@@ -2,7 +2,8 @@
 ghost use Rattle.std.specs.Prelude.{◌≡◌, ◌+◌, ◌*◌, ◌<◌, ◌≤◌, ◌⊎◌, ◌↔◌, ℤ, pos, ◌<ℤ◌, ◌≤ℤ◌, length, Some, IfOk, IfErr, IfSome, OnOk, OnErr};
 ghost use Rattle.span_set.specs.Spans.{Member};
 ghost use Rattle.sig_base.specs.HourRows.{Shown};
-ghost use Rattle.hour_store.specs.Store.{IsStore, LieWithin, Store, nothing_held, rows_held, with_blanks, with_hour};
+ghost use Rattle.arrival_measures.specs.Points.{diagrams_of};
+ghost use Rattle.hour_store.specs.Store.{IsStore, LieWithin, Store, is_known, known_rows, nothing_held, rows_held, with_blanks, with_hour};
 ghost use Rattle.ring_config.specs.Settings.{Settings};
 ghost use Rattle.ring_config.specs.Sound.{IsSound};
 ghost use Rattle.signal_log.specs.Log.{HasHistory, log_of};
@@ -19,7 +20,9 @@ use crate::audit::lines_of;
 use crate::begin::begin;
 use crate::blanks::{reaches_out, with_range, without_range};
 use crate::hours::{end_of, exchange, held_ends, hour_at};
+use crate::points::phase_diagrams;
 use crate::renew::{Worked, adopt, renew};
+use arrival_measures::Diagram;
 use hour_store::HourStore;
 use hour_work::{ForwardError, Report};
 use ring_config::Config;
@@ -129,6 +132,23 @@ impl<L> Session<L> {
             &self.store,
             &self.worked,
             hour,
+            reads,
+        )
+    }
+
+    /// The whole cycles of a phase, in their order, each with the arrivals in it at the advance
+    /// detectors of the phase's approaches.
+    pub fn points(&self, phase: u8, reads: &mut Reads<L>) -> Result<Vec<Diagram>, NoMemory>
+        ensures points { IfOk result (λ v. v.items ≡ diagrams_of (is_known self.now.store) self.now.config phase (known_rows self.now.store)) }
+        ensures store { IsStore self.now.store }
+        ensures grow { Grow reads.old reads.new }
+    {
+        phase_diagrams(
+            self.alloc,
+            &self.config,
+            &self.store,
+            &self.worked,
+            phase,
             reads,
         )
     }

@@ -77,7 +77,7 @@ held_within s hour h = elim (cases_lt hour (length s.hours)) [
   | inr past ↦ let none : held_at s hour ≡ None = get_or-eq_default s.hours None past in let k = rw none at h in absurd (cc)
 ]
 
-known_within : (s : Store) (t : ℕ) → is_known s t ≡ true → t < 36000 * length s.hours
+pub known_within : (s : Store) (t : ℕ) → is_known s t ≡ true → t < 36000 * length s.hours
 known_within s t h =
     let p = and_parts (is_some (held_at s (t / 36000))) (not (is_member s.blanks (pos t))) h in
     let q = held_within s (t / 36000) p.0 in

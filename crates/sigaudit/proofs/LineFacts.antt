@@ -21,6 +21,7 @@ use Rattle.script_lines.specs.Words.{Said}
 use Rattle.script_lines.specs.Words as line
 use Rattle.sigaudit.specs.Turns.{Turn, passes, refuses, writes}
 use Rattle.sigaudit.specs.Audit.{AreVerdicts, IsAudited, IsReportOf}
+use Rattle.sigaudit.specs.Points.{points_of_phase}
 use Rattle.sigaudit.specs.Script.{edit_said, hour_bytes, hour_change, hour_file, hour_head, wanted_for, window_head, IsEdited, IsFetched, IsMeasured, IsMeasuredOf, IsRead, IsTurn}
 use Rattle.sigaudit.specs.Run.{World, world, Takes, TakesBy, TakesPut}
 use Rattle.sigaudit.specs.declared.status.Stopped.{Stopped}
@@ -159,6 +160,10 @@ pub turn_hour : (files : Files) (c : Settings) (n hour : ℕ) (s : Store) (t : T
 unfolding IsTurn
 turn_hour files c n hour s t h = h
 
+pub turn_points : (files : Files) (c : Settings) (n p : ℕ) (s : Store) (t : Turn) → t ≡ points_of_phase c n p s → IsTurn files c n (line.points p) s t
+unfolding IsTurn
+turn_points files c n p s t h = h
+
 -- a line that is an edit and needs no file
 pub turn_edit : (files : Files) (c : Settings) (n : ℕ) (x : Said) (ch : Change) (s : Store) → Some ch ≡ edit_said x → (t : Turn) → IsEdited c n None s (step_of s ch) t → IsTurn files c n x s t
 unfolding IsTurn
@@ -173,6 +178,7 @@ turn_edit files c n line.audit ch s e t h = absurd (cc)
 turn_edit files c n (line.verdicts hour) ch s e t h = absurd (cc)
 turn_edit files c n line.measures ch s e t h = absurd (cc)
 turn_edit files c n (line.measures_of hour) ch s e t h = absurd (cc)
+turn_edit files c n (line.points p) ch s e t h = absurd (cc)
 
 -- a line that used the sink alone
 pub line_by : (files : Files) (c : Settings) (n : ℕ) (x y : Said) (s0 : Store) (Is : Turn → Type 0) (k : Counts) (w w' : Option (List ℕ)) (f f' : ℕ) (s : Store) (r : Result Bool Stopped) → x ≡ y

@@ -113,6 +113,7 @@ one_turn laws files c n line.audit s t t' h k = one_audit laws c n s t t' h k
 one_turn laws files c n (line.verdicts hour) s t t' h k = one_verdicts laws c n hour s (nat_lt hour c.window.hours) t t' h k
 one_turn laws files c n line.measures s t t' h k = one_measured laws c n s t t' h k
 one_turn laws files c n (line.measures_of hour) s t t' h k = one_measured_of laws c n hour s t t' h k
+one_turn laws files c n (line.points p) s t t' h k = both h k
 
 -- ---- lines tell one text, which begins with that of the first of them
 

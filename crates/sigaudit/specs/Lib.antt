@@ -4,6 +4,7 @@ pub mod Status
 pub mod ConfigText
 pub mod Turns
 pub mod Audit
+pub mod Points
 pub mod Script
 pub mod Transcript
 pub mod Run

@@ -24,6 +24,7 @@ use Rattle.report_text.specs.Applied.{applied_text}
 use Rattle.report_text.specs.Measures.{measures_text}
 use Rattle.sigaudit.specs.Turns.{Turn, passes, refuses, writes}
 use Rattle.sigaudit.specs.Audit.{AreVerdicts, IsAudited, IsReportOf}
+use Rattle.sigaudit.specs.Points.{points_of_phase}
 
 -- these are want of memory, which no definition gives
 abbrev pub is_edit_memory : EditError → Bool
@@ -117,6 +118,7 @@ edit_said line.audit = None
 edit_said (line.verdicts hour) = None
 edit_said line.measures = None
 edit_said (line.measures_of hour) = None
+edit_said (line.points p) = None
 
 -- what the line of this number does to a store, by what it says
 unfoldable pub IsTurn : Files → Settings → ℕ → Said → Store → Turn → Type 0
@@ -131,6 +133,7 @@ IsTurn files c n line.audit s t = IsAudited c n s t
 IsTurn files c n (line.verdicts hour) s t = AreVerdicts c n hour s (nat_lt hour c.window.hours) t
 IsTurn files c n line.measures s t = IsMeasured c n s t
 IsTurn files c n (line.measures_of hour) s t = IsMeasuredOf c n hour s t
+IsTurn files c n (line.points p) s t = t ≡ points_of_phase c n p s
 
 -- the text of some lines, the store after them, and whether one of them is refused
 pub record Told : Type 0 where

@@ -7,6 +7,7 @@
 mod audit;
 mod config_text;
 mod count;
+mod points;
 mod refused;
 mod run;
 mod script;

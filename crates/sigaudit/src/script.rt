@@ -15,6 +15,7 @@ ghost use Rattle.sigaudit.specs.Script.{edit_said, hour_head, window_head, is_ed
 ghost use Rattle.sigaudit.specs.Run.{world, CountsFetch, FetchesHour, NamesNoRow, IsCaused, NeverFall, Takes, TakesBy, TellsAll};
 
 use crate::audit::{audit_line, verdicts_line};
+use crate::points::points_line;
 use crate::refused::refuse;
 use crate::status::Stopped;
 use itoa::Buffer;
@@ -321,6 +322,7 @@ fn take_said<L, S: Shelf, K: Sink>(
         Line::Verdicts(hour) => verdicts_line(number, hour, session, sink, reads),
         Line::Measures => measures_line(number, session, sink),
         Line::MeasuresOf(hour) => hour_line(number, hour, session, sink),
+        Line::Points(phase) => points_line(number, phase, session, sink, reads),
         Line::Withdraw(_) => unreachable!(),
         Line::Blank(_, _) => unreachable!(),
         Line::Unblank(_, _) => unreachable!(),

@@ -3,6 +3,7 @@ mod cases;
 mod cut_off;
 mod limits;
 mod measures;
+mod points;
 
 use crate::run::run;
 use crate::status::Status;

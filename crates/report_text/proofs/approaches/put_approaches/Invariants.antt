@@ -1,0 +1,10 @@
+use Rattle.std.proofs.Common.{drop}
+use Rattle.outside.proofs.PutsFacts.{Going}
+use Rattle.report_text.specs.Approaches.{approaches_text}
+use Rattle.report_text.proofs.approaches.put_approaches.Given as goal
+
+-- the lines of the approaches so far were written
+abbrev pub invariant-loop-place : goal.invariant-loop-place
+invariant-loop-place g l =
+    Going (g.K.Sink.written l.fn.sink) (g.K.Sink.written l.sink) (g.K.Sink.faults l.fn.sink) (g.K.Sink.faults l.sink)
+    (approaches_text l.config.approaches l.sums) (approaches_text (drop l.place l.config.approaches) (drop l.place l.sums))

@@ -1,0 +1,63 @@
+-- The lines of approaches, and of diagrams.
+use Rattle.std.specs.Prelude.{◌++◌, ◌*◌, ◌-◌, ◌==◌, if◌then◌else◌, ℕ, Bool, List, [], ◌∷◌, codes, decimal, Option, Some, None, is_some, slice_get, flat_map}
+use Rattle.sig_base.specs.Window.{Span}
+use Rattle.sig_base.specs.Stamp.{stamp_at}
+use Rattle.service_cut.specs.declared.items.Cycle.{Cycle}
+use Rattle.ring_config.specs.Settings.{Settings}
+use Rattle.ring_config.specs.declared.items.Approach.{Approach}
+use Rattle.arrival_measures.specs.declared.sums.ArrivalSum.{ArrivalSum}
+use Rattle.arrival_measures.specs.declared.points.Point.{Point}
+use Rattle.arrival_measures.specs.declared.points.Diagram.{Diagram}
+use Rattle.report_text.specs.Line.{line_of}
+use Rattle.report_text.specs.Rules.{joined}
+
+-- a fraction, not reduced, or `-` where its denominator is 0
+abbrev pub fraction : ℕ → ℕ → List ℕ
+fraction num den = if den == 0 then codes "-" else decimal num ++ (codes "/" ++ decimal den)
+
+-- how many vehicles came, and what the phase showed
+abbrev pub arrival_counts : List ℕ → ArrivalSum → List ℕ
+arrival_counts name s =
+    joined (codes "approach " ∷ name ∷ codes " arrivals " ∷ decimal s.arrivals ∷ codes " green " ∷ decimal s.green ∷ codes " not " ∷ decimal s.not_green ∷ codes " undecided " ∷ decimal s.undecided ∷ [])
+
+-- the share of the arrivals on green; the platoon ratio, by which arrivals in whole cycles are more on green than an even stream would be
+abbrev pub arrival_shares : ArrivalSum → List ℕ
+arrival_shares s =
+    line_of (codes " share " ∷ fraction s.green s.arrivals ∷ codes " platoon " ∷ fraction (s.cycle_green * s.cycle_tenths) (s.cycle_arrivals * s.green_tenths) ∷ [])
+
+abbrev pub arrivals_line : List ℕ → ArrivalSum → List ℕ
+arrivals_line name s = arrival_counts name s ++ arrival_shares s
+
+abbrev pub actuations_line : List ℕ → ArrivalSum → List ℕ
+actuations_line name s =
+    line_of (codes "approach " ∷ name ∷ codes " actuations " ∷ decimal s.actuations ∷ codes " red " ∷ decimal s.red ∷ codes " not " ∷ decimal s.not_red ∷ codes " undecided " ∷ decimal s.red_undecided ∷ [])
+
+abbrev pub line_if : Bool → List ℕ → List ℕ
+line_if there text = if there then text else []
+
+-- the lines of an approach: of its advance detector, and of its stop bar detector
+abbrev pub approach_text : Approach → ArrivalSum → List ℕ
+approach_text a s = line_if (is_some a.advance) (arrivals_line a.name s) ++ line_if (is_some a.stop_bar) (actuations_line a.name s)
+
+-- those of the first approach with the first sums, those of the second with the second, and so on
+abbrev pub approaches_text : List Approach → List ArrivalSum → List ℕ
+approaches_text [] sums = []
+approaches_text (a ∷ more) [] = []
+approaches_text (a ∷ more) (s ∷ ss) = approach_text a s ++ approaches_text more ss
+
+-- ---- diagrams
+
+abbrev pub name_of : Option Approach → List ℕ
+name_of None = []
+name_of (Some a) = a.name
+
+abbrev pub point_line : Settings → Point → List ℕ
+point_line c x = line_of (codes "point " ∷ name_of (slice_get c.approaches x.approach) ∷ codes " " ∷ decimal x.offset ∷ [])
+
+abbrev pub cycle_line : Span → Cycle → List ℕ
+cycle_line w x =
+    line_of (codes "cycle " ∷ stamp_at w x.from ∷ codes " length " ∷ decimal (x.to - x.from) ∷ codes " green " ∷ decimal x.green ∷ codes " yellow " ∷ decimal x.yellow ∷ [])
+
+-- a cycle, and its points in their order
+abbrev pub diagram_text : Settings → Diagram → List ℕ
+diagram_text c d = cycle_line c.window d.cycle ++ flat_map (point_line c) d.points

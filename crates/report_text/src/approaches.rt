@@ -1,0 +1,194 @@
+// The lines of approaches.
+ghost use Rattle.std.specs.Prelude.{◌++◌, ◌*◌, is_some, codes};
+ghost use Rattle.outside.specs.Sink.{Puts};
+ghost use Rattle.report_text.specs.Approaches.{actuations_line, approach_text, approaches_text, arrival_counts, arrival_shares, arrivals_line, fraction, line_if};
+
+use arrival_measures::ArrivalSum;
+use itoa::Buffer;
+use outside::{PutFailed, Sink, put_parts};
+use ring_config::{Approach, Config};
+
+fn put_counts<K: Sink>(name: &[u8], sums: &ArrivalSum, sink: &mut K) -> Result<(), PutFailed>
+    ensures { Puts (K.written sink.old) (K.written sink.new) (K.faults sink.old) (K.faults sink.new) (arrival_counts name.now sums.now) result }
+{
+    let mut arrivals = Buffer::new();
+    let mut green = Buffer::new();
+    let mut not_green = Buffer::new();
+    let mut undecided = Buffer::new();
+    put_parts(
+        sink,
+        &[
+            b"approach ",
+            name,
+            b" arrivals ",
+            arrivals.format(sums.arrivals).as_bytes(),
+            b" green ",
+            green.format(sums.green).as_bytes(),
+            b" not ",
+            not_green.format(sums.not_green).as_bytes(),
+            b" undecided ",
+            undecided.format(sums.undecided).as_bytes(),
+        ],
+    )
+}
+
+// Writes a word, and then the fraction, not reduced, or `-` where its denominator is 0.
+fn put_fraction<K: Sink>(
+    word: &[u8],
+    numerator: u128,
+    denominator: u128,
+    sink: &mut K,
+) -> Result<(), PutFailed>
+    ensures { Puts (K.written sink.old) (K.written sink.new) (K.faults sink.old) (K.faults sink.new) (word.now ++ fraction numerator denominator) result }
+{
+    if denominator == 0 {
+        return put_parts(sink, &[word, b"-"]);
+    }
+    let mut over = Buffer::new();
+    let mut under = Buffer::new();
+    put_parts(
+        sink,
+        &[
+            word,
+            over.format(numerator).as_bytes(),
+            b"/",
+            under.format(denominator).as_bytes(),
+        ],
+    )
+}
+
+fn put_share<K: Sink>(sums: &ArrivalSum, sink: &mut K) -> Result<(), PutFailed>
+    ensures { Puts (K.written sink.old) (K.written sink.new) (K.faults sink.old) (K.faults sink.new)
+        (codes " share " ++ fraction sums.now.green sums.now.arrivals) result }
+{
+    let green = u128::from(sums.green);
+    let arrivals = u128::from(sums.arrivals);
+    put_fraction(b" share ", green, arrivals, sink)
+}
+
+// The counts of a u64 are multiplied in a u128, which has room for each product.
+fn put_platoon<K: Sink>(sums: &ArrivalSum, sink: &mut K) -> Result<(), PutFailed>
+    ensures { Puts (K.written sink.old) (K.written sink.new) (K.faults sink.old) (K.faults sink.new)
+        (codes " platoon " ++ fraction (sums.now.cycle_green * sums.now.cycle_tenths) (sums.now.cycle_arrivals * sums.now.green_tenths)) result }
+{
+    let came = u128::from(sums.cycle_green) * u128::from(sums.cycle_tenths);
+    let even = u128::from(sums.cycle_arrivals) * u128::from(sums.green_tenths);
+    put_fraction(b" platoon ", came, even, sink)
+}
+
+fn put_shares<K: Sink>(sums: &ArrivalSum, sink: &mut K) -> Result<(), PutFailed>
+    ensures { Puts (K.written sink.old) (K.written sink.new) (K.faults sink.old) (K.faults sink.new) (arrival_shares sums.now) result }
+{
+    match put_share(sums, sink) {
+        Ok(()) => {}
+        Err(failed) => return Err(failed),
+    }
+    match put_platoon(sums, sink) {
+        Ok(()) => {}
+        Err(failed) => return Err(failed),
+    }
+    sink.put(b"\n")
+}
+
+fn put_arrivals<K: Sink>(name: &[u8], sums: &ArrivalSum, sink: &mut K) -> Result<(), PutFailed>
+    ensures { Puts (K.written sink.old) (K.written sink.new) (K.faults sink.old) (K.faults sink.new) (arrivals_line name.now sums.now) result }
+{
+    match put_counts(name, sums, sink) {
+        Ok(()) => {}
+        Err(failed) => return Err(failed),
+    }
+    put_shares(sums, sink)
+}
+
+fn put_actuations<K: Sink>(name: &[u8], sums: &ArrivalSum, sink: &mut K) -> Result<(), PutFailed>
+    ensures { Puts (K.written sink.old) (K.written sink.new) (K.faults sink.old) (K.faults sink.new) (actuations_line name.now sums.now) result }
+{
+    let mut actuations = Buffer::new();
+    let mut red = Buffer::new();
+    let mut not_red = Buffer::new();
+    let mut undecided = Buffer::new();
+    put_parts(
+        sink,
+        &[
+            b"approach ",
+            name,
+            b" actuations ",
+            actuations.format(sums.actuations).as_bytes(),
+            b" red ",
+            red.format(sums.red).as_bytes(),
+            b" not ",
+            not_red.format(sums.not_red).as_bytes(),
+            b" undecided ",
+            undecided.format(sums.red_undecided).as_bytes(),
+            b"\n",
+        ],
+    )
+}
+
+// Writes the line of an advance detector, where there is one.
+fn put_advance<K: Sink>(
+    approach: &Approach,
+    sums: &ArrivalSum,
+    sink: &mut K,
+) -> Result<(), PutFailed>
+    ensures { Puts (K.written sink.old) (K.written sink.new) (K.faults sink.old) (K.faults sink.new) (line_if (is_some approach.now.advance) (arrivals_line approach.now.name sums.now)) result }
+{
+    if approach.advance.is_some() {
+        put_arrivals(approach.name.bytes(), sums, sink)
+    } else {
+        Ok(())
+    }
+}
+
+// Writes the line of a stop bar detector, where there is one.
+fn put_stop_bar<K: Sink>(
+    approach: &Approach,
+    sums: &ArrivalSum,
+    sink: &mut K,
+) -> Result<(), PutFailed>
+    ensures { Puts (K.written sink.old) (K.written sink.new) (K.faults sink.old) (K.faults sink.new) (line_if (is_some approach.now.stop_bar) (actuations_line approach.now.name sums.now)) result }
+{
+    if approach.stop_bar.is_some() {
+        put_actuations(approach.name.bytes(), sums, sink)
+    } else {
+        Ok(())
+    }
+}
+
+fn put_approach<K: Sink>(
+    approach: &Approach,
+    sums: &ArrivalSum,
+    sink: &mut K,
+) -> Result<(), PutFailed>
+    ensures { Puts (K.written sink.old) (K.written sink.new) (K.faults sink.old) (K.faults sink.new) (approach_text approach.now sums.now) result }
+{
+    match put_advance(approach, sums, sink) {
+        Ok(()) => {}
+        Err(failed) => return Err(failed),
+    }
+    put_stop_bar(approach, sums, sink)
+}
+
+/// Writes for each approach, in file order, a line for its advance detector and one for its stop bar
+/// detector, where it has them. The sums stand in the same order.
+pub(crate) fn put_approaches<K: Sink>(
+    config: &Config,
+    sums: &[ArrivalSum],
+    sink: &mut K,
+) -> Result<(), PutFailed>
+    ensures { Puts (K.written sink.old) (K.written sink.new) (K.faults sink.old) (K.faults sink.new) (approaches_text config.now.approaches sums.now) result }
+{
+    for place in 0..config.approach_count() {
+        let Some(approach) = config.approach_at(place) else {
+            return Ok(());
+        };
+        let Some(own) = sums.get(place as usize) else {
+            return Ok(());
+        };
+        match put_approach(approach, own, sink) {
+            Ok(()) => {}
+            Err(failed) => return Err(failed),
+        }
+    }
+    Ok(())
+}

@@ -1,0 +1,106 @@
+use crate::approaches::put_approaches;
+use crate::put_diagram;
+use arrival_measures::{ArrivalSum, Diagram, Point, Points};
+use outside::MemSink;
+use ring_config::read_config;
+use service_cut::Cycle;
+use std::test::Fail;
+
+// An approach with both detectors.
+const CONFIG: &str = r#"signal = "7"
+start = "2024-03-04T06"
+hours = 2
+[[phase]]
+number = 2
+ring = 1
+side = 1
+[[approach]]
+name = "NB"
+phase = 2
+advance = 5
+stop_bar = 9
+"#;
+
+const SUMS: ArrivalSum = ArrivalSum {
+    arrivals: 3,
+    green: 2,
+    not_green: 1,
+    undecided: 0,
+    cycle_arrivals: 2,
+    cycle_green: 2,
+    green_tenths: 350,
+    cycle_tenths: 1200,
+    actuations: 4,
+    red: 1,
+    not_red: 2,
+    red_undecided: 1,
+};
+
+#[test]
+fn lines_of_an_approach(rt: HostRuntime) -> Result<(), Fail> {
+    let alloc = rt.alloc();
+    let Ok(config) = read_config(alloc, CONFIG.as_bytes()) else {
+        assert!(rt; false);
+        return Ok(());
+    };
+    let no_arrivals = ArrivalSum {
+        arrivals: 0,
+        green: 0,
+        not_green: 0,
+        ..SUMS
+    };
+    let no_cycle = ArrivalSum {
+        cycle_arrivals: 0,
+        cycle_green: 0,
+        ..SUMS
+    };
+    for (sums, first) in [
+        (
+            SUMS,
+            "approach NB arrivals 3 green 2 not 1 undecided 0 share 2/3 platoon 2400/700\n",
+        ),
+        (
+            no_arrivals,
+            "approach NB arrivals 0 green 0 not 0 undecided 0 share - platoon 2400/700\n",
+        ),
+        (
+            no_cycle,
+            "approach NB arrivals 3 green 2 not 1 undecided 0 share 2/3 platoon -\n",
+        ),
+    ] {
+        let mut sink = MemSink::new(alloc, 1000)?;
+        assert_eq!(rt; put_approaches(&config, &[sums], &mut sink), Ok(()));
+        let wanted = format!(in alloc;
+            "{first}approach NB actuations 4 red 1 not 2 undecided 1\n"
+        )?;
+        assert_eq!(rt; sink.bytes(), wanted.as_bytes());
+    }
+    Ok(())
+}
+
+#[test]
+fn lines_of_a_diagram(rt: HostRuntime) -> Result<(), Fail> {
+    let alloc = rt.alloc();
+    let Ok(config) = read_config(alloc, CONFIG.as_bytes()) else {
+        assert!(rt; false);
+        return Ok(());
+    };
+    let mut points = Points::new(alloc);
+    points.push(Point {
+        approach: 0,
+        offset: 250,
+    })?;
+    let cycle = Cycle {
+        phase: 2,
+        from: 100,
+        to: 700,
+        green: 200,
+        yellow: 550,
+    };
+    let mut sink = MemSink::new(alloc, 1000)?;
+    let diagram = Diagram { cycle, points };
+    assert_eq!(rt; put_diagram(&config, &diagram, &mut sink), Ok(()));
+    let wanted = "cycle 2024-03-04T06:00:10.0 length 600 green 200 yellow 550\npoint NB 250\n";
+    assert_eq!(rt; sink.bytes(), wanted.as_bytes());
+    Ok(())
+}

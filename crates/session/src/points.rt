@@ -1,0 +1,91 @@
+// The diagrams of a phase.
+ghost use Rattle.std.specs.Prelude.{◌≡◌, ◌++◌, ◌<◌, length, IfOk, OnOk};
+ghost use Rattle.hour_sums.specs.Numbers.{own};
+ghost use Rattle.hour_store.specs.Store.{is_known, known_rows};
+ghost use Rattle.arrival_measures.specs.Points.{diagrams_of, points_of};
+ghost use Rattle.hour_work.specs.Rows.{own_rows};
+ghost use Rattle.hour_work.specs.Measures.{cycles_in};
+ghost use Rattle.hour_work.specs.Points.{IsCarryAt};
+ghost use Rattle.session.specs.Links.{AreKept};
+ghost use Rattle.session.specs.Sessions.{Grow};
+
+use crate::renew::Worked;
+use arrival_measures::{Diagram, Point, Points, diagrams};
+use hour_store::HourStore;
+use hour_work::{Carry, Future, hours_make_up_the_log, phase_cycles, phase_points};
+use ring_config::Config;
+use service_cut::Cycle;
+use sig_base::{Hour, NoMemory, Reads};
+use std::alloc::Global;
+
+// The whole cycles of a phase that end in the hours so far, and its arrivals in them.
+#[derive(Drop)]
+struct Found {
+    cycles: Vec<Cycle>,
+    points: Points,
+}
+
+// Adds these points at the end.
+fn add_points(points: &mut Points, more: &[Point]) -> Result<(), NoMemory>
+    ensures { OnOk result (points.new ≡ points.old ++ more.now) }
+{
+    for point in more {
+        points.push(*point)?;
+    }
+    Ok(())
+}
+
+// Adds what is found in an hour, which is opened, between what is kept at the points about it.
+fn add_hour<L>(
+    alloc: Global,
+    config: &Config,
+    phase: u8,
+    store: &HourStore<L>,
+    hour: Hour,
+    before: &Carry,
+    after: &Future,
+    found: &mut Found,
+    reads: &mut Reads<L>,
+) -> Result<(), NoMemory>
+    requires in_store { hour < length store.now.hours }
+    requires before { IsCarryAt config.now store.now hour before.now }
+    ensures cycles { OnOk result (found.new.cycles.items ≡ found.old.cycles.items ++ own (λ x. x.phase) phase (cycles_in config.now store.now hour)) }
+    ensures points { OnOk result (found.new.points ≡ found.old.points ++ points_of config.now phase (own_rows store.now hour)) }
+    ensures grow { Grow reads.old reads.new }
+{
+    let rows = store.open_hour(hour, reads);
+    let blanked = store.blanked();
+    let mut cycles = phase_cycles(alloc, config, phase, hour, before, rows, blanked)?;
+    let points = phase_points(alloc, config, phase, hour, before, rows, blanked, after)?;
+    found.cycles.append(&mut cycles)?;
+    add_points(&mut found.points, points.list())?;
+    Ok(())
+}
+
+// The diagrams of a phase in the whole window. Each hour is opened once.
+pub fn phase_diagrams<L>(
+    alloc: Global,
+    config: &Config,
+    store: &HourStore<L>,
+    worked: &Worked,
+    phase: u8,
+    reads: &mut Reads<L>,
+) -> Result<Vec<Diagram>, NoMemory>
+    requires kept { AreKept config.now store.now worked.now.carries.items worked.now.futures.items worked.now.report }
+    ensures points { IfOk result (λ v. v.items ≡ diagrams_of (is_known store.now) config.now phase (known_rows store.now)) }
+    ensures grow { Grow reads.old reads.new }
+{
+    let mut found = Found {
+        cycles: Vec::new(alloc),
+        points: Points::new(alloc),
+    };
+    for hour in 0..store.hours() {
+        let before = &worked.carries[hour as usize];
+        let after = &worked.futures[hour as usize + 1];
+        add_hour(
+            alloc, config, phase, store, hour, before, after, &mut found, reads,
+        )?;
+    }
+    hours_make_up_the_log();
+    diagrams(alloc, &found.cycles, &found.points)
+}

@@ -1,0 +1,10 @@
+use Rattle.std.proofs.Common.{drop}
+use Rattle.outside.proofs.PutsFacts.{Going}
+use Rattle.sigaudit.specs.Points.{diagrams_text}
+use Rattle.sigaudit.proofs.points.put_diagrams.Given as goal
+
+-- the diagrams so far were written
+abbrev pub invariant-loop-diagram : goal.invariant-loop-diagram
+invariant-loop-diagram g l =
+    Going (g.K.Sink.written l.fn.sink) (g.K.Sink.written l.sink) (g.K.Sink.faults l.fn.sink) (g.K.Sink.faults l.sink)
+    (diagrams_text l.config l.diagrams) (diagrams_text l.config (drop l.diagram-index l.diagrams))

@@ -1,0 +1,17 @@
+pub mod OrderFacts
+pub mod RepeatFacts
+pub mod LoopFacts
+pub mod Bytes
+pub mod NumberFacts
+pub mod PartFacts
+pub mod RowFacts
+pub mod ReadingFacts
+pub mod PackFacts
+pub mod UnpackFacts
+pub mod NumberFaults
+pub mod PartFaults
+pub mod RowFaults
+pub mod ReadingFaults
+pub mod CauseFacts
+pub mod ApartFacts
+pub mod GroupFacts

@@ -1,0 +1,7 @@
+pub mod Number
+pub mod Signal
+pub mod Grammar
+pub mod Reading
+pub mod Repeats
+pub mod Faults
+pub mod Laws

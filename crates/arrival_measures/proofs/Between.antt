@@ -1,21 +1,21 @@
 -- An hour's rows at some of its tenths.
-use Rattle.std.proofs.Common.{◌≡◌, ◌↔◌, ◌⊎◌, inl, inr, ℕ, zero, suc, ◌+◌, ◌<◌, ◌≤◌, Bool, true, false, not, ◌&&◌, cond, leb, ltb, IsTrue, List, [], ◌∷◌, ◌++◌, Option, Some, length, get_or, take, drop, refl, ap, sym, subst, ◌∙◌, arith}
+use Rattle.std.proofs.Common.{◌≡◌, inl, inr, ℕ, zero, suc, ◌<◌, ◌≤◌, Bool, true, not, ◌&&◌, leb, ltb, List, [], ◌∷◌, ◌++◌, Option, Some, length, get_or, take, drop, refl, ap, sym, subst, ◌∙◌, arith}
 use Rattle.std.specs.Prelude.{All, max}
 use Rattle.std.specs.List.{filter}
 use Rattle.std.specs.List.Sorted.{IsNonDecreasingBy}
 use Rattle.std.proofs.lemmas.Bool.{cases_Bool, cases_lt, ltb-true, ltb-false, lt-ltb, le-leb, leb-true, and_parts}
-use Rattle.std.proofs.lemmas.List.{drop_more, drop_all}
 use Rattle.std.proofs.lemmas.List.Elements.{All-nil, All-cons, All-weaker, filter_agree, filter-append}
 use Rattle.sig_base.specs.declared.values.Row.{Row}
 use Rattle.hour_sweep.specs.Rows.{known_rows}
 use Rattle.hour_sweep.specs.Hours.{AreOrdered}
-use Rattle.hour_sweep.proofs.Orders.{end_of, ordered_from}
+use Rattle.hour_sweep.proofs.Orders.{ordered_from}
 use Rattle.cycle_arrivals.specs.declared.open.Open.{Open}
 use Rattle.cycle_arrivals.specs.Arrivals.{rows_within}
 use Rattle.cycle_arrivals.specs.Opens.{open_at}
 use Rattle.cycle_arrivals.proofs.Within.{filter_same, within_none}
 use Rattle.arrival_measures.specs.Steps.{IsUnderWay}
-use Rattle.arrival_measures.proofs.Filters.{filter_filter, and_same, clash, cut_at}
+use Rattle.cycle_arrivals.proofs.Own.{filter_filter}
+use Rattle.arrival_measures.proofs.Filters.{and_same}
 use Rattle.arrival_measures.proofs.Opens.{from_is, open_same}
 
 -- rows in order don't fall

@@ -1,25 +1,22 @@
 -- Rows of a detector, judged one by one.
-use Rattle.std.proofs.Common.{◌≡◌, ◌⊎◌, ◌↔◌, inl, inr, ℕ, zero, suc, ◌+◌, ◌-◌, ◌^◌, ◌<◌, ◌≤◌, Bool, true, false, not, ◌&&◌, ◌||◌, IsTrue, cond, eqb, List, [], ◌∷◌, ◌++◌, length, get_or, take, refl, ap, sym, subst, ◌∙◌, arith}
-use Rattle.std.specs.Prelude.{All, count_by}
+use Rattle.std.proofs.Common.{◌≡◌, ◌↔◌, inl, inr, ℕ, suc, ◌+◌, ◌^◌, ◌<◌, ◌≤◌, Bool, true, false, not, IsTrue, List, [], ◌∷◌, ◌++◌, length, get_or, take, refl, ap, sym, subst, ◌∙◌, arith}
 use Rattle.std.specs.List.{filter}
-use Rattle.std.proofs.lemmas.Bool.{cases_Bool, and_parts, not-true, eq-eqb, eqb-true}
+use Rattle.std.proofs.lemmas.Bool.{cases_Bool, and_parts, not-true}
 use Rattle.std.proofs.lemmas.List.{length-take-le}
-use Rattle.std.proofs.lemmas.List.Elements.{filter_more}
 use Rattle.std.proofs.lemmas.List.Sums.{length-filter, count_by-le-length}
 use Rattle.sig_base.specs.declared.values.Row.{Row}
-use Rattle.colour_machine.specs.Mask.{Has}
 use Rattle.reach.specs.Runs.{State}
 use Rattle.reach.specs.Tests.{Meets}
 use Rattle.reach.specs.declared.seen.Test.{Test}
 use Rattle.reach.specs.declared.seen.AgeBound.TheVariants.{Any}
 use Rattle.reach.specs.declared.seen.Seen.{Seen}
 use Rattle.hour_sums.specs.Numbers.{capped}
-use Rattle.ring_config.specs.Settings.{Settings, spec_place}
-use Rattle.cycle_arrivals.specs.Arrivals.{is_on, ons_of}
+use Rattle.board.specs.Logs.{no_row}
 use Rattle.arrival_measures.specs.declared.judged.Judged.{Judged}
-use Rattle.arrival_measures.specs.Judged.{AllPass, NonePass, OnlySomePass, CountOf, AreJudged, phase_channel, is_green, is_red}
-use Rattle.arrival_measures.specs.Steps.{IsMaskOf, Says, AreJudgedRows, IsJudged, judged_with, no_judged, one_if}
+use Rattle.arrival_measures.specs.Judged.{AllPass, NonePass, CountOf}
+use Rattle.arrival_measures.specs.Steps.{IsMaskOf, Says, AreJudgedRows, judged_with, no_judged, one_if}
 use Rattle.arrival_measures.proofs.Filters.{clash}
+use Rattle.arrival_measures.proofs.Chaining.{one_kept, one_left}
 
 -- counts
 
@@ -72,32 +69,18 @@ judged_next test May xs x j seen few s h = record {
   some = count_next _ xs x j.some _ few s.some h.some;
 }
 
--- the loop over the rows
+-- the rows that pass a test, one by one
 
-ons_few : (d : ℕ) (rows : List Row) (i : ℕ) → i ≤ length rows → length (ons_of d (take i rows)) ≤ i
-ons_few d rows i le = let a = length-filter (is_on d) (take i rows) in let b = count_by-le-length (is_on d) (take i rows) in let e = length-take-le i rows le in omega arith
+few_pass : (T : Row → Bool) (rows : List Row) (i : ℕ) → i ≤ length rows → length (filter T (take i rows)) ≤ i
+few_pass T rows i le = let a = length-filter T (take i rows) in let b = count_by-le-length T (take i rows) in let e = length-take-le i rows le in omega arith
 
-ons_on : (d : ℕ) (rows : List Row) (i : ℕ) (x : Row) → i < length rows → x ≡ get_or rows i x → is_on d x ≡ true → ons_of d (take (i + 1) rows) ≡ ons_of d (take i rows) ++ x ∷ []
-ons_on d rows i x lt e on =
-    let at : is_on d (get_or rows i x) ≡ true = subst (λ (z : Row). is_on d z ≡ true) e on in
-    filter_more (is_on d) rows i x lt ∙ ap (λ v. ons_of d (take i rows) ++ cond v (get_or rows i x ∷ []) []) at ∙ ap (λ z. ons_of d (take i rows) ++ z ∷ []) (sym e)
+pub judged_on : (test : ℕ → Bool) (May : ℕ → State → Type 0) (T : Row → Bool) (rows : List Row) (i : ℕ) (j new : Judged) (seen : Seen) → length rows < 2 ^ 64 → i < length rows → T (get_or rows i no_row) ≡ true → Says test (May (get_or rows i no_row).at) seen → new ≡ judged_with j seen → AreJudgedRows test May (filter T (take i rows)) j → AreJudgedRows test May (filter T (take (i + 1) rows)) new
+judged_on test May T rows i j new seen few lt on s n h =
+    let le = few_pass T rows i (omega arith) in
+    rw (n, one_kept T rows i lt on) (judged_next test May (filter T (take i rows)) (get_or rows i no_row) j seen (omega arith) s h)
 
-ons_off : (d : ℕ) (rows : List Row) (i : ℕ) (x : Row) → i < length rows → x ≡ get_or rows i x → is_on d x ≡ false → ons_of d (take (i + 1) rows) ≡ ons_of d (take i rows)
-ons_off d rows i x lt e on =
-    let at : is_on d (get_or rows i x) ≡ false = subst (λ (z : Row). is_on d z ≡ false) e on in
-    filter_more (is_on d) rows i x lt ∙ ap (λ v. ons_of d (take i rows) ++ cond v (get_or rows i x ∷ []) []) at ∙ append_none (ons_of d (take i rows))
-  where
-    append_none : (xs : List Row) → xs ++ [] ≡ xs
-    append_none [] = refl
-    append_none (y ∷ ys) = ap (λ zs. y ∷ zs) (append_none ys)
-
-pub judged_on : (test : ℕ → Bool) (May : ℕ → State → Type 0) (d : ℕ) (rows : List Row) (i : ℕ) (x : Row) (j new : Judged) (seen : Seen) → length rows < 2 ^ 64 → i < length rows → x ≡ get_or rows i x → is_on d x ≡ true → Says test (May x.at) seen → new ≡ judged_with j seen → AreJudgedRows test May (ons_of d (take i rows)) j → AreJudgedRows test May (ons_of d (take (i + 1) rows)) new
-judged_on test May d rows i x j new seen few lt e on s n h =
-    let le = ons_few d rows i (omega arith) in
-    rw (n, ons_on d rows i x lt e on) (judged_next test May (ons_of d (take i rows)) x j seen (omega arith) s h)
-
-pub judged_off : (test : ℕ → Bool) (May : ℕ → State → Type 0) (d : ℕ) (rows : List Row) (i : ℕ) (x : Row) (j new : Judged) → i < length rows → x ≡ get_or rows i x → is_on d x ≡ false → new ≡ j → AreJudgedRows test May (ons_of d (take i rows)) j → AreJudgedRows test May (ons_of d (take (i + 1) rows)) new
-judged_off test May d rows i x j new lt e on n h = rw (n, ons_off d rows i x lt e on) h
+pub judged_off : (test : ℕ → Bool) (May : ℕ → State → Type 0) (T : Row → Bool) (rows : List Row) (i : ℕ) (j new : Judged) → i < length rows → T (get_or rows i no_row) ≡ false → new ≡ j → AreJudgedRows test May (filter T (take i rows)) j → AreJudgedRows test May (filter T (take (i + 1) rows)) new
+judged_off test May T rows i j new lt off n h = rw (n, one_left T rows i lt off) h
 
 -- what is seen at one tenth
 

@@ -1,22 +1,13 @@
 -- Lists cut by tests.
-use Rattle.std.proofs.Common.{◌≡◌, ◌⊎◌, inl, inr, ℕ, zero, suc, ◌+◌, ◌<◌, ◌≤◌, Bool, true, false, not, ◌&&◌, cond, List, [], ◌∷◌, ◌++◌, length, get_or, take, drop, refl, ap, sym, ◌∙◌, arith}
+use Rattle.std.proofs.Common.{◌≡◌, ℕ, zero, suc, ◌≤◌, Bool, true, false, not, ◌&&◌, List, [], ◌∷◌, length, take, drop, refl, ap, sym, ◌∙◌, arith}
 use Rattle.std.specs.Prelude.{All, count_by}
 use Rattle.std.specs.List.{filter, AllWithin}
 use Rattle.std.specs.List.Sorted.{IsPartitionPoint}
-use Rattle.std.proofs.lemmas.Bool.{cases_Bool}
 use Rattle.std.proofs.lemmas.List.Elements.{All-head, All-tail}
 use Rattle.std.proofs.lemmas.List.Sums.{length-filter}
 
 pub clash : (b : Bool) → b ≡ true → b ≡ false → ⊥
 clash b t f = let bad : true ≡ false = sym t ∙ f in absurd (cc)
-
-filter_if : {X : Type 0} (p : X → Bool) (v : Bool) (x : X) (xs : List X) → filter p (cond v (x ∷ xs) xs) ≡ cond (v && p x) (x ∷ filter p xs) (filter p xs)
-filter_if p true x xs = refl
-filter_if p false x xs = refl
-
-pub filter_filter : {X : Type 0} (p q : X → Bool) (xs : List X) → filter p (filter q xs) ≡ filter (λ x. q x && p x) xs
-filter_filter p q [] = refl
-filter_filter p q (x ∷ xs) = filter_if p (q x) x (filter q xs) ∙ ap (λ zs. cond (q x && p x) (x ∷ zs) zs) (filter_filter p q xs)
 
 pub filter_same : {X : Type 0} (p q : X → Bool) (xs : List X) → All (λ x. p x ≡ q x) xs → filter p xs ≡ filter q xs
 filter_same p q [] h = refl

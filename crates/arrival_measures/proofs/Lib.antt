@@ -2,11 +2,14 @@ pub mod Starts
 pub mod Each
 pub mod Filters
 pub mod Detectors
+pub mod Chaining
 pub mod Counting
 pub mod Opens
 pub mod Between
 pub mod Crossing
 pub mod Numbers
+pub mod OwnRows
 pub mod Hours
+pub mod Knowing
 pub mod RowPoints
 pub mod OneSum

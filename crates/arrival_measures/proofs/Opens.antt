@@ -1,17 +1,16 @@
 -- What a cycle gives, by the rows of its own tenths alone.
-use Rattle.std.proofs.Common.{◌≡◌, ℕ, ◌+◌, ◌-◌, ◌<◌, ◌≤◌, Bool, true, false, ◌&&◌, leb, ltb, List, [], ◌++◌, length, refl, ap, sym, ◌∙◌, arith, inl, inr}
-use Rattle.std.specs.Prelude.{All, count_by}
-use Rattle.std.proofs.lemmas.Bool.{cases_Bool, ltb-true, lt-ltb}
+use Rattle.std.proofs.Common.{◌≡◌, ℕ, ◌+◌, ◌-◌, ◌<◌, ◌≤◌, Bool, true, false, ◌&&◌, leb, ltb, List, length, refl, ap, sym, ◌∙◌, arith}
+use Rattle.std.specs.Prelude.{count_by}
+use Rattle.std.proofs.lemmas.Bool.{ltb-true, lt-ltb}
 use Rattle.std.proofs.lemmas.List.Elements.{filter_agree}
 use Rattle.sig_base.specs.declared.values.Row.{Row}
-use Rattle.hour_sums.specs.Numbers.{capped}
 use Rattle.cycle_arrivals.specs.Arrivals.{is_on, ons_of, rows_within}
 use Rattle.cycle_arrivals.specs.Green.{greens, shows_green, arrivals_in, green_arrivals_in, green_tenths_in}
 use Rattle.cycle_arrivals.specs.Opens.{open_at}
 use Rattle.cycle_arrivals.proofs.Within.{within_below}
 use Rattle.cycle_arrivals.proofs.Counts.{count_same}
 use Rattle.cycle_arrivals.proofs.Tenths.{tenths_same}
-use Rattle.arrival_measures.proofs.Filters.{filter_filter}
+use Rattle.cycle_arrivals.proofs.Own.{filter_filter}
 
 pub from_is : (p d a t : ℕ) (rows : List Row) → (open_at p d a t rows).from ≡ a
 unfolding open_at

@@ -1,10 +1,10 @@
 -- Points of rows, and of the cycles that they are in.
-use Rattle.std.proofs.Common.{◌≡◌, ℕ, zero, suc, ◌+◌, ◌<◌, ◌≤◌, Bool, true, false, not, ◌&&◌, cond, eqb, leb, ltb, List, [], ◌∷◌, ◌++◌, Option, Some, None, map, length, get_or, take, drop, refl, ap, sym, ◌∙◌, append_assoc, arith, inl, inr}
+use Rattle.std.proofs.Common.{◌≡◌, ℕ, zero, suc, ◌+◌, ◌<◌, ◌≤◌, Bool, true, false, not, ◌&&◌, cond, eqb, leb, ltb, List, [], ◌∷◌, ◌++◌, Option, Some, None, length, get_or, take, drop, refl, ap, sym, ◌∙◌, append_assoc, arith, inl, inr}
 use Rattle.std.specs.Prelude.{flat_map}
 use Rattle.std.specs.List.{filter}
 use Rattle.std.specs.List.Sorted.{IsNonDecreasingBy}
 use Rattle.std.proofs.lemmas.Bool.{cases_Bool}
-use Rattle.std.proofs.lemmas.List.{drop_more, drop_all, take_more, append-nil}
+use Rattle.std.proofs.lemmas.List.{drop_more, take_more, append-nil}
 use Rattle.std.proofs.lemmas.List.Elements.{filter_agree}
 use Rattle.std.proofs.lemmas.Grind.{flat_map-append}
 use Rattle.sig_base.specs.declared.values.Row.{Row}
@@ -14,7 +14,7 @@ use Rattle.ring_config.specs.declared.items.Approach.{Approach}
 use Rattle.arrival_measures.specs.declared.points.Point.{Point}
 use Rattle.arrival_measures.specs.Points.{is_on_at, points_at, points_of, AreByTenth}
 use Rattle.arrival_measures.specs.Steps.{is_detector}
-use Rattle.arrival_measures.proofs.Filters.{filter_filter}
+use Rattle.cycle_arrivals.proofs.Own.{filter_filter}
 use Rattle.arrival_measures.proofs.Between.{not_before}
 
 -- the points of joined lists of rows

@@ -5,3 +5,4 @@ pub mod Hours
 pub mod Points
 pub mod Views
 pub mod Steps
+pub mod Chains

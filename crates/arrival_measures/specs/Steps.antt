@@ -1,5 +1,5 @@
 -- What the steps of an hour owe one another.
-use Rattle.std.specs.Prelude.{ℕ, ◌≡◌, ◌↔◌, ◌≤◌, ◌<◌, ◌+◌, ◌-◌, ◌==◌, ◌&&◌, ◌++◌, not, Bool, true, if◌then◌else◌, IsTrue, List, [], ◌∷◌, Option, Some, None, All, length}
+use Rattle.std.specs.Prelude.{ℕ, ◌≡◌, ◌↔◌, ◌≤◌, ◌<◌, ◌+◌, ◌-◌, ◌==◌, ◌&&◌, ◌++◌, not, nat_le, Bool, true, if◌then◌else◌, IsTrue, List, [], ◌∷◌, Option, Some, None, All, filter, length}
 use Rattle.sig_base.specs.declared.values.Row.{Row}
 use Rattle.colour_machine.specs.Mask.{Has}
 use Rattle.reach.specs.Runs.{State}
@@ -7,11 +7,13 @@ use Rattle.reach.specs.declared.seen.Seen.{Seen}
 use Rattle.hour_sums.specs.Numbers.{capped}
 use Rattle.hour_sweep.specs.Hours.{AreOrdered, point}
 use Rattle.service_cut.specs.declared.items.Cycle.{Cycle}
+use Rattle.service_cut.specs.declared.items.OpenCycle.{OpenCycle}
 use Rattle.service_cut.specs.Cut.{CutLists, IsCut}
 use Rattle.ring_config.specs.Settings.{Settings}
 use Rattle.cycle_arrivals.specs.declared.open.Open.{Open}
 use Rattle.cycle_arrivals.specs.Arrivals.{ons_of}
 use Rattle.cycle_arrivals.specs.Opens.{open_at}
+use Rattle.cycle_arrivals.specs.Own.{own_rows}
 use Rattle.arrival_measures.specs.declared.judged.Judged.{Judged}
 use Rattle.arrival_measures.specs.declared.cycles.CycleSum.{CycleSum}
 use Rattle.arrival_measures.specs.declared.sums.ArrivalSum.{ArrivalSum}
@@ -69,6 +71,17 @@ IsJudged May c p test rows j None = j ≡ no_judged
 IsJudged May c p test rows j (Some d) = IsJudgedAt May c p test d rows j
 
 -- ---- whole cycles
+
+-- the rows on which cycles of phase p depend, by the advance detector
+abbrev pub rows_with : ℕ → Option ℕ → List Row → List Row
+rows_with p None rows = []
+rows_with p (Some d) rows = own_rows p d rows
+
+-- those of the rows from some tenth on, where none of these cycles begins before it
+pub record AreSince (cycles : List OpenCycle) (rows later : List Row) : Type 0 where
+  pub low : ℕ
+  pub are_later : later ≡ filter (λ x. nat_le low x.at) rows
+  pub begin_later : All (λ y. low ≤ y.from) cycles
 
 abbrev pub numbers_in : CycleSum → CycleNumbers
 numbers_in s = record { arrivals = s.arrivals; green = s.green; green_tenths = s.green_tenths; tenths = s.tenths }

@@ -9,7 +9,7 @@ ghost use Rattle.ring_config.specs.Values.{has_phase};
 ghost use Rattle.arrival_measures.specs.Crossing.{open_of};
 ghost use Rattle.arrival_measures.specs.Cycles.{numbers_of};
 ghost use Rattle.arrival_measures.specs.Hours.{cycle_numbers};
-ghost use Rattle.arrival_measures.specs.Steps.{AreUnderWay, IsCutHour, no_cycle, numbers_in, sum_with};
+ghost use Rattle.arrival_measures.specs.Steps.{AreSince, AreUnderWay, IsCutHour, no_cycle, numbers_in, rows_with, sum_with};
 
 use crate::under_way::cycle_given;
 use cycle_arrivals::Open;
@@ -76,7 +76,8 @@ fn cycle_sum(
     sum
 }
 
-/// Of the approach's phase those that end in the hour, which has its first tenth here.
+/// Of the approach's phase those that end in the hour, which has its first tenth here. The rows are
+/// the approach's own.
 pub(crate) fn approach_cycles(
     approach: &Approach,
     begun: Option<Open>,
@@ -84,8 +85,8 @@ pub(crate) fn approach_cycles(
     rows: &[Row],
     first: u32,
 ) -> CycleSum
-    ensures { (known : ℕ → Bool) (c : Settings) (before : List Row) (hour : ℕ) → IsCutHour known c before hour rows.now first cuts.now → begun ≡ open_of known (point hour) before approach.now
-        → numbers_in result ≡ cycle_numbers known c before (known_rows known rows.now) approach.now approach.now.advance }
+    ensures { (known : ℕ → Bool) (c : Settings) (before all : List Row) (hour : ℕ) → IsCutHour known c before hour all first cuts.now → rows.now ≡ rows_with approach.now.phase approach.now.advance all → begun ≡ open_of known (point hour) before approach.now
+        → numbers_in result ≡ cycle_numbers known c before (known_rows known all) approach.now approach.now.advance }
 {
     match approach.advance {
         Some(detector) => { cycle_sum(approach.phase, detector, begun, cuts.cycles(), rows, first) }
@@ -100,7 +101,8 @@ fn open_cycle_of(cycles: &[OpenCycle], phase: u8) -> Option<OpenCycle>
     cycles.iter().copied().find(|one| one.phase == phase)
 }
 
-/// The cycle of the approach's phase that has begun at the hour's end.
+/// The cycle of the approach's phase that has begun at the hour's end. The rows are the approach's
+/// own; those before all cycles that have begun may be left out.
 pub(crate) fn open_after(
     approach: &Approach,
     begun: Option<Open>,
@@ -108,8 +110,8 @@ pub(crate) fn open_after(
     rows: &[Row],
     first: u32,
 ) -> Option<Open>
-    ensures { (known : ℕ → Bool) (c : Settings) (before : List Row) (hour : ℕ) → IsCutHour known c before hour rows.now first cuts.now → has_phase c.phases approach.now.phase ≡ true → begun ≡ open_of known (point hour) before approach.now
-        → result ≡ open_of known (point (hour + 1)) (before ++ known_rows known rows.now) approach.now }
+    ensures { (known : ℕ → Bool) (c : Settings) (before all later : List Row) (hour : ℕ) → IsCutHour known c before hour all first cuts.now → AreSince cuts.now.open_cycles all later → rows.now ≡ rows_with approach.now.phase approach.now.advance later → has_phase c.phases approach.now.phase ≡ true → begun ≡ open_of known (point hour) before approach.now
+        → result ≡ open_of known (point (hour + 1)) (before ++ known_rows known all) approach.now }
 {
     let detector = approach.advance?;
     let phase = approach.phase;

@@ -1,25 +1,24 @@
 // The numbers of an hour.
-ghost use Rattle.std.specs.Prelude.{◌≡◌, true, map, All, ◌+◌, ◌++◌, ℕ, Bool, List, length, IfOk, OnOk, OnErr, []};
+ghost use Rattle.std.specs.Prelude.{◌≡◌, true, map, ◌+◌, ◌++◌, ℕ, Bool, List, length, IfOk, OnOk, OnErr, []};
 ghost use Rattle.sig_base.specs.declared.values.Row.{Row};
 ghost use Rattle.hour_sums.specs.Numbers.{merged};
 ghost use Rattle.hour_sweep.specs.Rows.{known_rows};
 ghost use Rattle.hour_sweep.specs.Hours.{IsHour, point};
 ghost use Rattle.service_cut.specs.Cut.{IsCut};
-ghost use Rattle.gap_map.specs.Stretches.{known_at};
 ghost use Rattle.board.specs.Logs.{HourLog};
-ghost use Rattle.board.specs.Places.{IsViewOf};
 ghost use Rattle.board.specs.Verdicts.{MayPass};
 ghost use Rattle.ring_config.specs.Values.{has_phase};
 ghost use Rattle.arrival_measures.specs.Crossing.{IsCarry, open_of};
 ghost use Rattle.arrival_measures.specs.Hours.{AreAllJudged, HasJudged, HaveCycles, added, are_cycle_numbers, cycle_part, no_sum};
-ghost use Rattle.arrival_measures.specs.Steps.{IsCutHour, numbers_in};
+ghost use Rattle.arrival_measures.specs.Steps.{AreSince, IsCutHour, numbers_in};
 ghost use Rattle.arrival_measures.specs.Views.{IsSeen};
 
 use crate::approach::{approach_of, phase_spec};
 use crate::carry::ArrivalCarry;
+use crate::chains::Chains;
 use crate::cycles::{CycleSum, approach_cycles, begun_at, open_after};
-use crate::detector_rows::detector_rows;
 use crate::judged::{green, judged_of, red};
+use crate::own_rows::{own_rows, rows_since};
 use crate::sums::ArrivalSum;
 use crate::under_way::first_of;
 use board::HourView;
@@ -113,17 +112,35 @@ fn approach_sum(
     config: &Config,
     view: &HourView,
     approach: &Approach,
-    detectors: &[Row],
+    chains: &Chains<'_>,
+    stretches: &[Stretch],
     cycles: CycleSum,
 ) -> ArrivalSum
-    requires view { length view.now ≡ length config.now.specs }
+    requires view { length view.now.specs ≡ length config.now.specs }
     requires phase { has_phase config.now.phases approach.now.phase ≡ true }
-    ensures judged { (log : HourLog) → IsViewOf log view.now → All (λ x. known_at log.stretches x.at ≡ true) detectors.now → HasJudged (λ i t v. MayPass log t i v) config.now detectors.now approach.now result }
+    ensures judged { (known : ℕ → Bool) (hour : ℕ) (log : HourLog) → IsHour known hour chains.now stretches.now → IsSeen config.now view.now chains.now stretches.now log
+        → HasJudged (λ i t v. MayPass log t i v) config.now (known_rows known chains.now) approach.now result }
     ensures cycles { cycle_part result ≡ numbers_in cycles }
 {
     let phase = approach.phase;
-    let greens = judged_of(config, view, phase, approach.advance, green(), detectors);
-    let reds = judged_of(config, view, phase, approach.stop_bar, red(), detectors);
+    let greens = judged_of(
+        config,
+        view,
+        phase,
+        approach.advance,
+        green(),
+        chains,
+        stretches,
+    );
+    let reds = judged_of(
+        config,
+        view,
+        phase,
+        approach.stop_bar,
+        red(),
+        chains,
+        stretches,
+    );
     ArrivalSum {
         arrivals: greens.rows,
         green: greens.all,
@@ -145,60 +162,80 @@ fn sums_of(
     alloc: Global,
     config: &Config,
     view: &HourView,
-    detectors: &[Row],
+    chains: &Chains<'_>,
+    stretches: &[Stretch],
     cycles: &[CycleSum],
 ) -> Result<Vec<ArrivalSum>, NoMemory>
-    requires view { length view.now ≡ length config.now.specs }
+    requires view { length view.now.specs ≡ length config.now.specs }
     requires cycles { length cycles.now ≡ length config.now.approaches }
-    ensures judged { IfOk result (λ v. (log : HourLog) → IsViewOf log view.now → All (λ x. known_at log.stretches x.at ≡ true) detectors.now → AreAllJudged (λ i t v. MayPass log t i v) config.now detectors.now v.items) }
+    ensures judged { IfOk result (λ v. (known : ℕ → Bool) (hour : ℕ) (log : HourLog) → IsHour known hour chains.now stretches.now → IsSeen config.now view.now chains.now stretches.now log
+        → AreAllJudged (λ i t v. MayPass log t i v) config.now (known_rows known chains.now) v.items) }
     ensures cycles { IfOk result (λ v. map cycle_part v.items ≡ map numbers_in cycles.now) }
 {
     let mut sums = Vec::new(alloc);
     for place in 0..config.approach_count() {
         let approach = approach_of(config, place);
-        let of_cycles = cycles[place as usize];
-        sums.push(approach_sum(config, view, approach, detectors, of_cycles))?;
+        let given = cycles[place as usize];
+        sums.push(approach_sum(config, view, approach, chains, stretches, given))?;
     }
     Ok(sums)
 }
 
-// The numbers of the whole cycles of each approach.
+// What the cycles of each approach give in an hour.
+#[derive(Drop)]
+struct HourCycles {
+    // The numbers of the whole cycles.
+    sums: Vec<CycleSum>,
+    // What crosses the point after the hour.
+    opens: Vec<Option<Open>>,
+}
+
+// The cycles of each approach, by its own rows alone.
 fn cycles_of(
     alloc: Global,
     config: &Config,
     opens: &[Option<Open>],
     cuts: &Cuts,
-    rows: &[Row],
+    chains: &Chains<'_>,
     first: u32,
-) -> Result<Vec<CycleSum>, NoMemory>
-    ensures size { IfOk result (λ v. length v.items ≡ length config.now.approaches) }
-    ensures cycles { IfOk result (λ v. (known : ℕ → Bool) (before : List Row) (hour : ℕ) → IsCutHour known config.now before hour rows.now first cuts.now → opens.now ≡ map (open_of known (point hour) before) config.now.approaches
-        → map numbers_in v.items ≡ are_cycle_numbers known config.now before (known_rows known rows.now)) }
+) -> Result<HourCycles, NoMemory>
+    ensures size { IfOk result (λ v. length v.sums.items ≡ length config.now.approaches) }
+    ensures cycles { IfOk result (λ v. (known : ℕ → Bool) (before : List Row) (hour : ℕ) → IsCutHour known config.now before hour chains.now first cuts.now → opens.now ≡ map (open_of known (point hour) before) config.now.approaches
+        → map numbers_in v.sums.items ≡ are_cycle_numbers known config.now before (known_rows known chains.now)) }
+    ensures opens { IfOk result (λ v. (known : ℕ → Bool) (before : List Row) (hour : ℕ) → IsCutHour known config.now before hour chains.now first cuts.now → opens.now ≡ map (open_of known (point hour) before) config.now.approaches
+        → v.opens.items ≡ map (open_of known (point (hour + 1)) (before ++ known_rows known chains.now)) config.now.approaches) }
 {
     let mut sums = Vec::new(alloc);
+    let mut after = Vec::new(alloc);
     for place in 0..config.approach_count() {
+        let approach = approach_of(config, place);
         let begun = begun_at(opens, place);
-        sums.push(approach_cycles(approach_of(config, place), begun, cuts, rows, first))?;
+        let own = own_rows(alloc, approach, chains)?;
+        sums.push(approach_cycles(approach, begun, cuts, &own, first))?;
+        after.push(open_after(approach, begun, cuts, &own, first))?;
     }
-    Ok(sums)
+    Ok(HourCycles { sums, opens: after })
 }
 
-// What crosses the point after the hour, of each approach.
+// What crosses the point after the hour, of each approach, by its own rows alone. Those before all
+// cycles that have begun may be left out.
 fn opens_after(
     alloc: Global,
     config: &Config,
     opens: &[Option<Open>],
     cuts: &Cuts,
-    rows: &[Row],
+    chains: &Chains<'_>,
     first: u32,
 ) -> Result<Vec<Option<Open>>, NoMemory>
-    ensures { IfOk result (λ v. (known : ℕ → Bool) (before : List Row) (hour : ℕ) → IsCutHour known config.now before hour rows.now first cuts.now → opens.now ≡ map (open_of known (point hour) before) config.now.approaches
-        → v.items ≡ map (open_of known (point (hour + 1)) (before ++ known_rows known rows.now)) config.now.approaches) }
+    ensures { IfOk result (λ v. (known : ℕ → Bool) (before all : List Row) (hour : ℕ) → IsCutHour known config.now before hour all first cuts.now → AreSince cuts.now.open_cycles all chains.now → opens.now ≡ map (open_of known (point hour) before) config.now.approaches
+        → v.items ≡ map (open_of known (point (hour + 1)) (before ++ known_rows known all)) config.now.approaches) }
 {
     let mut after = Vec::new(alloc);
     for place in 0..config.approach_count() {
+        let approach = approach_of(config, place);
         let begun = begun_at(opens, place);
-        after.push(open_after(approach_of(config, place), begun, cuts, rows, first))?;
+        let own = own_rows(alloc, approach, chains)?;
+        after.push(open_after(approach, begun, cuts, &own, first))?;
     }
     Ok(after)
 }
@@ -218,7 +255,13 @@ pub fn arrivals_carried(
         → IsCarry known config.now (before ++ known_rows known rows.now) (hour + 1) carry.new) }
     ensures err { OnErr result (carry.new ≡ carry.old) }
 {
-    carry.opens = opens_after(alloc, config, &carry.opens, cuts, rows, first_of(stretches))?;
+    if config.approach_count() == 0 {
+        return Ok(());
+    }
+    let later = rows_since(rows, cuts.open_cycles());
+    let chains = Chains::new(alloc, later)?;
+    let first = first_of(stretches);
+    carry.opens = opens_after(alloc, config, &carry.opens, cuts, &chains, first)?;
     Ok(())
 }
 
@@ -234,7 +277,7 @@ pub fn arrivals_hour(
     rows: &[Row],
     stretches: &[Stretch],
 ) -> Result<ArrivalSums, NoMemory>
-    requires view { length view.now ≡ length config.now.specs }
+    requires view { length view.now.specs ≡ length config.now.specs }
     ensures judged { IfOk result (λ sums. (known : ℕ → Bool) (hour : ℕ) (log : HourLog)
         → IsHour known hour rows.now stretches.now → IsSeen config.now view.now rows.now stretches.now log
         → AreAllJudged (λ i t v. MayPass log t i v) config.now (known_rows known rows.now) sums) }
@@ -246,10 +289,13 @@ pub fn arrivals_hour(
         → IsCarry known config.now (before ++ known_rows known rows.now) (hour + 1) carry.new) }
     ensures err { OnErr result (carry.new ≡ carry.old) }
 {
+    if config.approach_count() == 0 {
+        return Ok(ArrivalSums::new(alloc));
+    }
+    let chains = Chains::new(alloc, rows)?;
     let first = first_of(stretches);
-    let detectors = detector_rows(alloc, rows, stretches)?;
-    let cycles = cycles_of(alloc, config, &carry.opens, cuts, rows, first)?;
-    let approaches = sums_of(alloc, config, view, &detectors, &cycles)?;
-    carry.opens = opens_after(alloc, config, &carry.opens, cuts, rows, first)?;
+    let cycles = cycles_of(alloc, config, &carry.opens, cuts, &chains, first)?;
+    let approaches = sums_of(alloc, config, view, &chains, stretches, &cycles.sums)?;
+    carry.opens = cycles.opens;
     Ok(ArrivalSums { approaches })
 }

@@ -1,23 +1,27 @@
 // Rows of detectors, judged by what their phase shows.
-ghost use Rattle.std.specs.Prelude.{◌≡◌, ◌<◌, ◌+◌, ◌^◌, ℕ, Bool, true, All, length, ◌++◌, ◌∷◌, []};
-ghost use Rattle.gap_map.specs.Stretches.{known_at};
+ghost use Rattle.std.specs.Prelude.{◌≡◌, ◌≤◌, ◌<◌, ◌+◌, ℕ, Bool, true, length};
+ghost use Rattle.gap_map.specs.Stretches.{AreStretches, known_at};
 ghost use Rattle.hour_sums.specs.Numbers.{capped};
+ghost use Rattle.hour_sweep.specs.Rows.{known_rows};
+ghost use Rattle.hour_sweep.specs.Hours.{IsHour};
 ghost use Rattle.board.specs.Logs.{HourLog};
 ghost use Rattle.board.specs.Places.{IsViewOf};
 ghost use Rattle.board.specs.Verdicts.{MayPass};
+ghost use Rattle.ring_config.specs.Settings.{Settings};
 ghost use Rattle.ring_config.specs.Values.{has_phase};
 ghost use Rattle.cycle_arrivals.specs.Arrivals.{ons_of};
 ghost use Rattle.arrival_measures.specs.Judged.{is_green, is_red};
 ghost use Rattle.arrival_measures.specs.Steps.{AreJudgedRows, IsJudged, IsMaskOf, Says, judged_with, no_judged, one_if};
+ghost use Rattle.arrival_measures.specs.Views.{IsSeen};
 
 use crate::approach::phase_spec;
-use crate::detector_rows::is_on;
+use crate::chains::{Chain, Chains};
 use board::HourView;
 use colour_machine::Mask;
+use gap_map::Stretch;
 use hour_sums::total;
 use reach::{AgeBound, Seen, Test};
 use ring_config::Config;
-use sig_base::Row;
 
 /// Rows of a detector: all of them, those at whose tenth's end the phase passes in all histories, in
 /// none and only in some.
@@ -77,7 +81,7 @@ impl Judged {
 
 // What is seen of the channel's colour at the end of the known tenth.
 fn seen(view: &HourView, spec: u16, at: u32, colours: Mask) -> Seen
-    requires { spec < length view.now }
+    requires { spec < length view.now.specs }
     ensures { (log : HourLog) (test : ℕ → Bool) → IsViewOf log view.now → known_at log.stretches at ≡ true → IsMaskOf test colours → Says test (MayPass log at spec) result }
 {
     let test = Test {
@@ -88,21 +92,40 @@ fn seen(view: &HourView, spec: u16, at: u32, colours: Mask) -> Seen
     view.seen_at_end(spec, at, &test)
 }
 
-// The detector's rows among these.
-fn judged_rows(view: &HourView, spec: u16, colours: Mask, detector: u8, rows: &[Row]) -> Judged
-    requires { spec < length view.now }
-    ensures { (log : HourLog) (test : ℕ → Bool) → IsViewOf log view.now → IsMaskOf test colours → All (λ x. known_at log.stretches x.at ≡ true) rows.now → AreJudgedRows test (λ t v. MayPass log t spec v) (ons_of detector rows.now) result }
+// Whether the tenth is known, by the stretches of its hour.
+fn is_known(stretches: &[Stretch], at: u32) -> bool
+    ensures { (known : ℕ → Bool) (a b : ℕ) → AreStretches known a b stretches.now → a ≤ at → at < b → result ≡ known at }
+{
+    let place = stretches.partition_point(|stretch| stretch.to <= at);
+    place < stretches.len() && stretches[place].known
+}
+
+// The detector's known rows.
+fn judged_rows(
+    view: &HourView,
+    spec: u16,
+    colours: Mask,
+    detector: u8,
+    chains: &Chains<'_>,
+    stretches: &[Stretch],
+) -> Judged
+    requires { spec < length view.now.specs }
+    ensures { (known : ℕ → Bool) (hour : ℕ) (c : Settings) (log : HourLog) (test : ℕ → Bool) → IsHour known hour chains.now stretches.now → IsSeen c view.now chains.now stretches.now log → IsMaskOf test colours
+        → AreJudgedRows test (λ t v. MayPass log t spec v) (ons_of detector (known_rows known chains.now)) result }
 {
     let mut judged = nothing();
-    for row in rows {
-        if is_on(detector, row) {
-            judged = judged.with(seen(view, spec, row.at, colours));
+    let mut place = chains.first(Chain::On(detector));
+    while place < chains.len() {
+        let at = chains.row(place).at;
+        if is_known(stretches, at) {
+            judged = judged.with(seen(view, spec, at, colours));
         }
+        place = chains.next(place);
     }
     judged
 }
 
-/// The rows of the detector among these, each judged by whether the phase is in one of the colours;
+/// The known rows of the detector, each judged by whether the phase is in one of the colours;
 /// nothing where there is no detector.
 pub(crate) fn judged_of(
     config: &Config,
@@ -110,14 +133,17 @@ pub(crate) fn judged_of(
     phase: u8,
     detector: Option<u8>,
     colours: Mask,
-    rows: &[Row],
+    chains: &Chains<'_>,
+    stretches: &[Stretch],
 ) -> Judged
-    requires view { length view.now ≡ length config.now.specs }
+    requires view { length view.now.specs ≡ length config.now.specs }
     requires phase { has_phase config.now.phases phase ≡ true }
-    ensures { (log : HourLog) (test : ℕ → Bool) → IsViewOf log view.now → IsMaskOf test colours → All (λ x. known_at log.stretches x.at ≡ true) rows.now → IsJudged (λ i t v. MayPass log t i v) config.now phase test rows.now result detector }
+    ensures { (known : ℕ → Bool) (hour : ℕ) (log : HourLog) (test : ℕ → Bool) → IsHour known hour chains.now stretches.now → IsSeen config.now view.now chains.now stretches.now log → IsMaskOf test colours
+        → IsJudged (λ i t v. MayPass log t i v) config.now phase test (known_rows known chains.now) result detector }
 {
-    match detector {
-        Some(detector) => judged_rows(view, phase_spec(config, phase), colours, detector, rows),
-        None => nothing(),
-    }
+    let Some(detector) = detector else {
+        return nothing();
+    };
+    let spec = phase_spec(config, phase);
+    judged_rows(view, spec, colours, detector, chains, stretches)
 }

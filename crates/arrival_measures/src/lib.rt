@@ -5,14 +5,19 @@
 //! the end of the row's tenth: in all histories that agree with the log, in none, or only in some.
 //! In a whole cycle the rows alone say what the phase shows, so what a cycle gives is added up row
 //! by row and carried over the points between hours. `docs/DEFINITIONS.md` has the definitions.
+//!
+//! An approach goes over its own rows alone: one pass puts the rows of an hour into chains, from
+//! each row of a phase or of a detector to the next one.
 #![tactic(auto)]
 
 mod approach;
 mod carry;
+mod chains;
 mod cycles;
 mod detector_rows;
 mod hour;
 mod judged;
+mod own_rows;
 mod points;
 mod same;
 mod sums;

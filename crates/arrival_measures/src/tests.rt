@@ -65,7 +65,7 @@ fn cycle() -> [Row; 9]
 fn seen(alloc: Global, rows: &[Row], stretches: &[Stretch]) -> Result<HourView, Fail>
     requires rows { AreRowsOf 0 rows.now }
     requires stretches { FollowOn 0 36000 stretches.now }
-    ensures { IfOk result (λ v. length v ≡ 3) }
+    ensures { IfOk result (λ v. length v.specs ≡ 3) }
 {
     let specs = [
         free(Kind::Phase, 2),

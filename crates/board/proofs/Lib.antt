@@ -18,3 +18,5 @@ pub mod Verdicts
 pub mod Alike
 pub mod Upto
 pub mod Cases
+pub mod Cells
+pub mod Suiting

@@ -28,13 +28,13 @@ kind_back PreemptInput = refl
 kind_back PreemptService = refl
 kind_back Coordination = refl
 
-kind_same : (a b : Kind) → kind_number a ≡ kind_number b → a ≡ b
+pub kind_same : (a b : Kind) → kind_number a ≡ kind_number b → a ≡ b
 kind_same a b e = sym (kind_back a) ∙ (ap kind_of e ∙ kind_back b)
 
 abbrev channel_with : Kind → ℕ → Channel
 channel_with k n = record { kind = k; number = n }
 
-channel_same : (c d : Channel) → c.kind ≡ d.kind → c.number ≡ d.number → c ≡ d
+pub channel_same : (c d : Channel) → c.kind ≡ d.kind → c.number ≡ d.number → c ≡ d
 channel_same c d a b = ap (λ (k : Kind). channel_with k c.number) a ∙ ap (λ (n : ℕ). channel_with d.kind n) b
 
 -- the test of a channel tells

@@ -10,7 +10,6 @@ use Rattle.reach.proofs.Later.{then_iff}
 use Rattle.sig_base.specs.declared.values.Row.{Row}
 use Rattle.gap_map.specs.declared.stretch.Stretch.{Stretch}
 use Rattle.board.specs.declared.clause.Term.{Term}
-use Rattle.lane.specs.Places.{Kept}
 use Rattle.reach.specs.declared.seen.Seen.{Seen}
 use Rattle.reach.specs.declared.seen.AgeBound.TheVariants.{Any}
 use Rattle.board.proofs.Product.{product}
@@ -21,7 +20,7 @@ use Rattle.std.proofs.lemmas.List.{append-nil, take-append-drop}
 use Rattle.gap_map.specs.Stretches.{known_at}
 use Rattle.board.specs.History.{Agreeing, Track, events_at, letters}
 use Rattle.board.specs.Moves.{RowsIn, count_before}
-use Rattle.board.specs.Places.{IsAtPlace, IsPlace, IsViewOf, SeesAt}
+use Rattle.board.specs.Places.{IsAtPlace, IsLog, IsPlace, SeesAt}
 use Rattle.board.specs.Logs.{HourLog, first_tenth, end_tenth, no_spec}
 use Rattle.board.specs.Channels.{track}
 use Rattle.board.specs.Verdicts.{AreApart, AreTerms, AreWithin, FailEach, HasSpec, HoldOne, IsAtEnd, Keeps, MayPass, NotOf, PassStates, SeesEnd, SomeIn, SomeNot}
@@ -134,8 +133,8 @@ sees_end log x i test seen place later sees =
       some_false = then_iff sees.some_false ((λ (v, a, t). (v, (q v).0 a, t)), (λ (v, a, t). (v, (q v).1 a, t)));
     }
 
-pub histories_are : (log : HourLog) (view : List Kept) (x : ℕ) → IsViewOf log view → known_at log.stretches x ≡ true → (v : ℕ → State) → PassStates log x v ↔ ((i : ℕ) → i < length log.specs → MayPass log x i (v i))
-histories_are log view x is known v =
+pub histories_are : (log : HourLog) (x : ℕ) → IsLog log → known_at log.stretches x ≡ true → (v : ℕ → State) → PassStates log x v ↔ ((i : ℕ) → i < length log.specs → MayPass log x i (v i))
+histories_are log x is known v =
     let (a, b) = known_within (first_tenth log.hour) (end_tenth log.hour) x log.stretches is.is_hour.follow known in
     product (length log.specs) (λ i. track (get_or log.specs i no_spec)) (tracks_are log.specs no_spec is.are_specs) (known_at log.stretches) (events_at log.rows) (first_tenth log.hour) x (end_tenth log.hour) (omega arith) (omega arith) (λ i. get_or log.before i []) (λ i. get_or log.after i []) v
 

@@ -7,3 +7,4 @@ pub mod Stops
 pub mod Places
 pub mod Hours
 pub mod Verdicts
+pub mod SpecPlaces

@@ -9,7 +9,9 @@ use Rattle.reach.specs.declared.seen.Test.{Test}
 use Rattle.reach.specs.declared.seen.Seen.{Seen}
 use Rattle.lane.specs.declared.moves.Move.{Move}
 use Rattle.lane.specs.declared.moves.Move.TheVariants.{Letter, Gap}
-use Rattle.lane.specs.Places.{Kept, IsLine}
+use Rattle.lane.specs.Places.{LineLog}
+use Rattle.channel_tables.specs.declared.any.AnyMachine.{AnyMachine}
+use Rattle.channel_tables.specs.Any.{any_rules}
 use Rattle.sig_base.specs.declared.values.Row.{Row}
 use Rattle.gap_map.specs.declared.stretch.Stretch.{Stretch}
 use Rattle.channel_tables.specs.declared.spec.Spec.{Spec}
@@ -68,23 +70,37 @@ IsBefore at o (Gap f t) = pos f <ℤ at
 abbrev pub IsSplit : ℤ → Option ℕ → List Move → ℕ → Type 0
 IsSplit at o xs j = (j ≤ length xs) × ((k : ℕ) → k < j → IsBefore at o (slice_index_or xs k (Letter 0 0 0))) × ((k : ℕ) → j ≤ k → k < length xs → IsBefore at o (slice_index_or xs k (Letter 0 0 0)) → ⊥)
 
--- the lines of the first n channels
-abbrev pub AreLines : List Spec → List Row → List Stretch → ℕ → List (List (List Span)) → List (List (Option ℤ)) → ℕ → List Kept → Type 0
-AreLines specs rows ss f before after n view = (i : ℕ) (d : Spec) (e : Kept) → i < n → IsLine (rules_at specs i d) f (slice_index_or before i []) (slice_index_or after i []) (slice_index_or view i e) × ((slice_index_or view i e).moves ≡ moves_at specs rows ss i d)
-
--- a view of the hour: a line for each channel
-abbrev pub IsView : List Spec → List Row → List Stretch → ℕ → List (List (List Span)) → List (List (Option ℤ)) → List Kept → Type 0
-IsView specs rows ss f before after view = (length view ≡ length specs) × AreLines specs rows ss f before after (length specs) view
-
--- the view is one of the hour, for specs that may be followed together
-pub record IsViewOf (log : HourLog) (view : List Kept) : Type 0 where
-  pub are_specs : AreSpecs log.specs
-  pub is_hour : IsHour log.hour log.rows log.stretches
-  pub is_view : IsView log.specs log.rows log.stretches (first_tenth log.hour) log.before log.after view
-
 -- no entry is later than the tenth before f
 abbrev pub AllEarly : ℕ → List (List (List Span)) → Type 0
 AllEarly f before = (i : ℕ) (s : State) → Holds (slice_index_or before i []) s → s.entry <ℤ pos f
+
+-- the specs may be followed together, the rows and the stretches are the hour's, and the states before it were entered before it
+pub record IsLog (log : HourLog) : Type 0 where
+  pub are_specs : AreSpecs log.specs
+  pub is_hour : IsHour log.hour log.rows log.stretches
+  pub early : AllEarly (first_tenth log.hour) log.before
+
+-- the view is of this hour, which keeps the laws of a log
+pub record IsViewOf (log view : HourLog) : Type 0 where
+  pub same : view ≡ log
+  pub is_log : IsLog log
+
+-- the line is that of one channel of the hour
+pub record IsLineOf (log : HourLog) (i : ℕ) (d : Spec) (line : LineLog AnyMachine) : Type 0 where
+  pub same_rules : any_rules line.machine ≡ rules_at log.specs i d
+  pub same_before : line.before ≡ slice_index_or log.before i []
+  pub same_moves : line.moves ≡ moves_at log.specs log.rows log.stretches i d
+  pub same_after : line.after ≡ slice_index_or log.after i []
+
+-- the lines of the first n channels
+abbrev pub AreLines : HourLog → ℕ → List (LineLog AnyMachine) → Type 0
+AreLines log n lines = (i : ℕ) (d : Spec) (e : LineLog AnyMachine) → i < n → IsLineOf log i d (slice_index_or lines i e)
+
+-- a line for each channel of the hour
+pub record IsView (log : HourLog) (lines : List (LineLog AnyMachine)) : Type 0 where
+  pub is_log : IsLog log
+  pub count : length lines ≡ length log.specs
+  pub are_lines : AreLines log (length log.specs) lines
 
 -- each channel has as many colours as its machine
 abbrev pub AreAheadsOf : List Spec → List (List (Option ℤ)) → Type 0
@@ -101,3 +117,11 @@ pub record IsStop (k : Track) (rows : List Row) (ss : List Stretch) (f : ℕ) (b
   pub letter : (l : ℕ) × (k.letter (slice_index_or rows n no_row).code (slice_index_or rows n no_row).param ≡ Some l)
   pub some : (u : State) × IsReachedAt k rows ss f before (slice_index_or rows n no_row).at n u
   pub none : (u : State) → IsReachedAt k rows ss f before (slice_index_or rows n no_row).at (n + 1) u → ⊥
+
+-- of each state that is held, and of those of its colour that were entered earlier, both admit the same
+abbrev pub SameFor : List (List Span) → List (Option ℤ) → List (Option ℤ) → Type 0
+SameFor past a b = (s u : State) → Holds past u → s.colour ≡ u.colour → s.entry ≤ℤ u.entry → Admits a s ↔ Admits b s
+
+-- the same of each channel
+abbrev pub AreSameFor : List (List (List Span)) → List (List (Option ℤ)) → List (List (Option ℤ)) → Type 0
+AreSameFor pasts a b = (i : ℕ) → i < length a → SameFor (slice_index_or pasts i []) (slice_index_or a i []) (slice_index_or b i [])

@@ -1,6 +1,7 @@
 // The states of all channels before an hour.
-ghost use Rattle.std.specs.Prelude.{◌≡◌, ◌↔◌, ℕ, ℤ, pos, negsuc, ◌<ℤ◌, ◌≤ℤ◌, ◌<◌, ◌≤◌, ◌^◌, [], IsTrue, length, slice_index_or, IfOk};
+ghost use Rattle.std.specs.Prelude.{◌≡◌, ◌↔◌, ℕ, ℤ, pos, negsuc, ◌<ℤ◌, ◌≤ℤ◌, ◌<◌, ◌≤◌, ◌^◌, [], IsTrue, List, length, slice_index_or, IfOk};
 ghost use Rattle.channel_tables.specs.Spec.{IsSpec, rules_of};
+ghost use Rattle.channel_tables.specs.declared.spec.Spec.{Spec};
 ghost use Rattle.reach.specs.Runs.{State};
 ghost use Rattle.reach.specs.Ahead.{Admits};
 ghost use Rattle.lane.specs.Walks.{InOrder, BeforeMoves};
@@ -8,15 +9,17 @@ ghost use Rattle.lane.specs.Places.{EntersBefore};
 ghost use Rattle.gap_map.specs.Stretches.{FollowOn};
 ghost use Rattle.board.specs.Channels.{AreSpecs};
 ghost use Rattle.board.specs.Logs.{IsHour};
-ghost use Rattle.board.specs.Places.{AreAheadsOf};
+ghost use Rattle.board.specs.Places.{AreAheadsOf, AreSameFor, SameFor};
+ghost use Rattle.board.specs.Stops.{AreBefore};
 ghost use Rattle.board.specs.Hours.{AreEnds, AreAheadsBefore};
 
 use crate::courses::courses_of;
+use crate::pasts::Pasts;
 use channel_tables::{Spec, machine_of};
 use colour_machine::Machine;
 use gap_map::Stretch;
 use lane::{Move, walk_ahead};
-use reach::Ahead;
+use reach::{Ahead, Past, is_sure};
 use sig_base::{NoMemory, Row, Tenth};
 use std::alloc::Global;
 use std::marker::Model;
@@ -73,6 +76,21 @@ impl Aheads {
         same_aheads(&self.aheads, &other.aheads)
     }
 
+    /// Whether of each channel both admit the same of these states, and of those of their colours
+    /// that were entered earlier. It answers yes only where of each channel both admit the same
+    /// states at all, or one state alone is possible and both admit it.
+    pub fn same_for(&self, pasts: &Pasts, other: &Aheads) -> bool
+        requires shape { (specs : List Spec) × AreBefore specs pasts.now × AreAheadsOf specs self.now × AreAheadsOf specs other.now }
+        ensures { IsTrue result → AreSameFor pasts.now self.now other.now }
+    {
+        for i in 0..self.aheads.len() {
+            if !admit_same(&pasts.pasts[i], &self.aheads[i], &other.aheads[i]) {
+                return false;
+            }
+        }
+        true
+    }
+
     /// Which states of the channel with this place among the specs, from 0, can be completed.
     pub fn at(&self, spec: u16) -> &Ahead
         requires { spec < length self.now }
@@ -80,6 +98,15 @@ impl Aheads {
     {
         &self.aheads[spec as usize]
     }
+}
+
+// The same of one channel.
+fn admit_same(past: &Past, a: &Ahead, b: &Ahead) -> bool
+    requires a { length past.now ≡ length a.now }
+    requires b { length past.now ≡ length b.now }
+    ensures { IsTrue result → SameFor past.now a.now b.now }
+{
+    a.same(b) || (is_sure(past, a) && is_sure(past, b))
 }
 
 fn ahead_end(spec: &Spec, point: Tenth) -> Ahead
@@ -134,7 +161,7 @@ pub fn aheads_hour(
 }
 
 // The first tenth of the stretches.
-fn first_of(stretches: &[Stretch]) -> u32
+pub fn first_of(stretches: &[Stretch]) -> u32
     requires { 1 ≤ length stretches.now }
     ensures { (f t : ℕ) → FollowOn f t stretches.now → result ≡ f }
 {

@@ -3,8 +3,6 @@ ghost use Rattle.std.specs.Prelude.{◌≡◌, ◌↔◌, ◌⊎◌, ℕ, ℤ, p
 ghost use Rattle.reach.specs.Runs.{State};
 ghost use Rattle.gap_map.specs.Stretches.{known_at};
 ghost use Rattle.board.specs.declared.clause.Term.{Term};
-ghost use Rattle.board.specs.Logs.{HourLog};
-ghost use Rattle.board.specs.Places.{IsViewOf};
 ghost use Rattle.board.specs.Verdicts.{AreApart, AreClause, AreWithin, HasSpec, IsVerdict, Keeps, PassStates, MayPass, SomeIn, SomeNot};
 
 use crate::view::HourView;
@@ -86,9 +84,10 @@ fn has_spec(terms: &[Term], spec: u16) -> bool
 /// Whether all, none or some of the histories of the hour that agree with its known rows keep the
 /// clause at the end of the known tenth; never `Idle`.
 pub fn clause_verdict(view: &HourView, at: u32, clause: &Clause) -> Verdict
-    requires { AreWithin (length view.now) clause.now }
-    ensures { (log : HourLog) → IsViewOf log view.now → known_at log.stretches at ≡ true → ((w : ℕ → State) × PassStates log at w) → IsVerdict result (PassStates log at) (Keeps clause.now) }
+    requires { AreWithin (length view.now.specs) clause.now }
+    ensures { known_at view.now.stretches at ≡ true → ((w : ℕ → State) × PassStates view.now at w) → IsVerdict result (PassStates view.now at) (Keeps clause.now) }
 {
+    let _channels = view.channels();
     let terms = clause.terms();
     let mut some = false;
     for i in 0..terms.len() {
@@ -106,8 +105,8 @@ pub fn clause_verdict(view: &HourView, at: u32, clause: &Clause) -> Verdict
 
 // What the runs of the term's channel say of it at the end of the tenth.
 fn term_seen(view: &HourView, at: u32, term: Term) -> Seen
-    requires spec { term.spec < length view.now }
-    ensures { (log : HourLog) → IsViewOf log view.now → known_at log.stretches at ≡ true → (IsTrue result.some_true ↔ SomeIn (MayPass log at) term) × (IsTrue result.some_false ↔ SomeNot (MayPass log at) term) }
+    requires spec { term.spec < length view.now.specs }
+    ensures { known_at view.now.stretches at ≡ true → (IsTrue result.some_true ↔ SomeIn (MayPass view.now at) term) × (IsTrue result.some_false ↔ SomeNot (MayPass view.now at) term) }
 {
     let test = Test {
         colours: term.colours,

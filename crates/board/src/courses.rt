@@ -7,7 +7,10 @@ ghost use Rattle.lane.specs.declared.moves.Move.TheVariants.{Letter, Gap};
 ghost use Rattle.board.specs.Channels.{letter_in, track, AreSpecs};
 ghost use Rattle.board.specs.Moves.{count_before, with_letter, letter_moves, stretch_moves};
 ghost use Rattle.board.specs.Courses.{AreAdded, AreCourses};
+ghost use Rattle.board.specs.Logs.{no_spec};
+ghost use Rattle.board.specs.SpecPlaces.{IsTable};
 
+use crate::spec_table::SpecTable;
 use channel_tables::{Spec, letter_of};
 use event_codes::{Channel, channel_of};
 use gap_map::Stretch;
@@ -65,10 +68,11 @@ pub fn courses_of(
     requires few { length rows.now < 2 ^ 32 }
     ensures { IfOk result (λ v. AreCourses specs.now rows.now stretches.now v.items) }
 {
+    let table = SpecTable::new(alloc, specs)?;
     let mut courses = empty(alloc, specs.len())?;
     let mut next: usize = 0;
     for stretch in stretches {
-        next = add_stretch(specs, courses.as_mut_slice(), rows, next, *stretch)?;
+        next = add_stretch(specs, &table, courses.as_mut_slice(), rows, next, *stretch)?;
     }
     Ok(courses)
 }
@@ -86,12 +90,14 @@ fn empty(alloc: Global, count: usize) -> Result<Vec<Course>, NoMemory>
 // The moves of a stretch, of which the next row is the first. Answers which row comes next then.
 fn add_stretch(
     specs: &[Spec],
+    table: &SpecTable,
     courses: &mut [Course],
     rows: &[Row],
     next: usize,
     stretch: Stretch,
 ) -> Result<usize, NoMemory>
     requires specs { AreSpecs specs.now }
+    requires table { IsTable specs.now table.now }
     requires same { length courses.old ≡ length specs.now }
     requires few { length rows.now < 2 ^ 32 }
     requires next { next ≤ length rows.now }
@@ -102,7 +108,7 @@ fn add_stretch(
     let count = until(rest, stretch.to);
     if stretch.known {
         let (here, _later) = rest.split_at(count);
-        add_rows(specs, courses, here, next as u32)?;
+        add_rows(specs, table, courses, here, next as u32)?;
         return Ok(next + count);
     }
     add_gap(courses, stretch.from, stretch.to)?;
@@ -134,30 +140,39 @@ fn add_gap(courses: &mut [Course], from: u32, to: u32) -> Result<(), NoMemory>
 // The rows, of which the first has this number.
 fn add_rows(
     specs: &[Spec],
+    table: &SpecTable,
     courses: &mut [Course],
     rows: &[Row],
     first: u32,
 ) -> Result<(), NoMemory>
     requires specs { AreSpecs specs.now }
+    requires table { IsTable specs.now table.now }
     requires same { length courses.old ≡ length specs.now }
     requires few { first + length rows.now < 2 ^ 32 }
     ensures { OnOk result ((d : Spec) → AreAdded courses.old courses.new (λ i. letter_moves (track (slice_index_or specs.now i d)) first rows.now)) }
 {
     let mut number = first;
     for row in rows {
-        add_row(specs, courses, *row, number)?;
+        add_row(specs, table, courses, *row, number)?;
         number += 1;
     }
     Ok(())
 }
 
 // A row, for the channel to which it belongs.
-fn add_row(specs: &[Spec], courses: &mut [Course], row: Row, number: u32) -> Result<(), NoMemory>
+fn add_row(
+    specs: &[Spec],
+    table: &SpecTable,
+    courses: &mut [Course],
+    row: Row,
+    number: u32,
+) -> Result<(), NoMemory>
     requires specs { AreSpecs specs.now }
+    requires table { IsTable specs.now table.now }
     requires same { length courses.old ≡ length specs.now }
     ensures { OnOk result ((d : Spec) → AreAdded courses.old courses.new (λ i. with_letter (letter_in (slice_index_or specs.now i d) row.code row.param) row.at number [])) }
 {
-    let Some((i, letter)) = find(specs, row.code, row.param) else {
+    let Some((i, letter)) = find(specs, table, row.code, row.param) else {
         return Ok(());
     };
     courses[i].add(Move::Letter {
@@ -169,30 +184,24 @@ fn add_row(specs: &[Spec], courses: &mut [Course], row: Row, number: u32) -> Res
 }
 
 // The place of the spec to whose channel the event belongs, and its letter.
-fn find(specs: &[Spec], code: u8, param: u16) -> Option<(usize, u8)>
+fn find(specs: &[Spec], table: &SpecTable, code: u8, param: u16) -> Option<(usize, u8)>
+    requires table { IsTable specs.now table.now }
     ensures { MatchOption result ((i : ℕ) (d : Spec) → i < length specs.now → letter_in (slice_index_or specs.now i d) code param ≡ None) (λ p. (p.0 < length specs.now) × ((d : Spec) → letter_in (slice_index_or specs.now p.0 d) code param ≡ Some p.1)) }
 {
     let channel = channel_of(code, param)?;
     let letter = letter_of(code, param)?;
-    match place_of_channel(specs, channel) {
+    match place_of_channel(specs, table, channel) {
         Some(place) => Some((place, letter)),
         None => None,
     }
 }
 
-fn place_of_channel(specs: &[Spec], channel: Channel) -> Option<usize>
+fn place_of_channel(specs: &[Spec], table: &SpecTable, channel: Channel) -> Option<usize>
+    requires table { IsTable specs.now table.now }
     ensures { MatchOption result ((i : ℕ) (d : Spec) → i < length specs.now → (slice_index_or specs.now i d).channel ≢ channel) (λ p. (p < length specs.now) × ((d : Spec) → (slice_index_or specs.now p d).channel ≡ channel)) }
 {
-    for i in 0..specs.len() {
-        if is_same(specs[i].channel, channel) {
-            return Some(i);
-        }
+    match table.place_of(channel) {
+        Some(place) => Some(place as usize),
+        None => None,
     }
-    None
-}
-
-fn is_same(a: Channel, b: Channel) -> bool
-    ensures { IsTrue result ↔ (a ≡ b) }
-{
-    a == b
 }

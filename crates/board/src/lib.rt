@@ -13,11 +13,13 @@ mod aheads;
 mod clause;
 mod courses;
 mod pasts;
+mod spec_table;
 mod view;
 
 pub use aheads::{Aheads, aheads_hour};
 pub use clause::{Clause, Term, clause_verdict};
 pub use pasts::{Pasts, PastsError, pasts_hour};
+pub use spec_table::SpecTable;
 pub use view::HourView;
 
 #[cfg(test)]

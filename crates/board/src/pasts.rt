@@ -206,7 +206,7 @@ fn pasts_walked(
     let mut stop = None;
     for i in 0..specs.len() {
         let mut past = before.pasts[i].copy()?;
-        let next = walk_spec(&specs[i], &mut past, courses[i].moves())?;
+        let next = walk_spec(alloc, &specs[i], &mut past, courses[i].moves())?;
         stop = earlier(stop, next);
         pasts.push(past)?;
     }
@@ -217,7 +217,12 @@ fn pasts_walked(
 }
 
 // The states of one channel after its moves. Answers the row after which there is none.
-fn walk_spec(spec: &Spec, past: &mut Past, moves: &[Move]) -> Result<Option<u32>, NoMemory>
+fn walk_spec(
+    alloc: Global,
+    spec: &Spec,
+    past: &mut Past,
+    moves: &[Move],
+) -> Result<Option<u32>, NoMemory>
     requires fits { IsSpec spec.now }
     requires order { (low : ℕ) × EnteredBefore past.old low × InOrder (rules_of spec.now) low moves.now }
     requires colours { length past.old ≡ (rules_of spec.now).colours }
@@ -226,10 +231,11 @@ fn walk_spec(spec: &Spec, past: &mut Past, moves: &[Move]) -> Result<Option<u32>
     ensures colours { length past.new ≡ length past.old }
 {
     let machine = machine_of(spec);
-    walk_moves(&machine, past, moves)
+    walk_moves(alloc, &machine, past, moves)
 }
 
 fn walk_moves<M: Machine>(
+    alloc: Global,
     machine: &M,
     past: &mut Past,
     moves: &[Move],
@@ -240,7 +246,7 @@ fn walk_moves<M: Machine>(
     ensures after { IfOk result (λ r. MatchOption r (((u : State) → Holds past.new u ↔ AfterMoves (M.rules machine.now) past.old moves.now u) × Survives (M.rules machine.now) past.old moves.now) (λ x. StopRow (M.rules machine.now) past.old moves.now x)) }
     ensures colours { length past.new ≡ length past.old }
 {
-    match walk_past(machine, past, moves)? {
+    match walk_past(alloc, machine, past, moves)? {
         None => Ok(None),
         Some(place) => Ok(Some(number_of(moves[place]))),
     }

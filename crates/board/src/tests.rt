@@ -77,6 +77,7 @@ fn phase_with_a_gap(rt: HostRuntime) -> Result<(), Fail> {
     let before = Pasts::start(rt.alloc(), &specs)?;
     let after = Aheads::end(rt.alloc(), &specs, 36_000)?;
     let view = HourView::new(rt.alloc(), &specs, &before, &rows, &stretches, &after)?;
+    assert_eq!(rt; view.channels(), 1);
     let green = Test {
         colours: Mask::none().with(2),
         bound: AgeBound::Any,

@@ -1,45 +1,64 @@
 // One hour as it is seen from its known places.
-ghost use Rattle.std.specs.Prelude.{◌≡◌, ◌↔◌, ℕ, ℤ, pos, negsuc, ◌≤ℤ◌, ◌<ℤ◌, IsTrue, ◌+◌, ◌<◌, ◌≤◌, ◌^◌, true, length, slice_index_or, IfOk};
+ghost use Rattle.std.specs.Prelude.{◌≡◌, ◌↔◌, ℕ, pos, negsuc, ◌≤ℤ◌, IsTrue, ◌<◌, ◌≤◌, ◌^◌, true, length, slice_index_or, IfOk};
 ghost use Rattle.channel_tables.specs.Spec.{IsSpec, rules_of};
-ghost use Rattle.reach.specs.Runs.{State};
+ghost use Rattle.channel_tables.specs.Any.{any_rules};
+ghost use Rattle.channel_tables.specs.declared.spec.Spec.{Spec};
 ghost use Rattle.lane.specs.Walks.{InOrder, EnteredBefore};
-ghost use Rattle.lane.specs.Places.{IsLine, Kept};
-ghost use Rattle.gap_map.specs.Stretches.{known_at};
+ghost use Rattle.gap_map.specs.Stretches.{FollowOn, known_at};
 ghost use Rattle.board.specs.Channels.{AreSpecs};
-ghost use Rattle.board.specs.Logs.{IsHour, HourLog, hour_log, first_tenth, no_row};
-ghost use Rattle.board.specs.Stops.{AreBefore};
-ghost use Rattle.board.specs.Places.{IsBefore, IsSplit, IsViewOf, AllEarly, AreAheadsOf};
+ghost use Rattle.board.specs.Logs.{end_tenth, first_tenth, hour_log, no_row};
+ghost use Rattle.board.specs.Stops.{AreBefore, moves_at};
+ghost use Rattle.board.specs.Places.{IsBefore, IsSplit, IsLog, AreAheadsOf};
 ghost use Rattle.board.specs.Verdicts.{SeesRow, SeesEnd};
 
-use crate::aheads::Aheads;
+use crate::aheads::{Aheads, first_of};
 use crate::courses::courses_of;
 use crate::pasts::Pasts;
-use channel_tables::{Spec, machine_of};
+use channel_tables::{AnyMachine, Spec, machine_of};
 use gap_map::Stretch;
 use lane::{Line, Move};
 use reach::{Ahead, Past, Seen, Test};
-use sig_base::{NoMemory, Row, Tenth};
+use shown::Shown;
+use sig_base::{Hour, NoMemory, Row, Tenth};
 use std::alloc::Global;
 use std::marker::Model;
+use std::snapshot::Snapshot;
 
-/// An hour, with the states that each channel may have at each place of it: those of the runs of
-/// the hour that agree with its known rows, begin in a state of before it and end in one that is
-/// admitted after it.
+/// An hour of the log, and what all its histories say at its places: those that agree with its
+/// known rows, begin in a state of before it and end in one that is admitted after it.
 #[derive(Drop)]
 pub struct HourView {
-    lines: Vec<Line>,
+    hour: Hour,
+    specs: Shown<Spec>,
+    before: Snapshot<Pasts>,
+    rows: Shown<Row>,
+    stretches: Shown<Stretch>,
+    after: Snapshot<Aheads>,
+    lines: Vec<Line<AnyMachine>>,
 }
 
 impl Model for HourView {
-    ghost use Rattle.std.specs.Prelude.{List};
-    ghost use Rattle.lane.specs.Places.{Kept};
+    ghost use Rattle.board.specs.Logs.{HourLog, hour_log};
+    ghost use Rattle.board.specs.Places.{IsView};
 
-    ghost Value = { List Kept };
+    ghost Value = { HourLog };
 
-    ghost view = { λ v. v.lines.items };
+    ghost view = { λ v. hour_log v.hour v.specs.items v.rows.items v.stretches.items v.before.value v.after.value };
+
+    ghost invariant = { λ v. IsView (hour_log v.hour v.specs.items v.rows.items v.stretches.items v.before.value v.after.value) v.lines.items };
+}
+
+// The hour of the stretches.
+fn hour_of(stretches: &[Stretch]) -> Hour
+    requires { 1 ≤ length stretches.now }
+    ensures { (h : ℕ) → FollowOn (first_tenth h) (end_tenth h) stretches.now → result ≡ h }
+{
+    first_of(stretches) / 36_000
 }
 
 impl HourView {
+    /// The view of the hour that has these rows and stretches, between the states before it and
+    /// those that are admitted after it.
     pub fn new(
         alloc: Global,
         specs: &[Spec],
@@ -48,12 +67,29 @@ impl HourView {
         stretches: &[Stretch],
         after: &Aheads,
     ) -> Result<HourView, NoMemory>
-        requires specs { AreSpecs specs.now }
-        requires hour { (h : ℕ) × IsHour h rows.now stretches.now × AllEarly (first_tenth h) before.now }
+        requires log { (hour : ℕ) × IsLog (hour_log hour specs.now rows.now stretches.now before.now after.now) }
         requires before { AreBefore specs.now before.now }
         requires after { AreAheadsOf specs.now after.now }
-        ensures count { IfOk result (λ v. length v ≡ length specs.now) }
-        ensures view { IfOk result (λ v. (h : ℕ) → IsHour h rows.now stretches.now → AllEarly (first_tenth h) before.now → IsViewOf (hour_log h specs.now rows.now stretches.now before.now after.now) v) }
+        ensures { IfOk result (λ v. (hour : ℕ) → IsLog (hour_log hour specs.now rows.now stretches.now before.now after.now) → v ≡ hour_log hour specs.now rows.now stretches.now before.now after.now) }
+    {
+        let hour = hour_of(stretches);
+        HourView::of_hour(alloc, hour, specs, before, rows, stretches, after)
+    }
+
+    // The same, of this hour.
+    fn of_hour(
+        alloc: Global,
+        hour: Hour,
+        specs: &[Spec],
+        before: &Pasts,
+        rows: &[Row],
+        stretches: &[Stretch],
+        after: &Aheads,
+    ) -> Result<HourView, NoMemory>
+        requires log { IsLog (hour_log hour specs.now rows.now stretches.now before.now after.now) }
+        requires before { AreBefore specs.now before.now }
+        requires after { AreAheadsOf specs.now after.now }
+        ensures { IfOk result (λ v. v ≡ hour_log hour specs.now rows.now stretches.now before.now after.now) }
     {
         let courses = courses_of(alloc, specs, rows, stretches)?;
         let mut lines = Vec::new(alloc);
@@ -67,13 +103,30 @@ impl HourView {
             )?;
             lines.push(line)?;
         }
-        Ok(HourView { lines })
+        Ok(HourView {
+            hour,
+            specs: Shown::of(specs),
+            before: Snapshot::of(before),
+            rows: Shown::of(rows),
+            stretches: Shown::of(stretches),
+            after: Snapshot::of(after),
+            lines,
+        })
+    }
+
+    /// How many channels it has. A caller learns the laws of its log.
+    pub fn channels(&self) -> usize
+        ensures channels { result ≡ length self.now.specs }
+        ensures log { IsLog self.now }
+    {
+        self.lines.len()
     }
 
     /// What happens to the channel with this place among the specs, from 0.
     pub fn moves(&self, spec: u16) -> &[Move]
-        requires spec { spec < length self.now }
-        ensures { (d : Kept) → result.now ≡ (slice_index_or self.now spec d).moves }
+        requires spec { spec < length self.now.specs }
+        ensures moves { (d : Spec) → result.now ≡ moves_at self.now.specs self.now.rows self.now.stretches spec d }
+        ensures log { IsLog self.now }
     {
         self.lines[spec as usize].moves()
     }
@@ -81,10 +134,10 @@ impl HourView {
     /// What the runs of the channel with this place among the specs say of the test before the
     /// known row with this place in the hour's rows, both from 0. The test's tenth is the row's.
     pub fn seen_before_row(&self, index: u32, spec: u16, test: &Test) -> Seen
-        requires spec { spec < length self.now }
+        requires spec { spec < length self.now.specs }
         requires low { negsuc (2 ^ 39) ≤ℤ test.now.at }
         requires high { test.now.at ≤ℤ pos (2 ^ 39) }
-        ensures { (log : HourLog) → IsViewOf log self.now → index < length log.rows → known_at log.stretches (slice_index_or log.rows index no_row).at ≡ true → test.now.at ≡ pos (slice_index_or log.rows index no_row).at → SeesRow log index spec test.now result }
+        ensures { index < length self.now.rows → known_at self.now.stretches (slice_index_or self.now.rows index no_row).at ≡ true → test.now.at ≡ pos (slice_index_or self.now.rows index no_row).at → SeesRow self.now index spec test.now result }
     {
         let line = &self.lines[spec as usize];
         let place = place_of(line.moves(), test.at, Some(index));
@@ -93,9 +146,9 @@ impl HourView {
 
     /// What they say of it at the end of the known tenth, which is the test's.
     pub fn seen_at_end(&self, spec: u16, at: u32, test: &Test) -> Seen
-        requires spec { spec < length self.now }
+        requires spec { spec < length self.now.specs }
         requires tenth { test.now.at ≡ pos at }
-        ensures { (log : HourLog) → IsViewOf log self.now → known_at log.stretches at ≡ true → SeesEnd log at spec test.now result }
+        ensures { known_at self.now.stretches at ≡ true → SeesEnd self.now at spec test.now result }
     {
         let line = &self.lines[spec as usize];
         let place = place_of(line.moves(), i64::from(at), None);
@@ -109,13 +162,12 @@ fn line_of(
     before: &Past,
     moves: &[Move],
     after: &Ahead,
-) -> Result<Line, NoMemory>
+) -> Result<Line<AnyMachine>, NoMemory>
     requires fits { IsSpec spec.now }
     requires order { (low : ℕ) × EnteredBefore before.now low × InOrder (rules_of spec.now) low moves.now }
     requires colours { length before.now ≡ (rules_of spec.now).colours }
     requires ahead { length after.now ≡ (rules_of spec.now).colours }
-    ensures moves { IfOk result (λ l. l.moves ≡ moves.now) }
-    ensures line { IfOk result (λ l. (low : ℕ) → InOrder (rules_of spec.now) low moves.now → EnteredBefore before.now low → IsLine (rules_of spec.now) low before.now after.now l) }
+    ensures { IfOk result (λ l. (any_rules l.machine ≡ rules_of spec.now) × (l.before ≡ before.now) × (l.moves ≡ moves.now) × (l.after ≡ after.now)) }
 {
     let machine = machine_of(spec);
     let own = Vec::from_slice(alloc, moves)?;

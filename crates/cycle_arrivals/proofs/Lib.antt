@@ -2,3 +2,4 @@ pub mod Within
 pub mod Counts
 pub mod Tenths
 pub mod Over
+pub mod Own

@@ -6,10 +6,10 @@ use Rattle.std.proofs.lemmas.Bool.{leb-true, le-leb}
 use Rattle.std.proofs.lemmas.List.{drop_more}
 use Rattle.state_tenths.specs.Ranges.{Counts}
 use Rattle.state_tenths.proofs.Counting.{counts_all, counts_none, counts_empty, counts_join, counts_most}
-use Rattle.detector_state.specs.declared.shown.Shown.{Shown}
-use Rattle.detector_state.specs.declared.shown.Shown.TheVariants.{On, Off, Unknown}
-use Rattle.detector_state.specs.declared.shown.Filling.{Filling}
-use Rattle.detector_state.specs.declared.shown.Filling.TheVariants.{Least, Greatest}
+use Rattle.detector_state.specs.declared.signs.Shown.{Shown}
+use Rattle.detector_state.specs.declared.signs.Shown.TheVariants.{On, Off, Unknown}
+use Rattle.detector_state.specs.declared.signs.Filling.{Filling}
+use Rattle.detector_state.specs.declared.signs.Filling.TheVariants.{Least, Greatest}
 use Rattle.detector_state.specs.declared.part.Part.{Part}
 use Rattle.detector_state.specs.Tellings.{on_in}
 use Rattle.board.specs.Logs.{first_tenth, end_tenth}

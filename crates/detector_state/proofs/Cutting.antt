@@ -10,8 +10,8 @@ use Rattle.board.specs.Moves.{RowsIn, count_before}
 use Rattle.board.proofs.Bridge.{lt_tells, late_end, known_here, known_there, cut_rows, none_at, event_not_here}
 use Rattle.board.proofs.Cutting.{events_join}
 use Rattle.board.proofs.Joining.{letters_join}
-use Rattle.detector_state.specs.declared.shown.Shown.{Shown}
-use Rattle.detector_state.specs.declared.shown.Shown.TheVariants.{Unknown}
+use Rattle.detector_state.specs.declared.signs.Shown.{Shown}
+use Rattle.detector_state.specs.declared.signs.Shown.TheVariants.{Unknown}
 use Rattle.detector_state.specs.declared.part.Part.{Part}
 use Rattle.detector_state.specs.declared.hour.Cursor.{Cursor}
 use Rattle.detector_state.specs.Tellings.{shown_of, after_letters, after_tenth}

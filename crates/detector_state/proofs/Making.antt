@@ -9,8 +9,8 @@ use Rattle.board.specs.History.{events_at, letters}
 use Rattle.board.specs.Logs.{IsHour, first_tenth, end_tenth}
 use Rattle.board.proofs.Tracks.{spec_lettered}
 use Rattle.board.proofs.Within.{hour_rows}
-use Rattle.detector_state.specs.declared.shown.Shown.{Shown}
-use Rattle.detector_state.specs.declared.shown.Shown.TheVariants.{On, Off, Unknown}
+use Rattle.detector_state.specs.declared.signs.Shown.{Shown}
+use Rattle.detector_state.specs.declared.signs.Shown.TheVariants.{On, Off, Unknown}
 use Rattle.detector_state.specs.declared.part.Part.{Part}
 use Rattle.event_codes.specs.declared.channels.Channel.{Channel}
 use Rattle.sig_base.specs.declared.values.Row.{Row}

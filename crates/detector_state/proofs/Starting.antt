@@ -14,7 +14,7 @@ use Rattle.reach.specs.declared.seen.Test.{Test}
 use Rattle.reach.specs.declared.seen.Seen.{Seen}
 use Rattle.reach.specs.declared.seen.AgeBound.TheVariants.{Any}
 use Rattle.lane.specs.Walks.{EnteredBefore}
-use Rattle.detector_state.specs.declared.shown.Shown.TheVariants.{On, Off, Unknown}
+use Rattle.detector_state.specs.declared.signs.Shown.TheVariants.{On, Off, Unknown}
 use Rattle.detector_state.specs.Tellings.{StartsAs}
 
 clash : (b : Bool) → b ≡ true → b ≡ false → ⊥

@@ -5,7 +5,7 @@ use Rattle.reach.specs.Runs.{State, Steps, Run}
 use Rattle.board.specs.History.{Agree, Event, Track, letters, put}
 use Rattle.board.proofs.Joining.{Small, AllSmall}
 use Rattle.board.proofs.Tracks.{Lettered}
-use Rattle.detector_state.specs.declared.shown.Shown.{Shown}
+use Rattle.detector_state.specs.declared.signs.Shown.{Shown}
 use Rattle.detector_state.specs.Tellings.{shown_of, after_letters, after_tenth, after_tenths, Fits, colour_in}
 use Rattle.detector_state.proofs.Switching.{IsSwitching, step_to}
 

@@ -5,7 +5,7 @@ use Rattle.sig_base.specs.declared.values.Row.{Row}
 use Rattle.gap_map.specs.declared.stretch.Stretch.{Stretch}
 use Rattle.board.specs.History.{Track}
 use Rattle.board.specs.Moves.{count_before}
-use Rattle.detector_state.specs.declared.shown.Shown.{Shown}
+use Rattle.detector_state.specs.declared.signs.Shown.{Shown}
 use Rattle.detector_state.specs.declared.part.Part.{Part}
 use Rattle.detector_state.specs.declared.hour.Cursor.{Cursor}
 use Rattle.detector_state.specs.Parts.{part_before, cursor_after, rows_parts, rows_cursor, stretch_parts, stretch_shown, all_parts}

@@ -4,8 +4,8 @@ use Rattle.sig_base.specs.declared.values.Row.{Row}
 use Rattle.gap_map.specs.declared.stretch.Stretch.{Stretch}
 use Rattle.board.specs.History.{Track}
 use Rattle.board.specs.Moves.{count_before}
-use Rattle.detector_state.specs.declared.shown.Shown.{Shown}
-use Rattle.detector_state.specs.declared.shown.Shown.TheVariants.{Unknown}
+use Rattle.detector_state.specs.declared.signs.Shown.{Shown}
+use Rattle.detector_state.specs.declared.signs.Shown.TheVariants.{Unknown}
 use Rattle.detector_state.specs.declared.part.Part.{Part}
 use Rattle.detector_state.specs.declared.hour.Cursor.{Cursor}
 use Rattle.detector_state.specs.Tellings.{shown_of}

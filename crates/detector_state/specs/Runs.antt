@@ -12,10 +12,10 @@ use Rattle.channel_tables.specs.SwitchTables.{off, on}
 use Rattle.board.specs.History.{AgreeingRun, events_at}
 use Rattle.board.specs.Logs.{IsHour, first_tenth, end_tenth}
 use Rattle.state_tenths.specs.Ranges.{Counts}
-use Rattle.detector_state.specs.declared.shown.Shown.{Shown}
-use Rattle.detector_state.specs.declared.shown.Shown.TheVariants.{On, Off, Unknown}
-use Rattle.detector_state.specs.declared.shown.Filling.{Filling}
-use Rattle.detector_state.specs.declared.shown.Filling.TheVariants.{Least, Greatest}
+use Rattle.detector_state.specs.declared.signs.Shown.{Shown}
+use Rattle.detector_state.specs.declared.signs.Shown.TheVariants.{On, Off, Unknown}
+use Rattle.detector_state.specs.declared.signs.Filling.{Filling}
+use Rattle.detector_state.specs.declared.signs.Filling.TheVariants.{Least, Greatest}
 use Rattle.detector_state.specs.declared.part.Part.{Part}
 use Rattle.detector_state.specs.Switches.{IsSwitch, switch_track}
 

@@ -5,10 +5,10 @@ use Rattle.reach.specs.Runs.{State}
 use Rattle.reach.specs.Past.{Holds}
 use Rattle.channel_tables.specs.SwitchTables.{on}
 use Rattle.board.specs.History.{Track, Event, letters}
-use Rattle.detector_state.specs.declared.shown.Shown.{Shown}
-use Rattle.detector_state.specs.declared.shown.Shown.TheVariants.{On, Off, Unknown}
-use Rattle.detector_state.specs.declared.shown.Filling.{Filling}
-use Rattle.detector_state.specs.declared.shown.Filling.TheVariants.{Least, Greatest}
+use Rattle.detector_state.specs.declared.signs.Shown.{Shown}
+use Rattle.detector_state.specs.declared.signs.Shown.TheVariants.{On, Off, Unknown}
+use Rattle.detector_state.specs.declared.signs.Filling.{Filling}
+use Rattle.detector_state.specs.declared.signs.Filling.TheVariants.{Least, Greatest}
 
 -- after a letter, which leads to the colour of its number
 abbrev pub shown_of : ℕ → Shown

@@ -4,7 +4,7 @@ ghost use Rattle.state_tenths.specs.Ranges.{Counts};
 ghost use Rattle.detector_state.specs.Runs.{AllOn, FollowOn, IsOnIn, IsSwitched, LiesIn, NoneOn, SwitchLog, TellsEach};
 
 use crate::part::{Part, Switched};
-use crate::shown::{Filling, is_on};
+use crate::signs::{Filling, is_on};
 
 /// The least number of tenths that the switch was on, of those of the hour from tenth `from` up to
 /// tenth `to`: those at the end of which it is on in all histories.

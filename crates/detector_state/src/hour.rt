@@ -11,7 +11,7 @@ ghost use Rattle.detector_state.specs.Parts.{part, part_before, cursor_after, ro
 ghost use Rattle.detector_state.specs.Runs.{IsSwitched, switch_log};
 
 use crate::part::{Part, Switched};
-use crate::shown::{Shown, letter_in, shown_before, shown_by};
+use crate::signs::{Shown, letter_in, shown_before, shown_by};
 use event_codes::Channel;
 use gap_map::Stretch;
 use reach::Past;

@@ -11,7 +11,7 @@ mod count;
 mod hour;
 mod laws;
 mod part;
-mod shown;
+mod signs;
 #[cfg(test)]
 mod tests;
 

@@ -1,7 +1,7 @@
 // What is told of each tenth of an hour, range by range.
 ghost use Rattle.std.specs.Prelude.{◌≡◌};
 
-use crate::shown::Shown;
+use crate::signs::Shown;
 use std::marker::Model;
 
 /// Tenths at the end of each of which the log tells the same.

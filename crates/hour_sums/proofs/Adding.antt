@@ -8,6 +8,14 @@ pub capped-add : (a b : ℕ) → capped (capped a + capped b) ≡ capped (a + b)
 unfolding capped
 capped-add a b = omega arith
 
+pub capped_assoc : (a b c : ℕ) → capped (capped (a + b) + c) ≡ capped (a + capped (b + c))
+unfolding capped
+capped_assoc a b c = omega arith
+
+pub capped_none : (a : ℕ) → capped (capped a + 0) ≡ capped a
+unfolding capped
+capped_none a = omega arith
+
 pub capped_small : (n : ℕ) → n < 2 ^ 64 → capped n ≡ n
 unfolding capped
 capped_small n lt = omega arith
@@ -21,13 +29,13 @@ sum-add xs ys = ap (λ n. capped n) (sum_by-append (λ x. x) xs ys) ∙ sym (cap
 pub count-add : {X : Type 0} (p : X → Bool) (xs ys : List X) → capped (count_by p (xs ++ ys)) ≡ capped (capped (count_by p xs) + capped (count_by p ys))
 count-add p xs ys = ap (λ n. capped n) (sum_by-append (λ x. cond (p x) 1 0) xs ys) ∙ sym (capped-add (count_by p xs) (count_by p ys))
 
-lesser_assoc : (a b c : Option ℕ) → lesser (lesser a b) c ≡ lesser a (lesser b c)
+pub lesser_assoc : (a b c : Option ℕ) → lesser (lesser a b) c ≡ lesser a (lesser b c)
 lesser_assoc None b c = refl
 lesser_assoc (Some x) None c = refl
 lesser_assoc (Some x) (Some y) None = refl
 lesser_assoc (Some x) (Some y) (Some z) = ap (λ n. Some n) (omega arith)
 
-greater_assoc : (a b c : Option ℕ) → greater (greater a b) c ≡ greater a (greater b c)
+pub greater_assoc : (a b c : Option ℕ) → greater (greater a b) c ≡ greater a (greater b c)
 greater_assoc None b c = refl
 greater_assoc (Some x) None c = refl
 greater_assoc (Some x) (Some y) None = refl

@@ -1,11 +1,17 @@
 -- Lists put together item by item.
-use Rattle.std.proofs.Common.{◌≡◌, ℕ, zero, suc, ◌+◌, ◌<◌, ◌≤◌, List, [], ◌∷◌, ◌++◌, length, get_or, set, take, refl, sym, ap, arith}
+use Rattle.std.proofs.Common.{◌≡◌, ◌∙◌, ℕ, zero, suc, ◌+◌, ◌<◌, ◌≤◌, List, [], ◌∷◌, ◌++◌, length, get_or, set, take, refl, sym, ap, arith}
 use Rattle.hour_sums.specs.Numbers.{merged}
 
 module _ {A : Type 0} (put : A → A → A) where
   pub sum_nil : (xs : List A) → merged put xs [] ≡ xs
   sum_nil [] = refl
   sum_nil (x ∷ xs) = refl
+
+  pub merged_assoc : ((a b c : A) → put (put a b) c ≡ put a (put b c)) → (xs ys zs : List A) → merged put (merged put xs ys) zs ≡ merged put xs (merged put ys zs)
+  merged_assoc assoc [] ys zs = refl
+  merged_assoc assoc (x ∷ xs) [] zs = refl
+  merged_assoc assoc (x ∷ xs) (y ∷ ys) [] = refl
+  merged_assoc assoc (x ∷ xs) (y ∷ ys) (z ∷ zs) = ap (λ v. v ∷ merged put (merged put xs ys) zs) (assoc x y z) ∙ ap (λ rest. put x (put y z) ∷ rest) (merged_assoc assoc xs ys zs)
 
   pub length-sum : (xs ys : List A) (n : ℕ) → length xs ≤ n → length ys ≤ n → length (merged put xs ys) ≤ n
   length-sum [] ys n a b = b

@@ -15,5 +15,6 @@ pub mod CycleTotals
 pub mod Totals
 pub mod SeenLaws
 pub mod PatchLaws
+pub mod BlockLaws
 pub mod PhaseLaws
 pub mod GreenLaws

@@ -18,10 +18,9 @@ use Rattle.cycle_arrivals.specs.declared.open.Open.{Open}
 use Rattle.arrival_measures.specs.Crossing.{IsCarry as AreOpen}
 use Rattle.arrival_measures.specs.declared.sums.ArrivalSum.{ArrivalSum}
 use Rattle.board.specs.Hours.{AreEnds, AreStarts}
-use Rattle.board.specs.Logs.{IsHour, first_tenth, hour_log}
+use Rattle.board.specs.Logs.{HourLog, IsHour, first_tenth, hour_log}
 use Rattle.board.specs.Places.{AreAheadsOf, IsViewOf}
 use Rattle.board.specs.Stops.{AreBefore}
-use Rattle.lane.specs.Places.{Kept}
 use Rattle.ring_config.specs.Settings.{Settings}
 use Rattle.ring_config.specs.Sound.{IsSound}
 use Rattle.signal_log.specs.Log.{log_of}
@@ -101,7 +100,7 @@ module _ (c : Settings) (sound : IsSound c) (s : Store) (hour : ℕ) (before : C
   }
 
   -- the view of the hour is one that can be audited
-  pub audited : (view : List Kept) → IsViewOf (hour_log hour c.specs rows ss before.pasts after) view → IsAudited c view rows ss (hour_log hour c.specs rows ss before.pasts after)
+  pub audited : (view : HourLog) → IsViewOf (hour_log hour c.specs rows ss before.pasts after) view → IsAudited c view rows ss (hour_log hour c.specs rows ss before.pasts after)
   audited view is_view = record {
     is_view = is_view;
     same_specs = refl;

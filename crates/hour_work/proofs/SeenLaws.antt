@@ -8,7 +8,6 @@ use Rattle.sig_base.specs.declared.values.Row.{Row}
 use Rattle.event_codes.specs.declared.channels.Channel.{Channel}
 use Rattle.gap_map.specs.declared.stretch.Stretch.{Stretch}
 use Rattle.gap_map.specs.Stretches.{known_at}
-use Rattle.lane.specs.Places.{Kept}
 use Rattle.hour_store.specs.Store.{Store, is_known, rows_at}
 use Rattle.board.specs.Logs.{HourLog, first_tenth, hour_log, no_spec}
 use Rattle.board.specs.Verdicts.{MayPass}
@@ -67,9 +66,9 @@ unheld_measures c s hour splits others arrivals none e numbers states judged cyc
     }
 
 -- an hour that is seen
-module _ (c : Settings) (s : Store) (hour : ℕ) (before : Carried) (rows : List Row) (ss : List Stretch) (view : List Kept) (seen : IsHourSeen c s hour before rows ss view) where
+module _ (c : Settings) (s : Store) (hour : ℕ) (before : Carried) (rows : List Row) (ss : List Stretch) (view : HourLog) (seen : IsHourSeen c s hour before rows ss view) where
   seen_hour : IsHour (is_known s) hour rows ss
-  seen_hour = hour_is s hour (Some rows) seen.blanks ss seen.between.has_hour seen.is_view.is_hour.are_rows seen.cut
+  seen_hour = hour_is s hour (Some rows) seen.blanks ss seen.between.has_hour seen.is_view.is_log.is_hour.are_rows seen.cut
 
   seen_rows : known_rows (is_known s) rows ≡ own_rows s hour
   seen_rows = own_known s hour (Some rows) seen.between.has_hour.held
@@ -91,8 +90,8 @@ module _ (c : Settings) (s : Store) (hour : ℕ) (before : Carried) (rows : List
   abbrev pub seen_log : HourLog
   seen_log = hour_log hour c.specs rows ss before.pasts seen.after
 
-  pub seen_width : length view ≡ length c.specs
-  seen_width = seen.is_view.is_view.0
+  pub seen_width : length view.specs ≡ length c.specs
+  seen_width = ap (λ (l : HourLog). length l.specs) seen.is_view.same
 
   seen_view : IsSeen c view rows ss seen_log
   seen_view = record { is_view = seen.is_view; same_specs = refl; same_rows = refl; same_stretches = refl }
@@ -134,7 +133,7 @@ module _ (c : Settings) (s : Store) (hour : ℕ) (before : Carried) (rows : List
       let M = λ (i : ℕ) (t : ℕ) (v : State). MayPass seen_log t i v in
       let known = is_known s in
       let from = first_tenth hour in
-      let places = known_within known from (from + 36000) rows seen.is_view.is_hour.are_rows.rise in
+      let places = known_within known from (from + 36000) rows seen.is_view.is_log.is_hour.are_rows.rise in
       let same = all_judged_as M (MayBeIn c s) c (known_rows known rows)
       (λ p i at. each_weaker (IsSeenFrom known from (from + 36000)) (λ (x : Row). HaveSameColours (MayPass seen_log x.at i) (MayBeIn c s i x.at)) (known_rows known rows) (same_colours p i at) places) sums in
       subst (λ (rs : List Row). AreAllJudged (MayBeIn c s) c rs sums) seen_rows (same (law known hour seen_log seen_hour seen_shown))

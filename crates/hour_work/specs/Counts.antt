@@ -1,5 +1,5 @@
 -- How often the lines of an audit give each verdict on a rule.
-use Rattle.std.specs.Prelude.{ℕ, ◌+◌, ◌&&◌, ◌==◌, Bool, true, false, List, map, count_by}
+use Rattle.std.specs.Prelude.{◌≡◌, ℕ, ◌+◌, ◌&&◌, ◌==◌, Bool, true, false, List, map, count_by}
 use Rattle.std.specs.List.{range_with_len}
 use Rattle.sig_base.specs.declared.values.Verdict.{Verdict}
 use Rattle.sig_base.specs.declared.values.Verdict.TheVariants.{Idle, Kept, Broken, Undecided}
@@ -36,6 +36,10 @@ count_of_rule number lines = record {
 -- the counts of the rules with the numbers 1 to n
 unfoldable pub counts_of : ℕ → List AuditLine → List RuleCount
 counts_of n lines = map (λ number. count_of_rule number lines) (range_with_len 1 n)
+
+-- no verdict of the rule is broken or undecided
+abbrev pub HasKeptAlone : RuleCount → Type 0
+HasKeptAlone c = (c.broken ≡ 0) × (c.undecided ≡ 0)
 
 -- the count with one verdict more
 abbrev pub counted : RuleCount → Verdict → RuleCount

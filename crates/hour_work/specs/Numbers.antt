@@ -1,5 +1,5 @@
 -- What is counted of one hour, and the sums over hours.
-use Rattle.std.specs.Prelude.{◌≡◌, ◌≤◌, ◌+◌, ◌*◌, ◌++◌, ℕ, zero, suc, Bool, true, false, List, [], length, take, drop, map, sum_by, All}
+use Rattle.std.specs.Prelude.{◌≡◌, ◌≤◌, ◌<◌, ◌⊎◌, ◌+◌, ◌*◌, ◌++◌, ℕ, zero, suc, Bool, true, false, List, [], length, take, drop, map, slice_index_or, sum_by, All}
 use Rattle.std.specs.List.{fold}
 use Rattle.hour_sums.specs.Numbers.{merged}
 use Rattle.split_measures.specs.declared.sums.PhaseSum.{PhaseSum}
@@ -78,11 +78,34 @@ pub record IsTotal (hours : List Numbers) (total : Numbers) : Type 0 where
   pub sums : total ≡ total_of hours
   pub fits : FitHours (length hours) total
 
--- the hours of a window, at most 744, and the sums over them
-pub record AreSummed (hours : List Numbers) (total : Numbers) : Type 0 where
+-- block j of the hours: 27 of them, or the last ones
+abbrev pub block : ℕ → List Numbers → List Numbers
+block j hours = take 27 (drop (27 * j) hours)
+
+-- these are the sums over the blocks of the hours
+pub record AreBlocks (hours blocks : List Numbers) : Type 0 where
+  pub all : length hours ≤ 27 * length blocks
+  pub each : (j : ℕ) (d : Numbers) → j < length blocks → slice_index_or blocks j d ≡ total_of (block j hours)
+
+-- the hours of a window, at most 744, and the sums over their blocks and over all
+pub record AreSummed (hours parts : List Numbers) (total : Numbers) : Type 0 where
   pub sums : total ≡ total_of hours
+  pub blocks : AreBlocks hours parts
   pub few : length hours ≤ 744
   pub small : All (FitHours 1) hours
+
+-- sums over blocks from one on, and over all hours
+pub record Summed : Type 0 where
+  pub first : ℕ
+  pub blocks : List Numbers
+  pub total : Numbers
+
+-- the sums over the blocks of the new hours that differ from those of before, and over all new hours
+pub record AreNewSums (old new : List Numbers) (s : Summed) : Type 0 where
+  pub sums : s.total ≡ total_of new
+  pub within : 27 * (s.first + length s.blocks) ≤ length old + 26
+  pub each : (i : ℕ) (d : Numbers) → i < length s.blocks → slice_index_or s.blocks i d ≡ total_of (block (s.first + i) new)
+  pub stay : (j : ℕ) → (j < s.first) ⊎ (s.first + length s.blocks ≤ j) → block j new ≡ block j old
 
 -- the list with these elements in place of as many from this place on
 abbrev pub patched : {A : Type 0} → List A → ℕ → List A → List A

@@ -7,7 +7,7 @@ use Rattle.board.specs.Stops.{AreBefore}
 use Rattle.board.specs.Places.{AllEarly}
 use Rattle.ring_config.specs.Settings.{Settings}
 use Rattle.signal_log.specs.Log.{IsContradiction, Log, log_of}
-use Rattle.signal_log.specs.Points.{ArePastsAt, AreAheadsAt}
+use Rattle.signal_log.specs.Points.{ArePastsAt, AreAheadsAt, AreAheadsFor}
 use Rattle.service_cut.specs.declared.parts.Part.{Part}
 use Rattle.service_cut.specs.Parts.{IsCarry as IsCut}
 use Rattle.other_measures.specs.Crossing.{Crossing, IsCarry as IsCrossing}
@@ -45,6 +45,10 @@ pub record IsCarryAt (c : Settings) (s : Store) (k : ℕ) (carry : Carried) : Ty
 -- these admit the states at point k with which the store can be completed
 abbrev pub IsFutureAt : Settings → Store → ℕ → List (List (Option ℤ)) → Type 0
 IsFutureAt c s k future = AreAheadsAt (log_of c.specs s) k future
+
+-- of the states that come up at point k these admit those with which the store can be completed
+abbrev pub IsFutureFor : Settings → Store → ℕ → List (List (Option ℤ)) → Type 0
+IsFutureFor c s k future = AreAheadsFor (log_of c.specs s) k future
 
 -- an error that isn't want of memory names the row at which the log contradicts itself
 abbrev pub NamesRow : Log → ForwardError → Type 0

@@ -4,8 +4,7 @@ use Rattle.sig_base.specs.declared.values.Row.{Row}
 use Rattle.span_set.specs.declared.set.Span.{Span}
 use Rattle.gap_map.specs.declared.stretch.Stretch.{Stretch}
 use Rattle.gap_map.specs.Stretches.{IsCut, known_in}
-use Rattle.lane.specs.Places.{Kept}
-use Rattle.board.specs.Logs.{hour_log}
+use Rattle.board.specs.Logs.{HourLog, hour_log}
 use Rattle.board.specs.Places.{IsViewOf}
 use Rattle.hour_store.specs.Store.{Store, count_in, held_at, is_known}
 use Rattle.ring_config.specs.Settings.{Settings}
@@ -16,7 +15,7 @@ use Rattle.rule_audit.specs.declared.lines.AuditLine.{AuditLine}
 use Rattle.rule_audit.specs.Rules.{rules_for}
 use Rattle.hour_work.specs.Numbers.{Numbers, count_in_hour, one_if}
 use Rattle.hour_work.specs.Counts.{counts_of}
-use Rattle.hour_work.specs.Points.{Carried, IsCarryAt, IsFutureAt}
+use Rattle.hour_work.specs.Points.{Carried, IsCarryAt, IsFutureFor}
 use Rattle.hour_work.specs.Verdicts.{AreAuditLines}
 use Rattle.hour_work.specs.Measures.{AreMeasures}
 
@@ -35,15 +34,15 @@ pub record IsReport (c : Settings) (s : Store) (all : List Numbers) : Type 0 whe
   pub size : length all ≡ length s.hours
   pub each : (hour : ℕ) (d : Numbers) → hour < length s.hours → IsHourPart c s hour (slice_index_or all hour d)
 
--- these are the rows and the blanked tenths of an hour of the store, and what it says at the points before and after the hour; some history agrees with it
+-- these are the rows and the blanked tenths of an hour of the store, what it says at the point before the hour, and, of the states that come up at the point after it, those with which it can be completed; some history agrees with it
 pub record IsHourBetween (c : Settings) (s : Store) (hour : ℕ) (before : Carried) (rows : Option (List Row)) (blanks : List Span) (after : List (List (Option ℤ))) : Type 0 where
   pub has_hour : HasHour s hour rows blanks
   pub is_before : IsCarryAt c s hour before
-  pub is_after : IsFutureAt c s (hour + 1) after
+  pub is_after : IsFutureFor c s (hour + 1) after
   pub history : HasHistory (log_of c.specs s)
 
 -- of a held hour of the store, under a configuration that can be read: it is cut into these stretches, and this is the view of it between what the store says at the points before and after it
-pub record IsHourSeen (c : Settings) (s : Store) (hour : ℕ) (before : Carried) (rows : List Row) (ss : List Stretch) (view : List Kept) : Type 0 where
+pub record IsHourSeen (c : Settings) (s : Store) (hour : ℕ) (before : Carried) (rows : List Row) (ss : List Stretch) (view : HourLog) : Type 0 where
   pub sound : IsSound c
   pub blanks : List Span
   pub after : List (List (Option ℤ))

@@ -1,7 +1,9 @@
 // What is kept at an hour point.
-ghost use Rattle.std.specs.Prelude.{◌≡◌, ◌↔◌, length, IfOk, IsTrue};
+ghost use Rattle.std.specs.Prelude.{◌≡◌, ◌↔◌, List, length, IfOk, IsTrue};
+ghost use Rattle.channel_tables.specs.declared.spec.Spec.{Spec};
 ghost use Rattle.hour_store.specs.Store.{Store};
-ghost use Rattle.board.specs.Places.{AreAheadsOf};
+ghost use Rattle.board.specs.Places.{AreAheadsOf, AreSameFor};
+ghost use Rattle.board.specs.Stops.{AreBefore};
 ghost use Rattle.hour_work.specs.Points.{FitPoint, IsCarryAt, IsFutureAt};
 
 use arrival_measures::ArrivalCarry;
@@ -99,6 +101,16 @@ impl Future {
         let point = 36_000 * i64::from(config.window().hours());
         let aheads = Aheads::end(alloc, config.specs(), point)?;
         Ok(Future { aheads })
+    }
+
+    /// Whether of each channel both admit the same of the states that the carry has, and of those of
+    /// their colours that were entered earlier. It answers yes only where of each channel both admit
+    /// the same states at all, or one state alone is possible and both admit it.
+    pub fn same_for(&self, carry: &Carry, other: &Future) -> bool
+        requires shape { (specs : List Spec) × AreBefore specs carry.now.pasts × AreAheadsOf specs self.now × AreAheadsOf specs other.now }
+        ensures { IsTrue result → AreSameFor carry.now.pasts self.now other.now }
+    {
+        self.aheads.same_for(&carry.pasts, &other.aheads)
     }
 
     /// Whether both admit the same states.

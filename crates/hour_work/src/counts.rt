@@ -1,8 +1,8 @@
 // How often each rule is kept, broken and undecided.
-ghost use Rattle.std.specs.Prelude.{◌≡◌, ◌+◌, ◌-◌, ◌≤◌, All, length, slice_index_or, slice_set, IfOk};
+ghost use Rattle.std.specs.Prelude.{◌≡◌, ◌↔◌, ◌+◌, ◌-◌, ◌≤◌, IsTrue, All, length, slice_index_or, slice_set, IfOk};
 ghost use Rattle.hour_work.specs.declared.counts.RuleCount.{RuleCount};
 ghost use Rattle.hour_work.specs.Numbers.{FitsCount};
-ghost use Rattle.hour_work.specs.Counts.{counted, counts_of};
+ghost use Rattle.hour_work.specs.Counts.{HasKeptAlone, counted, counts_of};
 
 use rule_audit::AuditLine;
 use sig_base::{NoMemory, Verdict};
@@ -14,6 +14,15 @@ pub struct RuleCount {
     pub kept: u64,
     pub broken: u64,
     pub undecided: u64,
+}
+
+impl RuleCount {
+    /// Whether none is broken or undecided.
+    pub fn has_kept_alone(&self) -> bool
+        ensures { IsTrue result ↔ HasKeptAlone self.now }
+    {
+        self.broken == 0 && self.undecided == 0
+    }
 }
 
 // The counts of so many rules by the lines of an hour.

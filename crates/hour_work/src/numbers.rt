@@ -1,9 +1,10 @@
 // The numbers of one hour, or of several together.
-ghost use Rattle.std.specs.Prelude.{◌≡◌, ◌≤◌, ◌+◌, ◌++◌, ℕ, None, List, [], All, length, IfOk, OnOk};
+ghost use Rattle.std.specs.Prelude.{◌≡◌, ◌↔◌, ◌≤◌, ◌+◌, ℕ, None, [], All, IsTrue, length, IfOk, OnOk};
 ghost use Rattle.hour_store.specs.Store.{Store, rows_at};
 ghost use Rattle.hour_sums.specs.Numbers.{merged};
 ghost use Rattle.rule_audit.specs.Rules.{rules_for};
-ghost use Rattle.hour_work.specs.Numbers.{FitHours, FitsCount, IsTotal, Numbers, count_sum, numbers_sum, total_of};
+ghost use Rattle.hour_work.specs.Numbers.{FitHours, FitsCount, IsTotal, count_sum, numbers_sum};
+ghost use Rattle.hour_work.specs.Counts.{HasKeptAlone};
 ghost use Rattle.hour_work.specs.Reports.{IsHourPart};
 
 use crate::RuleCount;
@@ -92,6 +93,18 @@ impl Partial {
         &self.splits
     }
 
+    /// Whether no rule has a broken or undecided verdict.
+    pub fn are_all_kept(&self) -> bool
+        ensures { IsTrue result ↔ All HasKeptAlone self.now.rules }
+    {
+        for count in &self.rules {
+            if !count.has_kept_alone() {
+                return false;
+            }
+        }
+        true
+    }
+
     /// The numbers of the pedestrian signals, the preempts and the coordination.
     pub fn others(&self) -> &OtherSums
         ensures { result.now ≡ self.now.others }
@@ -122,22 +135,9 @@ pub(crate) fn no_total(alloc: Global) -> Partial
     }
 }
 
-// Adds the numbers of these hours to those of the hours before.
-pub(crate) fn add_all(total: &mut Partial, parts: &[Partial]) -> Result<(), NoMemory>
-    requires before { (hours : List Numbers) × IsTotal hours total.old × (length hours + length parts.now ≤ 744) }
-    requires small { All (FitHours 1) parts.now }
-    ensures { OnOk result ((hours : List Numbers) → IsTotal hours total.old → IsTotal (hours ++ parts.now) total.new) }
-{
-    for part in parts {
-        add(total, part)?;
-    }
-    Ok(())
-}
-
-// Adds the numbers of one more hour.
-fn add(total: &mut Partial, part: &Partial) -> Result<(), NoMemory>
-    requires total { FitHours 743 total.old }
-    requires part { FitHours 1 part.now }
+// Adds the numbers of more hours, all of them at most 744.
+pub(crate) fn add(total: &mut Partial, part: &Partial) -> Result<(), NoMemory>
+    requires { (m n : ℕ) × FitHours m total.old × FitHours n part.now × (m + n ≤ 744) }
     ensures { OnOk result (total.new ≡ numbers_sum total.old part.now) }
 {
     total.held_hours += part.held_hours;
@@ -151,8 +151,7 @@ fn add(total: &mut Partial, part: &Partial) -> Result<(), NoMemory>
 
 // Adds rule by rule.
 fn add_counts(total: &mut Vec<RuleCount>, more: &[RuleCount]) -> Result<(), NoMemory>
-    requires total { All (FitsCount 743) total.old.items }
-    requires more { All (FitsCount 1) more.now }
+    requires { (m n : ℕ) × All (FitsCount m) total.old.items × All (FitsCount n) more.now × (m + n ≤ 744) }
     ensures { OnOk result (total.new.items ≡ merged count_sum total.old.items more.now) }
 {
     for i in 0..more.len() {
@@ -166,8 +165,7 @@ fn add_counts(total: &mut Vec<RuleCount>, more: &[RuleCount]) -> Result<(), NoMe
 }
 
 fn count_sum(a: RuleCount, b: RuleCount) -> RuleCount
-    requires a { FitsCount 743 a }
-    requires b { FitsCount 1 b }
+    requires { (m n : ℕ) × FitsCount m a × FitsCount n b × (m + n ≤ 744) }
     ensures { result ≡ count_sum a b }
 {
     RuleCount {

@@ -3,7 +3,6 @@ ghost use Rattle.std.specs.Prelude.{◌≡◌, ◌+◌, ◌*◌, ◌≤◌, ◌<
 ghost use Rattle.sig_base.specs.HourRows.{AreRowsOf};
 ghost use Rattle.gap_map.specs.Stretches.{IsCut, known_in};
 ghost use Rattle.hour_store.specs.Store.{Store, is_known};
-ghost use Rattle.lane.specs.Places.{Kept};
 ghost use Rattle.board.specs.Logs.{first_tenth};
 ghost use Rattle.rule_audit.specs.Rules.{rules_for};
 ghost use Rattle.split_measures.specs.Phases.{phase_sums};

@@ -100,20 +100,3 @@ fn sums_hours(rt: HostRuntime) -> Result<(), Fail> {
     assert!(rt; report.hour(3).is_none());
     Ok(())
 }
-
-// Two hours, of which the second isn't held at first.
-#[test]
-fn exchanges_an_hour(rt: HostRuntime) -> Result<(), Fail> {
-    let alloc = rt.alloc();
-    let short = green_until(alloc, 1149)?;
-    let absent = Partial::not_held(alloc, &configured(alloc)?, 1)?;
-    let long = green_until(alloc, 1150)?;
-    let mut report = Report::new(alloc, vec![in alloc; short, absent]?)?;
-    let mut parts = vec![in alloc; long]?;
-    let total = report.total_with(alloc, 1, &parts)?;
-    report.exchange(1, &mut parts, total);
-    assert_eq!(rt; report.total().held_hours(), 2);
-    assert_eq!(rt; report.total().rules(), [count(1, 1)].as_slice());
-    assert_eq!(rt; report.hour(1).ok_or("hour")?.known_tenths(), 36_000);
-    Ok(())
-}

@@ -1,9 +1,9 @@
 -- Moves one after another, forward and backward.
-use Rattle.std.proofs.Common.{suc, zero, ◌≡◌, refl, sym, subst, inl, inr, ◌↔◌, ℕ, ◌+◌, ◌<◌, ◌≤◌, ℤ, pos, ◌+ℤ◌, ◌<ℤ◌, List, [], ◌∷◌, ◌++◌, length, take, drop, get_or, arith, Option}
+use Rattle.std.proofs.Common.{suc, zero, ◌≡◌, refl, sym, subst, inl, inr, ◌↔◌, ℕ, ◌+◌, ◌-◌, ◌<◌, ◌≤◌, ℤ, pos, ◌+ℤ◌, ◌<ℤ◌, Bool, true, false, List, [], ◌∷◌, ◌++◌, length, take, drop, get_or, arith, Option, Result, Ok, Err, IsTrue, MatchBool, OnOk, IfOk}
 use Rattle.std.proofs.lemmas.Int.{ints}
 use Rattle.std.proofs.lemmas.Bool.{cases_eq}
 use Rattle.std.proofs.lemmas.Grind.{common_steps}
-use Rattle.std.proofs.lemmas.List.{take_more, take_all, drop_all, drop_more}
+use Rattle.std.proofs.lemmas.List.{take-take, take_more, take_all, drop_all, drop_more}
 use Rattle.span_set.specs.declared.set.Span.{Span}
 use Rattle.colour_machine.specs.Rules.{Rules}
 use Rattle.reach.specs.Runs.{State, Step, Steps, Run, Fills}
@@ -13,8 +13,10 @@ use Rattle.reach.proofs.States.{fills_none}
 use Rattle.reach.proofs.Arriving.{fills_later}
 use Rattle.lane.specs.declared.moves.Move.{Move}
 use Rattle.lane.specs.declared.moves.Move.TheVariants.{Letter, Gap}
-use Rattle.lane.specs.Walks.{limit_before, limit_after, IsMove, InOrder, Taken, Walk, AfterMove, AfterMoves, BeforeMove, BeforeMoves, EnteredBefore}
-use Rattle.lane.specs.Places.{EntersBefore, AreAheads, limit_of}
+use Rattle.lane.specs.Walks.{limit_before, limit_after, IsMove, InOrder, Taken, Walk, AfterMove, AfterMoves, BeforeMove, BeforeMoves, StopsAt, EnteredBefore}
+use Rattle.lane.specs.Places.{EntersBefore, limit_of}
+use Rattle.lane.specs.Legs.{IsGap, AreGaps}
+use Rattle.lane.proofs.Legs.{slice_join}
 
 -- a walk over one list and then another
 pub walk_join : (m : Rules) (xs ys : List Move) (s u : State) → Walk m (xs ++ ys) s u ↔ ((v : State) × Walk m xs s v × Walk m ys v u)
@@ -34,13 +36,32 @@ after_end m sets xs x u = (
   λ (v, (s, h, w), a). (s, h, (walk_join m xs (x ∷ []) s u).1 (v, w, (walk_one m x v u).1 a)),
 )
 
--- the sets after one more move
-pub after_turn : (m : Rules) (old now new : List (List Span)) (xs : List Move) (i : ℕ) (d : Move) → i < length xs → ((u : State) → Holds now u ↔ AfterMoves m old (take i xs) u) → ((u : State) → Holds new u ↔ AfterMove m now (get_or xs i d) u) → (u : State) → Holds new u ↔ AfterMoves m old (take (i + 1) xs) u
-after_turn m old now new xs i d lt inv step u =
-    let e = after_end m old (take i xs) (get_or xs i d) u in
-    rw (take_more xs i d lt) (
-      λ h. let (v, hv, a) = (step u).0 h in e.1 (v, (inv v).0 hv, a),
-      λ w. let (v, av, a) = e.0 w in (step u).1 (v, (inv v).1 av, a),
+-- the sets after one leg more
+pub after_join : (m : Rules) (old now new : List (List Span)) (xs ys : List Move) → ((u : State) → Holds now u ↔ AfterMoves m old xs u) → ((u : State) → Holds new u ↔ AfterMoves m now ys u) → (u : State) → Holds new u ↔ AfterMoves m old (xs ++ ys) u
+after_join m old now new xs ys inv step u = (
+  λ h. let (v, hv, b) = (step u).0 h in
+      let (s, hs, a) = (inv v).0 hv in
+      (s, hs, (walk_join m xs ys s u).1 (v, a, b)),
+  λ (s, hs, w).
+      let (v, a, b) = (walk_join m xs ys s u).0 w in
+      (step u).1 (v, (inv v).1 (s, hs, a), b),
+)
+
+pub after_leg : (m : Rules) (old now new : List (List Span)) (xs : List Move) (a b : ℕ) → a ≤ b → ((u : State) → Holds now u ↔ AfterMoves m old (take a xs) u) → ((u : State) → Holds new u ↔ AfterMoves m now (take (b - a) (drop a xs)) u) → (u : State) → Holds new u ↔ AfterMoves m old (take b xs) u
+after_leg m old now new xs a b le inv step u = rw (slice_join xs a b le) (after_join m old now new (take a xs) (take (b - a) (drop a xs)) inv step u)
+
+-- a leg that stops at its first move stops the walk there
+pub stops_leg : (m : Rules) (old now : List (List Span)) (xs : List Move) (a b : ℕ) → a < b → b ≤ length xs → ((u : State) → Holds now u ↔ AfterMoves m old (take a xs) u) → StopsAt m now (take (b - a) (drop a xs)) 0 → StopsAt m old xs a
+stops_leg m old now xs a b lt h inv (_, (u, (v, hv, w)), none) =
+    let first : take 1 (take (b - a) (drop a xs)) ≡ take 1 (drop a xs) = take-take 1 (b - a) (drop a xs) (omega arith) in
+    let one : (a + 1) - a ≡ 1 = omega arith in
+    let joined : take (a + 1) xs ≡ take a xs ++ take 1 (drop a xs) = rw one at (slice_join xs a (a + 1) (omega arith)) in (
+      omega arith,
+      (v, (inv v).0 hv),
+      λ z after.
+          let (s, hs, r) = rw joined at after in
+          let (y, one_way, rest) = (walk_join m (take a xs) (take 1 (drop a xs)) s z).0 r in
+          none z (y, (inv y).1 (s, hs, one_way), rw first rest),
     )
 
 pub after_none : (m : Rules) (old : List (List Span)) (xs : List Move) (u : State) → Holds old u ↔ AfterMoves m old (take 0 xs) u
@@ -51,6 +72,26 @@ pub one_fits : (m : Rules) (low i : ℕ) (xs : List Move) (d : Move) → i < len
 one_fits m low i [] d lt o = absurd (omega arith)
 one_fits m low zero (x ∷ xs) d lt o = o.1
 one_fits m low (suc i) (x ∷ xs) d lt o = one_fits m (limit_after x) i xs d (omega arith) o.2
+
+-- a leg of one move
+pub after_one : (m : Rules) (sets : List (List Span)) (xs : List Move) (d : Move) (u : State) → length xs ≡ 1 → AfterMove m sets (get_or xs 0 d) u ↔ AfterMoves m sets xs u
+after_one m sets [] d u e = absurd (omega arith)
+after_one m sets (x ∷ []) d u e = (λ (s, h, a). (s, h, (walk_one m x s u).1 a), λ (s, h, w). (s, h, (walk_one m x s u).0 w))
+after_one m sets (x ∷ (y ∷ ys)) d u e = absurd (omega arith)
+
+stops_one : (m : Rules) (old new : List (List Span)) (xs : List Move) (d : Move) (b : Bool) → length xs ≡ 1 → ((s : State) × Holds old s) → ((u : State) → Holds new u ↔ AfterMove m old (get_or xs 0 d) u) → (IsTrue b ↔ ((u : State) × Holds new u)) → MatchBool b ((u : State) × Holds new u) (StopsAt m old xs 0)
+stops_one m old new xs d true e some after iff = iff.0 refl
+stops_one m old new xs d false e (s, h) after iff = (
+  omega arith,
+  (s, (s, h, refl)),
+  λ u w.
+      let all : take (0 + 1) xs ≡ xs = take_all 1 xs (omega arith) in
+      let yes = iff.1 (u, (after u).1 ((after_one m old xs d u e).1 (rw all at w))) in cc,
+)
+
+pub stops_first : {E : Type 0} (m : Rules) (old new : List (List Span)) (xs : List Move) (d : Move) (r : Result Bool E) → length xs ≡ 1 → OnOk r ((u : State) → Holds new u ↔ AfterMove m old (get_or xs 0 d) u) → (((s : State) × Holds old s) → IfOk r (λ b. IsTrue b ↔ ((u : State) × Holds new u))) → ((s : State) × Holds old s) → IfOk r (λ b. MatchBool b ((u : State) × Holds new u) (StopsAt m old xs 0))
+stops_first m old new xs d (Ok b) e after iff some = stops_one m old new xs d b e some after (iff some)
+stops_first m old new xs d (Err x) e after iff some = iff some
 
 -- no state is entered after the moves that lead to it
 step_early : (m : Rules) (t x : ℤ) (s u : State) (l : ℕ) → Step m t s l u → t <ℤ x → s.entry <ℤ x → u.entry <ℤ x
@@ -88,24 +129,29 @@ order_drop m low zero xs o = o
 order_drop m low (suc j) [] o = tt
 order_drop m low (suc j) (x ∷ xs) o = order_drop m (limit_after x) j xs o.2
 
--- the moves before a place end before the next one limit_before
-pub end_before : (m : Rules) (low i : ℕ) (xs : List Move) (d : Move) → i < length xs → InOrder m low xs → limit_of low (take i xs) ≤ limit_before (get_or xs i d)
-end_before m low i [] d lt o = absurd (omega arith)
-end_before m low zero (x ∷ xs) d lt o = o.0
-end_before m low (suc i) (x ∷ xs) d lt o = end_before m (limit_after x) i xs d (omega arith) o.2
-
--- the states at a place are entered no later than the next move limit_before
-pub late_at : (m : Rules) (old now : List (List Span)) (xs : List Move) (i : ℕ) (d : Move) → i < length xs → ((low : ℕ) × EnteredBefore old low × InOrder m low xs) → ((u : State) → Holds now u ↔ AfterMoves m old (take i xs) u) → EnteredBefore now (limit_before (get_or xs i d))
-late_at m old now xs i d lt (low, none, o) inv s h =
-    let (z, hz, w) = (inv s).0 h in
-    let a = walk_early m low (take i xs) z s (order_take m low i xs o) w (none z hz) in
-    let b = end_before m low i xs d lt o in
-    omega (arith, ints)
+-- the states at a place are entered early enough for the moves of a leg from it
+pub leg_order : (m : Rules) (old now : List (List Span)) (xs : List Move) (a b : ℕ) → ((low : ℕ) × EnteredBefore old low × InOrder m low xs) → ((u : State) → Holds now u ↔ AfterMoves m old (take a xs) u) → (low : ℕ) × EnteredBefore now low × InOrder m low (take (b - a) (drop a xs))
+leg_order m old now xs a b (low, none, o) inv = (
+  limit_of low (take a xs),
+  λ s h. let (z, hz, w) = (inv s).0 h in walk_early m low (take a xs) z s (order_take m low a xs o) w (none z hz),
+  order_take m (limit_of low (take a xs)) (b - a) (drop a xs) (order_drop m low a xs o),
+)
 
 pub gap_keeps : (m : Rules) (f t : ℕ) (s : State) → f < t → Fills m (pos f) (pos t) s s
 gap_keeps m f t s lt = fills_later m (pos f) (pos f) (pos t) s s (omega (arith, ints)) ((fills_none m (pos f) s s).1 refl)
 
--- a gap leaves each state where it was, among others
+pub taken_keeps : (m : Rules) (x : Move) (s : State) → IsGap x → IsMove m x → Taken m x s s
+taken_keeps m (Letter at l r) s k fits = absurd k
+taken_keeps m (Gap f t) s k fits = gap_keeps m f t s fits
+
+-- gaps leave each state where it was, among others
+gaps_keep : (m : Rules) (low : ℕ) (xs : List Move) (s : State) → AreGaps xs → InOrder m low xs → Walk m xs s s
+gaps_keep m low [] s gaps o = refl
+gaps_keep m low (x ∷ xs) s gaps o = (s, taken_keeps m x s (gaps 0 (Letter 0 0 0) (omega arith)) o.1, gaps_keep m (limit_after x) xs s (λ k d lt. gaps (suc k) d (omega arith)) o.2)
+
+pub some_gaps : (m : Rules) (old new : List (List Span)) (xs : List Move) → AreGaps xs → ((low : ℕ) × EnteredBefore old low × InOrder m low xs) → ((s : State) × Holds old s) → ((u : State) → Holds new u ↔ AfterMoves m old xs u) → (u : State) × Holds new u
+some_gaps m old new xs gaps (low, none, o) (s, h) after = (s, (after s).1 (s, h, gaps_keep m low xs s gaps o))
+
 pub some_after : (m : Rules) (old new : List (List Span)) (x : Move) (f t : ℕ) → x ≡ Gap f t → IsMove m x → ((s : State) × Holds old s) → ((u : State) → Holds new u ↔ AfterMove m old x u) → (u : State) × Holds new u
 some_after m old new x f t e k (s, h) a =
     let lt = subst (λ (y : Move). IsMove m y) e k in
@@ -129,6 +175,22 @@ ahead_turn m after now new low x xs o inv step s = (
       (step s).1 (e, (v, t, (inv v).1 (not_after m (limit_after x) xs v o.2 n, (u, w, h)))),
 )
 
+-- a state that moves lead to enters early enough for those after them
+enters_on : (m : Rules) (low : ℕ) (ys zs : List Move) (s u : State) → InOrder m low (ys ++ zs) → Walk m ys s u → EntersBefore (ys ++ zs) s → EntersBefore zs u
+enters_on m low [] zs s u o w e = rw w e
+enters_on m low (y ∷ ys) zs s u o (v, a, w) e = enters_on m (limit_after y) ys zs v u o.2 w (not_after m (limit_after y) (ys ++ zs) v o.2 (taken_early m y s v a e))
+
+-- moves in front of those of which the Ahead is
+pub ahead_over : (m : Rules) (after now : List (Option ℤ)) (low : ℕ) (ys zs : List Move) → InOrder m low (ys ++ zs) → ((v : State) → EntersBefore zs v → Admits now v ↔ BeforeMoves m after zs v) → (s : State) → EntersBefore (ys ++ zs) s → BeforeMoves m now ys s ↔ BeforeMoves m after (ys ++ zs) s
+ahead_over m after now low ys zs o inv s e = (
+  λ (v, a, h).
+      let (u, b, k) = (inv v (enters_on m low ys zs s v o a e)).0 h in
+      (u, (walk_join m ys zs s u).1 (v, a, b), k),
+  λ (u, w, k).
+      let (v, a, b) = (walk_join m ys zs s u).0 w in
+      (v, a, (inv v (enters_on m low ys zs s v o a e)).1 (u, b, k)),
+)
+
 -- the same at a place of a list
 pub ahead_at : (m : Rules) (after now new : List (Option ℤ)) (xs : List Move) (j : ℕ) (d : Move) → InOrder m 0 xs → j < length xs → ((s : State) → Admits now s ↔ (EntersBefore (drop (j + 1) xs) s × BeforeMoves m after (drop (j + 1) xs) s)) → ((s : State) → Admits new s ↔ ((s.entry <ℤ pos (limit_before (get_or xs j d))) × BeforeMove m now (get_or xs j d) s)) → (s : State) → Admits new s ↔ (EntersBefore (drop j xs) s × BeforeMoves m after (drop j xs) s)
 ahead_at m after now new xs j d o lt inv step =
@@ -139,9 +201,3 @@ ahead_at m after now new xs j d o lt inv step =
 
 pub ahead_none : (m : Rules) (after : List (Option ℤ)) (xs : List Move) (j : ℕ) → length xs ≤ j → (s : State) → Admits after s ↔ (EntersBefore (drop j xs) s × BeforeMoves m after (drop j xs) s)
 ahead_none m after xs j h s = rw (drop_all j xs h) (λ a. (tt, (s, refl, a)), λ (_, (u, e, a)). rw (← e) a)
-
-pub aheads_more : (m : Rules) (after : List (Option ℤ)) (xs : List Move) (i n : ℕ) (aheads : List (List (Option ℤ))) (one : List (Option ℤ)) → n ≡ i + 1 → length aheads ≡ i → length one ≡ m.colours → ((j : ℕ) → j + i ≡ length xs → (s : State) → Admits one s ↔ (EntersBefore (drop j xs) s × BeforeMoves m after (drop j xs) s)) → AreAheads m after xs i aheads → AreAheads m after xs n (aheads ++ one ∷ [])
-aheads_more m after xs i n aheads one same l k a p j at lt sum = elim (cases_eq at i) [
-  | inl e ↦ let is : get_or (aheads ++ one ∷ []) at [] ≡ one = grind (arith, common_steps) in rw is (k, a j (omega arith))
-  | inr ne ↦ let below : at < i = omega arith in let b2 : at < length aheads = omega arith in let is : get_or (aheads ++ one ∷ []) at [] ≡ get_or aheads at [] = grind (arith, common_steps) in rw is (p j at below sum)
-]

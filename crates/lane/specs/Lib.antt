@@ -1,2 +1,6 @@
 pub mod Walks
 pub mod Places
+pub mod Legs
+pub mod Kept
+pub mod Runs
+pub mod Ring

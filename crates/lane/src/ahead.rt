@@ -1,14 +1,21 @@
 // The states before moves.
-ghost use Rattle.std.specs.Prelude.{◌≡◌, pos, ◌+◌, ◌<ℤ◌, ◌↔◌, length, IfOk};
+ghost use Rattle.std.specs.Prelude.{◌≡◌, ℕ, pos, ◌+◌, ◌<◌, ◌<ℤ◌, ◌^◌, ◌↔◌, length, drop, IfOk, OnOk, slice_index_or, []};
 ghost use Rattle.reach.specs.Runs.{State};
 ghost use Rattle.reach.specs.Ahead.{Admits};
+ghost use Rattle.reach.specs.Holes.{AreHoles};
+ghost use Rattle.reach.specs.Last.{BeforeGaps};
 ghost use Rattle.lane.specs.Walks.{limit_before, IsMove, InOrder, BeforeMove, BeforeMoves};
-ghost use Rattle.lane.specs.Places.{EntersBefore, AreAheads};
+ghost use Rattle.lane.specs.Places.{EntersBefore};
+ghost use Rattle.lane.specs.Kept.{HavePasts, HaveAheads, AreMore, AdmitSame, IsAhead, AreStandIns, AddsPlaces};
+ghost use Rattle.lane.specs.Legs.{IsLeg};
 
+use crate::leg::{END, leg_begin, put_holes};
 use crate::moves::Move;
+use crate::past::{RunPasts, past_at, run_number};
 use colour_machine::Machine;
-use reach::{Ahead, ahead_gap, ahead_row};
+use reach::{Ahead, Past, ahead_gap, ahead_holes, ahead_in, ahead_row, is_sure};
 use sig_base::NoMemory;
+use span_set::Span;
 use std::alloc::Global;
 
 /// The states, entered early enough for the first move, from which the moves lead to one that was
@@ -40,25 +47,150 @@ fn move_ahead<M: Machine>(machine: &M, ahead: &mut Ahead, one: Move)
     }
 }
 
-// The states before no move, before the last move, before the last two and so on.
+// The Aheads of the places.
+#[derive(Drop)]
+pub struct PlaceAheads {
+    // The first admits nearly everything, and stands where one state alone is kept and can be
+    // completed.
+    pub aheads: Vec<Ahead>,
+    // For the place after the last move, that before it and so on the number of its Ahead.
+    pub numbers: Vec<u32>,
+}
+
+// Later than every entry.
+const FAR: i64 = 500_000_000_000;
+
+// An Ahead for the place before no move, before the last move, before the last two and so on.
 pub fn aheads_of<M: Machine>(
     alloc: Global,
     machine: &M,
     after: &Ahead,
     moves: &[Move],
-) -> Result<Vec<Ahead>, NoMemory>
+    pasts: &RunPasts,
+) -> Result<PlaceAheads, NoMemory>
     requires order { InOrder (M.rules machine.now) 0 moves.now }
     requires colours { length after.now ≡ (M.rules machine.now).colours }
-    ensures places { IfOk result (λ v. length v.items ≡ length moves.now + 1) }
-    ensures aheads { IfOk result (λ v. AreAheads (M.rules machine.now) after.now moves.now (length v.items) v.items) }
+    requires pasts { HavePasts (M.rules machine.now).colours moves.now pasts.now }
+    ensures places { IfOk result (λ v. length v.numbers.items ≡ length moves.now + 1) }
+    ensures aheads { IfOk result
+        (AreStandIns (M.rules machine.now) after.now moves.now pasts.now 0) }
 {
     let mut aheads = Vec::new(alloc);
+    aheads.push(Ahead::end(machine.colours(), FAR))?;
+    let numbers = Vec::with_capacity(alloc, moves.len() + 1)?;
+    let mut places = PlaceAheads { aheads, numbers };
     let mut ahead = after.copy();
-    for turn in 0..moves.len() {
-        let kept = ahead.copy();
-        aheads.push(kept)?;
-        move_ahead(machine, &mut ahead, moves[moves.len() - 1 - turn]);
+    let mut holes = Vec::new(alloc);
+    let mut place = moves.len();
+    while place > 0 {
+        let begin = leg_begin(moves, place);
+        let past = past_at(pasts, place);
+        leg_ahead(
+            machine,
+            &mut ahead,
+            &mut places,
+            &mut holes,
+            past,
+            &moves[begin..place],
+        )?;
+        place = begin;
     }
-    aheads.push(ahead)?;
-    Ok(aheads)
+    add_place(&mut places, past_at(pasts, 0), &ahead)?;
+    Ok(places)
+}
+
+// The moves of one leg, with the numbers of the places from that after it back to that after its
+// first move, which have one Past. The buffer takes the holes of two gaps or more.
+fn leg_ahead<M: Machine>(
+    machine: &M,
+    ahead: &mut Ahead,
+    places: &mut PlaceAheads,
+    holes: &mut Vec<Span>,
+    past: &Past,
+    leg: &[Move],
+) -> Result<(), NoMemory>
+    requires some { 0 < length leg.now }
+    requires leg { IsLeg leg.now }
+    requires order { (low : ℕ) × InOrder (M.rules machine.now) low leg.now }
+    requires colours { length ahead.old ≡ (M.rules machine.now).colours }
+    requires past { length past.now ≡ (M.rules machine.now).colours }
+    requires aheads { HaveAheads (M.rules machine.now).colours places.old.aheads.items }
+    ensures before { OnOk result (IsAhead (M.rules machine.now) ahead.old leg.now ahead.new) }
+    ensures places { OnOk result
+        (AddsPlaces (M.rules machine.now).colours past.now 0 (length leg.now)
+        (λ j. BeforeMoves (M.rules machine.now) ahead.old (drop j leg.now))
+        places.old places.new) }
+{
+    if leg.len() == 1 {
+        add_place(places, past, ahead)?;
+        move_ahead(machine, ahead, leg[0]);
+        return Ok(());
+    }
+    put_holes(holes, leg)?;
+    holes_ahead(machine, ahead, places, holes.as_slice(), past)
+}
+
+// The same for the holes of a leg.
+fn holes_ahead<M: Machine>(
+    machine: &M,
+    ahead: &mut Ahead,
+    places: &mut PlaceAheads,
+    holes: &[Span],
+    past: &Past,
+) -> Result<(), NoMemory>
+    requires holes { AreHoles (pos 0) (pos (2 ^ 32)) holes.now }
+    requires colours { length ahead.old ≡ (M.rules machine.now).colours }
+    requires past { length past.now ≡ (M.rules machine.now).colours }
+    requires aheads { HaveAheads (M.rules machine.now).colours places.old.aheads.items }
+    ensures before { OnOk result ((s : State) → Admits ahead.new s
+        ↔ BeforeGaps (M.rules machine.now) ahead.old holes.now s) }
+    ensures colours { length ahead.new ≡ length ahead.old }
+    ensures places { OnOk result
+        (AddsPlaces (M.rules machine.now).colours past.now 0 (length holes.now)
+        (λ j. BeforeGaps (M.rules machine.now) ahead.old (drop j holes.now))
+        places.old places.new) }
+{
+    let last = ahead_holes(machine, ahead, holes, 0, END);
+    let mut here = ahead.copy();
+    for turn in 0..holes.len() {
+        add_place(places, past, &here)?;
+        here = ahead_in(machine, ahead, &last, holes[holes.len() - 1 - turn].from);
+    }
+    *ahead = here;
+    Ok(())
+}
+
+// A place with this Past and this Ahead gets the number of an Ahead that stands for it.
+fn add_place(places: &mut PlaceAheads, past: &Past, ahead: &Ahead) -> Result<(), NoMemory>
+    requires colours { length past.now ≡ length ahead.now }
+    requires aheads { HaveAheads (length ahead.now) places.old.aheads.items }
+    ensures { OnOk result (AddsPlaces (length ahead.now) past.now 0 1 (λ j. Admits ahead.now)
+        places.old places.new) }
+{
+    let number = keep(&mut places.aheads, past, ahead)?;
+    places.numbers.push(number)?;
+    Ok(())
+}
+
+// The number of an Ahead that stands for this one among the states of the Past: the first where
+// one state alone is kept and can be completed, the last where it is the same, else this one, which
+// is added.
+fn keep(aheads: &mut Vec<Ahead>, past: &Past, ahead: &Ahead) -> Result<u32, NoMemory>
+    requires colours { length past.now ≡ length ahead.now }
+    requires aheads { HaveAheads (length ahead.now) aheads.old.items }
+    ensures all { OnOk result (HaveAheads (length ahead.now) aheads.new.items) }
+    ensures more { OnOk result (AreMore aheads.old.items aheads.new.items) }
+    ensures stands { IfOk result (λ n. (n < length aheads.new.items)
+        × AdmitSame past.now (slice_index_or aheads.new.items n []) ahead.now) }
+{
+    if is_sure(past, ahead) && is_sure(past, &aheads[0]) {
+        return Ok(0);
+    }
+    let last = aheads.len() - 1;
+    if aheads[last].same(ahead) {
+        return run_number(last);
+    }
+    let number = run_number(aheads.len())?;
+    aheads.push(ahead.copy())?;
+    Ok(number)
 }

@@ -7,11 +7,14 @@
 #![tactic(auto)]
 
 mod ahead;
+mod leg;
 mod line;
 mod moves;
 mod past;
+#[cfg(test)]
+mod tests;
 
 pub use ahead::walk_ahead;
 pub use line::Line;
-pub use moves::Move;
+pub use moves::{Move, runs_are_moves};
 pub use past::walk_past;

@@ -1,11 +1,9 @@
 // The states at each place between one channel's moves.
-ghost use Rattle.std.specs.Prelude.{◌≡◌, ℕ, ◌^◌, negsuc, Option, ℤ, pos, ◌+◌, ◌≤◌, ◌≤ℤ◌, List, length, take, drop, IfOk};
-ghost use Rattle.colour_machine.specs.Rules.{Rules};
-ghost use Rattle.span_set.specs.declared.set.Span.{Span};
+ghost use Rattle.std.specs.Prelude.{◌≡◌, ℕ, ◌^◌, negsuc, pos, ◌+◌, ◌≤◌, ◌≤ℤ◌, length, take, drop, IfOk};
 ghost use Rattle.lane.specs.Walks.{InOrder, EnteredBefore};
-ghost use Rattle.lane.specs.Places.{IsLine, limit_of, TakesFrom, SeesPassing};
+ghost use Rattle.lane.specs.Places.{limit_of, TakesFrom, SeesPassing};
 
-use crate::ahead::aheads_of;
+use crate::ahead::{PlaceAheads, aheads_of};
 use crate::moves::Move;
 use crate::past::{RunPasts, pasts_of};
 use colour_machine::Machine;
@@ -13,46 +11,52 @@ use reach::{Ahead, Past, Seen, Test, possible};
 use sig_base::NoMemory;
 use std::alloc::Global;
 use std::marker::Model;
+use std::snapshot::Snapshot;
 
 /// A channel's states at each place between its moves: those to which what came before leads, and
-/// those from which what comes after can be met.
+/// from which what comes after can be met.
 #[derive(Drop)]
-pub struct Line {
+pub struct Line<M: Machine> {
+    machine: Snapshot<M>,
+    before: Snapshot<Past>,
+    after: Snapshot<Ahead>,
     moves: Vec<Move>,
     // One for each run of gaps between letters, and the run of each place.
     pasts: RunPasts,
-    // After the last move, before it, before the last two and so on.
-    aheads: Vec<Ahead>,
+    // One for each place where more than one state was possible, and the number of each place's.
+    aheads: PlaceAheads,
 }
 
-impl Model for Line {
-    ghost use Rattle.lane.specs.Places.{Kept, FitsMoves};
+impl<M: Machine> Model for Line<M> {
+    ghost use Rattle.lane.specs.Places.{LineLog, KeepsPlaces};
 
-    ghost Value = { Kept };
+    ghost Value = { LineLog M };
 
-    ghost view = { λ l. record { moves = l.moves.items; pasts = l.pasts.pasts.items; runs = l.pasts.runs.items; aheads = l.aheads.items } };
+    ghost view = { λ l. record { machine = l.machine.value; before = l.before.value; moves = l.moves.items; after = l.after.value } };
 
-    ghost invariant = { λ l. FitsMoves (record { moves = l.moves.items; pasts = l.pasts.pasts.items; runs = l.pasts.runs.items; aheads = l.aheads.items }) };
+    ghost invariant = { λ l. KeepsPlaces (M.rules l.machine.value) l.before.value l.after.value l.moves.items l.pasts.pasts.items l.pasts.runs.items l.aheads.aheads.items l.aheads.numbers.items };
 }
 
-impl Line {
+impl<M: Machine> Line<M> {
     /// The line of the moves, from the states before them to those that are admitted after them.
-    pub fn new<M: Machine>(
+    pub fn new(
         alloc: Global,
         machine: &M,
         before: &Past,
         moves: Vec<Move>,
         after: &Ahead,
-    ) -> Result<Line, NoMemory>
+    ) -> Result<Line<M>, NoMemory>
         requires order { (low : ℕ) × EnteredBefore before.now low × InOrder (M.rules machine.now) low moves.items }
         requires colours { length before.now ≡ (M.rules machine.now).colours }
         requires ahead { length after.now ≡ (M.rules machine.now).colours }
-        ensures moves { IfOk result (λ l. l.moves ≡ moves.items) }
-        ensures line { IfOk result (λ l. (low : ℕ) → InOrder (M.rules machine.now) low moves.items → EnteredBefore before.now low → IsLine (M.rules machine.now) low before.now after.now l) }
+        ensures { IfOk result (λ l. l ≡ record { machine = machine.now; before = before.now; moves = moves.items; after = after.now }) }
     {
         let pasts = pasts_of(alloc, machine, before, moves.as_slice())?;
-        let aheads = aheads_of(alloc, machine, after, moves.as_slice())?;
+        let aheads = aheads_of(alloc, machine, after, moves.as_slice(), &pasts)?;
         Ok(Line {
+            machine: Snapshot::of(machine),
+            before: Snapshot::of(before),
+            after: Snapshot::of(after),
             moves,
             pasts,
             aheads,
@@ -71,13 +75,10 @@ impl Line {
         requires place { place ≤ length self.now.moves }
         requires low { negsuc (2 ^ 39) ≤ℤ test.now.at }
         requires high { test.now.at ≤ℤ pos (2 ^ 39) }
-        ensures { (m : Rules) (low at : ℕ) (before : List (List Span)) (after : List (Option ℤ)) → IsLine m low before after self.now → limit_of low (take place self.now.moves) ≤ at + 1 → TakesFrom (at + 1) (drop place self.now.moves) → test.now.at ≡ pos at → SeesPassing m before after (take place self.now.moves) (drop place self.now.moves) test.now result }
+        ensures { (low at : ℕ) → EnteredBefore self.now.before low → InOrder (M.rules self.now.machine) low self.now.moves → limit_of low (take place self.now.moves) ≤ at + 1 → TakesFrom (at + 1) (drop place self.now.moves) → test.now.at ≡ pos at → SeesPassing (M.rules self.now.machine) self.now.before self.now.after (take place self.now.moves) (drop place self.now.moves) test.now result }
     {
         let run = self.pasts.runs[place] as usize;
-        possible(
-            &self.pasts.pasts[run],
-            &self.aheads[self.moves.len() - place],
-            test,
-        )
+        let number = self.aheads.numbers[self.moves.len() - place] as usize;
+        possible(&self.pasts.pasts[run], &self.aheads.aheads[number], test)
     }
 }

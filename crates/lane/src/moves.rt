@@ -1,4 +1,5 @@
 // What happens to one channel.
+ghost use Rattle.lane.specs.Runs.{RunsAreMoves};
 
 /// What happens to one channel.
 #[derive(Clone, Copy, Debug, PartialEq, Eq)]
@@ -8,3 +9,8 @@ pub enum Move {
     /// Any legal letters at the tenths from the first up to but without the second.
     Gap { from: u32, to: u32 },
 }
+
+/// Gaps between two letters lead to what the holes of a run lead to. It does nothing.
+pub fn runs_are_moves()
+    ensures { RunsAreMoves }
+{}

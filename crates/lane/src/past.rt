@@ -1,19 +1,23 @@
 // The states after moves.
-ghost use Rattle.std.specs.Prelude.{◌≡◌, ℕ, pos, ◌<◌, ◌+◌, ◌↔◌, length, take, IsTrue, IfOk, OnOk, MatchOption};
+ghost use Rattle.std.specs.Prelude.{◌≡◌, ℕ, pos, ◌<◌, ◌≤◌, ◌+◌, ◌^◌, ◌↔◌, ◌∷◌, length, take, IsTrue, IfOk, OnOk, MatchOption, MatchBool, slice_index_or, []};
 ghost use Rattle.reach.specs.Runs.{State};
 ghost use Rattle.reach.specs.Past.{Holds, AfterGap};
 ghost use Rattle.lane.specs.Walks.{limit_before, IsMove, InOrder, AfterMove, AfterMoves, StopsAt, EnteredBefore};
-ghost use Rattle.lane.specs.Places.{ArePasts, kept_before, letters};
+ghost use Rattle.lane.specs.Kept.{letters, AreRuns, kept_before, HasPast, past_of, ArePasts};
+ghost use Rattle.lane.specs.Legs.{IsLeg};
 
+use crate::leg::{END, leg_end, put_holes};
 use crate::moves::Move;
 use colour_machine::Machine;
-use reach::{Past, past_gap, past_row};
+use reach::{Past, past_gap, past_row, past_run};
 use sig_base::NoMemory;
+use span_set::Span;
 use std::alloc::Global;
 
 /// The states after the moves, from some state before them. It answers the place of the first move
 /// after which no state is left, where there is one; then it has gone no further.
 pub fn walk_past<M: Machine>(
+    alloc: Global,
     machine: &M,
     past: &mut Past,
     moves: &[Move],
@@ -24,12 +28,44 @@ pub fn walk_past<M: Machine>(
     ensures after { IfOk result (λ r. MatchOption r (((u : State) → Holds past.new u ↔ AfterMoves (M.rules machine.now) past.old moves.now u) × ((u : State) × Holds past.new u)) (λ j. StopsAt (M.rules machine.now) past.old moves.now j)) }
     ensures colours { length past.new ≡ length past.old }
 {
-    for i in 0..moves.len() {
-        if !move_past(machine, past, moves[i])? {
-            return Ok(Some(i));
+    let mut holes = Vec::new(alloc);
+    let mut place = 0;
+    while place < moves.len() {
+        let end = leg_end(moves, place);
+        if !leg_past(machine, past, &mut holes, &moves[place..end])? {
+            return Ok(Some(place));
         }
+        place = end;
     }
     Ok(None)
+}
+
+// The moves of one leg. Answers whether a state is left, where there was one. The buffer takes the
+// holes of two gaps or more.
+fn leg_past<M: Machine>(
+    machine: &M,
+    past: &mut Past,
+    holes: &mut Vec<Span>,
+    leg: &[Move],
+) -> Result<bool, NoMemory>
+    requires some { 0 < length leg.now }
+    requires leg { IsLeg leg.now }
+    requires order { (low : ℕ) × EnteredBefore past.old low
+        × InOrder (M.rules machine.now) low leg.now }
+    requires colours { length past.old ≡ (M.rules machine.now).colours }
+    ensures after { OnOk result ((u : State) → Holds past.new u
+        ↔ AfterMoves (M.rules machine.now) past.old leg.now u) }
+    ensures some { ((s : State) × Holds past.old s)
+        → IfOk result (λ b. MatchBool b ((u : State) × Holds past.new u)
+        (StopsAt (M.rules machine.now) past.old leg.now 0)) }
+    ensures colours { length past.new ≡ length past.old }
+{
+    if leg.len() == 1 {
+        return move_past(machine, past, leg[0]);
+    }
+    put_holes(holes, leg)?;
+    past_run(machine, past, holes.as_slice(), 0, END)?;
+    Ok(true)
 }
 
 // One move. Answers whether a state is left, where there was one.
@@ -72,6 +108,16 @@ pub struct RunPasts {
     pub runs: Vec<u32>,
 }
 
+// The Past of the place's run.
+pub fn past_at(pasts: &RunPasts, place: usize) -> &Past
+    requires place { place < length pasts.now.runs.items }
+    requires run { HasPast pasts.now place }
+    ensures { result.now ≡ past_of pasts.now place }
+{
+    let run = pasts.runs[place] as usize;
+    &pasts.pasts[run]
+}
+
 // One Past for each run of gaps, and the run of each place.
 pub fn pasts_of<M: Machine>(
     alloc: Global,
@@ -79,29 +125,57 @@ pub fn pasts_of<M: Machine>(
     before: &Past,
     moves: &[Move],
 ) -> Result<RunPasts, NoMemory>
-    requires order { (low : ℕ) × EnteredBefore before.now low × InOrder (M.rules machine.now) low moves.now }
+    requires order { (low : ℕ) × EnteredBefore before.now low
+        × InOrder (M.rules machine.now) low moves.now }
     requires colours { length before.now ≡ (M.rules machine.now).colours }
-    ensures places { IfOk result (λ v. length v.runs.items ≡ length moves.now + 1) }
+    ensures runs { IfOk result (λ v. AreRuns moves.now v.runs.items) }
     ensures count { IfOk result (λ v. length v.pasts.items ≡ letters moves.now + 1) }
-    ensures pasts { IfOk result (λ v. ArePasts (M.rules machine.now) before.now moves.now (length moves.now + 1) v.pasts.items v.runs.items) }
+    ensures pasts { IfOk result (ArePasts (M.rules machine.now) before.now moves.now) }
 {
+    let runs = runs_of(alloc, moves)?;
     let mut pasts = Vec::new(alloc);
-    let mut runs = Vec::new(alloc);
     let mut past = before.copy()?;
-    for i in 0..moves.len() {
-        let number = run_number(pasts.len())?;
-        runs.push(number)?;
-        end_run(&mut pasts, &past, moves[i])?;
-        let _some = move_past(machine, &mut past, moves[i])?;
+    let mut holes = Vec::new(alloc);
+    let mut place = 0;
+    while place < moves.len() {
+        let end = leg_end(moves, place);
+        end_run(&mut pasts, &past, moves[place])?;
+        let _some = leg_past(machine, &mut past, &mut holes, &moves[place..end])?;
+        place = end;
     }
-    let last = run_number(pasts.len())?;
-    runs.push(last)?;
     pasts.push(past)?;
     Ok(RunPasts { pasts, runs })
 }
 
+// The number of each place's run: how many letters are before the place.
+fn runs_of(alloc: Global, moves: &[Move]) -> Result<Vec<u32>, NoMemory>
+    ensures { IfOk result (λ v. AreRuns moves.now v.items) }
+{
+    let mut runs = Vec::with_capacity(alloc, moves.len() + 1)?;
+    let mut count = 0;
+    for i in 0..moves.len() {
+        let number = run_number(count)?;
+        runs.push(number)?;
+        count = count_on(count, moves[i]);
+    }
+    let last = run_number(count)?;
+    runs.push(last)?;
+    Ok(runs)
+}
+
+// So many letters, and one more where the move is one.
+fn count_on(count: usize, next: Move) -> usize
+    requires { count < 2 ^ 63 }
+    ensures { result ≡ count + letters (next ∷ []) }
+{
+    match next {
+        Move::Letter { .. } => count + 1,
+        Move::Gap { .. } => count,
+    }
+}
+
 // The number of a run after so many others. More than a u32 can tell count as want of memory.
-fn run_number(others: usize) -> Result<u32, NoMemory>
+pub fn run_number(others: usize) -> Result<u32, NoMemory>
     ensures { IfOk result (λ n. n ≡ others) }
 {
     match u32::try_from(others) {

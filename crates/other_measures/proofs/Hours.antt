@@ -12,7 +12,6 @@ use Rattle.hour_sweep.specs.Numbers.{Tracking, tracking_after, tracking_cleared,
 use Rattle.hour_sweep.proofs.Orders.{rise_ordered, below_end}
 use Rattle.hour_sweep.proofs.Laws.{hour_tracked}
 use Rattle.hour_sweep.proofs.Counted.{outs_from-append}
-use Rattle.lane.specs.Places.{Kept}
 use Rattle.board.specs.Logs.{HourLog, first_tenth, end_tenth}
 use Rattle.ring_config.specs.Settings.{Settings}
 use Rattle.ring_config.specs.Values.{has_number}
@@ -89,9 +88,9 @@ numbers_are known c before rows ds es peds preempts coordination ed ee p q r off
 
 -- the first tenth of the hour
 
-pub first_is : (c : Settings) (view : List Kept) (rows : List Row) (ss : List Stretch) (log : HourLog) (from : ℕ) → IsSeen c view rows ss log → ((a b : ℕ) → FollowOn a b ss → a < b → from ≡ a) → from ≡ first_tenth log.hour
+pub first_is : (c : Settings) (view : HourLog) (rows : List Row) (ss : List Stretch) (log : HourLog) (from : ℕ) → IsSeen c view rows ss log → ((a b : ℕ) → FollowOn a b ss → a < b → from ≡ a) → from ≡ first_tenth log.hour
 first_is c view rows ss log from is first =
-    let follow = subst (λ (zs : List Stretch). FollowOn (first_tenth log.hour) (end_tenth log.hour) zs) is.same_stretches is.is_view.is_hour.follow in
+    let follow = subst (λ (zs : List Stretch). FollowOn (first_tenth log.hour) (end_tenth log.hour) zs) is.same_stretches is.is_view.is_log.is_hour.follow in
     first (first_tenth log.hour) (end_tenth log.hour) follow (omega arith)
 
 -- the laws of several hours

@@ -7,19 +7,17 @@ use Rattle.std.proofs.lemmas.List.{get_or-set_same, get_or-set_other}
 use Rattle.sig_base.specs.declared.values.Row.{Row}
 use Rattle.event_codes.specs.declared.channels.Channel.{Channel}
 use Rattle.gap_map.specs.declared.stretch.Stretch.{Stretch}
-use Rattle.lane.specs.Places.{Kept}
 use Rattle.board.specs.Logs.{HourLog, first_tenth}
-use Rattle.board.specs.Places.{IsViewOf}
 use Rattle.ring_config.specs.Settings.{Settings, spec_place, is_tracked}
 use Rattle.state_tenths.specs.declared.asked.Asked.{Asked}
 use Rattle.state_tenths.specs.declared.asked.Asked.TheVariants.{Colour}
 use Rattle.state_tenths.specs.States.{IsCount, MeetsAt}
 use Rattle.other_measures.specs.States.{HasTenths, IsSeen, coordination}
 
-pub tenths_found : (c : Settings) (view : List Kept) (channel : Channel) (asked : Asked) (from i m n : ℕ) → n ≡ m → spec_place c.specs channel ≡ Some i → ((log : HourLog) → IsViewOf log view → from ≡ first_tenth log.hour → IsCount (MeetsAt log i asked) from 36000 m) → (log : HourLog) (rows : List Row) (ss : List Stretch) → IsSeen c view rows ss log → from ≡ first_tenth log.hour → HasTenths (MeetsAt log) (first_tenth log.hour) c channel asked n
-tenths_found c view channel asked from i m n same at count log rows ss is e = (i, at, subst (λ (z : ℕ). IsCount (MeetsAt log i asked) (first_tenth log.hour) 36000 z) (sym same) (subst (λ (z : ℕ). IsCount (MeetsAt log i asked) z 36000 m) e (count log is.is_view e)))
+pub tenths_found : (c : Settings) (view : HourLog) (channel : Channel) (asked : Asked) (from i m n : ℕ) → n ≡ m → spec_place c.specs channel ≡ Some i → (from ≡ first_tenth view.hour → IsCount (MeetsAt view i asked) from 36000 m) → (log : HourLog) (rows : List Row) (ss : List Stretch) → IsSeen c view rows ss log → from ≡ first_tenth log.hour → HasTenths (MeetsAt log) (first_tenth log.hour) c channel asked n
+tenths_found c view channel asked from i m n same at count log rows ss is e = (i, at, subst (λ (z : ℕ). IsCount (MeetsAt log i asked) (first_tenth log.hour) 36000 z) (sym same) (subst (λ (z : ℕ). IsCount (MeetsAt log i asked) z 36000 m) e ((rw is.is_view.same at count) e)))
 
-pub tenths_none : (c : Settings) (view : List Kept) (channel : Channel) (asked : Asked) (from n : ℕ) (o : Option ℕ) → is_tracked c channel ≡ true → is_some o ≡ is_tracked c channel → o ≡ None → (log : HourLog) (rows : List Row) (ss : List Stretch) → IsSeen c view rows ss log → from ≡ first_tenth log.hour → HasTenths (MeetsAt log) (first_tenth log.hour) c channel asked n
+pub tenths_none : (c : Settings) (view : HourLog) (channel : Channel) (asked : Asked) (from n : ℕ) (o : Option ℕ) → is_tracked c channel ≡ true → is_some o ≡ is_tracked c channel → o ≡ None → (log : HourLog) (rows : List Row) (ss : List Stretch) → IsSeen c view rows ss log → from ≡ first_tenth log.hour → HasTenths (MeetsAt log) (first_tenth log.hour) c channel asked n
 tenths_none c view channel asked from n o t s e = absurd (let bad : is_some o ≡ true = s ∙ t in let none : false ≡ true = rw e at bad in cc)
 
 pub tenths_more : (log : HourLog) (c : Settings) (all : List ℕ) (state n : ℕ) → length all ≡ 7 → state < 7 → HasTenths (MeetsAt log) (first_tenth log.hour) c coordination (Colour state) n → ((q : ℕ) → q < state → HasTenths (MeetsAt log) (first_tenth log.hour) c coordination (Colour q) (get_or all q 0)) → (q : ℕ) → q < state + 1 → HasTenths (MeetsAt log) (first_tenth log.hour) c coordination (Colour q) (get_or (set all state n) q 0)

@@ -4,7 +4,6 @@ use Rattle.sig_base.specs.declared.values.Row.{Row}
 use Rattle.event_codes.specs.declared.channels.Channel.{Channel}
 use Rattle.event_codes.specs.declared.channels.Kind.TheVariants.{PedDetector, PreemptInput, PreemptService, Coordination}
 use Rattle.gap_map.specs.declared.stretch.Stretch.{Stretch}
-use Rattle.lane.specs.Places.{Kept}
 use Rattle.board.specs.Logs.{HourLog}
 use Rattle.board.specs.Places.{IsViewOf}
 use Rattle.ring_config.specs.Settings.{Settings, spec_place}
@@ -16,7 +15,7 @@ use Rattle.other_measures.specs.declared.sums.PreemptSum.{PreemptSum}
 use Rattle.other_measures.specs.declared.sums.CoordSum.{CoordSum}
 
 -- the view is one of this hour, with the channels of the configuration
-pub record IsSeen (c : Settings) (view : List Kept) (rows : List Row) (ss : List Stretch) (log : HourLog) : Type 0 where
+pub record IsSeen (c : Settings) (view : HourLog) (rows : List Row) (ss : List Stretch) (log : HourLog) : Type 0 where
   pub is_view : IsViewOf log view
   pub same_specs : log.specs ≡ c.specs
   pub same_rows : log.rows ≡ rows

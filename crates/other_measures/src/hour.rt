@@ -108,7 +108,7 @@ impl OtherSums {
 
 // The numbers of a pedestrian signal, from those of its delays.
 fn ped_sum(config: &Config, view: &HourView, from: u32, ped: u8, delays: &PedSum) -> PedSum
-    requires view { length view.now ≡ length config.now.specs }
+    requires view { length view.now.specs ≡ length config.now.specs }
     requires ped { has_number config.now.peds ped ≡ true }
     ensures delays { result ≡ with_detector delays.now result.detector_on result.detector_undecided }
     ensures detector { (log : HourLog) (rows : List Row) (ss : List Stretch) → IsSeen config.now view.now rows ss log → from ≡ first_tenth log.hour → HasDetector (MeetsAt log) (first_tenth log.hour) config.now ped result }
@@ -132,7 +132,7 @@ fn preempt_sum(
     preempt: u8,
     events: &PreemptSum,
 ) -> PreemptSum
-    requires view { length view.now ≡ length config.now.specs }
+    requires view { length view.now.specs ≡ length config.now.specs }
     requires preempt { has_number config.now.preempts preempt ≡ true }
     ensures events { result ≡ with_states events.now result }
     ensures states { (log : HourLog) (rows : List Row) (ss : List Stretch) → IsSeen config.now view.now rows ss log → from ≡ first_tenth log.hour → HasStates (MeetsAt log) (first_tenth log.hour) config.now preempt result }
@@ -164,7 +164,7 @@ fn ped_sums(
     from: u32,
     delays: &[Delay],
 ) -> Result<Vec<PedSum>, NoMemory>
-    requires view { length view.now ≡ length config.now.specs }
+    requires view { length view.now.specs ≡ length config.now.specs }
     ensures delays { IfOk result (λ v. EachOf (has_number config.now.peds) (HasDelays delays.now) 17 v.items) }
     ensures detector { IfOk result (λ v. (log : HourLog) (rows : List Row) (ss : List Stretch) → IsSeen config.now view.now rows ss log → from ≡ first_tenth log.hour → EachOf (has_number config.now.peds) (HasDetector (MeetsAt log) (first_tenth log.hour) config.now) 17 v.items) }
 {
@@ -185,7 +185,7 @@ fn preempt_sums(
     from: u32,
     events: &[PreemptEvent],
 ) -> Result<Vec<PreemptSum>, NoMemory>
-    requires view { length view.now ≡ length config.now.specs }
+    requires view { length view.now.specs ≡ length config.now.specs }
     ensures events { IfOk result (λ v. EachOf (has_number config.now.preempts) (HasEvents events.now) 17 v.items) }
     ensures states { IfOk result (λ v. (log : HourLog) (rows : List Row) (ss : List Stretch) → IsSeen config.now view.now rows ss log → from ≡ first_tenth log.hour → EachOf (has_number config.now.preempts) (HasStates (MeetsAt log) (first_tenth log.hour) config.now) 17 v.items) }
 {
@@ -268,7 +268,7 @@ pub fn others_hour(
     rows: &[Row],
     stretches: &[Stretch],
 ) -> Result<OtherSums, NoMemory>
-    requires view { length view.now ≡ length config.now.specs }
+    requires view { length view.now.specs ≡ length config.now.specs }
     ensures numbers { IfOk result (λ sums. (known : ℕ → Bool) (before : List Row) (hour : ℕ)
         → IsHour known hour rows.now stretches.now → IsCarry known config.now before hour carry.old
         → AreNumbers known config.now before (known_rows known rows.now) sums) }

@@ -43,7 +43,7 @@ pub(crate) fn tenths(
     asked: Asked,
     from: u32,
 ) -> u64
-    requires view { length view.now ≡ length config.now.specs }
+    requires view { length view.now.specs ≡ length config.now.specs }
     requires tracked { is_tracked config.now channel ≡ true }
     requires asked { IsAsked asked }
     ensures { (log : HourLog) (rows : List Row) (ss : List Stretch) → IsSeen config.now view.now rows ss log → from ≡ first_tenth log.hour → HasTenths (MeetsAt log) (first_tenth log.hour) config.now channel asked result }

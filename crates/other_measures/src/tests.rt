@@ -46,7 +46,7 @@ fn two_walks() -> [Row; 4]
 fn seen(alloc: Global, rows: &[Row], stretches: &[Stretch]) -> Result<HourView, Fail>
     requires rows { AreRowsOf 0 rows.now }
     requires stretches { FollowOn 0 36000 stretches.now }
-    ensures { IfOk result (λ v. length v ≡ 5) }
+    ensures { IfOk result (λ v. length v.specs ≡ 5) }
 {
     let specs = [
         free(Kind::Phase, 2),

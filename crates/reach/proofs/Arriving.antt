@@ -14,15 +14,15 @@ use Rattle.std.proofs.lemmas.List.{get_or_default, get_or_past}
 use Rattle.std.proofs.lemmas.Bool.{cases_lt}
 use Rattle.reach.proofs.States.{fills_none}
 
-steps_end : (m : Rules) (t : ℤ) (s u w : State) (ls : List ℕ) (l : ℕ) → Steps m t s ls u → Step m t u l w → Steps m t s (ls ++ l ∷ []) w
+pub steps_end : (m : Rules) (t : ℤ) (s u w : State) (ls : List ℕ) (l : ℕ) → Steps m t s ls u → Step m t u l w → Steps m t s (ls ++ l ∷ []) w
 steps_end m t s u w [] l r e = (w, subst (λ (x : State). Step m t x l w) r e, refl)
 steps_end m t s u w (k ∷ ls) l (v, a, r) e = (v, a, steps_end m t v u w ls l r e)
 
-run_end : (m : Rules) (f t : ℤ) (s u w : State) (lists : List (List ℕ)) (ls : List ℕ) → (f +ℤ pos (length lists)) ≡ t → Run m f s lists u → Steps m t u ls w → Run m f s (lists ++ ls ∷ []) w
+pub run_end : (m : Rules) (f t : ℤ) (s u w : State) (lists : List (List ℕ)) (ls : List ℕ) → (f +ℤ pos (length lists)) ≡ t → Run m f s lists u → Steps m t u ls w → Run m f s (lists ++ ls ∷ []) w
 run_end m f t s u w [] ls e r a = let same : t ≡ f = omega (arith, ints) in (w, subst (λ (x : State). Steps m f x ls w) r (subst (λ (x : ℤ). Steps m x u ls w) same a), refl)
 run_end m f t s u w (k ∷ lists) ls e (v, b, r) a = (v, b, run_end m (f +ℤ pos 1) t v u w lists ls (omega (arith, ints)) r a)
 
-length_end : (lists : List (List ℕ)) (ls : List ℕ) → length (lists ++ ls ∷ []) ≡ length lists + 1
+pub length_end : (lists : List (List ℕ)) (ls : List ℕ) → length (lists ++ ls ∷ []) ≡ length lists + 1
 length_end [] ls = omega arith
 length_end (k ∷ lists) ls = let i = length_end lists ls in omega arith
 

@@ -5,3 +5,7 @@ pub mod Arriving
 pub mod Later
 pub mod Entering
 pub mod Seeing
+pub mod Alone
+pub mod Crossing
+pub mod Returning
+pub mod Filling

@@ -7,3 +7,7 @@ pub mod Sets
 pub mod Arrivals
 pub mod Latest
 pub mod Table
+pub mod Single
+pub mod Holes
+pub mod Last
+pub mod SeenIn

@@ -80,6 +80,40 @@ fn later_one<M: Machine>(
     requires all { length latest.now ≡ 16 }
     ensures { (e : ℤ) → NotLater result e ↔ (NotLater (entry_of latest.now colour) e ⊎ LeftBelow (M.rules machine.now) from to latest.now colour (M.rules machine.now).letters e) }
 {
+    let entry = latest[colour as usize];
+    if is_last(entry, machine.floor(colour), to) {
+        return entry;
+    }
+    later_letters(machine, latest, colour, from, to)
+}
+
+// Whether the latest entry is as late as any for leaving by the end.
+fn is_last(entry: Option<Tenth>, floor: u32, to: Tenth) -> bool
+    requires low { negsuc (2 ^ 39) ≤ℤ to }
+    requires high { to ≤ℤ pos (2 ^ 39) }
+    requires floor { floor ≤ 36000 }
+    ensures { IsTrue result → (e : ℤ) → (e +ℤ pos floor) <ℤ to → NotLater entry e }
+{
+    match entry {
+        None => false,
+        Some(x) => to - i64::from(floor) <= x,
+    }
+}
+
+fn later_letters<M: Machine>(
+    machine: &M,
+    latest: &[Option<Tenth>],
+    colour: u8,
+    from: Tenth,
+    to: Tenth,
+) -> Option<Tenth>
+    requires low { negsuc (2 ^ 39) ≤ℤ from }
+    requires some { from <ℤ to }
+    requires high { to ≤ℤ pos (2 ^ 39) }
+    requires colour { colour < (M.rules machine.now).colours }
+    requires all { length latest.now ≡ 16 }
+    ensures { (e : ℤ) → NotLater result e ↔ (NotLater (entry_of latest.now colour) e ⊎ LeftBelow (M.rules machine.now) from to latest.now colour (M.rules machine.now).letters e) }
+{
     let mut entry = latest[colour as usize];
     for letter in 0..machine.letters() {
         entry = later_by(machine, latest, colour, letter, from, to, entry);

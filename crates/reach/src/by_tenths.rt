@@ -1,45 +1,57 @@
 // The states after and before a gap, tenth by tenth: the plain program, with which tests compare
 // the ones that take a gap in one step.
-ghost use Rattle.std.specs.Prelude.{◌≡◌, pos, negsuc, ◌≤ℤ◌, ◌<ℤ◌, ◌^◌, length};
+ghost use Rattle.std.specs.Prelude.{◌≡◌, pos, negsuc, ◌≤ℤ◌, ◌<ℤ◌, ◌^◌, length, IfOk};
 ghost use Rattle.reach.specs.Past.{NoneLater};
 
-use crate::past::Past;
+use crate::past::{Past, sets_of};
 use crate::row::leaving;
 use crate::sets::{add_each, starts_of};
 use colour_machine::{Machine, Mask, after_through, before_through};
 use sig_base::{NoMemory, Tenth};
+use span_set::SpanSet;
+
+// The set of each colour.
+pub fn sets_in(past: Past) -> Result<Vec<SpanSet>, NoMemory>
+    ensures { IfOk result (λ v. v.items ≡ past) }
+{
+    let Past { one, sets, alloc } = past;
+    match one {
+        None => Ok(sets),
+        Some(one) => sets_of(alloc, one),
+    }
+}
 
 pub fn past_gap_by_tenths<M: Machine>(
     machine: &M,
-    past: &mut Past,
+    sets: &mut [SpanSet],
     from: Tenth,
     to: Tenth,
 ) -> Result<(), NoMemory>
     requires low { negsuc (2 ^ 39) ≤ℤ from }
     requires some { from <ℤ to }
     requires high { to ≤ℤ pos (2 ^ 39) }
-    requires colours { length past.old ≡ (M.rules machine.now).colours }
-    requires place { NoneLater past.old from }
-    ensures { length past.new ≡ length past.old }
+    requires colours { length sets.old ≡ (M.rules machine.now).colours }
+    requires place { NoneLater sets.old from }
+    ensures { length sets.new ≡ length sets.old }
 {
     for at in from..to {
-        past_tenth(machine, past, at)?;
+        past_tenth(machine, sets, at)?;
     }
     Ok(())
 }
 
 // The states after any legal letters of one tenth.
-fn past_tenth<M: Machine>(machine: &M, past: &mut Past, at: Tenth) -> Result<(), NoMemory>
+fn past_tenth<M: Machine>(machine: &M, sets: &mut [SpanSet], at: Tenth) -> Result<(), NoMemory>
     requires low { negsuc (2 ^ 39) ≤ℤ at }
     requires high { at ≤ℤ pos (2 ^ 39) }
-    requires colours { length past.old ≡ (M.rules machine.now).colours }
-    requires place { NoneLater past.old at }
-    ensures colours { length past.new ≡ length past.old }
-    ensures late { NoneLater past.new at }
+    requires colours { length sets.old ≡ (M.rules machine.now).colours }
+    requires place { NoneLater sets.old at }
+    ensures colours { length sets.new ≡ length sets.old }
+    ensures late { NoneLater sets.new at }
 {
-    let leave = leaving(machine, &past.sets, at);
+    let leave = leaving(machine, sets, at);
     let enter = after_through(machine, leave, still(machine));
-    add_each(past.sets.as_mut_slice(), &starts_of(enter, at), at + 1)?;
+    add_each(sets, &starts_of(enter, at), at + 1)?;
     Ok(())
 }
 

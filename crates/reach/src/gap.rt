@@ -4,9 +4,10 @@ ghost use Rattle.std.specs.Prelude.{◌≡◌, ◌≢◌, ℕ, ℤ, pos, negsuc,
 ghost use Rattle.reach.specs.Runs.{State};
 ghost use Rattle.reach.specs.Past.{Holds, AfterGap, NoneLater};
 ghost use Rattle.reach.specs.Sets.{at};
+ghost use Rattle.reach.specs.Single.{sets_of, IsSingle};
 ghost use Rattle.reach.specs.Arrivals.{IsArrival, IsFirst, IsLeave, IsLowered, ByLetter, ByLetters, ByColours};
 
-use crate::past::Past;
+use crate::past::{Past, Single, spread};
 use crate::sets::add_each;
 use colour_machine::Machine;
 use sig_base::{NoMemory, Tenth};
@@ -30,9 +31,56 @@ pub fn past_gap<M: Machine>(
     ensures late { NoneLater past.new (to -ℤ pos 1) }
     ensures err { OnErr result (past.new ≡ past.old) }
 {
-    let departure = departures(machine, &past.sets, from, to);
-    let arrival = arrivals(machine, &past.sets, &departure, from, to);
-    add_each(past.sets.as_mut_slice(), &arrival, to)?;
+    match past.one {
+        None => gap_sets(machine, past.sets.as_mut_slice(), from, to),
+        Some(one) => {
+            if stays(machine, one, from, to) {
+                return Ok(());
+            }
+            spread(past.alloc, &mut past.sets, one)?;
+            gap_sets(machine, past.sets.as_mut_slice(), from, to)?;
+            past.one = None;
+            Ok(())
+        }
+    }
+}
+
+// Whether the state can't be left within the gap, so that it stays.
+fn stays<M: Machine>(machine: &M, one: Single, from: Tenth, to: Tenth) -> bool
+    requires single { IsSingle one }
+    requires low { negsuc (2 ^ 39) ≤ℤ from }
+    requires some { from <ℤ to }
+    requires high { to ≤ℤ pos (2 ^ 39) }
+    requires colours { one.colours ≡ (M.rules machine.now).colours }
+    requires place { one.entry ≤ℤ from }
+    ensures { IsTrue result → (u : State) → Holds (sets_of one) u ↔ AfterGap (M.rules machine.now) (sets_of one) from to u }
+{
+    if to <= one.entry + i64::from(machine.floor(one.colour)) {
+        return true;
+    }
+    false
+}
+
+// The states after the gap, of sets.
+fn gap_sets<M: Machine>(
+    machine: &M,
+    sets: &mut [SpanSet],
+    from: Tenth,
+    to: Tenth,
+) -> Result<(), NoMemory>
+    requires low { negsuc (2 ^ 39) ≤ℤ from }
+    requires some { from <ℤ to }
+    requires high { to ≤ℤ pos (2 ^ 39) }
+    requires colours { length sets.old ≡ (M.rules machine.now).colours }
+    requires place { NoneLater sets.old from }
+    ensures after { OnOk result ((u : State) → Holds sets.new u ↔ AfterGap (M.rules machine.now) sets.old from to u) }
+    ensures colours { length sets.new ≡ length sets.old }
+    ensures late { NoneLater sets.new (to -ℤ pos 1) }
+    ensures err { OnErr result (sets.new ≡ sets.old) }
+{
+    let departure = departures(machine, sets, from, to);
+    let arrival = arrivals(machine, sets, &departure, from, to);
+    add_each(sets, &arrival, to)?;
     Ok(())
 }
 
@@ -85,12 +133,12 @@ fn arrivals<M: Machine>(
 {
     let mut arrival = [to; 16];
     'rounds: loop {
+        let before = arrival;
         let leave = leaves(machine, departure, &arrival);
-        let next = relaxed(machine, &leave, &arrival);
-        if same_tenths(&next, &arrival) {
-            return arrival;
+        relax(machine, &leave, to, &mut arrival);
+        if same_tenths(&arrival, &before) {
+            return before;
         }
-        arrival = next;
     }
 }
 
@@ -115,31 +163,41 @@ fn leave_one(departure: Tenth, arrival: Tenth, floor: u32) -> Tenth
     departure.min(arrival + i64::from(floor))
 }
 
-// The arrivals, and those by one change of a colour at the tenth at which it may be left.
-fn relaxed<M: Machine>(machine: &M, leave: &[Tenth; 16], arrival: &[Tenth; 16]) -> [Tenth; 16]
-    ensures { IsLowered arrival.now result (ByColours (M.rules machine.now) (M.rules machine.now).colours leave.now) }
+// Lowers the arrivals to those by one change of a colour at the tenth at which it may be left. None
+// of them is after the end.
+pub fn relax<M: Machine>(machine: &M, leave: &[Tenth; 16], to: Tenth, arrival: &mut [Tenth; 16])
+    requires { (d : ℕ) → d < 16 → at arrival.old d ≤ℤ to }
+    ensures { IsLowered arrival.old arrival.new (ByColours (M.rules machine.now) (M.rules machine.now).colours leave.now) }
 {
-    let mut new = *arrival;
     for colour in 0..machine.colours() {
-        new = relax_colour(machine, colour, leave[colour as usize], &new);
+        relax_early(machine, colour, leave[colour as usize], to, arrival);
     }
-    new
 }
 
-fn relax_colour<M: Machine>(
+// The same for one colour. A change at the end or later lowers none.
+fn relax_early<M: Machine>(
     machine: &M,
     colour: u8,
     leave: Tenth,
-    arrival: &[Tenth; 16],
-) -> [Tenth; 16]
-    requires { colour < (M.rules machine.now).colours }
-    ensures { IsLowered arrival.now result (ByLetters (M.rules machine.now) colour (M.rules machine.now).letters leave) }
+    to: Tenth,
+    arrival: &mut [Tenth; 16],
+)
+    requires colour { colour < (M.rules machine.now).colours }
+    requires bound { (d : ℕ) → d < 16 → at arrival.old d ≤ℤ to }
+    ensures { IsLowered arrival.old arrival.new (ByLetters (M.rules machine.now) colour (M.rules machine.now).letters leave) }
 {
-    let mut new = *arrival;
-    for letter in 0..machine.letters() {
-        new = relax_letter(machine, colour, letter, leave, &new);
+    if leave < to {
+        relax_colour(machine, colour, leave, arrival);
     }
-    new
+}
+
+fn relax_colour<M: Machine>(machine: &M, colour: u8, leave: Tenth, arrival: &mut [Tenth; 16])
+    requires { colour < (M.rules machine.now).colours }
+    ensures { IsLowered arrival.old arrival.new (ByLetters (M.rules machine.now) colour (M.rules machine.now).letters leave) }
+{
+    for letter in 0..machine.letters() {
+        relax_letter(machine, colour, letter, leave, arrival);
+    }
 }
 
 fn relax_letter<M: Machine>(
@@ -147,32 +205,29 @@ fn relax_letter<M: Machine>(
     colour: u8,
     letter: u8,
     leave: Tenth,
-    arrival: &[Tenth; 16],
-) -> [Tenth; 16]
+    arrival: &mut [Tenth; 16],
+)
     requires colour { colour < (M.rules machine.now).colours }
     requires letter { letter < (M.rules machine.now).letters }
-    ensures { IsLowered arrival.now result (ByLetter (M.rules machine.now) colour letter leave) }
+    ensures { IsLowered arrival.old arrival.new (ByLetter (M.rules machine.now) colour letter leave) }
 {
     match machine.step(colour, letter) {
-        Some(next) if next != colour => lowered_at(arrival, next, leave),
-        Some(_) => *arrival,
-        None => *arrival,
+        Some(next) if next != colour => lower_at(arrival, next, leave),
+        Some(_) => {}
+        None => {}
     }
 }
 
-fn lowered_at(arrival: &[Tenth; 16], colour: u8, leave: Tenth) -> [Tenth; 16]
+fn lower_at(arrival: &mut [Tenth; 16], colour: u8, leave: Tenth)
     requires { colour < 16 }
-    ensures { IsLowered arrival.now result (λ d y. (d ≡ colour) × (y ≡ leave)) }
+    ensures { IsLowered arrival.old arrival.new (λ d y. (d ≡ colour) × (y ≡ leave)) }
 {
     if leave < arrival[colour as usize] {
-        let mut new = *arrival;
-        new[colour as usize] = leave;
-        return new;
+        arrival[colour as usize] = leave;
     }
-    *arrival
 }
 
-fn same_tenths(a: &[Tenth], b: &[Tenth]) -> bool
+pub fn same_tenths(a: &[Tenth], b: &[Tenth]) -> bool
     ensures { IsTrue result ↔ (a.now ≡ b.now) }
 {
     a == b

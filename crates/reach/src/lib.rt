@@ -8,13 +8,17 @@
 
 mod ahead;
 mod before_gap;
+mod before_holes;
 mod before_row;
 #[cfg(test)]
 mod by_tenths;
 mod gap;
+mod holes;
 mod past;
 mod row;
+mod run;
 mod seen;
+mod seen_holes;
 mod sets;
 #[cfg(test)]
 mod table;
@@ -23,8 +27,12 @@ mod tests;
 
 pub use ahead::Ahead;
 pub use before_gap::ahead_gap;
+pub use before_holes::{ahead_holes, ahead_in, places_are_gaps};
 pub use before_row::ahead_row;
 pub use gap::past_gap;
+pub use holes::{holes_are_gaps, past_holes};
 pub use past::Past;
 pub use row::past_row;
-pub use seen::{AgeBound, Seen, Test, possible};
+pub use run::past_run;
+pub use seen::{AgeBound, Seen, Test, is_sure, possible};
+pub use seen_holes::{possible_in_holes, seen_crossing};

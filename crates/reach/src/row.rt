@@ -1,5 +1,5 @@
 // The states after a row.
-ghost use Rattle.std.specs.Prelude.{◌≡◌, ◌≢◌, ℕ, ℤ, pos, negsuc, ◌≤ℤ◌, ◌<◌, ◌≤◌, ◌^◌, ◌⊎◌, ◌↔◌, [], length, Some, IsTrue, IfOk, OnOk, OnErr, slice_index_or};
+ghost use Rattle.std.specs.Prelude.{◌≡◌, ◌≢◌, ℕ, ℤ, pos, negsuc, ◌≤ℤ◌, ◌<◌, ◌≤◌, ◌^◌, ◌⊎◌, ◌↔◌, [], length, Some, IsTrue, IfOk, IfSome, MatchOption, OnOk, OnErr, ◌+ℤ◌, ◌<ℤ◌, slice_index_or};
 ghost use Rattle.colour_machine.specs.Rules.{Goes};
 ghost use Rattle.colour_machine.specs.Mask.{Has};
 ghost use Rattle.reach.specs.Runs.{State};
@@ -7,8 +7,9 @@ ghost use Rattle.reach.specs.Past.{Holds, AfterRow, NoneLater};
 ghost use Rattle.span_set.specs.Spans.{Member};
 ghost use Rattle.reach.specs.Sets.{IsRebuilt};
 ghost use Rattle.reach.specs.Leaving.{HasOld, CanLeave};
+ghost use Rattle.reach.specs.Single.{sets_of, IsSingle};
 
-use crate::past::Past;
+use crate::past::{Past, Single, alone, sets_of};
 use crate::sets::{add_each, settle_each, starts_of};
 use colour_machine::{Machine, Mask};
 use sig_base::{NoMemory, Tenth};
@@ -33,10 +34,88 @@ pub fn past_row<M: Machine>(
     ensures late { NoneLater past.new at }
     ensures err { OnErr result (past.new ≡ past.old) }
 {
-    let leave = leaving(machine, &past.sets, at);
+    match past.one {
+        None => {
+            let some = row_sets(machine, past.sets.as_mut_slice(), at, letter)?;
+            past.one = alone(&past.sets);
+            Ok(some)
+        }
+        Some(one) => match row_single(machine, one, at, letter) {
+            Some(next) => {
+                past.one = Some(next);
+                Ok(true)
+            }
+            None => {
+                let mut sets = sets_of(past.alloc, one)?;
+                let some = row_sets(machine, sets.as_mut_slice(), at, letter)?;
+                past.sets = sets;
+                past.one = None;
+                Ok(some)
+            }
+        },
+    }
+}
+
+// The one state that the letter leads to, where it leads to one.
+fn row_single<M: Machine>(machine: &M, one: Single, at: Tenth, letter: u8) -> Option<Single>
+    requires single { IsSingle one }
+    requires low { negsuc (2 ^ 39) ≤ℤ at }
+    requires high { at ≤ℤ pos (2 ^ 39) }
+    requires letter { letter < (M.rules machine.now).letters }
+    requires colours { one.colours ≡ (M.rules machine.now).colours }
+    requires place { one.entry ≤ℤ at }
+    ensures single { IfSome result (λ o. IsSingle o) }
+    ensures colours { IfSome result (λ o. o.colours ≡ one.colours) }
+    ensures place { IfSome result (λ o. o.entry ≤ℤ at) }
+    ensures after { IfSome result (λ o. (u : State) → Holds (sets_of o) u ↔ AfterRow (M.rules machine.now) (sets_of one) at letter u) }
+{
+    match machine.step(one.colour, letter) {
+        Some(next) if next == one.colour => Some(one),
+        Some(next) => left_single(one, next, machine.floor(one.colour), at),
+        None => None,
+    }
+}
+
+// The state with the new colour, where the old one is old enough to be left.
+fn left_single(one: Single, next: u8, floor: u32, at: Tenth) -> Option<Single>
+    requires single { IsSingle one }
+    requires low { negsuc (2 ^ 39) ≤ℤ at }
+    requires high { at ≤ℤ pos (2 ^ 39) }
+    requires floor { floor ≤ 36000 }
+    ensures { MatchOption result (at <ℤ (one.entry +ℤ pos floor)) (λ o. ((one.entry +ℤ pos floor) ≤ℤ at) × (o.colours ≡ one.colours) × (o.colour ≡ next) × (o.entry ≡ at)) }
+{
+    if one.entry + i64::from(floor) <= at {
+        return Some(Single {
+            colours: one.colours,
+            colour: next,
+            entry: at,
+        });
+    }
+    None
+}
+
+// The states after the row, of sets.
+fn row_sets<M: Machine>(
+    machine: &M,
+    sets: &mut [SpanSet],
+    at: Tenth,
+    letter: u8,
+) -> Result<bool, NoMemory>
+    requires low { negsuc (2 ^ 39) ≤ℤ at }
+    requires high { at ≤ℤ pos (2 ^ 39) }
+    requires letter { letter < (M.rules machine.now).letters }
+    requires colours { length sets.old ≡ (M.rules machine.now).colours }
+    requires place { NoneLater sets.old at }
+    ensures after { OnOk result ((u : State) → Holds sets.new u ↔ AfterRow (M.rules machine.now) sets.old at letter u) }
+    ensures some { IfOk result (λ b. IsTrue b ↔ ((u : State) × Holds sets.new u)) }
+    ensures colours { length sets.new ≡ length sets.old }
+    ensures late { NoneLater sets.new at }
+    ensures err { OnErr result (sets.new ≡ sets.old) }
+{
+    let leave = leaving(machine, sets, at);
     let enter = entered(machine, letter, leave);
-    change(past.sets.as_mut_slice(), kept(machine, letter), enter, at)?;
-    Ok(is_some_state(&past.sets))
+    change(sets, kept(machine, letter), enter, at)?;
+    Ok(is_some_state(sets))
 }
 
 // Keeps the sets of the one mask, and adds the tenth to those of the other; or changes none.

@@ -1,10 +1,15 @@
 // Tests of the possible states.
 ghost use Rattle.std.specs.Prelude.{◌≡◌, ℤ, pos, negsuc, ◌≤ℤ◌, ◌<◌, ◌≤◌, ◌^◌, ◌⊎◌, ◌↔◌, length, IsTrue};
 ghost use Rattle.span_set.specs.Spans.{Member};
+ghost use Rattle.colour_machine.specs.Mask.{Has};
+ghost use Rattle.reach.specs.Ahead.{NotLater, Admits};
+ghost use Rattle.reach.specs.Past.{Holds};
+ghost use Rattle.reach.specs.Runs.{State};
+ghost use Rattle.reach.specs.Single.{sets_of, IsSingle};
 ghost use Rattle.reach.specs.Tests.{InBound, Sees, SeenTrue, SeenFalse};
 
 use crate::ahead::Ahead;
-use crate::past::Past;
+use crate::past::{Past, Single};
 use colour_machine::Mask;
 use sig_base::Tenth;
 use span_set::SpanSet;
@@ -40,7 +45,86 @@ pub fn possible(past: &Past, ahead: &Ahead, test: &Test) -> Seen
     requires high { test.now.at ≤ℤ pos (2 ^ 39) }
     ensures { Sees past.now ahead.now test.now result }
 {
-    seen_in(&past.sets, &ahead.latest[..ahead.colours as usize], test)
+    match past.one {
+        None => seen_in(&past.sets, &ahead.latest[..ahead.colours as usize], test),
+        Some(one) => seen_single(one, &ahead.latest[..ahead.colours as usize], test),
+    }
+}
+
+/// Whether one state alone is kept, and it can still be completed.
+pub fn is_sure(past: &Past, ahead: &Ahead) -> bool
+    requires colours { length past.now ≡ length ahead.now }
+    ensures { IsTrue result → (s : State) → Holds past.now s → Admits ahead.now s }
+{
+    match past.one {
+        None => false,
+        Some(one) => sure_single(one, &ahead.latest[..ahead.colours as usize]),
+    }
+}
+
+fn sure_single(one: Single, latest: &[Option<Tenth>]) -> bool
+    requires single { IsSingle one }
+    requires colours { one.colours ≡ length latest.now }
+    ensures { IsTrue result → (s : State) → Holds (sets_of one) s → Admits latest.now s }
+{
+    is_there(latest[one.colour as usize], one.entry, one.entry)
+}
+
+// What the one state says.
+fn seen_single(one: Single, latest: &[Option<Tenth>], test: &Test) -> Seen
+    requires single { IsSingle one }
+    requires colours { one.colours ≡ length latest.now }
+    ensures { Sees (sets_of one) latest.now test.now result }
+{
+    let here = is_there(latest[one.colour as usize], one.entry, test.at);
+    let meets = is_met(one, test);
+    Seen {
+        some_true: both(here, meets),
+        some_false: first_alone(here, meets),
+    }
+}
+
+fn both(a: bool, b: bool) -> bool
+    ensures { IsTrue result ↔ (IsTrue a × IsTrue b) }
+{
+    a && b
+}
+
+fn first_alone(a: bool, b: bool) -> bool
+    ensures { IsTrue result ↔ (IsTrue a × (IsTrue b → ⊥)) }
+{
+    a && !b
+}
+
+fn is_there(latest: Option<Tenth>, entry: Tenth, at: Tenth) -> bool
+    ensures { IsTrue result ↔ ((entry ≤ℤ at) × NotLater latest entry) }
+{
+    match latest {
+        None => false,
+        Some(x) => entry <= at && entry <= x,
+    }
+}
+
+fn is_met(one: Single, test: &Test) -> bool
+    requires { IsSingle one }
+    ensures { IsTrue result ↔ (Has test.now.colours one.colour × InBound test.now.bound test.now.at one.entry) }
+{
+    if test.colours.has(one.colour) {
+        return is_in(test.bound, test.at, one.entry);
+    }
+    false
+}
+
+fn is_in(bound: AgeBound, at: Tenth, entry: Tenth) -> bool
+    requires low { negsuc (2 ^ 40) ≤ℤ entry }
+    requires high { entry ≤ℤ pos (2 ^ 40) }
+    ensures { IsTrue result ↔ InBound bound at entry }
+{
+    match bound {
+        AgeBound::Any => true,
+        AgeBound::AtLeast(age) => entry + i64::from(age) <= at,
+        AgeBound::AtMost(age) => at <= entry + i64::from(age),
+    }
 }
 
 fn seen_in(sets: &[SpanSet], latest: &[Option<Tenth>], test: &Test) -> Seen
@@ -65,7 +149,7 @@ fn seen_in(sets: &[SpanSet], latest: &[Option<Tenth>], test: &Test) -> Seen
     seen
 }
 
-fn either(a: bool, b: bool) -> bool
+pub(crate) fn either(a: bool, b: bool) -> bool
     ensures { IsTrue result ↔ (IsTrue a ⊎ IsTrue b) }
 {
     if a {

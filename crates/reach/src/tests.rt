@@ -1,13 +1,14 @@
-ghost use Rattle.std.specs.Prelude.{pos, ◌<ℤ◌, ◌≤ℤ◌};
+ghost use Rattle.std.specs.Prelude.{◌≡◌, ◌<◌, pos, ◌<ℤ◌, ◌≤ℤ◌, length};
+ghost use Rattle.reach.specs.Past.{NoneLater};
 
-use crate::by_tenths::{latest_by_tenths, past_gap_by_tenths};
+use crate::by_tenths::{latest_by_tenths, past_gap_by_tenths, sets_in};
 use crate::table::TableMachine;
 use crate::{
     AgeBound, Ahead, Past, Seen, Test, ahead_gap, ahead_row, past_gap, past_row, possible,
 };
 use colour_machine::Mask;
 use sig_base::{NoMemory, Tenth};
-use span_set::Span;
+use span_set::{Span, SpanSet};
 use std::alloc::Global;
 use std::test::Fail;
 
@@ -31,12 +32,12 @@ const PHASE: TableMachine = TableMachine {
 };
 
 // Whether the set of each colour is the one range, or empty where there is none.
-fn has_ranges(past: &Past, expected: &[Option<Span>; 8]) -> bool {
-    if past.sets.len() != 8 {
+fn has_ranges(sets: &[SpanSet], expected: &[Option<Span>; 8]) -> bool {
+    if sets.len() != 8 {
         return false;
     }
     for colour in 0..8 {
-        let ranges = past.sets[colour].ranges();
+        let ranges = sets[colour].ranges();
         let same = match expected[colour] {
             None => ranges.is_empty(),
             Some(span) => ranges == [span].as_slice(),
@@ -46,6 +47,26 @@ fn has_ranges(past: &Past, expected: &[Option<Span>; 8]) -> bool {
         }
     }
     true
+}
+
+// Whether a row at 1110 leads from the states to this colour alone.
+fn leads_to(past: &Past, letter: u8, colour: usize) -> Result<bool, NoMemory>
+    requires colours { length past.now ≡ 8 }
+    requires place { NoneLater past.now (pos 1110) }
+    requires letter { letter < 8 }
+    requires colour { colour < 8 }
+{
+    let mut next = past.copy()?;
+    if !past_row(&PHASE, &mut next, 1110, letter)? {
+        return Ok(false);
+    }
+    let mut one = [None; 8];
+    one[colour] = Some(Span {
+        from: 1110,
+        to: 1111,
+    });
+    let sets = sets_in(next)?;
+    Ok(has_ranges(&sets, &one))
 }
 
 // A phase that was entered in Green at 1000 with a gap from 1050 up to 1070, and each of three
@@ -64,17 +85,11 @@ fn fills_a_gap_of_a_phase(rt: HostRuntime) -> Result<(), Fail> {
         to: 1001,
     });
     let after = [None, None, green, whole, whole, None, None, None];
-    assert!(rt; has_ranges(&past, &after));
-    for (letter, colour) in [(3, 4), (7, 0), (5, 6)] {
-        let mut next = past.copy()?;
-        assert!(rt; past_row(&PHASE, &mut next, 1110, letter)?);
-        let mut one = [None; 8];
-        one[colour] = Some(Span {
-            from: 1110,
-            to: 1111,
-        });
-        assert!(rt; has_ranges(&next, &one), "letter {letter}");
-    }
+    assert!(rt; leads_to(&past, 3, 4)?);
+    assert!(rt; leads_to(&past, 7, 0)?);
+    assert!(rt; leads_to(&past, 5, 6)?);
+    let sets = sets_in(past)?;
+    assert!(rt; has_ranges(&sets, &after));
     Ok(())
 }
 
@@ -155,9 +170,14 @@ fn forward_agrees(alloc: Global, machine: &TableMachine, to: Tenth) -> Result<bo
     let mut past = Past::start(alloc, 8)?;
     let _first = past_row(machine, &mut past, 0, 0)?;
     let _second = past_row(machine, &mut past, 3, 1)?;
-    let mut plain = past.copy()?;
+    let mut sets = sets_in(past.copy()?)?;
     past_gap(machine, &mut past, 5, to)?;
-    past_gap_by_tenths(machine, &mut plain, 5, to)?;
+    past_gap_by_tenths(machine, sets.as_mut_slice(), 5, to)?;
+    let plain = Past {
+        one: None,
+        sets,
+        alloc,
+    };
     Ok(past.same(&plain))
 }
 

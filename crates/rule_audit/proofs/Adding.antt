@@ -14,7 +14,8 @@ use Rattle.rule_audit.specs.declared.rules.Rule.TheVariants.{Interval, Conflict,
 use Rattle.rule_audit.specs.Obligations.{Obligation, obligation, has_row_at, is_clause, is_due, terms_of, row_obligation, row_obligations, end_obligation, end_obligations}
 use Rattle.rule_audit.specs.Judged.{HasVerdict}
 use Rattle.rule_audit.specs.Lines.{AreLinesOf, lines_of}
-use Rattle.rule_audit.specs.Pass.{Adds, AddsUpTo, no_rule}
+use Rattle.rule_audit.specs.Pass.{Adds, AddsUpTo}
+use Rattle.rule_audit.specs.Index.{no_rule}
 
 module _ (Has : Obligation → Verdict → Type 0) where
   lines_join : (os ps : List Obligation) (ls ms : List AuditLine) → AreLinesOf Has os ls → AreLinesOf Has ps ms → AreLinesOf Has (os ++ ps) (ls ++ ms)

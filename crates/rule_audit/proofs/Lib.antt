@@ -2,6 +2,7 @@ pub mod Numbers
 pub mod Rows
 pub mod Judging
 pub mod Adding
+pub mod Indexing
 pub mod Tenths
 pub mod Histories
 pub mod Walking

@@ -9,7 +9,6 @@ use Rattle.sig_base.specs.declared.values.Verdict.TheVariants.{Idle, Kept, Broke
 use Rattle.gap_map.specs.Stretches.{known_at}
 use Rattle.channel_tables.specs.declared.spec.Spec.{Spec}
 use Rattle.reach.specs.Runs.{State}
-use Rattle.lane.specs.Places as lane_places
 use Rattle.board.specs.Logs.{HourLog, first_tenth, no_row, no_spec}
 use Rattle.board.specs.Places.{IsViewOf}
 use Rattle.board.specs.Verdicts.{IsVerdict, Keeps, MayPassRow, PassStates}
@@ -72,7 +71,7 @@ rule_once log t one EndOfTenth (Conflict p q terms) x y a b = clause_once (PassS
 rule_once log t one EndOfTenth (Companion p terms) x y a b = clause_once (PassStates log t) (Keeps terms) one x y a b
 rule_once log t one EndOfTenth (Parents p terms) x y a b = clause_once (PassStates log t) (Keeps terms) one x y a b
 
-pub verdict_once : (log : HourLog) (view : List lane_places.Kept) (o : Obligation) (x y : Verdict) → IsViewOf log view → HasRuns log → known_at log.stretches o.at ≡ true → HasVerdict log o x → HasVerdict log o y → x ≡ y
+pub verdict_once : (log : HourLog) (view : HourLog) (o : Obligation) (x y : Verdict) → IsViewOf log view → HasRuns log → known_at log.stretches o.at ≡ true → HasVerdict log o x → HasVerdict log o y → x ≡ y
 verdict_once log view o x y is runs known a b = rule_once log o.at (some_history log view o.at is runs known) o.place o.rule x y a b
 
 -- ---- obligations stand at known tenths
@@ -117,7 +116,7 @@ lines_by Has (o ∷ os) ls ms once (x, has, (rest, r, e)) (y, has2, (rest2, r2, 
     e ∙ (ap (λ (v : Verdict). lines_of o v ++ rest) same ∙ (ap (λ (zs : List AuditLine). lines_of o y ++ zs) later ∙ sym e2))
 
 -- the lines of an hour are one list
-pub lines_once : (log : HourLog) (view : List lane_places.Kept) (rules : List Rule) (before : Bool) (ls ms : List AuditLine) → IsViewOf log view → HasRuns log → AreLines log rules before ls → AreLines log rules before ms → ls ≡ ms
+pub lines_once : (log : HourLog) (view : HourLog) (rules : List Rule) (before : Bool) (ls ms : List AuditLine) → IsViewOf log view → HasRuns log → AreLines log rules before ls → AreLines log rules before ms → ls ≡ ms
 unfolding hour_obligations
 lines_once log view rules before ls ms is runs a b =
     lines_by (HasVerdict log) (hour_obligations log rules before) ls ms (All-weaker (IsKnown (known_at log.stretches)) (λ (o : Obligation). (x y : Verdict) → HasVerdict log o x → HasVerdict log o y → x ≡ y) (λ o known x y. verdict_once log view o x y is runs known) (hour_obligations log rules before) (known_from (known_at log.stretches) log.specs rules log.rows before (first_tenth log.hour) 36000)) a b

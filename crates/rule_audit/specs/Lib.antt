@@ -2,4 +2,5 @@ pub mod Rules
 pub mod Obligations
 pub mod Judged
 pub mod Lines
+pub mod Index
 pub mod Pass

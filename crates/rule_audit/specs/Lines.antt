@@ -5,7 +5,6 @@ use Rattle.sig_base.specs.declared.values.Verdict.{Verdict}
 use Rattle.sig_base.specs.declared.values.Verdict.TheVariants as verdicts
 use Rattle.gap_map.specs.declared.stretch.Stretch.{Stretch}
 use Rattle.gap_map.specs.Stretches.{known_at}
-use Rattle.lane.specs.Places.{Kept}
 use Rattle.board.specs.Logs.{HourLog, first_tenth}
 use Rattle.board.specs.Places.{IsViewOf}
 use Rattle.ring_config.specs.Settings.{Settings}
@@ -39,7 +38,7 @@ abbrev pub AreLines : HourLog → List Rule → Bool → List AuditLine → Type
 AreLines log rules before lines = AreLinesOf (HasVerdict log) (hour_obligations log rules before) lines
 
 -- the view is one of this hour, with the channels of the configuration, and some history agrees with the hour
-pub record IsAudited (c : Settings) (view : List Kept) (rows : List Row) (ss : List Stretch) (log : HourLog) : Type 0 where
+pub record IsAudited (c : Settings) (view : HourLog) (rows : List Row) (ss : List Stretch) (log : HourLog) : Type 0 where
   pub is_view : IsViewOf log view
   pub same_specs : log.specs ≡ c.specs
   pub same_rows : log.rows ≡ rows

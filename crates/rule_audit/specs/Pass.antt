@@ -1,5 +1,5 @@
 -- What the pass over an hour adds to the lines, step by step.
-use Rattle.std.specs.Prelude.{◌≡◌, ◌↔◌, ℕ, ◌-◌, ◌<◌, ◌≤◌, ℤ, Bool, IsTrue, Option, List, [], ◌++◌, length, slice_index_or, All}
+use Rattle.std.specs.Prelude.{◌≡◌, ◌↔◌, ℕ, ◌-◌, ◌<◌, ◌≤◌, ℤ, Bool, true, false, IsTrue, Option, List, ◌++◌, length, slice_index_or, All}
 use Rattle.span_set.specs.declared.set.Span.{Span}
 use Rattle.sig_base.specs.declared.values.Row.{Row}
 use Rattle.sig_base.specs.declared.values.Verdict.{Verdict}
@@ -21,6 +21,7 @@ use Rattle.rule_audit.specs.declared.lines.AuditLine.{AuditLine}
 use Rattle.rule_audit.specs.declared.rules.Rule.{Rule}
 use Rattle.rule_audit.specs.declared.rules.Rule.TheVariants.{Interval, Conflict, Companion, Parents}
 use Rattle.rule_audit.specs.Obligations.{Obligation, obligations_from}
+use Rattle.rule_audit.specs.Index.{AreOwn, AreSkips}
 use Rattle.rule_audit.specs.Judged.{HasRuns}
 use Rattle.rule_audit.specs.Lines.{AreLinesOf}
 
@@ -63,7 +64,10 @@ pub record IsReady (h : AuditedHour) : Type 0 where
   pub rises : Rises h.rows.now
   pub are_specs : All IsSpec h.specs.now
   pub are_rules : All (FitsRule h.specs.now) h.rules.now
-  pub seen : length h.view.now ≡ length h.specs.now
+  pub seen : length h.view.now.specs ≡ length h.specs.now
+  pub own : AreOwn h.specs.now h.rows.now (length h.rows.now) h.own.now
+  pub timed : AreSkips h.specs.now h.rules.now false (length h.specs.now) h.timed.now
+  pub clauses : AreSkips h.specs.now h.rules.now true (length h.specs.now) h.clauses.now
 
 -- the first i rows are those before tenth x
 abbrev pub IsCutAt : List Row → ℕ → ℕ → Type 0
@@ -85,7 +89,3 @@ AddsUpTo Has all left old new = (os : List Obligation) × Adds Has os old new ×
 -- the obligations of the hour from tenth x up to tenth t
 abbrev pub obligations_in : AuditedHour → Bool → ℕ → ℕ → List Obligation
 obligations_in h before x t = obligations_from (known_at h.stretches.now) h.specs.now h.rules.now h.rows.now before x (t - x)
-
--- stands where a list has no rule
-abbrev pub no_rule : Rule
-no_rule = Companion 0 []

@@ -5,6 +5,7 @@ ghost use Rattle.rule_audit.specs.Rules.{rules_for};
 ghost use Rattle.rule_audit.specs.Lines.{AreLines, IsAudited};
 
 use crate::hour::AuditedHour;
+use crate::index::{all_skips, own_places};
 use crate::lines::AuditLine;
 use crate::rules::Rule;
 use crate::walk::judge_hour;
@@ -34,9 +35,16 @@ pub fn audit_rows(
     requires view { (log : HourLog) × IsAudited config.now view.now rows.now stretches.now log }
     ensures { IfOk result (λ v. (log : HourLog) → IsAudited config.now view.now rows.now stretches.now log → AreLines log rules.now known_before v.items) }
 {
+    let specs = config.specs();
+    let timed = all_skips(alloc, specs, rules, false)?;
+    let clauses = all_skips(alloc, specs, rules, true)?;
+    let own = own_places(alloc, specs, rows)?;
     let hour = AuditedHour {
-        specs: config.specs(),
+        specs,
         rules,
+        timed: &timed,
+        clauses: &clauses,
+        own: &own,
         view,
         rows,
         stretches,

@@ -1,4 +1,5 @@
 // What the pass over an hour looks at.
+use crate::index::Skips;
 use crate::rules::Rule;
 use board::HourView;
 use channel_tables::Spec;
@@ -11,7 +12,12 @@ use sig_base::Row;
 pub(crate) struct AuditedHour<'a> {
     pub(crate) specs: &'a [Spec],
     pub(crate) rules: &'a [Rule],
+    // For each channel its interval rules, and the clauses with a term of it.
+    pub(crate) timed: &'a [Skips],
+    pub(crate) clauses: &'a [Skips],
     pub(crate) view: &'a HourView,
     pub(crate) rows: &'a [Row],
+    // For each row the place of its channel among the specs.
+    pub(crate) own: &'a [u16],
     pub(crate) stretches: &'a [Stretch],
 }

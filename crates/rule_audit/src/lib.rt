@@ -8,6 +8,7 @@
 //! - `lines`: what an audit answers.
 //! - `interval`: the verdict of an interval rule before a row; `due`: the channels that a row is of;
 //!   `tenth`: all verdicts of one tenth.
+//! - `index`: the rules by channel, and of which channel each row is.
 //! - `hour`, `walk`, `audit`: the pass over the tenths of an hour, and the call.
 //!
 //! Tenths are tenths of a second from the window's start.
@@ -16,6 +17,7 @@
 mod audit;
 mod due;
 mod hour;
+mod index;
 mod interval;
 mod lines;
 mod rules;

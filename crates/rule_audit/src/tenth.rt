@@ -1,24 +1,23 @@
 // The verdicts of one tenth.
-ghost use Rattle.std.specs.Prelude.{◌≡◌, ◌+◌, ◌-◌, ◌<◌, ◌||◌, not, true, if◌then◌else◌, List, length, slice_index_or, OnOk};
-ghost use Rattle.std.specs.List.{list_any};
+ghost use Rattle.std.specs.Prelude.{◌≡◌, ◌+◌, ◌<◌, ◌≤◌, Bool, true, false, length, slice_index_or, OnOk};
 ghost use Rattle.gap_map.specs.Stretches.{known_at};
-ghost use Rattle.board.specs.declared.clause.Term.{Term};
 ghost use Rattle.board.specs.Logs.{no_row};
 ghost use Rattle.board.specs.Verdicts.{AreWithin};
 ghost use Rattle.rule_audit.specs.declared.rules.Rule.{Rule};
 ghost use Rattle.rule_audit.specs.declared.rules.Rule.TheVariants.{Interval};
-ghost use Rattle.rule_audit.specs.Obligations.{end_obligation, end_obligations, has_row_at, is_clause, is_row_of_some, row_obligation, row_obligations, rows_obligations, tenth_obligations, terms_of};
+ghost use Rattle.rule_audit.specs.Obligations.{end_obligation, end_obligations, is_clause, is_due, is_row_of, is_timed_by, row_obligation, row_obligations, rows_obligations, tenth_obligations, terms_of};
 ghost use Rattle.rule_audit.specs.Judged.{HasVerdict};
-ghost use Rattle.rule_audit.specs.Pass.{Adds, Ends, FitsItem, IsCutAt, IsLogOf, IsReady, log_of, no_rule};
+ghost use Rattle.rule_audit.specs.Index.{is_due_by, no_rule, IsNext, IsNextDue, IsSkips};
+ghost use Rattle.rule_audit.specs.Pass.{Adds, Ends, FitsItem, IsCutAt, IsLogOf, IsReady, log_of};
 
-use crate::due::{has_row_of, is_row_of};
 use crate::hour::AuditedHour;
+use crate::index::Skips;
 use crate::interval::interval_verdict;
 use crate::lines::{AuditLine, Place, push_line};
 use crate::rules::Rule;
 use board::{Clause, clause_verdict};
 use ring_config::IntervalItem;
-use sig_base::{NoMemory, Row};
+use sig_base::NoMemory;
 
 // The number of the rule with this place among the rules.
 fn number_of(place: usize) -> u16
@@ -28,7 +27,7 @@ fn number_of(place: usize) -> u16
     place as u16 + 1
 }
 
-// The rule with this number, where it is one of the row's channel.
+// The rule with this number, which is one of the row's channel.
 fn judge_interval(
     lines: &mut Vec<AuditLine>,
     hour: &AuditedHour<'_>,
@@ -39,18 +38,15 @@ fn judge_interval(
     requires ready { IsReady hour.now }
     requires item { FitsItem hour.now.specs.now item.now }
     requires index { index < length hour.now.rows.now }
+    requires own { is_row_of hour.now.specs.now (slice_index_or hour.now.rows.now index no_row) item.now.spec ≡ true }
     ensures { OnOk result ((e : Ends) → IsLogOf hour.now e → known_at hour.now.stretches.now (slice_index_or hour.now.rows.now index no_row).at ≡ true → Adds (HasVerdict (log_of hour.now e)) (row_obligation hour.now.specs.now index (slice_index_or hour.now.rows.now index no_row) number (Interval item.now)) lines.old.items lines.new.items) }
 {
-    let row = hour.rows[index as usize];
-    if is_row_of(hour.specs, row, item.spec) {
-        let verdict = interval_verdict(hour, index, item);
-        push_line(lines, number, row.at, Place::BeforeRow(index), verdict)?;
-        return Ok(());
-    }
-    Ok(())
+    let at = hour.rows[index as usize].at;
+    let verdict = interval_verdict(hour, index, item);
+    push_line(lines, number, at, Place::BeforeRow(index), verdict)
 }
 
-// The rule with this place among the rules, where it is an interval rule of the row's channel.
+// The rule with this place among the rules, which is an interval rule of the row's channel.
 fn judge_before(
     lines: &mut Vec<AuditLine>,
     hour: &AuditedHour<'_>,
@@ -60,6 +56,7 @@ fn judge_before(
     requires ready { IsReady hour.now }
     requires index { index < length hour.now.rows.now }
     requires place { place < length hour.now.rules.now }
+    requires own { is_timed_by hour.now.specs.now (slice_index_or hour.now.rows.now index no_row) (slice_index_or hour.now.rules.now place no_rule) ≡ true }
     ensures { OnOk result ((e : Ends) → IsLogOf hour.now e → known_at hour.now.stretches.now (slice_index_or hour.now.rows.now index no_row).at ≡ true → Adds (HasVerdict (log_of hour.now e)) (row_obligation hour.now.specs.now index (slice_index_or hour.now.rows.now index no_row) (place + 1) (slice_index_or hour.now.rules.now place no_rule)) lines.old.items lines.new.items) }
 {
     let number = number_of(place);
@@ -71,14 +68,36 @@ fn judge_before(
     }
 }
 
+// The interval rules of the row's channel, which are at the places that the list picks.
+fn judge_timed(
+    lines: &mut Vec<AuditLine>,
+    hour: &AuditedHour<'_>,
+    index: u32,
+    timed: &Skips,
+) -> Result<(), NoMemory>
+    requires ready { IsReady hour.now }
+    requires index { index < length hour.now.rows.now }
+    requires timed { IsSkips (λ x. is_timed_by hour.now.specs.now (slice_index_or hour.now.rows.now index no_row) (slice_index_or hour.now.rules.now x no_rule)) (length hour.now.rules.now) timed.now }
+    ensures { OnOk result ((e : Ends) → IsLogOf hour.now e → known_at hour.now.stretches.now (slice_index_or hour.now.rows.now index no_row).at ≡ true → Adds (HasVerdict (log_of hour.now e)) (row_obligations hour.now.specs.now index (slice_index_or hour.now.rows.now index no_row) 1 hour.now.rules.now) lines.old.items lines.new.items) }
+{
+    let count = hour.rules.len();
+    let mut place = timed.next(count, 0);
+    'rules: while place < count {
+        judge_before(lines, hour, index, place)?;
+        place = timed.next(count, place + 1);
+    }
+    Ok(())
+}
+
 // Each interval rule of the row's channel.
 fn judge_row(lines: &mut Vec<AuditLine>, hour: &AuditedHour<'_>, index: u32) -> Result<(), NoMemory>
     requires ready { IsReady hour.now }
     requires index { index < length hour.now.rows.now }
     ensures { OnOk result ((e : Ends) → IsLogOf hour.now e → known_at hour.now.stretches.now (slice_index_or hour.now.rows.now index no_row).at ≡ true → Adds (HasVerdict (log_of hour.now e)) (row_obligations hour.now.specs.now index (slice_index_or hour.now.rows.now index no_row) 1 hour.now.rules.now) lines.old.items lines.new.items) }
 {
-    for place in 0..hour.rules.len() {
-        judge_before(lines, hour, index, place)?;
+    let own = hour.own[index as usize] as usize;
+    if own < hour.timed.len() {
+        return judge_timed(lines, hour, index, &hour.timed[own]);
     }
     Ok(())
 }
@@ -103,81 +122,111 @@ fn judge_rows(
     Ok(())
 }
 
-// Whether a clause is judged at the end of a tenth with these rows.
-fn is_due(hour: &AuditedHour<'_>, rows: &[Row], before: bool, clause: &Clause) -> bool
-    requires { AreWithin (length hour.now.specs.now) clause.now }
-    ensures { result ≡ (not before || list_any (λ r. is_row_of_some hour.now.specs.now r clause.now) rows.now) }
-{
-    if before {
-        return has_row_of(hour.specs, rows, clause.terms());
-    }
-    true
-}
-
-// The clause of a rule with this number, where it is judged at the end of the tenth.
+// The clause of a rule with this number, which is judged at the end of the tenth.
 fn judge_clause(
     lines: &mut Vec<AuditLine>,
     hour: &AuditedHour<'_>,
-    rows: &[Row],
     at: u32,
-    before: bool,
     number: u16,
     clause: &Clause,
 ) -> Result<(), NoMemory>
     requires ready { IsReady hour.now }
     requires known { known_at hour.now.stretches.now at ≡ true }
-    requires rows { (terms : List Term) → has_row_at hour.now.specs.now hour.now.rows.now at terms ≡ list_any (λ r. is_row_of_some hour.now.specs.now r terms) rows.now }
     requires clause { AreWithin (length hour.now.specs.now) clause.now }
-    ensures { OnOk result ((e : Ends) (rule : Rule) → IsLogOf hour.now e → is_clause rule ≡ true → terms_of rule ≡ clause.now → Adds (HasVerdict (log_of hour.now e)) (end_obligation hour.now.specs.now hour.now.rows.now before at number rule) lines.old.items lines.new.items) }
+    ensures { OnOk result ((e : Ends) (before : Bool) (rule : Rule) → IsLogOf hour.now e → is_clause rule ≡ true → terms_of rule ≡ clause.now → is_due hour.now.specs.now hour.now.rows.now before at rule ≡ true → Adds (HasVerdict (log_of hour.now e)) (end_obligation hour.now.specs.now hour.now.rows.now before at number rule) lines.old.items lines.new.items) }
 {
-    if is_due(hour, rows, before, clause) {
-        let verdict = clause_verdict(hour.view, at, clause);
-        push_line(lines, number, at, Place::EndOfTenth, verdict)?;
-        return Ok(());
-    }
-    Ok(())
+    let verdict = clause_verdict(hour.view, at, clause);
+    push_line(lines, number, at, Place::EndOfTenth, verdict)
 }
 
-// The rule with this place among the rules, where it is a clause that is judged at the end of the
-// tenth.
+// The rule with this place among the rules, which is judged at the end of the tenth where it is a
+// clause.
 fn judge_after(
     lines: &mut Vec<AuditLine>,
     hour: &AuditedHour<'_>,
-    rows: &[Row],
     at: u32,
-    before: bool,
     place: usize,
 ) -> Result<(), NoMemory>
     requires ready { IsReady hour.now }
     requires known { known_at hour.now.stretches.now at ≡ true }
-    requires rows { (terms : List Term) → has_row_at hour.now.specs.now hour.now.rows.now at terms ≡ list_any (λ r. is_row_of_some hour.now.specs.now r terms) rows.now }
     requires place { place < length hour.now.rules.now }
-    ensures { OnOk result ((e : Ends) → IsLogOf hour.now e → Adds (HasVerdict (log_of hour.now e)) (end_obligation hour.now.specs.now hour.now.rows.now before at (place + 1) (slice_index_or hour.now.rules.now place no_rule)) lines.old.items lines.new.items) }
+    ensures { OnOk result ((e : Ends) (before : Bool) → IsLogOf hour.now e → (is_clause (slice_index_or hour.now.rules.now place no_rule) ≡ true → is_due hour.now.specs.now hour.now.rows.now before at (slice_index_or hour.now.rules.now place no_rule) ≡ true) → Adds (HasVerdict (log_of hour.now e)) (end_obligation hour.now.specs.now hour.now.rows.now before at (place + 1) (slice_index_or hour.now.rules.now place no_rule)) lines.old.items lines.new.items) }
 {
     let number = number_of(place);
     match &hour.rules[place] {
         Rule::Interval(_) => Ok(()),
-        Rule::Conflict(_, _, clause) => judge_clause(lines, hour, rows, at, before, number, clause),
-        Rule::Companion(_, clause) => judge_clause(lines, hour, rows, at, before, number, clause),
-        Rule::Parents(_, clause) => judge_clause(lines, hour, rows, at, before, number, clause),
+        Rule::Conflict(_, _, clause) => judge_clause(lines, hour, at, number, clause),
+        Rule::Companion(_, clause) => judge_clause(lines, hour, at, number, clause),
+        Rule::Parents(_, clause) => judge_clause(lines, hour, at, number, clause),
     }
 }
 
-// The clauses at the end of the tenth, which has these rows.
-fn judge_end(
+// Each clause at the end of a tenth before which the log is unknown.
+fn judge_all(lines: &mut Vec<AuditLine>, hour: &AuditedHour<'_>, at: u32) -> Result<(), NoMemory>
+    requires ready { IsReady hour.now }
+    requires known { known_at hour.now.stretches.now at ≡ true }
+    ensures { OnOk result ((e : Ends) → IsLogOf hour.now e → Adds (HasVerdict (log_of hour.now e)) (end_obligations hour.now.specs.now hour.now.rows.now false at 1 hour.now.rules.now) lines.old.items lines.new.items) }
+{
+    for place in 0..hour.rules.len() {
+        judge_after(lines, hour, at, place)?;
+    }
+    Ok(())
+}
+
+// The first place from this one on of a clause of the row's channel, or the number of rules.
+fn next_of(hour: &AuditedHour<'_>, index: usize, from: usize) -> usize
+    requires ready { IsReady hour.now }
+    requires index { index < length hour.now.rows.now }
+    requires from { from ≤ length hour.now.rules.now }
+    ensures { IsNext (is_due_by hour.now.specs.now hour.now.rules.now (slice_index_or hour.now.rows.now index no_row)) (length hour.now.rules.now) from result }
+{
+    let count = hour.rules.len();
+    let own = hour.own[index] as usize;
+    if own < hour.clauses.len() {
+        return hour.clauses[own].next(count, from);
+    }
+    count
+}
+
+// The first place from this one on of a clause of a row's channel, of the rows from `first` up to
+// `end`.
+fn next_due(hour: &AuditedHour<'_>, first: usize, end: usize, from: usize) -> usize
+    requires ready { IsReady hour.now }
+    requires range { first ≤ end }
+    requires end { end ≤ length hour.now.rows.now }
+    requires from { from ≤ length hour.now.rules.now }
+    ensures { IsNextDue hour.now.specs.now hour.now.rules.now hour.now.rows.now first end from result }
+{
+    let mut least = hour.rules.len();
+    for index in first..end {
+        let next = next_of(hour, index, from);
+        if next < least {
+            least = next;
+        }
+    }
+    least
+}
+
+// The clauses of the rows' channels at the end of the tenth, whose rows are those from `first` up
+// to `end`.
+fn judge_due(
     lines: &mut Vec<AuditLine>,
     hour: &AuditedHour<'_>,
-    rows: &[Row],
     at: u32,
-    before: bool,
+    first: usize,
+    end: usize,
 ) -> Result<(), NoMemory>
     requires ready { IsReady hour.now }
     requires known { known_at hour.now.stretches.now at ≡ true }
-    requires rows { (terms : List Term) → has_row_at hour.now.specs.now hour.now.rows.now at terms ≡ list_any (λ r. is_row_of_some hour.now.specs.now r terms) rows.now }
-    ensures { OnOk result ((e : Ends) → IsLogOf hour.now e → Adds (HasVerdict (log_of hour.now e)) (end_obligations hour.now.specs.now hour.now.rows.now before at 1 hour.now.rules.now) lines.old.items lines.new.items) }
+    requires first { IsCutAt hour.now.rows.now at first }
+    requires end { IsCutAt hour.now.rows.now (at + 1) end }
+    ensures { OnOk result ((e : Ends) → IsLogOf hour.now e → Adds (HasVerdict (log_of hour.now e)) (end_obligations hour.now.specs.now hour.now.rows.now true at 1 hour.now.rules.now) lines.old.items lines.new.items) }
 {
-    for place in 0..hour.rules.len() {
-        judge_after(lines, hour, rows, at, before, place)?;
+    let count = hour.rules.len();
+    let mut place = next_due(hour, first, end, 0);
+    'rules: while place < count {
+        judge_after(lines, hour, at, place)?;
+        place = next_due(hour, first, end, place + 1);
     }
     Ok(())
 }
@@ -199,5 +248,8 @@ pub(crate) fn judge_tenth(
     ensures { OnOk result ((e : Ends) → IsLogOf hour.now e → Adds (HasVerdict (log_of hour.now e)) (tenth_obligations hour.now.specs.now hour.now.rules.now hour.now.rows.now before at) lines.old.items lines.new.items) }
 {
     judge_rows(lines, hour, at, first, end)?;
-    judge_end(lines, hour, &hour.rows[first..end], at, before)
+    if before {
+        return judge_due(lines, hour, at, first, end);
+    }
+    judge_all(lines, hour, at)
 }

@@ -8,7 +8,7 @@ use Rattle.hour_work.specs.Points.{IsFutureAt}
 use Rattle.session.specs.Links.{Ahead, AreFuturesBut, Backs, BacksAt}
 use Rattle.session.specs.Renewed.{AreNewFutures}
 use Rattle.session.proofs.KeptLaws.{backs_same, future_down, has}
-use Rattle.session.proofs.PatchLaws.{length-patched, patched-below, patched-first, patched-front, patched-none, patched-past}
+use Rattle.hour_work.proofs.PatchLaws.{length-patched, patched-below, patched-first, patched-front, patched-none, patched-past}
 
 -- the way back from the hour `last` has come to the point `from`
 pub record IsReturning (c : Settings) (s : Store) (last : ℕ) (kept fresh : List Ahead) (from : ℕ) : Type 0 where

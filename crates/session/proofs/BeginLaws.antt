@@ -34,6 +34,7 @@ kept_first c n last xs ys ps window le nx starts ny ends np =
         end = λ d r e. subst (λ (m : ℕ). IsFutureAt c r m (get_or ys (length (nothing_held n).hours) d)) e (ends (length (nothing_held n).hours) d r (omega arith) (e ∙ size ∙ window));
         backs = λ k lt out. absurd (none k lt out);
       };
+      shapes = λ k d le. (ends k d (nothing_held n) (omega arith) (size ∙ window)).shape;
       size = omega arith;
       counts = λ k lt out. absurd (none k lt out);
     }

@@ -8,7 +8,7 @@ use Rattle.hour_work.specs.Points.{Carried, IsCarryAt}
 use Rattle.session.specs.Links.{AreCarriesBut, Leads, LeadsAt}
 use Rattle.session.specs.Renewed.{AreNewCarries}
 use Rattle.session.proofs.KeptLaws.{carry_up, has, leads_same}
-use Rattle.session.proofs.PatchLaws.{length-patched, patched-below, patched-last, patched-more, patched-none, patched-past}
+use Rattle.hour_work.proofs.PatchLaws.{length-patched, patched-below, patched-last, patched-more, patched-none, patched-past}
 
 -- the way from the hour `first` has come to the point before the hour `hour`
 pub record IsGoing (c : Settings) (s : Store) (first : ℕ) (kept fresh : List Carried) (hour : ℕ) : Type 0 where

@@ -10,6 +10,7 @@ use Rattle.signal_log.specs.Log.{HasHistory, log_of}
 use Rattle.signal_log.specs.Points.{HasHour}
 use Rattle.signal_log.proofs.Lawful.{some_history}
 use Rattle.signal_log.proofs.Stored.{known_hour}
+use Rattle.signal_log.proofs.Suiting.{all_count}
 use Rattle.rule_audit.proofs.Tracked.{channels_are}
 use Rattle.hour_work.specs.Numbers.{Numbers}
 use Rattle.hour_work.specs.Points.{Carried, IsCarryAt, IsFutureAt}
@@ -61,7 +62,7 @@ history_kept c s xs sound is are =
     some_history (log_of c.specs s) (get_or xs (length s.hours) d).pasts (channels_are c sound) (carry_kept c s xs is are (length s.hours) d (omega arith)).pasts
 
 pub between_kept : (c : Settings) (s : Store) (xs : List Carried) (ys : List Ahead) → IsStore s → AreCarries c s xs → AreFutures c s ys → HasHistory (log_of c.specs s) → (k : ℕ) (d : Carried) (e : Ahead) → k < length s.hours → IsHourBetween c s k (get_or xs k d) (rows_at s k) s.blanks (get_or ys (k + 1) e)
-between_kept c s xs ys is forth back some k d e lt = record { has_hour = has s k is lt; is_before = carry_kept c s xs is forth k d (omega arith); is_after = future_kept c s ys is back (k + 1) e (omega arith); history = some }
+between_kept c s xs ys is forth back some k d e lt = record { has_hour = has s k is lt; is_before = carry_kept c s xs is forth k d (omega arith); is_after = all_count (log_of c.specs s) (k + 1) (get_or ys (k + 1) e) (future_kept c s ys is back (k + 1) e (omega arith)); history = some }
 
 -- the numbers that are kept are the store's report
 pub report_kept : (c : Settings) (s : Store) (xs : List Carried) (ys : List Ahead) (ps : List Numbers) → IsStore s → AreKept c s xs ys ps → HasHistory (log_of c.specs s) → IsReport c s ps

@@ -1,7 +1,6 @@
 pub mod GrowLaws
 pub mod RangeLaws
 pub mod EditLaws
-pub mod PatchLaws
 pub mod KeptLaws
 pub mod ReportLaws
 pub mod ForwardLaws

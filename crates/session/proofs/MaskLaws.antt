@@ -72,7 +72,7 @@ same_where s new f t first end k same low high none = elim (cases_lt k first) [
 pub kept_unheld : (c : Settings) (s : Store) (new : List Span) (f t : ℤ) (first end : ℕ) (xs : List Carried) (ys : List Ahead) (ps : List Numbers) → SameApart s.blanks f t new → pos (36000 * first) ≤ℤ f → t ≤ℤ pos (36000 * end) → AreHeldEnds s first end None → AreKept c s xs ys ps → AreKept c (with_blanks s new) xs ys ps
 kept_unheld c s new f t first end xs ys ps same low high none = kept_same c s (with_blanks s new) xs ys ps refl (λ k. same_where s new f t first end k same low high (none k))
 
-pub kept_but_blanks : (c : Settings) (s : Store) (new : List Span) (f t : ℤ) (first end a b : ℕ) (xs : List Carried) (ys : List Ahead) (ps : List Numbers) → SameApart s.blanks f t new → pos (36000 * first) ≤ℤ f → t ≤ℤ pos (36000 * end) → end ≤ length s.hours → AreHeldEnds s first end (Some (a, b)) → AreKept c s xs ys ps → AreKeptBut c (with_blanks s new) a b xs ys ps
+pub kept_but_blanks : (c : Settings) (s : Store) (new : List Span) (f t : ℤ) (first end a b : ℕ) (xs : List Carried) (ys : List Ahead) (ps : List Numbers) → SameApart s.blanks f t new → pos (36000 * first) ≤ℤ f → t ≤ℤ pos (36000 * end) → end ≤ length s.hours → AreHeldEnds s first end (Some (a, b)) → IsStore s → AreKept c s xs ys ps → AreKeptBut c (with_blanks s new) a b xs ys ps
 kept_but_blanks c s new f t first end a b xs ys ps same low high within (order, low_end, none) =
     kept_but c s (with_blanks s new) a b xs ys ps order (omega arith) refl (λ k out. same_where s new f t first end k same low high (λ from to. none k from to out))
 

@@ -7,14 +7,20 @@ use Rattle.std.proofs.lemmas.List.Elements.{All-append}
 use Rattle.std.proofs.Math.Seq.{get_or-append_seam}
 use Rattle.sig_base.specs.HourRows.{Shown}
 use Rattle.sig_base.specs.declared.values.Row.{Row}
-use Rattle.hour_store.specs.Store.{Store, rows_at, with_hour}
+use Rattle.hour_store.specs.Store.{IsStore, Store, rows_at, with_hour}
+use Rattle.channel_tables.specs.declared.spec.Spec.{Spec}
+use Rattle.board.specs.Places.{AreAheadsOf, AreSameFor}
+use Rattle.board.specs.Stops.{AreBefore}
 use Rattle.ring_config.specs.Settings.{Settings}
+use Rattle.signal_log.specs.Log.{log_of}
 use Rattle.signal_log.specs.Points.{HasHour}
-use Rattle.hour_work.specs.Numbers.{FitHours, Numbers, patched, total_of}
+use Rattle.signal_log.proofs.Suiting.{same_count}
+use Rattle.hour_work.specs.Numbers.{AreNewSums, FitHours, Numbers, Summed, patched}
 use Rattle.hour_work.specs.Points.{Carried, IsFutureAt}
 use Rattle.session.specs.Links.{Ahead, Apart, AreKept, AreKeptBut, BacksAt, Counts, CountsAt, LeadsAt}
-use Rattle.session.specs.Renewed.{AreNewCarries, AreNewFutures, AreNewParts, IsRenewed}
-use Rattle.session.proofs.PatchLaws.{length-patched, patched-at, patched-below, patched-past}
+use Rattle.session.specs.Renewed.{AreNewCarries, AreNewFutures, AreNewParts, AreSameUpTo, IsRenewed}
+use Rattle.session.proofs.KeptLaws.{carry_kept, future_kept}
+use Rattle.hour_work.proofs.PatchLaws.{length-patched, patched-at, patched-below, patched-past}
 
 -- ---- the numbers
 
@@ -54,10 +60,22 @@ counts_same c s xs xs2 ys ys2 ps ps2 k a b n p d x f =
     (subst (λ (v : Ahead). Counts c k (rows_at s k) s.blanks (get_or xs2 k d) v (get_or ps k f)) (sym (b x))
     (subst (λ (v : Carried). Counts c k (rows_at s k) s.blanks v (get_or ys (k + 1) x) (get_or ps k f)) (sym (a d)) (p d x f)))
 
-pub kept_new : (c : Settings) (s : Store) (first last : ℕ) (carries new_carries : List Carried) (futures : List Ahead) (from to : ℕ) (new_futures : List Ahead) (parts new_parts : List Numbers) → to ≡ first + length new_carries
-    → AreKeptBut c s first last carries futures parts → AreNewCarries c s first last carries new_carries → AreNewFutures c s first last futures from new_futures → AreNewParts c s (patched carries (first + 1) new_carries) (patched futures from new_futures) from to new_parts
-    → AreKept c s (patched carries (first + 1) new_carries) (patched futures from new_futures) (patched parts from new_parts)
-kept_new c s first last carries new_carries futures from to new_futures parts new_parts te but x y z =
+-- the numbers of an hour stay where what is new after it admits the same of the states that come up
+counts_suit : (c : Settings) (s : Store) (xs : List Carried) (ys new : List Ahead) (ps : List Numbers) (k : ℕ) → LeadsAt c s xs k → ((e : Ahead) → AreAheadsOf c.specs (get_or ys (k + 1) e)) → ((d : Carried) (e : Ahead) → AreSameFor (get_or xs (k + 1) d).pasts (get_or ys (k + 1) e) (get_or new (k + 1) e)) → CountsAt c s xs ys ps k → CountsAt c s xs new ps k
+counts_suit c s xs ys new ps k leads shape same p d e f r b =
+    let carry = leads d r b.has_hour b.is_before in
+    let old = get_or ys (k + 1) e in
+    let fresh = get_or new (k + 1) e in
+    let pasts = (get_or xs (k + 1) d).pasts in
+    let width = (shape e).0 in
+    let width2 = b.is_after.shape.0 in
+    let back : AreSameFor pasts fresh old = λ i lt v u h colour le. (let both = same d e i (omega arith) v u h colour le in (both.1, both.0)) in
+    p d e f r (record { has_hour = b.has_hour; is_before = b.is_before; is_after = same_count (log_of c.specs r) (k + 1) pasts fresh old carry.pasts back (shape e) b.is_after; history = b.history })
+
+pub kept_new : (c : Settings) (s : Store) (first last : ℕ) (carries new_carries : List Carried) (futures : List Ahead) (from start to : ℕ) (new_futures : List Ahead) (parts new_parts : List Numbers) → to ≡ first + length new_carries → from ≤ start → start ≤ first
+    → AreKeptBut c s first last carries futures parts → AreNewCarries c s first last carries new_carries → AreNewFutures c s first last futures from new_futures → AreSameUpTo carries futures from new_futures start → AreNewParts c s (patched carries (first + 1) new_carries) (patched futures from new_futures) start to new_parts
+    → AreKept c s (patched carries (first + 1) new_carries) (patched futures from new_futures) (patched parts start new_parts)
+kept_new c s first last carries new_carries futures from start to new_futures parts new_parts te after_from before_first but x y stays z =
     let within = x.within in
     let some = x.some in
     let low = y.low in
@@ -67,35 +85,42 @@ kept_new c s first last carries new_carries futures from to new_futures parts ne
     let size = z.size in
     let last_in = but.within in
     let order = but.order in
-    let room : from + length new_parts ≤ length parts = omega arith in
+    let room : start + length new_parts ≤ length parts = omega arith in
     record {
       forth = x.forth;
       back = y.back;
-      size = length-patched parts from new_parts room ∙ n;
+      size = length-patched parts start new_parts room ∙ n;
       counts = λ k lt. elim (cases_lt k from) [
-        | inl below ↦ counts_same c s carries (patched carries (first + 1) new_carries) futures (patched futures from new_futures) parts (patched parts from new_parts) k
+        | inl below ↦ counts_same c s carries (patched carries (first + 1) new_carries) futures (patched futures from new_futures) parts (patched parts start new_parts) k
             (λ d. let nc = but.forth.size in patched-below carries (first + 1) new_carries k d (omega arith) (omega arith))
             (λ d. y.same k d below)
-            (λ d. patched-below parts from new_parts k d (omega arith) below)
+            (λ d. patched-below parts start new_parts k d (omega arith) (omega arith))
             (but.counts k lt (inl (omega arith)))
-        | inr above ↦ elim (cases_lt k to) [
-          | inl in_it ↦ λ d e f.
-              let i : k ≡ from + (k - from) = omega arith in
-              let l : k - from < length new_parts = omega arith in
-              subst (λ (v : Numbers). Counts c k (rows_at s k) s.blanks (get_or (patched carries (first + 1) new_carries) k d) (get_or (patched futures from new_futures) (k + 1) e) v) (sym (patched-at parts from new_parts k (k - from) f (omega arith) i l)) (z.counts (k - from) k d e f l i)
-          | inr past ↦ counts_same c s carries (patched carries (first + 1) new_carries) futures (patched futures from new_futures) parts (patched parts from new_parts) k
-              (λ d. x.same k d (omega arith) lt)
-              (λ d. patched-past futures from new_futures (k + 1) d (omega arith) (omega arith))
-              (λ d. patched-past parts from new_parts k d (omega arith) (omega arith))
-              (but.counts k lt (inr (omega arith)))
+        | inr above ↦ elim (cases_lt k start) [
+          | inl stay ↦ counts_same c s carries (patched carries (first + 1) new_carries) (patched futures from new_futures) (patched futures from new_futures) parts (patched parts start new_parts) k
+              (λ d. let nc = but.forth.size in patched-below carries (first + 1) new_carries k d (omega arith) (omega arith))
+              (λ d. refl)
+              (λ d. patched-below parts start new_parts k d (omega arith) stay)
+              (counts_suit c s carries futures (patched futures from new_futures) parts k (but.forth.leads k lt (inl (omega arith))) (λ e. but.shapes (k + 1) e (omega arith)) (λ d e. stays k d e above stay) (but.counts k lt (inl (omega arith))))
+          | inr from_start ↦ elim (cases_lt k to) [
+            | inl in_it ↦ λ d e f.
+                let i : k ≡ start + (k - start) = omega arith in
+                let l : k - start < length new_parts = omega arith in
+                subst (λ (v : Numbers). Counts c k (rows_at s k) s.blanks (get_or (patched carries (first + 1) new_carries) k d) (get_or (patched futures from new_futures) (k + 1) e) v) (sym (patched-at parts start new_parts k (k - start) f (omega arith) i l)) (z.counts (k - start) k d e f l i)
+            | inr past ↦ counts_same c s carries (patched carries (first + 1) new_carries) futures (patched futures from new_futures) parts (patched parts start new_parts) k
+                (λ d. x.same k d (omega arith) lt)
+                (λ d. patched-past futures from new_futures (k + 1) d (omega arith) (omega arith))
+                (λ d. patched-past parts start new_parts k d (omega arith) (omega arith))
+                (but.counts k lt (inr (omega arith)))
+          ]
         ]
       ];
     }
 
-pub renewed : (c : Settings) (s : Store) (first last : ℕ) (carries new_carries : List Carried) (futures : List Ahead) (from : ℕ) (new_futures : List Ahead) (parts new_parts : List Numbers) (total : Numbers)
-    → AreKeptBut c s first last carries futures parts → AreNewCarries c s first last carries new_carries → AreNewFutures c s first last futures from new_futures → AreNewParts c s (patched carries (first + 1) new_carries) (patched futures from new_futures) from (first + length new_carries) new_parts
-    → total ≡ total_of (patched parts from new_parts) → IsRenewed c s carries first new_carries futures from new_futures parts new_parts total
-renewed c s first last carries new_carries futures from new_futures parts new_parts total but x y z sum =
+pub renewed : (c : Settings) (s : Store) (first last : ℕ) (carries new_carries : List Carried) (futures : List Ahead) (from start : ℕ) (new_futures : List Ahead) (parts new_parts : List Numbers) (sums : Summed) → from ≤ start → start ≤ first
+    → AreKeptBut c s first last carries futures parts → AreNewCarries c s first last carries new_carries → AreNewFutures c s first last futures from new_futures → AreSameUpTo carries futures from new_futures start → AreNewParts c s (patched carries (first + 1) new_carries) (patched futures from new_futures) start (first + length new_carries) new_parts
+    → AreNewSums parts (patched parts start new_parts) sums → IsRenewed c s carries first new_carries futures from new_futures parts start new_parts sums
+renewed c s first last carries new_carries futures from start new_futures parts new_parts sums after_from before_first but x y stays z new =
     let within = x.within in
     let nc = but.forth.size in
     let nf = but.back.size in
@@ -107,10 +132,22 @@ renewed c s first last carries new_carries futures from new_futures parts new_pa
       carry_room = omega arith;
       future_room = omega arith;
       part_room = omega arith;
-      kept = kept_new c s first last carries new_carries futures from (first + length new_carries) new_futures parts new_parts refl but x y z;
+      kept = kept_new c s first last carries new_carries futures from start (first + length new_carries) new_futures parts new_parts refl after_from before_first but x y stays z;
       small = z.small;
-      sums = sum;
+      new_sums = new;
     }
+
+-- at the points before the first hour that is changed everything has the shape of the configuration's channels
+pub shapes_new : (c : Settings) (s : Store) (first last : ℕ) (carries new_carries : List Carried) (futures : List Ahead) (from : ℕ) (new_futures : List Ahead) (parts : List Numbers) → IsStore s → AreKeptBut c s first last carries futures parts → AreNewCarries c s first last carries new_carries → AreNewFutures c s first last futures from new_futures
+    → (k : ℕ) (d : Carried) (e : Ahead) → k < first → (specs : List Spec) × AreBefore specs (get_or carries (k + 1) d).pasts × AreAheadsOf specs (get_or futures (k + 1) e) × AreAheadsOf specs (get_or (patched futures from new_futures) (k + 1) e)
+shapes_new c s first last carries new_carries futures from new_futures parts is but x y k d e lt =
+    let order = but.order in
+    let within = but.within in
+    let size = but.forth.size in
+    let old = patched-below carries (first + 1) new_carries (k + 1) d (omega arith) (omega arith) in
+    let carry = carry_kept c s (patched carries (first + 1) new_carries) is x.forth (k + 1) d (omega arith) in
+    let future = future_kept c s (patched futures from new_futures) is y.back (k + 1) e (omega arith) in
+    (c.specs, subst (λ (v : Carried). AreBefore c.specs v.pasts) old carry.pasts.shape, but.shapes (k + 1) e (omega arith), future.shape)
 
 -- ---- what still fits once the store is changed
 
@@ -128,8 +165,8 @@ counts_stay : (c : Settings) (s t : Store) (k : ℕ) (xs : List Carried) (ys : L
 counts_stay c s t k xs ys ps same p d e f r b = p d e f r (record { has_hour = same r b.has_hour; is_before = b.is_before; is_after = b.is_after; history = b.history })
 
 -- what is kept of a store, of another one that has all hours alike but those from `first` to `last`
-pub kept_but : (c : Settings) (s t : Store) (first last : ℕ) (xs : List Carried) (ys : List Ahead) (ps : List Numbers) → first ≤ last → last < length s.hours → length t.hours ≡ length s.hours → ((k : ℕ) → Apart first last k → SameHour s t k) → AreKept c s xs ys ps → AreKeptBut c t first last xs ys ps
-kept_but c s t first last xs ys ps order within size same kept = record {
+pub kept_but : (c : Settings) (s t : Store) (first last : ℕ) (xs : List Carried) (ys : List Ahead) (ps : List Numbers) → first ≤ last → last < length s.hours → length t.hours ≡ length s.hours → ((k : ℕ) → Apart first last k → SameHour s t k) → IsStore s → AreKept c s xs ys ps → AreKeptBut c t first last xs ys ps
+kept_but c s t first last xs ys ps order within size same is kept = record {
   order = order;
   within = rw size within;
   forth = record {
@@ -142,6 +179,7 @@ kept_but c s t first last xs ys ps order within size same kept = record {
     end = λ d r e. subst (λ (n : ℕ). IsFutureAt c r n (get_or ys n d)) (sym size) (kept.back.end d r (e ∙ size));
     backs = λ k lt out. backs_stay c s t k ys (same k out) (kept.back.backs k (omega arith));
   };
+  shapes = λ k d le. (future_kept c s ys is kept.back k d (omega arith)).shape;
   size = kept.size ∙ sym size;
   counts = λ k lt out. counts_stay c s t k xs ys ps (same k out) (kept.counts k (omega arith));
 }
@@ -163,7 +201,7 @@ kept_same c s t xs ys ps size same kept = record {
   counts = λ k lt. counts_stay c s t k xs ys ps (same k) (kept.counts k (omega arith));
 }
 
-pub kept_but_hour : (c : Settings) (s : Store) (h : ℕ) (x : Option Shown) (xs : List Carried) (ys : List Ahead) (ps : List Numbers) → h < length s.hours → AreKept c s xs ys ps → AreKeptBut c (with_hour s h x) h h xs ys ps
+pub kept_but_hour : (c : Settings) (s : Store) (h : ℕ) (x : Option Shown) (xs : List Carried) (ys : List Ahead) (ps : List Numbers) → h < length s.hours → IsStore s → AreKept c s xs ys ps → AreKeptBut c (with_hour s h x) h h xs ys ps
 kept_but_hour c s h x xs ys ps lt = kept_but c s (with_hour s h x) h h xs ys ps (omega arith) lt (length-set s.hours h x) (λ k out r.
     let other : k ≢ h = elim out [ inl a ↦ λ e. omega arith | inr b ↦ λ e. omega arith ] in
     let rows : rows_at (with_hour s h x) k ≡ rows_at s k = ap (λ (o : Option Shown). option_map (λ v. v.rows) o) (get_or-set_other s.hours h k x None other) in

@@ -3,6 +3,7 @@ use Rattle.std.specs.Prelude.{◌≡◌, ◌+◌, ◌≤◌, ◌<◌, ◌⊎◌,
 use Rattle.sig_base.specs.declared.values.Row.{Row}
 use Rattle.span_set.specs.declared.set.Span.{Span}
 use Rattle.hour_store.specs.Store.{Store, rows_at}
+use Rattle.board.specs.Places.{AreAheadsOf}
 use Rattle.ring_config.specs.Settings.{Settings}
 use Rattle.signal_log.specs.Points.{HasHour}
 use Rattle.hour_work.specs.Numbers.{Numbers}
@@ -76,5 +77,6 @@ pub record AreKeptBut (c : Settings) (s : Store) (first last : ℕ) (carries : L
   pub within : last < length s.hours
   pub forth : AreCarriesBut c s first last carries
   pub back : AreFuturesBut c s first last futures
+  pub shapes : (k : ℕ) (d : Ahead) → k ≤ length s.hours → AreAheadsOf c.specs (slice_index_or futures k d)
   pub size : length parts ≡ length s.hours
   pub counts : (k : ℕ) → k < length s.hours → Apart first last k → CountsAt c s carries futures parts k

@@ -1,8 +1,9 @@
 -- What an edit puts in the place of what is kept.
 use Rattle.std.specs.Prelude.{◌≡◌, ◌+◌, ◌≤◌, ◌<◌, ℕ, false, List, length, slice_index_or, Option, Some, None, is_some, All}
 use Rattle.hour_store.specs.Store.{Store, held_at, rows_at}
+use Rattle.board.specs.Places.{AreSameFor}
 use Rattle.ring_config.specs.Settings.{Settings}
-use Rattle.hour_work.specs.Numbers.{FitHours, Numbers, patched, total_of}
+use Rattle.hour_work.specs.Numbers.{AreNewSums, FitHours, Numbers, Summed, patched}
 use Rattle.hour_work.specs.Points.{Carried}
 use Rattle.session.specs.Links.{Ahead, Apart, AreCarries, AreFutures, AreKept, Counts}
 
@@ -25,6 +26,10 @@ pub record AreNewFutures (c : Settings) (s : Store) (first last : ℕ) (futures 
   pub back : AreFutures c s (patched futures from fresh)
   pub same : (k : ℕ) (d : Ahead) → k < from → slice_index_or (patched futures from fresh) (k + 1) d ≡ slice_index_or futures (k + 1) d
 
+-- at the points after the hours from `from` up to `start`, what is new admits the same as what is kept of the states that come up there
+abbrev pub AreSameUpTo : List Carried → List Ahead → ℕ → List Ahead → ℕ → Type 0
+AreSameUpTo carries futures from fresh start = (k : ℕ) (d : Carried) (e : Ahead) → from ≤ k → k < start → AreSameFor (slice_index_or carries (k + 1) d).pasts (slice_index_or futures (k + 1) e) (slice_index_or (patched futures from fresh) (k + 1) e)
+
 -- the numbers of the hours from `from` up to `to`, between what is kept at the points about them
 pub record AreNewParts (c : Settings) (s : Store) (carries : List Carried) (futures : List Ahead) (from to : ℕ) (fresh : List Numbers) : Type 0 where
   pub size : from + length fresh ≡ to
@@ -32,10 +37,10 @@ pub record AreNewParts (c : Settings) (s : Store) (carries : List Carried) (futu
   pub small : All (FitHours 1) fresh
 
 -- all that is new of an edit: once it stands in the place of what was kept, this is what is kept of the store
-pub record IsRenewed (c : Settings) (s : Store) (carries : List Carried) (first : ℕ) (new_carries : List Carried) (futures : List Ahead) (from : ℕ) (new_futures : List Ahead) (parts new_parts : List Numbers) (total : Numbers) : Type 0 where
+pub record IsRenewed (c : Settings) (s : Store) (carries : List Carried) (first : ℕ) (new_carries : List Carried) (futures : List Ahead) (from : ℕ) (new_futures : List Ahead) (parts : List Numbers) (start : ℕ) (new_parts : List Numbers) (sums : Summed) : Type 0 where
   pub carry_room : first + 1 + length new_carries ≤ length carries
   pub future_room : from + length new_futures ≤ length futures
-  pub part_room : from + length new_parts ≤ length parts
-  pub kept : AreKept c s (patched carries (first + 1) new_carries) (patched futures from new_futures) (patched parts from new_parts)
+  pub part_room : start + length new_parts ≤ length parts
+  pub kept : AreKept c s (patched carries (first + 1) new_carries) (patched futures from new_futures) (patched parts start new_parts)
   pub small : All (FitHours 1) new_parts
-  pub sums : total ≡ total_of (patched parts from new_parts)
+  pub new_sums : AreNewSums parts (patched parts start new_parts) sums

@@ -5,10 +5,9 @@ ghost use Rattle.session.specs.Links.{AreFuturesBut};
 ghost use Rattle.session.specs.Renewed.{AreNewFutures};
 ghost use Rattle.session.specs.Sessions.{Grow};
 
-use crate::lists::pick;
 use crate::steps::future_before;
 use hour_store::HourStore;
-use hour_work::Future;
+use hour_work::{Future, pick};
 use ring_config::Config;
 use sig_base::{Hour, NoMemory, Reads};
 use std::alloc::Global;

@@ -7,10 +7,9 @@ ghost use Rattle.session.specs.Links.{AreCarriesBut};
 ghost use Rattle.session.specs.Renewed.{AreNewCarries};
 ghost use Rattle.session.specs.Sessions.{Grow};
 
-use crate::lists::pick;
 use crate::steps::carry_over;
 use hour_store::HourStore;
-use hour_work::{Carry, ForwardError};
+use hour_work::{Carry, ForwardError, pick};
 use ring_config::Config;
 use sig_base::{Hour, Reads};
 use std::alloc::Global;

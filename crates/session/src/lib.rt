@@ -11,7 +11,6 @@ mod blanks;
 mod edit;
 mod forward;
 mod hours;
-mod lists;
 mod points;
 mod renew;
 mod session;

@@ -1,21 +1,23 @@
 // What is kept of a store, and what an edit puts in its place.
-ghost use Rattle.std.specs.Prelude.{◌≡◌, ◌+◌, ◌<◌, ◌≤◌, length, All, IfOk, IfErr, OnOk};
+ghost use Rattle.std.specs.Prelude.{◌≡◌, ◌+◌, ◌<◌, ◌≤◌, ℕ, List, length, slice_index_or, All, IfOk, IfErr, OnOk};
+ghost use Rattle.channel_tables.specs.declared.spec.Spec.{Spec};
+ghost use Rattle.board.specs.Places.{AreAheadsOf};
+ghost use Rattle.board.specs.Stops.{AreBefore};
 ghost use Rattle.hour_store.specs.Store.{IsStore};
 ghost use Rattle.signal_log.specs.Log.{HasHistory, log_of};
 ghost use Rattle.ring_config.specs.Sound.{IsSound};
 ghost use Rattle.rule_audit.specs.Rules.{rules_for};
-ghost use Rattle.hour_work.specs.Numbers.{FitHours, patched, total_of};
-ghost use Rattle.hour_work.specs.Points.{NamesRow};
-ghost use Rattle.session.specs.Links.{AreCarries, AreFutures, AreKeptBut};
-ghost use Rattle.session.specs.Renewed.{AreNewParts, IsRenewed};
+ghost use Rattle.hour_work.specs.Numbers.{AreNewSums, FitHours, patched};
+ghost use Rattle.hour_work.specs.Points.{Carried, NamesRow};
+ghost use Rattle.session.specs.Links.{Ahead, AreCarries, AreCarriesBut, AreFutures, AreFuturesBut, AreKeptBut};
+ghost use Rattle.session.specs.Renewed.{AreNewCarries, AreNewFutures, AreNewParts, AreSameUpTo, IsRenewed};
 ghost use Rattle.session.specs.Sessions.{Grow};
 
 use crate::backward::go_back;
 use crate::forward::go_forward;
-use crate::lists::{pick, put_in};
 use crate::steps::part_between;
 use hour_store::HourStore;
-use hour_work::{Carry, ForwardError, Future, Partial, Report};
+use hour_work::{Carry, ForwardError, Future, Partial, Report, Sums, pick, put_in};
 use ring_config::Config;
 use rule_audit::Rule;
 use sig_base::{Hour, NoMemory, Reads};
@@ -29,57 +31,129 @@ pub struct Worked {
     pub report: Report,
 }
 
-// What comes in their place: the carries of the points after the hour `first`, the futures of the
-// points and the numbers of the hours from `from` on, and the sums over all hours.
+// What is new at hour points: the carries of the points after the hour `first`, and the futures of
+// the points from `from` on.
 #[derive(Drop)]
-pub struct Fresh {
+pub struct Points {
     pub first: Hour,
     pub carries: Vec<Carry>,
     pub from: Hour,
     pub futures: Vec<Future>,
-    pub parts: Vec<Partial>,
-    pub total: Partial,
 }
 
-// The numbers of the hours from `from` up to `to`.
+// What comes in the place of what is kept: what is new at hour points, the numbers of the hours from
+// `start` on, and the sums that they change.
+#[derive(Drop)]
+pub struct Fresh {
+    pub points: Points,
+    pub start: Hour,
+    pub parts: Vec<Partial>,
+    pub sums: Sums,
+}
+
+// The first hour whose numbers may change: from the first one after which other states can be
+// completed, where one of these can come up there.
+fn start_of(worked: &Worked, points: &Points) -> Hour
+    requires order { points.now.from ≤ points.now.first }
+    requires carry_room { points.now.first < length worked.now.carries.items }
+    requires future_room { points.now.from + length points.now.futures.items ≤ length worked.now.futures.items }
+    requires last { points.now.first < length worked.now.futures.items }
+    requires shape { (k : ℕ) (d : Carried) (e : Ahead) → k < points.now.first → (specs : List Spec) × AreBefore specs (slice_index_or worked.now.carries.items (k + 1) d).pasts × AreAheadsOf specs (slice_index_or worked.now.futures.items (k + 1) e) × AreAheadsOf specs (slice_index_or (patched worked.now.futures.items points.now.from points.now.futures.items) (k + 1) e) }
+    ensures low { points.now.from ≤ result }
+    ensures high { result ≤ points.now.first }
+    ensures same { AreSameUpTo worked.now.carries.items worked.now.futures.items points.now.from points.now.futures.items result }
+{
+    for hour in points.from..points.first {
+        let place = hour as usize + 1;
+        let kept = &worked.futures[place];
+        let next = pick(
+            worked.futures.as_slice(),
+            points.from as usize,
+            points.futures.as_slice(),
+            place,
+        );
+        if !kept.same_for(&worked.carries[place], next) {
+            return hour;
+        }
+    }
+    points.first
+}
+
+// The numbers of the hours from `start` up to the last point at which something is new.
 fn parts_between<L>(
     alloc: Global,
     config: &Config,
     rules: &[Rule],
     store: &HourStore<L>,
     worked: &Worked,
-    first: Hour,
-    carries: &[Carry],
-    from: Hour,
-    futures: &[Future],
+    points: &Points,
+    start: Hour,
     reads: &mut Reads<L>,
 ) -> Result<Vec<Partial>, NoMemory>
     requires rules { rules.now ≡ rules_for config.now }
     requires sound { IsSound config.now }
     requires store { IsStore store.now }
-    requires order { from ≤ first + length carries.now }
-    requires within { first + length carries.now ≤ length store.now.hours }
-    requires carry_room { first + 1 + length carries.now ≤ length worked.now.carries.items }
-    requires future_room { from + length futures.now ≤ length worked.now.futures.items }
-    requires forth { AreCarries config.now store.now (patched worked.now.carries.items (first + 1) carries.now) }
-    requires back { AreFutures config.now store.now (patched worked.now.futures.items from futures.now) }
-    ensures parts { IfOk result (λ v. AreNewParts config.now store.now (patched worked.now.carries.items (first + 1) carries.now) (patched worked.now.futures.items from futures.now) from (first + length carries.now) v.items) }
+    requires order { start ≤ points.now.first + length points.now.carries.items }
+    requires within { points.now.first + length points.now.carries.items ≤ length store.now.hours }
+    requires carry_room { points.now.first + 1 + length points.now.carries.items ≤ length worked.now.carries.items }
+    requires future_room { points.now.from + length points.now.futures.items ≤ length worked.now.futures.items }
+    requires forth { AreCarries config.now store.now (patched worked.now.carries.items (points.now.first + 1) points.now.carries.items) }
+    requires back { AreFutures config.now store.now (patched worked.now.futures.items points.now.from points.now.futures.items) }
+    ensures parts { IfOk result (λ v. AreNewParts config.now store.now (patched worked.now.carries.items (points.now.first + 1) points.now.carries.items) (patched worked.now.futures.items points.now.from points.now.futures.items) start (points.now.first + length points.now.carries.items) v.items) }
     ensures grow { Grow reads.old reads.new }
 {
     let mut parts = Vec::new(alloc);
-    for hour in from..first + carries.len() as u32 {
+    for hour in start..points.first + points.carries.len() as u32 {
         let place = hour as usize;
         let before = pick(
             worked.carries.as_slice(),
-            first as usize + 1,
-            carries,
+            points.first as usize + 1,
+            points.carries.as_slice(),
             place,
         );
-        let after = pick(worked.futures.as_slice(), from as usize, futures, place + 1);
+        let after = pick(
+            worked.futures.as_slice(),
+            points.from as usize,
+            points.futures.as_slice(),
+            place + 1,
+        );
         let part = part_between(alloc, config, rules, store, hour, before, after, reads)?;
         parts.push(part)?;
     }
     Ok(parts)
+}
+
+// What is new at hour points, where what is kept fits the store but for the hours from `first` to
+// `last`.
+fn points_of<L>(
+    alloc: Global,
+    config: &Config,
+    store: &HourStore<L>,
+    worked: &Worked,
+    first: Hour,
+    last: Hour,
+    reads: &mut Reads<L>,
+) -> Result<Points, ForwardError>
+    requires order { first ≤ last }
+    requires within { last < length store.now.hours }
+    requires forth { AreCarriesBut config.now store.now first last worked.now.carries.items }
+    requires back { AreFuturesBut config.now store.now first last worked.now.futures.items }
+    ensures store { IsStore store.now }
+    ensures first { IfOk result (λ p. p.first ≡ first) }
+    ensures carries { IfOk result (λ p. AreNewCarries config.now store.now first last worked.now.carries.items p.carries.items) }
+    ensures futures { IfOk result (λ p. AreNewFutures config.now store.now first last worked.now.futures.items p.from p.futures.items) }
+    ensures stop { IfErr result (NamesRow (log_of config.now.specs store.now)) }
+    ensures grow { Grow reads.old reads.new }
+{
+    let carries = go_forward(alloc, config, store, first, last, &worked.carries, reads)?;
+    let futures = go_back(alloc, config, store, first, last, &worked.futures, reads)?;
+    let from = last + 1 - futures.len() as u32;
+    Ok(Points {
+        first,
+        carries,
+        from,
+        futures,
+    })
 }
 
 // What comes in the place of what is kept, where that fits the store but for the hours from `first`
@@ -98,49 +172,52 @@ pub fn renew<L>(
     requires sound { IsSound config.now }
     requires kept { AreKeptBut config.now store.now first last worked.now.carries.items worked.now.futures.items worked.now.report }
     ensures store { IsStore store.now }
-    ensures fresh { IfOk result (λ f. IsRenewed config.now store.now worked.now.carries.items f.first f.carries.items worked.now.futures.items f.from f.futures.items worked.now.report f.parts.items f.total) }
+    ensures fresh { IfOk result (λ f. IsRenewed config.now store.now worked.now.carries.items f.points.first f.points.carries.items worked.now.futures.items f.points.from f.points.futures.items worked.now.report f.start f.parts.items f.sums) }
     ensures history { OnOk result (HasHistory (log_of config.now.specs store.now)) }
     ensures stop { IfErr result (NamesRow (log_of config.now.specs store.now)) }
     ensures grow { Grow reads.old reads.new }
 {
-    let carries = go_forward(alloc, config, store, first, last, &worked.carries, reads)?;
-    let futures = go_back(alloc, config, store, first, last, &worked.futures, reads)?;
-    let from = last + 1 - futures.len() as u32;
-    let parts = parts_between(
-        alloc, config, rules, store, worked, first, &carries, from, &futures, reads,
-    )?;
-    let total = worked.report.total_with(alloc, from as usize, &parts)?;
+    let points = points_of(alloc, config, store, worked, first, last, reads)?;
+    let start = start_of(worked, &points);
+    let parts = parts_between(alloc, config, rules, store, worked, &points, start, reads)?;
+    let sums = worked.report.sums_with(alloc, start as usize, &parts)?;
     Ok(Fresh {
-        first,
-        carries,
-        from,
-        futures,
+        points,
+        start,
         parts,
-        total,
+        sums,
     })
 }
 
 // Puts it in the place of what is kept. It takes no memory.
 pub fn adopt(worked: &mut Worked, fresh: Fresh)
-    requires carry_room { fresh.first + 1 + length fresh.carries.items ≤ length worked.old.carries.items }
-    requires future_room { fresh.from + length fresh.futures.items ≤ length worked.old.futures.items }
-    requires part_room { fresh.from + length fresh.parts.items ≤ length worked.old.report }
+    requires carry_room { fresh.points.first + 1 + length fresh.points.carries.items ≤ length worked.old.carries.items }
+    requires future_room { fresh.points.from + length fresh.points.futures.items ≤ length worked.old.futures.items }
+    requires part_room { fresh.start + length fresh.parts.items ≤ length worked.old.report }
     requires small { All (FitHours 1) fresh.parts.items }
-    requires total { fresh.total ≡ total_of (patched worked.old.report fresh.from fresh.parts.items) }
-    ensures carries { worked.new.carries.items ≡ patched worked.old.carries.items (fresh.first + 1) fresh.carries.items }
-    ensures futures { worked.new.futures.items ≡ patched worked.old.futures.items fresh.from fresh.futures.items }
-    ensures report { worked.new.report ≡ patched worked.old.report fresh.from fresh.parts.items }
+    requires sums { AreNewSums worked.old.report (patched worked.old.report fresh.start fresh.parts.items) fresh.sums }
+    ensures carries { worked.new.carries.items ≡ patched worked.old.carries.items (fresh.points.first + 1) fresh.points.carries.items }
+    ensures futures { worked.new.futures.items ≡ patched worked.old.futures.items fresh.points.from fresh.points.futures.items }
+    ensures report { worked.new.report ≡ patched worked.old.report fresh.start fresh.parts.items }
 {
     let Fresh {
+        points,
+        start,
+        mut parts,
+        sums,
+    } = fresh;
+    let Points {
         first,
         mut carries,
         from,
         mut futures,
-        mut parts,
-        total,
-    } = fresh;
-    put_in(&mut worked.carries, first as usize + 1, &mut carries);
-    put_in(&mut worked.futures, from as usize, &mut futures);
+    } = points;
+    put_in(
+        &mut worked.carries,
+        first as usize + 1,
+        carries.as_mut_slice(),
+    );
+    put_in(&mut worked.futures, from as usize, futures.as_mut_slice());
     let report = &mut worked.report;
-    report.exchange(from as usize, parts.as_mut_slice(), total);
+    report.exchange(start as usize, parts.as_mut_slice(), sums);
 }

@@ -35,6 +35,10 @@ unfoldable pub lines_text : Bool → Span → List AuditLine → List ℕ
 lines_text with_kept w [] = []
 lines_text with_kept w (l ∷ ls) = shown_text with_kept w l ++ lines_text with_kept w ls
 
+-- the broken and undecided lines of one hour
+abbrev pub IsHourText : Settings → Store → ℕ → List ℕ → Type 0
+IsHourText c s hour text = (lines : List AuditLine) × AreAuditLines c s hour lines × (text ≡ lines_text false c.window lines)
+
 -- the broken and undecided lines of so many hours from this one on
 unfoldable pub IsHoursText : Settings → Store → ℕ → ℕ → List ℕ → Type 0
 IsHoursText c s hour zero text = text ≡ []

@@ -1,10 +1,10 @@
 // The verdicts of a session: those that are broken or undecided, or all of one hour.
-ghost use Rattle.std.specs.Prelude.{◌≡◌, ◌<◌, ◌*◌, true, All, List, length, nat_lt};
+ghost use Rattle.std.specs.Prelude.{◌≡◌, ◌<◌, ◌*◌, true, [], IsTrue, All, List, length, nat_lt};
 ghost use Rattle.outside.specs.Sink.{Puts};
 ghost use Rattle.hour_work.specs.Numbers.{Numbers};
 ghost use Rattle.hour_work.specs.Reports.{IsReport};
 ghost use Rattle.session.specs.Sessions.{Grow};
-ghost use Rattle.sigaudit.specs.Audit.{AreVerdicts, IsAudited, audit_head, audit_start, is_kept, lines_text, shown_text, verdicts_head};
+ghost use Rattle.sigaudit.specs.Audit.{AreVerdicts, IsAudited, IsHourText, audit_head, audit_start, is_kept, lines_text, shown_text, verdicts_head};
 ghost use Rattle.sigaudit.specs.Run.{PutsHour, PutsHours, TakesBy};
 
 use crate::refused::refuse;
@@ -83,6 +83,17 @@ fn put_start<K: Sink>(
     put_audit_counts(config, rules, total, sink)
 }
 
+// Whether each verdict of the hour is kept, so that an audit has no line of it. No hour is opened.
+fn is_clean<L>(hour: Hour, session: &Session<L>) -> bool
+    requires { hour < length session.now.store.hours }
+    ensures { IsTrue result → IsHourText session.now.config session.now.store hour [] }
+{
+    match session.report().hour(hour) {
+        Some(part) => part.are_all_kept(),
+        None => false,
+    }
+}
+
 // Writes the broken and undecided verdicts of an hour.
 fn put_failing<L, K: Sink>(
     hour: Hour,
@@ -94,6 +105,9 @@ fn put_failing<L, K: Sink>(
     ensures put { PutsHour session.now.config session.now.store hour (K.written sink.old) (K.written sink.new) (K.faults sink.old) (K.faults sink.new) result }
     ensures grow { Grow reads.old reads.new }
 {
+    if is_clean(hour, session) {
+        return Ok(());
+    }
     let lines = match session.audit_hour(hour, reads) {
         Ok(lines) => lines,
         Err(_) => return Err(Stopped::Memory),

@@ -8,3 +8,4 @@ pub mod Calls
 pub mod Lawful
 pub mod Viewed
 pub mod Earlier
+pub mod Suiting

@@ -5,6 +5,7 @@ use Rattle.std.proofs.lemmas.List.{take-append-drop}
 use Rattle.colour_machine.specs.Rules.{IsMachine}
 use Rattle.span_set.specs.declared.set.Span.{Span}
 use Rattle.reach.specs.Runs.{State, state, Steps}
+use Rattle.reach.specs.Past.{Holds}
 use Rattle.reach.specs.Ahead.{Admits}
 use Rattle.reach.proofs.Later.{then_iff}
 use Rattle.sig_base.specs.declared.values.Row.{Row}
@@ -25,36 +26,36 @@ use Rattle.board.proofs.Tracks.{tracks_are}
 use Rattle.board.proofs.Within.{known_within}
 use Rattle.signal_log.specs.Log.{HasHistory, Log}
 use Rattle.signal_log.specs.States.{IsCompleted, IsReached}
+use Rattle.signal_log.specs.Points.{ComesUp}
 use Rattle.signal_log.specs.Views.{HasHourRuns, IsHourOf, SeesEndPlaces, SeesEndsOfAll, SeesRowPlaces, before_in_tenth, log_in, tenth_of}
 use Rattle.signal_log.specs.Laws.{HoursTell, ViewsTell}
-use Rattle.signal_log.proofs.Runs.{agreeing_early, agreeing_known, alike_later, from_other, from_place, from_same, place_join, since_place, to_place, upto_other, upto_place, upto_same}
+use Rattle.signal_log.proofs.Runs.{agreeing_known, alike_back, alike_later, from_other, from_place, from_same, place_join, since_place, to_place, upto_other, upto_place, upto_same}
 use Rattle.signal_log.proofs.Joined.{IsCompletedPlace, IsReachedPlace, after_events, at_end, end_of_one, events_after, history_runs, one_end}
 use Rattle.signal_log.proofs.Hour.{SameIn, cut_tells, held_reached, reached_held, run_back, run_in, run_on}
 
--- the states that are admitted after the hour
-abbrev AreAdmitted : Track → (ℕ → Bool) → (ℕ → List Event) → ℕ → ℕ → List (Option ℤ) → Type 0
-AreAdmitted k known given t T after = (u : State) → Admits after u ↔ ((u.colour < k.rules.colours) × (u.entry <ℤ pos t) × ((e : State) × Agreeing k known given t T u e))
+-- of the states that come up after the hour, those that are admitted
+abbrev AreAdmitted : Track → (ℕ → Bool) → (ℕ → List Event) → ℕ → ℕ → (State → Type 0) → List (Option ℤ) → Type 0
+AreAdmitted k known given t T Up after = (u : State) → Up u → Admits after u ↔ ((e : State) × Agreeing k known given t T u e)
 
-module _ (k : Track) (laws : IsMachine k.rules) (known : ℕ → Bool) (given : ℕ → List Event) (p t T : ℕ) (inside : t ≤ T) (after : List (Option ℤ)) (states : AreAdmitted k known given t T after) (K : ℕ → Bool) (G given2 : ℕ → List Event) (y : ℕ) (same : SameIn K G known given2 y t) (later : (x : ℕ) → t ≤ x → known x ≡ true → given x ≡ given2 x) (first : p ≤ y) (last : y ≤ t) where
+module _ (k : Track) (laws : IsMachine k.rules) (known : ℕ → Bool) (given : ℕ → List Event) (p t T : ℕ) (inside : t ≤ T) (Up : State → Type 0) (after : List (Option ℤ)) (states : AreAdmitted k known given t T Up after) (K : ℕ → Bool) (G given2 : ℕ → List Event) (y : ℕ) (same : SameIn K G known given2 y t) (later : (x : ℕ) → t ≤ x → known x ≡ true → given x ≡ given2 x) (first : p ≤ y) (last : y ≤ t) where
   -- a run to a state that is admitted goes on to the window's end, from a state that is alike too
-  ahead_on : (v w u : State) → Alike k.rules (pos p) v w → Agreeing k K G y t v u → Admits after u → (e : State) × Agreeing k known given2 y T w e
-  ahead_on v w u a g ad =
-      let (few, early, (e, g3)) = (states u).0 ad in
+  ahead_on : (v w u : State) → Alike k.rules (pos p) v w → Agreeing k K G y t v u → Up u → Admits after u → (e : State) × Agreeing k known given2 y T w e
+  ahead_on v w u a g up ad =
+      let (e, g3) = (states u up).0 ad in
       let g1 = (run_in k K G known given2 y t y t v u same (omega arith) (omega arith)).0 g in
       let (z, g2, b) = agreeing_alike k known given2 y t v w u laws (alike_later k.rules (pos p) (pos y) v w (omega (arith, ints)) a) g1 in
       let (x, g4, _) = agreeing_alike k known given t T u z e laws (alike_later k.rules (pos y) (pos t) u z (omega (arith, ints)) b) g3 in
       let g5 = agreeing_known k known known given given2 t T z x (λ q l1 l2 is. (is, later q l1 is)) g4 in
       (x, (agreeing_join k known given2 y t T w x last inside).1 (z, g2, g5))
 
-  ahead_back : (v w e : State) → Alike k.rules (pos p) w v → ((u : State) → Agreeing k K G y t v u → u.entry <ℤ pos t) → Agreeing k known given2 y T w e → (u : State) × Agreeing k K G y t v u × Admits after u
-  ahead_back v w e a early g =
+  ahead_back : (v w e : State) → Alike k.rules (pos p) w v → ((u : State) → Agreeing k K G y t v u → Up u) → Agreeing k known given2 y T w e → (u : State) × Agreeing k K G y t v u × Admits after u
+  ahead_back v w e a up g =
       let (z, g1, g2) = (agreeing_join k known given2 y t T w e last inside).0 g in
       let (u, g3, b) = agreeing_alike k known given2 y t w v z laws (alike_later k.rules (pos p) (pos y) w v (omega (arith, ints)) a) g1 in
       let g4 = (run_in k K G known given2 y t y t v u same (omega arith) (omega arith)).1 g3 in
       let g5 = agreeing_known k known known given2 given t T z e (λ q l1 l2 is. (is, sym (later q l1 is))) g2 in
       let (x, g6, _) = agreeing_alike k known given t T z u e laws (alike_later k.rules (pos y) (pos t) z u (omega (arith, ints)) b) g5 in
-      let (c, same_colour, _) = b in
-      (u, g4, (states u).1 (rw same_colour c, early u g4, (x, g6)))
+      (u, g4, (states u (up u g4)).1 (x, g6))
 
 abbrev no_state : State
 no_state = state 0 (pos 0)
@@ -102,8 +103,20 @@ module _ (s : Store) (view : HourLog) (are : AreSpecs view.specs) (is : IsHourOf
   inside : t ≤ end
   inside = let w = is.within in omega arith
 
-  admitted : (i : ℕ) → i < length view.specs → AreAdmitted (channel i) known given t end (after_of i)
-  admitted i lt u = let next : first_tenth (view.hour + 1) ≡ t = omega arith in subst (λ (y : ℕ). Admits (after_of i) u ↔ ((u.colour < (channel i).rules.colours) × (u.entry <ℤ pos y) × ((e : State) × Agreeing (channel i) known given y end u e))) next (is.after.states i lt u)
+  abbrev Up : ℕ → State → Type 0
+  Up i u = ComesUp log (view.hour + 1) i u
+
+  -- what a run of the hour leads to comes up
+  comes_up : (i : ℕ) (a u : State) → i < length view.specs → Holds (before_of i) a → Agreeing (channel i) K G f t a u → Up i u
+  comes_up i a u lt h g =
+      let k = channel i in
+      let next : t ≡ first_tenth (view.hour + 1) = omega arith in
+      let (w, r, al) = run_on k (laws i lt) known given f (before_of i) (is.before.states i lt) K G given t same (λ q l there. refl) (omega arith) a u h g in
+      let back = alike_back k.rules (pos t) u w (alike_later k.rules (pos f) (pos t) u w (omega (arith, ints)) al) in
+      subst (λ (y : ℕ). (v : State) × IsReached log i y v × Alike k.rules (pos y) v u) next (w, r, back)
+
+  admitted : (i : ℕ) → i < length view.specs → AreAdmitted (channel i) known given t end (Up i) (after_of i)
+  admitted i lt u up = let next : first_tenth (view.hour + 1) ≡ t = omega arith in subst (λ (y : ℕ). Admits (after_of i) u ↔ ((e : State) × Agreeing (channel i) known given y end u e)) next (is.after.states i lt u up)
 
   tenth_within : (x : ℕ) → K x ≡ true → (f ≤ x) × (x < t)
   tenth_within x there = known_within f t x view.stretches (follow (is_known s) f t view.stretches is.cut.stretches) there
@@ -113,14 +126,14 @@ module _ (s : Store) (view : HourLog) (are : AreSpecs view.specs) (is : IsHourOf
   end_to i x v lt l1 l2 ((a, h, g), (u, g2, ad)) =
       let k = channel i in
       let (w, r, al) = run_on k (laws i lt) known given f (before_of i) (is.before.states i lt) K G given (x + 1) (λ q m1 m2. same q m1 (omega arith)) (λ q l there. refl) (omega arith) a v h g in
-      let c = ahead_on k (laws i lt) known given f t end inside (after_of i) (admitted i lt) K G given (x + 1) (λ q m1 m2. same q (omega arith) m2) (λ q l there. refl) (omega arith) (omega arith) v w u al g2 ad in
+      let c = ahead_on k (laws i lt) known given f t end inside (Up i) (after_of i) (admitted i lt) K G given (x + 1) (λ q m1 m2. same q (omega arith) m2) (λ q l there. refl) (omega arith) (omega arith) v w u al g2 (comes_up i a u lt h ((agreeing_join k K G f (x + 1) t a u (omega arith) (omega arith)).1 (v, g, g2))) ad in
       (w, (r, c), al)
 
   end_back : (i x : ℕ) (w : State) → i < length view.specs → f ≤ x → x < t → IsReached log i (x + 1) w → IsCompleted log i (x + 1) w → (v : State) × MayPass view x i v × Alike (channel i).rules (pos f) w v
   end_back i x w lt l1 l2 r (e, g) =
       let k = channel i in
       let (v, (a, h, g1), al) = run_back k (laws i lt) known given f (before_of i) (is.before.states i lt) K G given (x + 1) (λ q m1 m2. same q m1 (omega arith)) (λ q l there. refl) (omega arith) w r in
-      let c = ahead_back k (laws i lt) known given f t end inside (after_of i) (admitted i lt) K G given (x + 1) (λ q m1 m2. same q (omega arith) m2) (λ q l there. refl) (omega arith) (omega arith) v w e al (λ u g2. agreeing_early k K G (x + 1) t v u g2 (agreeing_early k K G f (x + 1) a v g1 (is.before.early i a h))) g in
+      let c = ahead_back k (laws i lt) known given f t end inside (Up i) (after_of i) (admitted i lt) K G given (x + 1) (λ q m1 m2. same q (omega arith) m2) (λ q l there. refl) (omega arith) (omega arith) v w e al (λ u g2. comes_up i a u lt h ((agreeing_join k K G f (x + 1) t a u (omega arith) (omega arith)).1 (v, g1, g2))) g in
       (v, ((a, h, g1), c), al)
 
   -- the rows up to a place, and those from it on
@@ -172,7 +185,7 @@ module _ (s : Store) (view : HourLog) (are : AreSpecs view.specs) (is : IsHourOf
       let j = before_in_tenth view n in
       let (l1, l2) = tenth_within x there in
       let (w, r, al) = run_on k (laws i lt) known given f (before_of i) (is.before.states i lt) K (upto_place G x j) (upto_place given x j) (x + 1) (upto_in_hour x j l2) (λ q l m. sym (upto_other given x j q (λ e. absurd (omega arith)))) (omega arith) a v h ((to_row i n a v l1 there).0 to) in
-      let c = ahead_on k (laws i lt) known given f t end inside (after_of i) (admitted i lt) K (from_place G x j) (from_place given x j) x (from_in_hour x j l1) (λ q l m. sym (from_other given x j q (λ e. absurd (omega arith)))) l1 (omega arith) v w u al ((from_row i n v u l2 there).0 from) ad in
+      let c = ahead_on k (laws i lt) known given f t end inside (Up i) (after_of i) (admitted i lt) K (from_place G x j) (from_place given x j) x (from_in_hour x j l1) (λ q l m. sym (from_other given x j q (λ e. absurd (omega arith)))) l1 (omega arith) v w u al ((from_row i n v u l2 there).0 from) (comes_up i a u lt h ((place_join k K G f x t j a u l1 l2 there).1 (v, (to_row i n a v l1 there).0 to, (from_row i n v u l2 there).0 from))) ad in
       (w, (r, c), al)
 
   row_back : (i n : ℕ) (w : State) → i < length view.specs → K (tenth_of view n) ≡ true → IsReachedPlace log i (tenth_of view n) (before_in_tenth view n) w → IsCompletedPlace log i (tenth_of view n) (before_in_tenth view n) w → (v : State) × MayPassRow view n i v × Alike (channel i).rules (pos f) w v
@@ -182,7 +195,7 @@ module _ (s : Store) (view : HourLog) (are : AreSpecs view.specs) (is : IsHourOf
       let j = before_in_tenth view n in
       let (l1, l2) = tenth_within x there in
       let (v, (a, h, g1), al) = run_back k (laws i lt) known given f (before_of i) (is.before.states i lt) K (upto_place G x j) (upto_place given x j) (x + 1) (upto_in_hour x j l2) (λ q l m. sym (upto_other given x j q (λ z. absurd (omega arith)))) (omega arith) w r in
-      let (u, g2, ad) = ahead_back k (laws i lt) known given f t end inside (after_of i) (admitted i lt) K (from_place G x j) (from_place given x j) x (from_in_hour x j l1) (λ q l m. sym (from_other given x j q (λ z. absurd (omega arith)))) l1 (omega arith) v w e al (λ u g2. agreeing_early k K G f t a u ((place_join k K G f x t j a u l1 l2 there).1 (v, g1, g2)) (is.before.early i a h)) g in
+      let (u, g2, ad) = ahead_back k (laws i lt) known given f t end inside (Up i) (after_of i) (admitted i lt) K (from_place G x j) (from_place given x j) x (from_in_hour x j l1) (λ q l m. sym (from_other given x j q (λ z. absurd (omega arith)))) l1 (omega arith) v w e al (λ u g2. comes_up i a u lt h ((place_join k K G f x t j a u l1 l2 there).1 (v, g1, g2))) g in
       (v, ((a, h, (to_row i n a v l1 there).1 g1), (u, (from_row i n v u l2 there).1 g2, ad)), al)
 
   rows_tell : HasHistory log → SeesRowPlaces s view
@@ -235,13 +248,13 @@ module _ (s : Store) (view : HourLog) (are : AreSpecs view.specs) (is : IsHourOf
         let (e, (b, bw, g)) = (history_runs log are).0 has i lt in
         let (r, g1, g2) = (agreeing_join k known given 0 f end b e (omega arith) (let w = inside in omega arith)).0 g in
         let (a, h, al) = reached_held k (laws i lt) known given f (before_of i) (is.before.states i lt) r (b, bw, g1) in
-        let (u, g3, ad) = ahead_back k (laws i lt) known given f t end inside (after_of i) (admitted i lt) K G given f same (λ q l there. refl) (omega arith) (omega arith) a r e al (λ u g3. agreeing_early k K G f t a u g3 (is.before.early i a h)) g2 in
+        let (u, g3, ad) = ahead_back k (laws i lt) known given f t end inside (Up i) (after_of i) (admitted i lt) K G given f same (λ q l there. refl) (omega arith) (omega arith) a r e al (λ u g3. comes_up i a u lt h g3) g2 in
         (a, u, h, g3, ad)),
     λ runs. (history_runs log are).1 (λ i lt.
         let k = channel i in
         let (a, u, h, g, ad) = runs i lt in
         let (r, (b, bw, g1), al) = held_reached k (laws i lt) known given f (before_of i) (is.before.states i lt) a h in
-        let (e, g2) = ahead_on k (laws i lt) known given f t end inside (after_of i) (admitted i lt) K G given f same (λ q l there. refl) (omega arith) (omega arith) a r u al g ad in
+        let (e, g2) = ahead_on k (laws i lt) known given f t end inside (Up i) (after_of i) (admitted i lt) K G given f same (λ q l there. refl) (omega arith) (omega arith) a r u al g (comes_up i a u lt h g) ad in
         (e, (b, bw, (agreeing_join k known given 0 f end b e (omega arith) (let w = inside in omega arith)).1 (r, g1, g2)))),
   )
 

@@ -12,11 +12,11 @@ use Rattle.hour_store.specs.Store.{IsKnown, IsStore, Store, is_known, nothing_he
 use Rattle.board.specs.Channels.{AreSpecs}
 use Rattle.board.specs.Hours.{AreEnds, AreStarts}
 use Rattle.board.specs.Logs.{HourLog, first_tenth}
-use Rattle.board.specs.Places.{AreAheadsOf}
+use Rattle.board.specs.Places.{AreAheadsOf, AreSameFor}
 use Rattle.board.specs.Stops.{AreBefore}
 use Rattle.signal_log.specs.Log.{HasHistory, IsContradiction, Log, log_of, window_end}
 use Rattle.signal_log.specs.States.{AreAlike, MayBeAtEnd, MayBeAtEndOf}
-use Rattle.signal_log.specs.Points.{AreAheadsAt, ArePastsAt}
+use Rattle.signal_log.specs.Points.{AreAheadsAt, AreAheadsFor, ArePastsAt}
 use Rattle.signal_log.specs.Views.{IsHourOf, SeesEndPlaces, SeesEndsOfAll, SeesHistory, SeesRowPlaces, log_in}
 
 -- the states with which a window starts are those at its first point
@@ -87,3 +87,11 @@ pub record ViewsTell (s : Store) (view : HourLog) : Type 0 where
 
 abbrev pub HoursTell : Type 0
 HoursTell = (s : Store) (view : HourLog) → AreSpecs view.specs → IsHourOf s view → ViewsTell s view
+
+-- what tells all states that can be completed tells those that come up
+abbrev pub AllCount : Type 0
+AllCount = (log : Log) (k : ℕ) (aheads : List (List (Option ℤ))) → AreAheadsAt log k aheads → AreAheadsFor log k aheads
+
+-- what admits the same of the states at the point tells as much of those that come up
+abbrev pub SameCount : Type 0
+SameCount = (log : Log) (k : ℕ) (pasts : List (List (List Span))) (a b : List (List (Option ℤ))) → ArePastsAt log k pasts → AreSameFor pasts a b → AreAheadsOf log.specs b → AreAheadsFor log k a → AreAheadsFor log k b

@@ -14,7 +14,7 @@ use Rattle.board.specs.Stops.{AreBefore}
 use Rattle.board.specs.Places.{AllEarly, AreAheadsOf}
 use Rattle.board.specs.Hours.{Clamped}
 use Rattle.signal_log.specs.Log.{IsContradiction, Log, track_at}
-use Rattle.signal_log.specs.States.{IsCompleted, IsReached}
+use Rattle.signal_log.specs.States.{AreAlike, IsCompleted, IsReached}
 
 -- these are each channel's states at point k, with the entries that are older than an hour made one
 pub record ArePastsAt (log : Log) (k : ℕ) (pasts : List (List (List Span))) : Type 0 where
@@ -26,6 +26,15 @@ pub record ArePastsAt (log : Log) (k : ℕ) (pasts : List (List (List Span))) : 
 pub record AreAheadsAt (log : Log) (k : ℕ) (aheads : List (List (Option ℤ))) : Type 0 where
   pub shape : AreAheadsOf log.specs aheads
   pub states : (i : ℕ) → i < length log.specs → (s : State) → Admits (slice_index_or aheads i []) s ↔ ((s.colour < (track_at log i).rules.colours) × (s.entry <ℤ pos (first_tenth k)) × IsCompleted log i (first_tenth k) s)
+
+-- the state comes up at point k: some run of the hours before it leads to the state, or to one that is alike
+abbrev pub ComesUp : Log → ℕ → ℕ → State → Type 0
+ComesUp log k i s = (v : State) × IsReached log i (first_tenth k) v × AreAlike (track_at log i).rules (pos (first_tenth k)) v s
+
+-- of each channel's states that come up at point k, these admit those from which the rest of the window can be met
+pub record AreAheadsFor (log : Log) (k : ℕ) (aheads : List (List (Option ℤ))) : Type 0 where
+  pub shape : AreAheadsOf log.specs aheads
+  pub states : (i : ℕ) → i < length log.specs → (s : State) → ComesUp log k i s → Admits (slice_index_or aheads i []) s ↔ IsCompleted log i (first_tenth k) s
 
 -- the rows that are held, none where the hour isn't held
 abbrev pub rows_or_none : Option (List Row) → List Row

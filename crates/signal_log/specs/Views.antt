@@ -12,20 +12,20 @@ use Rattle.board.specs.Logs.{HourLog, end_tenth, first_tenth, no_row, no_spec}
 use Rattle.board.specs.Verdicts.{MayPass, MayPassRow, PassStates}
 use Rattle.signal_log.specs.Log.{HasHistory, Log, log_of, track_at}
 use Rattle.signal_log.specs.States.{AreAlike, MayBeAfter, MayBeAtEnd, MayBeAtEndOf}
-use Rattle.signal_log.specs.Points.{AreAheadsAt, ArePastsAt}
+use Rattle.signal_log.specs.Points.{AreAheadsFor, ArePastsAt}
 
 -- what is told of the channels of the view by a store
 abbrev pub log_in : Store → HourLog → Log
 log_in s view = log_of view.specs s
 
--- the view is of a held hour of the store, cut by what is known, between the states at the points before and after it
+-- the view is of a held hour of the store, cut by what is known, between the states at the point before it and, of those that come up at the point after it, those that can be completed
 pub record IsHourOf (s : Store) (view : HourLog) : Type 0 where
   pub is_store : IsStore s
   pub within : view.hour < length s.hours
   pub held : rows_at s view.hour ≡ Some view.rows
   pub cut : IsCut (is_known s) (36000 * view.hour) (36000 * view.hour + 36000) view.stretches
   pub before : ArePastsAt (log_in s view) view.hour view.before
-  pub after : AreAheadsAt (log_in s view) (view.hour + 1) view.after
+  pub after : AreAheadsFor (log_in s view) (view.hour + 1) view.after
 
 -- the states of one kind are those of the other, but that some are alike and not the same
 pub record AreSameOrAlike (m : Rules) (p : ℤ) (P Q : State → Type 0) : Type 0 where

@@ -1,5 +1,5 @@
 // Laws: functions that do nothing, whose contracts say what holds of every log.
-ghost use Rattle.signal_log.specs.Laws.{AheadsStay, AlikeMeetSame, ChannelsCombine, ContradictionIsOne, ContradictionMeansNone, ContradictionStays, EndAtLast, HoursTell, LessAgrees, NothingContradicts, PastsStay, StartAtFirst, StatesMeanHistory};
+ghost use Rattle.signal_log.specs.Laws.{AheadsStay, AlikeMeetSame, AllCount, ChannelsCombine, ContradictionIsOne, ContradictionMeansNone, ContradictionStays, EndAtLast, HoursTell, LessAgrees, NothingContradicts, PastsStay, SameCount, StartAtFirst, StatesMeanHistory};
 
 /// Law: the states with which a window starts are those at its first point, and those with which it
 /// may end are those at its last.
@@ -52,4 +52,10 @@ pub fn alike_meet_same()
 /// what the histories of the whole window say.
 pub fn hours_tell()
     ensures { HoursTell }
+{}
+
+/// Law: of the states from which the rest of the window can be met, only those count that come up.
+pub fn only_what_comes_up_counts()
+    ensures all { AllCount }
+    ensures same { SameCount }
 {}

@@ -17,7 +17,7 @@ mod pasts;
 pub use aheads::aheads_before;
 pub use laws::{
     alike_meet_same, channels_combine, hours_tell, less_is_known, nothing_contradicts,
-    points_at_both_ends, points_see_one_side, some_history_agrees,
+    only_what_comes_up_counts, points_at_both_ends, points_see_one_side, some_history_agrees,
 };
 pub use pasts::pasts_after;
 

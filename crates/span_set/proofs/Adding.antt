@@ -60,3 +60,18 @@ add_split f t g (s ∷ ss) (suc n) q w a b = let k : s.to ≤ℤ g = a.0 in rw (
 
 pub join_more : (f t : ℤ) (ss : List Span) (n : ℕ) (d : Span) → n < length ss → (get_or ss n d).from ≤ℤ t → join f t (drop n ss) ≡ join (int_min f (get_or ss n d).from) (int_max t (get_or ss n d).to) (drop (n + 1) ss)
 join_more f t ss n d h a = rw (add-one, drop-cons ss n d h, over t (get_or ss n d).from a) refl
+
+-- a range after all others
+pub add_end : (f t g : ℤ) (ss : List Span) → (g +ℤ pos 1) ≡ f → AllEnd g ss → add_to f t ss ≡ ss ++ span f t ∷ []
+add_end f t g [] q a = refl
+add_end f t g (s ∷ ss) q a = let k : s.to ≤ℤ g = a.0 in rw (not_over s.to f (omega (arith, ints))) (ap (λ r. s ∷ r) (add_end f t g ss q a.1))
+
+-- all end where the last does
+pub last_ends : (low at : ℤ) (ss : List Span) (n : ℕ) (d : Span) → Above low ss → length ss ≡ n + 1 → (get_or ss n d).to ≤ℤ at → AllEnd at ss
+last_ends low at [] n d p size h = tt
+last_ends low at (s ∷ []) zero d p size h = (h, tt)
+last_ends low at (s ∷ []) (suc n) d p size h = absurd (omega arith)
+last_ends low at (s ∷ x ∷ xs) zero d p size h = absurd (omega arith)
+last_ends low at (s ∷ x ∷ xs) (suc n) d p size h =
+    let rest : AllEnd at (x ∷ xs) = last_ends s.to at (x ∷ xs) n d p.3 (omega arith) h in
+    (let a = rest.0 in let b = p.3.0 in let c = p.3.1 in omega (arith, ints), rest)

@@ -1,14 +1,28 @@
 // Changes of ranges in place.
 ghost use Rattle.std.specs.Prelude.{◌≡◌, ℤ, pos, negsuc, ◌≤ℤ◌, ◌<ℤ◌, ◌^◌, ◌∷◌, ◌++◌, ◌+◌, ◌<◌, ◌≤◌, vec_len, take, drop, length, IfOk, OnOk, OnErr};
 ghost use Rattle.std.specs.Int.{int_max, int_min};
-ghost use Rattle.span_set.specs.Spans.{BeginsBelow};
+ghost use Rattle.span_set.specs.Spans.{AreRanges, BeginsBelow};
 ghost use Rattle.span_set.specs.Changes.{span, add_to, join, cut, part_before, from_on, keep_to, squash};
 
-use crate::search::{begins_by, ended_by};
+use crate::search::{all_ended, begins_by, ended_by};
 use crate::set::Span;
 use sig_base::{NoMemory, Tenth};
 
+// A range after all others is added in one step.
 pub fn add(spans: &mut Vec<Span>, from: Tenth, to: Tenth) -> Result<(), NoMemory>
+    requires low { negsuc (2 ^ 40) <ℤ from }
+    requires ordered { AreRanges spans.old.items }
+    ensures ok { OnOk result (spans.new.items ≡ add_to from to spans.old.items) }
+    ensures err { OnErr result (spans.new.items ≡ spans.old.items) }
+{
+    if all_ended(spans, from - 1) {
+        spans.push(Span { from, to })?;
+        return Ok(());
+    }
+    add_within(spans, from, to)
+}
+
+fn add_within(spans: &mut Vec<Span>, from: Tenth, to: Tenth) -> Result<(), NoMemory>
     requires low { negsuc (2 ^ 40) <ℤ from }
     ensures ok { OnOk result (spans.new.items ≡ add_to from to spans.old.items) }
     ensures err { OnErr result (spans.new.items ≡ spans.old.items) }

@@ -70,6 +70,23 @@ pub fn ended_by(spans: &[Span], at: Tenth) -> usize
     spans.len()
 }
 
+// Whether all ranges end at the tenth or before, by the last one.
+pub fn all_ended(spans: &[Span], at: Tenth) -> bool
+    requires { AreRanges spans.now }
+    ensures { IsTrue result → AllEnd at spans.now }
+{
+    match spans {
+        [] => true,
+        [.., last] => is_by(last.to, at),
+    }
+}
+
+fn is_by(a: Tenth, b: Tenth) -> bool
+    ensures { IsTrue result ↔ (a ≤ℤ b) }
+{
+    a <= b
+}
+
 // Whether there is a range at the place, and it begins at the tenth or before.
 pub fn begins_by(spans: &[Span], at: usize, tenth: Tenth) -> bool
     ensures within { IsTrue result → at < length spans.now }

@@ -11,11 +11,12 @@ use Rattle.reach.specs.declared.seen.AgeBound.TheVariants.{Any}
 use Rattle.gap_map.specs.Stretches.{known_at}
 use Rattle.lane.specs.declared.moves.Move.{Move}
 use Rattle.lane.specs.declared.moves.Move.TheVariants.{Letter}
-use Rattle.lane.specs.Places.{Kept}
+use Rattle.channel_tables.specs.declared.spec.Spec.{Spec}
+use Rattle.board.specs.Stops.{moves_at}
 use Rattle.board.specs.History.{Event, Track, events_at}
 use Rattle.board.specs.Channels.{track}
 use Rattle.board.specs.Logs.{HourLog, first_tenth, end_tenth, no_spec}
-use Rattle.board.specs.Places.{IsViewOf}
+use Rattle.board.specs.Places.{IsLog}
 use Rattle.board.specs.Verdicts.{MayPass}
 use Rattle.board.proofs.Within.{hour_rows}
 use Rattle.state_tenths.specs.declared.asked.Asked.{Asked}
@@ -133,23 +134,17 @@ counted_all log i asked from at to count r new moves j e le et range en h =
     let same : new ≡ count + r = omega arith in
     subst (λ (z : ℕ). IsCount (MeetsAt log i asked) from 36000 z) (sym same) (counts_hour (MeetsAt log i asked) from 36000 (count + r) all)
 
-no_line : Kept
-no_line = record { moves = []; pasts = []; runs = []; aheads = [] }
-
-pub counted_start : (log : HourLog) (view : List Kept) (i : ℕ) (asked : Asked) (from : ℕ) (moves : List Move) → IsViewOf log view → i < length view → ((d : Kept) → moves ≡ (get_or view i d).moves) → from ≡ first_tenth log.hour → IsCounted log i asked from from 0 moves
-counted_start log view i asked from moves is lt own e =
-    let len = is.is_view.0 in
-    let line = is.is_view.1 i no_spec no_line (omega arith) in
-    let same = own no_line ∙ line.1 in
+pub counted_start : (log : HourLog) (i : ℕ) (asked : Asked) (from : ℕ) (moves : List Move) → IsLog log → ((d : Spec) → moves ≡ moves_at log.specs log.rows log.stretches i d) → from ≡ first_tenth log.hour → IsCounted log i asked from from 0 moves
+counted_start log i asked from moves is own e =
     let rows = hour_rows log.hour log.rows log.stretches is.is_hour in
-    rw (same, e) (record {
+    rw (own no_spec, e) (record {
       low = omega arith;
       cut = hour_cut (track (get_or log.specs i no_spec)) log.rows log.stretches (first_tenth log.hour) (end_tenth log.hour) is.is_hour.follow rows;
       counts = counts_empty (MeetsAt log i asked) (first_tenth log.hour);
     })
 
-pub late_hour : (log : HourLog) (view : List Kept) (from to : ℕ) → IsViewOf log view → from ≡ first_tenth log.hour → to ≡ min (from + 36000) 4294967295 → to ≡ from + 36000
-late_hour log view from to is e s = let h = is.is_hour.are_rows.in_range in omega arith
+pub late_hour : (log : HourLog) (from to : ℕ) → IsLog log → from ≡ first_tenth log.hour → to ≡ min (from + 36000) 4294967295 → to ≡ from + 36000
+late_hour log from to is e s = let h = is.is_hour.are_rows.in_range in omega arith
 
 pub no_meet : (P : Type 0) (b : Bool) → (IsTrue b ↔ P) → b ≡ false → P → ⊥
 no_meet P b here f p = clash b (here.1 p) f

@@ -1,8 +1,6 @@
 // What is asked at the end of a tenth.
 ghost use Rattle.std.specs.Prelude.{◌≡◌, ◌↔◌, ◌<◌, ◌≤◌, ℕ, true, IsTrue, length};
 ghost use Rattle.gap_map.specs.Stretches.{known_at};
-ghost use Rattle.board.specs.Logs.{HourLog};
-ghost use Rattle.board.specs.Places.{IsViewOf};
 ghost use Rattle.board.specs.Verdicts.{MayPass};
 ghost use Rattle.state_tenths.specs.States.{AllHave, IsAsked, Meets};
 
@@ -21,9 +19,9 @@ pub enum Asked {
 
 // Whether the channel has the colour in all histories at the end of the known tenth.
 fn has_in_all(view: &HourView, spec: u16, at: u32, colour: u8) -> bool
-    requires spec { spec < length view.now }
+    requires spec { spec < length view.now.specs }
     requires colour { colour < 16 }
-    ensures { (log : HourLog) → IsViewOf log view.now → known_at log.stretches at ≡ true → IsTrue result ↔ AllHave (MayPass log at spec) colour }
+    ensures { known_at view.now.stretches at ≡ true → IsTrue result ↔ AllHave (MayPass view.now at spec) colour }
 {
     let test = Test {
         colours: Mask::none().with(colour),
@@ -36,9 +34,9 @@ fn has_in_all(view: &HourView, spec: u16, at: u32, colour: u8) -> bool
 
 // Whether it has none of them.
 fn is_open(view: &HourView, spec: u16, at: u32, colours: u8) -> bool
-    requires spec { spec < length view.now }
+    requires spec { spec < length view.now.specs }
     requires colours { colours ≤ 16 }
-    ensures { (log : HourLog) → IsViewOf log view.now → known_at log.stretches at ≡ true → IsTrue result ↔ ((c : ℕ) → c < colours → AllHave (MayPass log at spec) c → ⊥) }
+    ensures { known_at view.now.stretches at ≡ true → IsTrue result ↔ ((c : ℕ) → c < colours → AllHave (MayPass view.now at spec) c → ⊥) }
 {
     for colour in 0..colours {
         if has_in_all(view, spec, at, colour) {
@@ -50,9 +48,9 @@ fn is_open(view: &HourView, spec: u16, at: u32, colours: u8) -> bool
 
 /// Whether what is asked holds at the end of the known tenth.
 pub(crate) fn holds(view: &HourView, spec: u16, at: u32, asked: Asked) -> bool
-    requires spec { spec < length view.now }
+    requires spec { spec < length view.now.specs }
     requires asked { IsAsked asked }
-    ensures { (log : HourLog) → IsViewOf log view.now → known_at log.stretches at ≡ true → IsTrue result ↔ Meets asked (MayPass log at spec) }
+    ensures { known_at view.now.stretches at ≡ true → IsTrue result ↔ Meets asked (MayPass view.now at spec) }
 {
     match asked {
         Asked::Colour(colour) => has_in_all(view, spec, at, colour),

@@ -1,7 +1,6 @@
 // The tenths of an hour at whose end something holds, range by range.
 ghost use Rattle.std.specs.Prelude.{◌≡◌, ◌<◌, ◌≤◌, ◌+◌, true, length};
-ghost use Rattle.board.specs.Logs.{HourLog, first_tenth};
-ghost use Rattle.board.specs.Places.{IsViewOf};
+ghost use Rattle.board.specs.Logs.{first_tenth};
 ghost use Rattle.state_tenths.specs.States.{IsAsked, IsCount, MeetsAt};
 ghost use Rattle.state_tenths.specs.Ranges.{Counts, IsQuietIn, begin_of as begins, end_of as ends};
 
@@ -39,9 +38,9 @@ fn end_of(one: Move) -> u32
 
 // The tenths of a range without a change at whose end what is asked holds: all or none.
 fn range(view: &HourView, spec: u16, asked: Asked, at: u32, to: u32) -> u32
-    requires spec { spec < length view.now }
+    requires spec { spec < length view.now.specs }
     requires asked { IsAsked asked }
-    ensures { (log : HourLog) → IsViewOf log view.now → first_tenth log.hour ≤ at → at ≤ to → to ≤ first_tenth log.hour + 36000 → IsQuietIn log spec at to → Counts (MeetsAt log spec asked) at to result }
+    ensures { first_tenth view.now.hour ≤ at → at ≤ to → to ≤ first_tenth view.now.hour + 36000 → IsQuietIn view.now spec at to → Counts (MeetsAt view.now spec asked) at to result }
 {
     if at >= to {
         return 0;
@@ -54,9 +53,9 @@ fn range(view: &HourView, spec: u16, asked: Asked, at: u32, to: u32) -> u32
 
 /// Of the hour that begins with this tenth the known tenths at whose end what is asked holds.
 pub fn tenths_of(view: &HourView, spec: u16, asked: Asked, from: u32) -> u32
-    requires spec { spec < length view.now }
+    requires spec { spec < length view.now.specs }
     requires asked { IsAsked asked }
-    ensures { (log : HourLog) → IsViewOf log view.now → from ≡ first_tenth log.hour → IsCount (MeetsAt log spec asked) from 36000 result }
+    ensures { from ≡ first_tenth view.now.hour → IsCount (MeetsAt view.now spec asked) from 36000 result }
 {
     let mut count: u32 = 0;
     let mut at = from;

@@ -1,4 +1,4 @@
-use Rattle.detector_state.specs.declared.shown.Filling.TheVariants.{Greatest}
+use Rattle.detector_state.specs.declared.signs.Filling.TheVariants.{Greatest}
 use Rattle.detector_state.proofs.Counting.{counted_in}
 use Rattle.detector_state.proofs.count.greatest_on.Goals as goal
 

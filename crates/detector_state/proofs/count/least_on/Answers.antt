@@ -1,4 +1,4 @@
-use Rattle.detector_state.specs.declared.shown.Filling.TheVariants.{Least}
+use Rattle.detector_state.specs.declared.signs.Filling.TheVariants.{Least}
 use Rattle.detector_state.proofs.Counting.{counted_in}
 use Rattle.detector_state.proofs.count.least_on.Goals as goal
 

@@ -9,8 +9,10 @@ use Rattle.hour_work.proofs.numbers.add_counts.Goals.{then-i-len, else-i-len+in_
 pub loop-i-init : goal.loop-i-init
 loop-i-init c = sym (sum_nil count_sum c.args.total.now.items)
 
-pub count_sum-requires-clause-a : goal.count_sum-requires-clause-a
-count_sum-requires-clause-a c =
+pub count_sum-requires : goal.count_sum-requires
+count_sum-requires c =
+    let (m, n, fits, more, few) = c.requires in
+    let z : RuleCount = record { kept = 0; broken = 0; undecided = 0 } in
     let xs = c.args.total.now.items in
     let ys = c.args.more.now in
     let i = c.loop-i.i in
@@ -20,7 +22,7 @@ count_sum-requires-clause-a c =
     let there : i < length (merged count_sum xs (take i ys)) = omega arith in
     let lt = length-within count_sum xs ys i there in
     let own : d ≡ get_or xs i d = c.index.ensures ∙ (ap (λ (zs : List RuleCount). get_or zs i d) c.loop-i.invariant ∙ within_same count_sum xs ys i d lt) in
-    subst (λ (r : RuleCount). FitsCount 743 r) (sym own) (c.requires.total i d lt)
+    (m, n, subst (λ (r : RuleCount). FitsCount m r) (sym own) (fits i d lt), more i z c.loop-i-test.true, few)
 
 pub loop-i-preserved : goal.loop-i-preserved
 loop-i-preserved c =

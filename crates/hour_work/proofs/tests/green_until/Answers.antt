@@ -7,6 +7,7 @@ use Rattle.signal_log.specs.Log.{log_of}
 use Rattle.signal_log.specs.Points.{HasHour}
 use Rattle.signal_log.proofs.Lawful.{some_history}
 use Rattle.signal_log.proofs.Stored.{known_hour}
+use Rattle.signal_log.proofs.Suiting.{all_count}
 use Rattle.board.proofs.Cases.{two_rows}
 use Rattle.rule_audit.proofs.Tracked.{channels_are}
 use Rattle.hour_work.proofs.tests.green_until.Goals as goal
@@ -54,7 +55,7 @@ partial-requires-clause-agrees c =
       record {
         has_hour = has;
         is_before = is_before;
-        is_after = c.in_ok-after.ensures.future s one;
+        is_after = all_count (log_of cfg.specs s) 1 c.in_ok-after.after (c.in_ok-after.ensures.future s one);
         history = some_history (log_of cfg.specs s) c.in_ok-_later._later.pasts (channels_are cfg c.hours.ensures.sound) (c.in_ok-_later.ensures.carry s has is_before).pasts;
       },
     )

@@ -1,12 +1,15 @@
-use Rattle.std.proofs.Common.{◌≡◌, ◌↔◌, ℕ, ◌+◌, length, drop}
-use Rattle.reach.specs.Runs.{State}
-use Rattle.reach.specs.Ahead.{Admits}
-use Rattle.lane.specs.Walks.{BeforeMoves}
-use Rattle.lane.specs.Places.{AreAheads, EntersBefore}
+use Rattle.std.proofs.Common.{◌≡◌, ◌≤◌, ◌+◌, length, drop}
+use Rattle.lane.specs.Kept.{HaveAheads, IsAhead, AreStandIns}
 use Rattle.lane.proofs.ahead.aheads_of.Given as goal
 
-abbrev pub invariant-loop-turn : goal.invariant-loop-turn
-invariant-loop-turn g l =
-    (length l.ahead ≡ length l.after) × (length l.aheads.items ≡ l.turn)
-    × ((j : ℕ) → j + l.turn ≡ length l.moves → (s : State) → Admits l.ahead s ↔ (EntersBefore (drop j l.moves) s × BeforeMoves (g.M.Machine.rules l.machine) l.after (drop j l.moves) s))
-    × AreAheads (g.M.Machine.rules l.machine) l.after l.moves l.turn l.aheads.items
+abbrev pub invariant-loop-place : goal.invariant-loop-place
+invariant-loop-place g l = record {
+  within : l.place ≤ length l.moves;
+  ahead : IsAhead (g.M.Machine.rules l.machine) l.after (drop l.place l.moves) l.ahead;
+  have : HaveAheads (g.M.Machine.rules l.machine).colours l.places.aheads.items;
+  size : length l.places.numbers.items + l.place ≡ length l.moves;
+  stand : AreStandIns (g.M.Machine.rules l.machine) l.after l.moves l.pasts (l.place + 1) l.places;
+}
+
+abbrev pub decreases-loop-place : goal.decreases-loop-place
+decreases-loop-place g l = l.place

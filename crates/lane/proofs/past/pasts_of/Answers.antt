@@ -1,52 +1,38 @@
-use Rattle.std.proofs.Common.{arith, rules, refl, ap, ◌≡◌, ◌∙◌, ◌+◌, length, [], ◌∷◌, ◌++◌, get_or}
-use Rattle.std.proofs.lemmas.List.{length_push}
+use Rattle.std.proofs.Common.{arith, ◌≡◌, ◌∙◌, ◌∷◌, ◌++◌, [], length, get_or}
 use Rattle.lane.specs.declared.moves.Move.TheVariants.{Letter}
-use Rattle.lane.specs.Places.{kept_before}
-use Rattle.lane.proofs.Moving.{one_fits, late_at, after_turn}
-use Rattle.lane.proofs.Keeping.{place_more, kept_turn, count_turn, count_all}
+use Rattle.lane.specs.Kept.{kept_before}
+use Rattle.lane.proofs.Legs.{slice_leg}
+use Rattle.lane.proofs.Moving.{leg_order, after_leg}
+use Rattle.lane.proofs.Keeping.{kept_leg, pasts_stand}
 use Rattle.lane.proofs.past.pasts_of.Goals as goal
 
-pub move_past-requires-clause-fits : goal.move_past-requires-clause-fits
-move_past-requires-clause-fits g c = one_fits (g.M.Machine.rules c.args.machine.now) c.requires.order.0 c.loop-i.i c.args.moves.now (Letter 0 0 0) c.loop-i-test.true c.requires.order.2
+pub leg_past-requires-clause-order : goal.leg_past-requires-clause-order
+leg_past-requires-clause-order g c = leg_order (g.M.Machine.rules c.args.machine.now) c.args.before.now c.loop-place.past c.args.moves.now c.loop-place.place c.leg_end-end.result c.requires.order c.loop-place.invariant.after.1
 
-pub move_past-requires-clause-place : goal.move_past-requires-clause-place
-move_past-requires-clause-place g c = late_at (g.M.Machine.rules c.args.machine.now) c.args.before.now c.loop-i.past c.args.moves.now c.loop-i.i (Letter 0 0 0) c.loop-i-test.true c.requires.order c.loop-i.invariant.3
-
-pub loop-i-preserved : goal.loop-i-preserved
-loop-i-preserved g c =
+pub loop-place-preserved : goal.loop-place-preserved
+loop-place-preserved g c =
     let m = g.M.Machine.rules c.args.machine.now in
-    let i = c.loop-i.invariant in
+    let before = c.args.before.now in
     let xs = c.args.moves.now in
-    let lt = c.loop-i-test.true in
-    let len : length c.loop-i.past ≡ m.colours = i.0 ∙ c.requires.colours in
-    let number : c.in_ok-number.number ≡ length c.loop-i.pasts.items = search rules in
-    let runs : c.push.new.self.items ≡ c.loop-i.runs.items ++ c.in_ok-number.number ∷ [] = c.in_ok-push.ensures.items in
-    let kept : c.end_run.new.pasts.items ≡ kept_before (get_or xs c.loop-i.i (Letter 0 0 0)) c.loop-i.pasts.items c.loop-i.past = c.in_ok-end_run.ensures in
-    let place = place_more m c.args.before.now xs c.loop-i.i c.in_ok-number.number c.loop-i.pasts.items c.loop-i.past c.loop-i.runs.items i.1 number len i.3 i.4 in
-    let fits = one_fits m c.requires.order.0 c.loop-i.i xs (Letter 0 0 0) lt c.requires.order.2 in
-    let turn = kept_turn m c.args.before.now c.requires.order.0 xs c.loop-i.i (Letter 0 0 0) (get_or xs c.loop-i.i (Letter 0 0 0)) c.loop-i.pasts.items c.loop-i.past c.move_past.new.past (c.loop-i.runs.items ++ c.in_ok-number.number ∷ []) lt c.requires.order.2 refl fits (c.in_ok-_some.ensures.colours ∙ len) c.in_ok-_some.ensures.after place in (
-      c.in_ok-_some.ensures.colours ∙ i.0,
-      rw runs (length_push _ _ ∙ ap (λ n. n + 1) i.1),
-      rw kept (count_turn xs c.loop-i.i (Letter 0 0 0) c.loop-i.pasts.items c.loop-i.past lt i.2),
-      after_turn m c.args.before.now c.loop-i.past c.move_past.new.past xs c.loop-i.i (Letter 0 0 0) lt i.3 c.in_ok-_some.ensures.after,
-      rw (runs, kept) turn,
-    )
-
-pub returns-clause-count : goal.returns-clause-count
-returns-clause-count g c =
-    let xs = c.args.moves.now in
-    let pasts : c.push-3.new.self.items ≡ c.loop-i.pasts.items ++ c.loop-i.past ∷ [] = c.in_ok-push-3.ensures.items in
-    rw pasts (length_push _ _ ∙ ap (λ n. n + 1) (count_all xs c.loop-i.i _ (omega arith) c.loop-i.invariant.2))
+    let a = c.loop-place.place in
+    let b = c.leg_end-end.result in
+    let i = c.loop-place.invariant in
+    let end = c.leg_end-end.ensures in
+    let k = c.in_ok-_some.ensures in
+    let leg = slice_leg xs a b end.within end.leg in
+    let kept : c.end_run.new.pasts.items ≡ kept_before (get_or xs a (Letter 0 0 0)) c.loop-place.pasts.items c.loop-place.past = c.in_ok-end_run.ensures in
+    record {
+      within = end.within;
+      after = (k.colours ∙ i.after.0, after_leg m before c.loop-place.past c.leg_past.new.past xs a b (let lt = end.some in omega arith) i.after.1 k.after);
+      kept = rw kept (kept_leg m before xs a b (Letter 0 0 0) c.loop-place.pasts.items c.loop-place.past end.some end.within leg i.after i.kept);
+    }
 
 pub returns-clause-pasts : goal.returns-clause-pasts
 returns-clause-pasts g c =
     let m = g.M.Machine.rules c.args.machine.now in
-    let i = c.loop-i.invariant in
     let xs = c.args.moves.now in
-    let len : length c.loop-i.past ≡ m.colours = i.0 ∙ c.requires.colours in
-    let number : c.in_ok-last.last ≡ length c.loop-i.pasts.items = search rules in
-    let runs : c.push-2.new.self.items ≡ c.loop-i.runs.items ++ c.in_ok-last.last ∷ [] = c.in_ok-push-2.ensures.items in
-    let pasts : c.push-3.new.self.items ≡ c.loop-i.pasts.items ++ c.loop-i.past ∷ [] = c.in_ok-push-3.ensures.items in
-    let all : c.loop-i.i ≡ length xs = omega arith in
-    let place = place_more m c.args.before.now xs c.loop-i.i c.in_ok-last.last c.loop-i.pasts.items c.loop-i.past c.loop-i.runs.items i.1 number len i.3 i.4 in
-    rw (runs, pasts) (rw all at place)
+    let i = c.loop-place.invariant in
+    let within = i.within in
+    let all : c.loop-place.place ≡ length xs = omega arith in
+    let pasts : c.push.new.self.items ≡ c.loop-place.pasts.items ++ c.loop-place.past ∷ [] = c.in_ok-push.ensures.items in
+    rw pasts (pasts_stand m c.args.before.now xs c.loop-place.pasts.items c.loop-place.past c.in_ok-runs.runs.items c.requires.order c.in_ok-runs.ensures (rw all at i.kept) (rw all at i.after))

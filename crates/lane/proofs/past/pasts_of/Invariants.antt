@@ -1,12 +1,13 @@
-use Rattle.std.proofs.Common.{◌≡◌, ◌↔◌, length, take, [], ◌∷◌, ◌++◌}
-use Rattle.reach.specs.Runs.{State}
-use Rattle.reach.specs.Past.{Holds}
-use Rattle.lane.specs.Walks.{AfterMoves}
-use Rattle.lane.specs.Places.{ArePasts, letters}
+use Rattle.std.proofs.Common.{◌≤◌, ◌-◌, length, take}
+use Rattle.lane.proofs.Keeping.{IsAfter, AreKept}
 use Rattle.lane.proofs.past.pasts_of.Given as goal
 
-abbrev pub invariant-loop-i : goal.invariant-loop-i
-invariant-loop-i g l =
-    (length l.past ≡ length l.before) × (length l.runs.items ≡ l.i) × (length l.pasts.items ≡ letters (take l.i l.moves))
-    × ((u : State) → Holds l.past u ↔ AfterMoves (g.M.Machine.rules l.machine) l.before (take l.i l.moves) u)
-    × ArePasts (g.M.Machine.rules l.machine) l.before l.moves l.i (l.pasts.items ++ l.past ∷ []) l.runs.items
+abbrev pub invariant-loop-place : goal.invariant-loop-place
+invariant-loop-place g l = record {
+  within : l.place ≤ length l.moves;
+  after : IsAfter (g.M.Machine.rules l.machine) l.before (take l.place l.moves) l.past;
+  kept : AreKept (g.M.Machine.rules l.machine) l.before l.moves l.place l.pasts.items;
+}
+
+abbrev pub decreases-loop-place : goal.decreases-loop-place
+decreases-loop-place g l = length l.moves - l.place

@@ -7,4 +7,4 @@ pub add_each-requires-clause-before : goal.add_each-requires-clause-before
 add_each-requires-clause-before g c =
     let r = c.ranges.at in
     let starts = simp to_z-of_z at c.starts_of.ensures in
-    rw (c.as_mut_slice.ensures.value, c.past.view_is) (λ k lt e m. let p = c.requires.place (state k e) m in let q = (starts.1 k lt).0 in omega (arith, ints))
+    (λ k lt e m. let p = c.requires.place (state k e) m in let q = (starts.1 k lt).0 in omega (arith, ints))

@@ -1,12 +1,14 @@
-use Rattle.std.proofs.Common.{refl, get_or}
+use Rattle.std.proofs.Common.{refl, get_or, ◌≡◌, true}
+use Rattle.rule_audit.specs.Obligations.{is_clause}
 use Rattle.std.proofs.lemmas.List.Elements.{All-get_or}
 use Rattle.rule_audit.specs.Judged.{HasVerdict}
-use Rattle.rule_audit.specs.Pass.{FitsRule, log_of, no_rule}
+use Rattle.rule_audit.specs.Pass.{FitsRule, log_of}
+use Rattle.rule_audit.specs.Index.{no_rule}
 use Rattle.rule_audit.proofs.Adding.{adds_none, on_ok, rule_at}
 use Rattle.rule_audit.proofs.tenth.judge_after.Goals as goal
 
 pub returns-in-Interval : goal.returns-in-Interval
-returns-in-Interval c = λ e is.
+returns-in-Interval c = λ e before is due.
     let h = c.args.hour.now in
     let rule = rule_at h.rules.now c.args.place c.index-hour-place.result _ c.requires.place c.in-Interval.is in
     rw rule (adds_none (HasVerdict (log_of h e)) c.args.lines.now.items)
@@ -21,7 +23,7 @@ pub returns-in-Conflict : goal.returns-in-Conflict
 returns-in-Conflict c =
     let h = c.args.hour.now in
     let rule = rule_at h.rules.now c.args.place c.index-hour-place.result _ c.requires.place c.in-Conflict.is in
-    on_ok c.judge_clause.result _ _ (λ f e is. rw (← c.number_of-number.ensures) (f e (get_or h.rules.now c.args.place no_rule) is (rw rule refl) (rw rule refl))) c.judge_clause.ensures
+    on_ok c.judge_clause.result _ _ (λ f e before is due. let clause : is_clause (get_or h.rules.now c.args.place no_rule) ≡ true = rw rule refl in rw (← c.number_of-number.ensures) (f e before (get_or h.rules.now c.args.place no_rule) is clause (rw rule refl) (due clause))) c.judge_clause.ensures
 
 pub judge_clause-requires-in-Companion-clause-clause : goal.judge_clause-requires-in-Companion-clause-clause
 judge_clause-requires-in-Companion-clause-clause c =
@@ -33,7 +35,7 @@ pub returns-in-Companion : goal.returns-in-Companion
 returns-in-Companion c =
     let h = c.args.hour.now in
     let rule = rule_at h.rules.now c.args.place c.index-hour-place.result _ c.requires.place c.in-Companion.is in
-    on_ok c.judge_clause-in-Companion.result _ _ (λ f e is. rw (← c.number_of-number.ensures) (f e (get_or h.rules.now c.args.place no_rule) is (rw rule refl) (rw rule refl))) c.judge_clause-in-Companion.ensures
+    on_ok c.judge_clause-in-Companion.result _ _ (λ f e before is due. let clause : is_clause (get_or h.rules.now c.args.place no_rule) ≡ true = rw rule refl in rw (← c.number_of-number.ensures) (f e before (get_or h.rules.now c.args.place no_rule) is clause (rw rule refl) (due clause))) c.judge_clause-in-Companion.ensures
 
 pub judge_clause-requires-in-Parents-clause-clause : goal.judge_clause-requires-in-Parents-clause-clause
 judge_clause-requires-in-Parents-clause-clause c =
@@ -45,4 +47,4 @@ pub returns-in-Parents : goal.returns-in-Parents
 returns-in-Parents c =
     let h = c.args.hour.now in
     let rule = rule_at h.rules.now c.args.place c.index-hour-place.result _ c.requires.place c.in-Parents.is in
-    on_ok c.judge_clause-in-Parents.result _ _ (λ f e is. rw (← c.number_of-number.ensures) (f e (get_or h.rules.now c.args.place no_rule) is (rw rule refl) (rw rule refl))) c.judge_clause-in-Parents.ensures
+    on_ok c.judge_clause-in-Parents.result _ _ (λ f e before is due. let clause : is_clause (get_or h.rules.now c.args.place no_rule) ≡ true = rw rule refl in rw (← c.number_of-number.ensures) (f e before (get_or h.rules.now c.args.place no_rule) is clause (rw rule refl) (due clause))) c.judge_clause-in-Parents.ensures

@@ -1,6 +1,7 @@
 use Rattle.std.proofs.lemmas.List.Elements.{All-get_or}
 use Rattle.rule_audit.specs.Judged.{HasVerdict}
-use Rattle.rule_audit.specs.Pass.{FitsRule, log_of, no_rule}
+use Rattle.rule_audit.specs.Pass.{FitsRule, log_of}
+use Rattle.rule_audit.specs.Index.{no_rule}
 use Rattle.rule_audit.proofs.Adding.{adds_none, rule_at}
 use Rattle.rule_audit.proofs.tenth.judge_before.Goals as goal
 

@@ -1,22 +1,28 @@
-use Rattle.std.proofs.Common.{get_or}
+use Rattle.std.proofs.Common.{arith, refl, subst, ◌≤◌, ◌<◌, ℕ, List, [], length, get_or}
+use Rattle.std.proofs.lemmas.List.{get_or_default}
 use Rattle.board.specs.Logs.{no_row}
-use Rattle.rule_audit.specs.Obligations.{row_obligations}
+use Rattle.rule_audit.specs.Obligations.{is_timed_by}
 use Rattle.rule_audit.specs.Judged.{HasVerdict}
-use Rattle.rule_audit.specs.Pass.{log_of, no_rule}
-use Rattle.rule_audit.proofs.Adding.{row_rules, row_rules_over, upto_start, upto_step, upto_end}
+use Rattle.rule_audit.specs.Index.{no_rule, IsSkips}
+use Rattle.rule_audit.specs.Pass.{log_of}
+use Rattle.rule_audit.proofs.Adding.{adds_none}
+use Rattle.rule_audit.proofs.Indexing.{none_timed_by, row_none, timed_skips}
 use Rattle.rule_audit.proofs.tenth.judge_row.Goals as goal
 
-pub loop-place-init : goal.loop-place-init
-loop-place-init c = λ e is known. upto_start (HasVerdict (log_of c.args.hour.now e)) _ c.args.lines.now.items
-
-pub loop-place-preserved : goal.loop-place-preserved
-loop-place-preserved c = λ e is known.
+pub judge_timed-requires-clause-timed : goal.judge_timed-requires-clause-timed
+judge_timed-requires-clause-timed c =
     let h = c.args.hour.now in
     let row = get_or h.rows.now c.args.index no_row in
-    upto_step (HasVerdict (log_of h e)) (row_obligations h.specs.now c.args.index row 1 h.rules.now) _ _ _ c.args.lines.now.items c.loop-place.lines.items _ (row_rules h.specs.now c.args.index row h.rules.now c.loop-place.place no_rule c.loop-place-test.true) (c.loop-place.invariant e is known) (c.in_ok-judge_before.ensures e is known)
+    let own = get_or h.own.now c.args.index 0 in
+    let size = c.requires.ready.timed.0 in
+    let lt : own < length h.timed.now = c.if-own-hour.true in
+    subst (λ (xs : List ℕ). IsSkips (λ x. is_timed_by h.specs.now row (get_or h.rules.now x no_rule)) (length h.rules.now) xs) (get_or_default h.timed.now own [] c.index-hour-own.result lt) (timed_skips h.specs.now h.rules.now row own (c.requires.ready.own.1 c.args.index c.requires.index) (length h.specs.now) h.timed.now c.requires.ready.timed (omega arith) refl)
 
 pub returns : goal.returns
 returns c = λ e is known.
     let h = c.args.hour.now in
     let row = get_or h.rows.now c.args.index no_row in
-    upto_end (HasVerdict (log_of h e)) (row_obligations h.specs.now c.args.index row 1 h.rules.now) _ c.args.lines.now.items c.loop-place.lines.items (row_rules_over h.specs.now c.args.index row h.rules.now c.loop-place.place _ c.loop-place-test.false) (c.loop-place.invariant e is known)
+    let own = get_or h.own.now c.args.index 0 in
+    let size = c.requires.ready.timed.0 in
+    let over : length h.timed.now ≤ own = c.if-own-hour.false in
+    rw (row_none h.specs.now c.args.index row h.rules.now (none_timed_by h.specs.now h.rules.now row own (c.requires.ready.own.1 c.args.index c.requires.index) c.requires.ready.are_rules (omega arith))) (adds_none (HasVerdict (log_of h e)) c.args.lines.now.items)

@@ -2,7 +2,7 @@ use Rattle.std.proofs.Common.{refl, ◌≡◌, ◌≤◌, ◌<◌, ◌∷◌, []
 use Rattle.sig_base.specs.declared.values.Row.{Row}
 use Rattle.gap_map.specs.declared.stretch.Stretch.{Stretch}
 use Rattle.board.specs.Logs.{IsHour, hour_log}
-use Rattle.board.specs.Places.{AllEarly}
+use Rattle.board.specs.Places.{AllEarly, IsLog}
 use Rattle.board.proofs.Cases.{start_early, whole_hour}
 use Rattle.rule_audit.proofs.Running.{runs_there}
 use Rattle.rule_audit.proofs.Tracked.{channels_are}
@@ -30,14 +30,14 @@ pasts_hour-requires-clause-hour c = (
   start_early c.specs-specs.result.now c.in_ok-before.before c.in_ok-before.ensures.shape c.in_ok-before.ensures.states,
 )
 
-pub new-requires-clause-specs : goal.new-requires-clause-specs
-new-requires-clause-specs c = rw c.specs-specs.ensures.value (channels_are c.in_ok-config.config c.specs-specs.ensures.sound)
-
-pub new-requires-clause-hour : goal.new-requires-clause-hour
-new-requires-clause-hour c = (
+pub new-requires-clause-log : goal.new-requires-clause-log
+new-requires-clause-log c = (
   0,
-  two_rows_hour c.row.result c.row-2.result c.args.yellow c.row.ensures c.row-2.ensures c.requires.low c.requires.high,
-  start_early c.specs-specs.result.now c.in_ok-before.before c.in_ok-before.ensures.shape c.in_ok-before.ensures.states,
+  record {
+    are_specs = rw c.specs-specs.ensures.value (channels_are c.in_ok-config.config c.specs-specs.ensures.sound);
+    is_hour = two_rows_hour c.row.result c.row-2.result c.args.yellow c.row.ensures c.row-2.ensures c.requires.low c.requires.high;
+    early = start_early c.specs-specs.result.now c.in_ok-before.before c.in_ok-before.ensures.shape c.in_ok-before.ensures.states;
+  },
 )
 
 pub audit_rows-requires-clause-view : goal.audit_rows-requires-clause-view
@@ -47,10 +47,14 @@ audit_rows-requires-clause-view c =
     let before = c.in_ok-before.before in
     let after = c.in_ok-after.after in
     let is_hour : IsHour 0 rows (whole ∷ []) = two_rows_hour c.row.result c.row-2.result c.args.yellow c.row.ensures c.row-2.ensures c.requires.low c.requires.high in
-    let early : AllEarly 0 before = start_early specs before c.in_ok-before.ensures.shape c.in_ok-before.ensures.states in (
+    let early : AllEarly 0 before = start_early specs before c.in_ok-before.ensures.shape c.in_ok-before.ensures.states in
+    let log : IsLog (hour_log 0 specs rows (whole ∷ []) before after) = record { are_specs = rw c.specs-specs.ensures.value (channels_are c.in_ok-config.config c.specs-specs.ensures.sound); is_hour = is_hour; early = early } in (
       hour_log 0 specs rows (whole ∷ []) before after,
       record {
-        is_view = c.in_ok-view.ensures.view 0 is_hour early;
+        is_view = record {
+          same = c.in_ok-view.ensures 0 log;
+          is_log = log;
+        };
         same_specs = c.specs-specs.ensures.value;
         same_rows = refl;
         same_stretches = refl;

@@ -19,7 +19,7 @@ loop-stretch-init c = λ e is.
     let h = c.args.hour.now in
     let all = obligations_in h c.args.known_before (first_tenth e.hour) (end_tenth e.hour) in
     let added : AddsUpTo (HasVerdict (log_of h e)) all all [] c.new-lines.result.items = rw c.new-lines.ensures.items (upto_start (HasVerdict (log_of h e)) all []) in
-    (first_tenth e.hour, is.is_view.is_hour.follow, (λ t le. refl), cut_first e.hour h.rows.now h.stretches.now is.is_view.is_hour, added)
+    (first_tenth e.hour, is.is_view.is_log.is_hour.follow, (λ t le. refl), cut_first e.hour h.rows.now h.stretches.now is.is_view.is_log.is_hour, added)
 
 pub judge_stretch-requires-clause-range : goal.judge_stretch-requires-clause-range
 judge_stretch-requires-clause-range c =

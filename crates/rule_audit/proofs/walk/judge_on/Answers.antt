@@ -1,6 +1,7 @@
 use Rattle.std.proofs.Common.{arith, ◌≡◌, ◌+◌, ◌<◌, ◌≤◌, true, get_or}
 use Rattle.gap_map.specs.Stretches.{known_at}
 use Rattle.board.specs.Logs.{no_row}
+use Rattle.rule_audit.proofs.Tenths.{cut_further}
 use Rattle.rule_audit.proofs.Walking.{on_further, on_join, on_tenth}
 use Rattle.rule_audit.proofs.walk.judge_on.Goals as goal
 
@@ -34,3 +35,18 @@ returns-clause-lines c = λ e is.
     let h = c.args.hour.now in
     let (y, low, high, cut, added) = c.tenths.invariant in
     on_further h e c.requires.ready.rises true c.args.from y c.args.to c.tenths.next c.args.lines.now.items c.tenths.lines.items high (c.requires.within e is) (λ t le lt. c.requires.known t (omega arith) lt) cut (λ lt. absurd (let past = c.tenths-test.false in omega arith)) (added e is)
+
+pub returns-then-at-to-clause-cut : goal.returns-then-at-to-clause-cut
+returns-then-at-to-clause-cut c =
+    let h = c.args.hour.now in
+    let (y, low, high, cut, added) = c.tenths.invariant in
+    let past : c.args.to ≤ (get_or h.rows.now c.tenths.next no_row).at = c.if-at-to.true in
+    cut_further h.rows.now y c.args.to c.tenths.next c.requires.ready.rises high (λ lt. past) cut
+
+pub judge_tenth-requires-clause-first : goal.judge_tenth-requires-clause-first
+judge_tenth-requires-clause-first c =
+    let h = c.args.hour.now in
+    let (y, low, high, cut, added) = c.tenths.invariant in
+    let at = (get_or h.rows.now c.tenths.next no_row).at in
+    let from : y ≤ at = cut.2 c.tenths.next (omega arith) c.tenths-test.true in
+    cut_further h.rows.now y at c.tenths.next c.requires.ready.rises from (λ lt. omega arith) cut

@@ -6,6 +6,6 @@ use Rattle.session.proofs.renew.parts_between.Given as goal
 
 abbrev pub invariant-loop-hour : goal.invariant-loop-hour
 invariant-loop-hour g l = record {
-  parts : AreNewParts l.config l.store (patched l.worked.carries.items (l.first + 1) l.carries) (patched l.worked.futures.items l.from l.futures) l.from l.hour l.parts.items;
+  parts : AreNewParts l.config l.store (patched l.worked.carries.items (l.points.first + 1) l.points.carries.items) (patched l.worked.futures.items l.points.from l.points.futures.items) l.start l.hour l.parts.items;
   grow : Grow l.fn.reads l.reads;
 }

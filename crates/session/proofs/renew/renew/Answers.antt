@@ -1,38 +1,39 @@
-use Rattle.std.proofs.Common.{◌≡◌, ◌+◌, ◌-◌, length, rules}
-use Rattle.hour_work.specs.Numbers.{patched}
-use Rattle.session.specs.Renewed.{AreNewCarries, AreNewFutures}
+use Rattle.std.proofs.Common.{◌≡◌, ◌+◌, ◌<◌, ◌≤◌, ℕ, arith, length, sym, subst}
+use Rattle.hour_work.specs.Numbers.{AreNewSums, patched}
+use Rattle.session.specs.Renewed.{AreNewCarries, AreNewFutures, AreNewParts, AreSameUpTo, IsRenewed}
 use Rattle.session.proofs.GrowLaws.{grow_on}
 use Rattle.session.proofs.KeptLaws.{history_kept}
-use Rattle.session.proofs.RenewLaws.{renewed}
+use Rattle.session.proofs.RenewLaws.{renewed, shapes_new}
 use Rattle.session.proofs.renew.renew.Goals as goal
 
-pub returns-in_err-futures-clause-grow : goal.returns-in_err-futures-clause-grow
-returns-in_err-futures-clause-grow g c = grow_on _ _ _ c.go_forward.ensures.grow c.go_back.ensures.grow
-
 pub returns-in_err-parts-clause-grow : goal.returns-in_err-parts-clause-grow
-returns-in_err-parts-clause-grow g c = grow_on _ _ _ c.go_forward.ensures.grow (grow_on _ _ _ c.go_back.ensures.grow c.parts_between.ensures.grow)
+returns-in_err-parts-clause-grow g c = grow_on _ _ _ c.points_of.ensures.grow c.parts_between.ensures.grow
 
-pub returns-in_err-total-clause-grow : goal.returns-in_err-total-clause-grow
-returns-in_err-total-clause-grow g c = grow_on _ _ _ c.go_forward.ensures.grow (grow_on _ _ _ c.go_back.ensures.grow c.parts_between.ensures.grow)
+pub returns-in_err-sums-clause-grow : goal.returns-in_err-sums-clause-grow
+returns-in_err-sums-clause-grow g c = grow_on _ _ _ c.points_of.ensures.grow c.parts_between.ensures.grow
 
 pub returns-clause-grow : goal.returns-clause-grow
-returns-clause-grow g c = grow_on _ _ _ c.go_forward.ensures.grow (grow_on _ _ _ c.go_back.ensures.grow c.parts_between.ensures.grow)
+returns-clause-grow g c = grow_on _ _ _ c.points_of.ensures.grow c.parts_between.ensures.grow
 
 pub returns-clause-history : goal.returns-clause-history
 returns-clause-history g c =
-    let x : AreNewCarries c.args.config.now c.args.store.now c.args.first c.args.last c.args.worked.now.carries.items c.in_ok-carries.carries.items = rw c.deref.ensures.value at c.in_ok-carries.ensures.carries in
-    history_kept c.args.config.now c.args.store.now (patched c.args.worked.now.carries.items (c.args.first + 1) c.in_ok-carries.carries.items) c.requires.sound c.go_forward.ensures.store x.forth
+    let x = c.in_ok-points.ensures.carries in
+    history_kept c.args.config.now c.args.store.now (patched c.args.worked.now.carries.items (c.args.first + 1) c.in_ok-points.points.carries.items) c.requires.sound c.points_of.ensures.store x.forth
+
+pub start_of-start-requires-clause-shape : goal.start_of-start-requires-clause-shape
+start_of-start-requires-clause-shape g c =
+    let p = c.in_ok-points.points in
+    rw c.in_ok-points.ensures.first (shapes_new c.args.config.now c.args.store.now c.args.first c.args.last c.args.worked.now.carries.items p.carries.items c.args.worked.now.futures.items p.from p.futures.items c.args.worked.now.report c.points_of.ensures.store c.requires.kept c.in_ok-points.ensures.carries c.in_ok-points.ensures.futures)
 
 pub returns-clause-fresh : goal.returns-clause-fresh
 returns-clause-fresh g c =
     let cfg = c.args.config.now in
     let s = c.args.store.now in
     let kept = c.args.worked.now in
-    let fc = c.in_ok-carries.carries.items in
-    let ff = c.in_ok-futures.futures.items in
-    let n : c.len.result ≡ length ff = search rules in
-    let x : AreNewCarries cfg s c.args.first c.args.last kept.carries.items fc = rw c.deref.ensures.value at c.in_ok-carries.ensures.carries in
-    let y : AreNewFutures cfg s c.args.first c.args.last kept.futures.items (c.args.last + 1 - length ff) ff = rw c.deref-2.ensures.value at c.in_ok-futures.ensures.futures in
-    let z = rw (c.deref-3.ensures.value, c.deref-4.ensures.value, n) at c.in_ok-parts.ensures.parts in
-    let sum = rw (c.deref-5.ensures.value, n) at c.in_ok-total.ensures in
-    rw n (renewed cfg s c.args.first c.args.last kept.carries.items fc kept.futures.items (c.args.last + 1 - length ff) ff kept.report c.in_ok-parts.parts.items c.in_ok-total.total c.requires.kept x y z sum)
+    let p = c.in_ok-points.points in
+    let start = c.start_of-start.result in
+    let first = c.in_ok-points.ensures.first in
+    let high : start ≤ c.args.first = rw first at c.start_of-start.ensures.high in
+    let z = rw first at c.in_ok-parts.ensures.parts in
+    let sums = rw c.deref.ensures.value at c.in_ok-sums.ensures in
+    rw first (renewed cfg s c.args.first c.args.last kept.carries.items p.carries.items kept.futures.items p.from start p.futures.items kept.report c.in_ok-parts.parts.items c.in_ok-sums.sums c.start_of-start.ensures.low high c.requires.kept c.in_ok-points.ensures.carries c.in_ok-points.ensures.futures c.start_of-start.ensures.same z sums)

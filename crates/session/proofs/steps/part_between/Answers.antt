@@ -1,13 +1,23 @@
 use Rattle.std.proofs.Common.{List, Option, subst}
-use Rattle.std.specs.Prelude.{IfOk, option_copied}
+use Rattle.std.specs.Prelude.{◌+◌, IfOk, option_copied}
 use Rattle.sig_base.specs.declared.values.Row.{Row}
 use Rattle.span_set.specs.declared.set.Span.{Span}
+use Rattle.signal_log.specs.Log.{log_of}
+use Rattle.signal_log.proofs.Suiting.{all_count}
 use Rattle.session.specs.Links.{Counts}
+use Rattle.session.proofs.KeptLaws.{has_hour}
 use Rattle.session.proofs.GrowLaws.{grow_raised_to}
 use Rattle.session.proofs.steps.part_between.Goals as goal
 
 pub returns-clause-grow : goal.returns-clause-grow
 returns-clause-grow g c = grow_raised_to _ _ c.args.hour c.open_hour-rows.ensures.raised
+
+pub partial-requires-clause-agrees : goal.partial-requires-clause-agrees
+partial-requires-clause-agrees g c =
+    let s = c.args.store.now in
+    let has = has_hour s c.args.hour (option_copied c.open_hour-rows.result) c.blanked.result.now c.blanked.ensures.store c.requires.in_store c.open_hour-rows.ensures.rows c.blanked.ensures.value in
+    let after = all_count (log_of c.args.config.now.specs s) (c.args.hour + 1) c.args.after.now c.requires.after in
+    (s, record { has_hour = has; is_before = c.requires.before; is_after = after; history = c.requires.history })
 
 pub returns-clause-counts : goal.returns-clause-counts
 returns-clause-counts g c =

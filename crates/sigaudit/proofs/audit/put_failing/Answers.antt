@@ -1,5 +1,13 @@
 use Rattle.sigaudit.proofs.AuditFacts.{hour_cut_off, hour_put, lines_in}
+use Rattle.sigaudit.proofs.CleanFacts.{clean_put}
+use Rattle.sigaudit.proofs.GrowFacts.{grow_same}
 use Rattle.sigaudit.proofs.audit.put_failing.Goals as goal
+
+pub returns-then-is_clean-clause-grow : goal.returns-then-is_clean-clause-grow
+returns-then-is_clean-clause-grow g c = grow_same c.args.reads.now
+
+pub returns-then-is_clean-clause-put : goal.returns-then-is_clean-clause-put
+returns-then-is_clean-clause-put g c = clean_put c.args.session.now.config c.args.session.now.store c.args.hour _ _ (c.is_clean.ensures c.if-is_clean.true)
 
 pub put_lines-requires : goal.put_lines-requires
 put_lines-requires g c =

@@ -6,6 +6,6 @@ use Rattle.state_tenths.proofs.Asking.{all_have}
 use Rattle.state_tenths.proofs.asked.has_in_all.Goals as goal
 
 pub returns : goal.returns
-returns c = λ log is known.
+returns c = λ known.
     let test : Test = record { colours = c.with.result; bound = Any; at = c.from.result } in
-    all_have (MayPass log c.args.at c.args.spec) test c.none.result c.args.colour c.seen_at_end-seen.result.some_false refl c.none.ensures c.with.ensures (c.seen_at_end-seen.ensures log is known).some_false
+    all_have (MayPass c.args.view.now c.args.at c.args.spec) test c.none.result c.args.colour c.seen_at_end-seen.result.some_false refl c.none.ensures c.with.ensures (c.seen_at_end-seen.ensures known).some_false

@@ -3,18 +3,18 @@ use Rattle.std.proofs.lemmas.Int.{ints, to_z-of_z}
 use Rattle.std.specs.Prelude.{FitsSigned}
 use Rattle.board.specs.Channels.{track}
 use Rattle.board.specs.Moves.{count_before}
-use Rattle.board.specs.Logs.{first_tenth, end_tenth, no_spec}
-use Rattle.board.specs.Stops.{rules_at}
+use Rattle.board.specs.Logs.{HourLog, first_tenth, end_tenth, no_spec}
 use Rattle.board.proofs.Tracks.{spec_lettered}
 use Rattle.board.proofs.Splitting.{sees_at}
 use Rattle.board.proofs.Verdicts.{sees_end}
-use Rattle.board.proofs.Viewing.{line_is}
+use Rattle.board.proofs.Viewing.{line_at, line_sees}
 use Rattle.board.proofs.Within.{end_is_place}
 use Rattle.board.proofs.view.HourView.seen_at_end.Goals as goal
 
 pub returns : goal.returns
-returns c = λ log is known.
+returns c = λ known.
     let line = c.index-line.result.now in
+    let log : HourLog = c.args.self.now in
     let spec = c.args.spec in
     let x = c.args.at in
     let f = first_tenth log.hour in
@@ -23,12 +23,13 @@ returns c = λ log is known.
     let before = get_or log.before spec [] in
     let after = get_or log.after spec [] in
     let i = count_before (x + 1) log.rows in
+    let is = rw c.self.view_is at c.self.invariant in
     let at : c.args.test.now.at ≡ pos x = c.requires.tenth in
-    let place = end_is_place log.hour x log.rows log.stretches is.is_hour known in
-    let own = line_is log.specs log.rows log.stretches f log.before log.after c.args.self.now c.self.inside.lines.items spec no_spec line c.self.view_is c.index-line.ensures is.is_view c.requires.spec in
+    let place = end_is_place log.hour x log.rows log.stretches is.is_log.is_hour known in
+    let own = line_at log c.self.inside.lines.items spec no_spec line is c.index-line.ensures c.requires.spec in
     let from : c.from.result ≡ pos x = search (rules, ints) in
     let fits : FitsSigned w64 c.from.result = search (rules, ints) in
     let same : c.from.result ≡ c.args.test.now.at = from ∙ sym at in
     let found = rw same at (rw c.moves.ensures at (simp to_z-of_z at c.place_of-place.ensures.place)) in
-    sees_end log x spec c.args.test.now c.seen.result place.0 place.1 (sees_at k log.rows log.stretches f t before after x i (x + 1) None line.moves c.place_of-place.result c.args.test.now c.seen.result (spec_lettered (get_or log.specs spec no_spec)) place.0 own.1 (λ n e. absurd (cc)) (omega arith) place.1 (omega arith) (omega arith) at found
-    (λ e b. c.seen.ensures (rules_at log.specs spec no_spec) f x before after own.0 e b at))
+    sees_end log x spec c.args.test.now c.seen.result place.0 place.1 (sees_at k log.rows log.stretches f t before after x i (x + 1) None line.moves c.place_of-place.result c.args.test.now c.seen.result (spec_lettered (get_or log.specs spec no_spec)) place.0 own.same_moves (λ n e. absurd (cc)) (omega arith) place.1 (omega arith) (omega arith) at found
+    (line_sees log spec line c.place_of-place.result x c.args.test.now c.seen.result is.is_log own c.seen.ensures at))

@@ -1,22 +1,22 @@
-use Rattle.std.proofs.Common.{arith, sym, ◌∙◌}
+use Rattle.std.proofs.Common.{arith}
 use Rattle.lane.proofs.Moving.{earlier_low}
+use Rattle.lane.proofs.Standing.{have_pasts}
+use Rattle.lane.proofs.Seeing.{keeps_both}
 use Rattle.lane.proofs.line.Line.new.Goals as goal
 
 pub invariant_of-result : goal.invariant_of-result
 invariant_of-result g c =
-    let n = rw c.as_slice.ensures.value at c.in_ok-pasts.ensures.count in
-    let p = rw c.as_slice.ensures.value at c.in_ok-pasts.ensures.places in
+    let runs = rw c.as_slice.ensures.value at c.in_ok-pasts.ensures.runs in
     let a = rw c.as_slice-2.ensures.value at c.in_ok-aheads.ensures.places in
     let pasts = rw c.as_slice.ensures.value at c.in_ok-pasts.ensures.pasts in
     let aheads = rw c.as_slice-2.ensures.value at c.in_ok-aheads.ensures.aheads in
-    (n, p, a, λ j k e. let q = pasts j (omega arith) in (q.0, q.1.0 ∙ sym ((aheads j k (omega arith) e).0)))
-
-pub returns-clause-line : goal.returns-clause-line
-returns-clause-line g c =
-    let a = rw c.as_slice-2.ensures.value at c.in_ok-aheads.ensures.places in
-    let pasts = rw c.as_slice.ensures.value at c.in_ok-pasts.ensures.pasts in
-    let aheads = rw c.as_slice-2.ensures.value at c.in_ok-aheads.ensures.aheads in
-    λ low o early. record { laws = g.met.M.Machine.laws c.args.machine.now; early = early; order = o; are_pasts = pasts; are_aheads = rw a at aheads }
+    rw (c.of.ensures, c.of-2.ensures, c.of-3.ensures) (keeps_both (g.M.Machine.rules c.args.machine.now) c.args.before.now c.args.after.now c.args.moves.items c.in_ok-pasts.pasts c.in_ok-aheads.aheads runs.0 a pasts aheads)
 
 pub aheads_of-requires-clause-order : goal.aheads_of-requires-clause-order
 aheads_of-requires-clause-order g c = rw c.as_slice-2.ensures.value (earlier_low (g.M.Machine.rules c.args.machine.now) 0 c.requires.order.0 c.args.moves.items (omega arith) c.requires.order.2)
+
+pub aheads_of-requires-clause-pasts : goal.aheads_of-requires-clause-pasts
+aheads_of-requires-clause-pasts g c =
+    let runs = rw c.as_slice.ensures.value at c.in_ok-pasts.ensures.runs in
+    let pasts = rw c.as_slice.ensures.value at c.in_ok-pasts.ensures.pasts in
+    rw c.as_slice-2.ensures.value (have_pasts (g.M.Machine.rules c.args.machine.now) c.args.before.now c.args.moves.items c.in_ok-pasts.pasts runs pasts)

@@ -1,31 +1,46 @@
-use Rattle.std.proofs.Common.{rules, ◌≡◌, ◌<◌, ◌∙◌, length, get_or}
-use Rattle.std.proofs.lemmas.List.{get_or_default}
-use Rattle.lane.proofs.Seeing.{sees_passing, line_parts, run_in}
+use Rattle.std.proofs.Common.{rules, arith, ◌≡◌, ◌+◌, ◌≤◌, ◌<◌, length}
+use Rattle.lane.proofs.Seeing.{sees_between, found, same_moves}
 use Rattle.lane.proofs.line.Line.seen.Goals as goal
 
 pub index-requires-2 : goal.index-requires-2
-index-requires-2 c =
-    let inside = c.self.inside in
-    let k = run_in inside.moves.items inside.pasts.pasts.items inside.pasts.runs.items inside.aheads.items c.args.self.now c.self.view_is c.self.invariant c.args.place c.requires.place in
-    let r : c.index.result.now ≡ get_or inside.pasts.runs.items c.args.place 0 = c.index.ensures ∙ get_or_default inside.pasts.runs.items c.args.place c.index.result.now 0 k.0 in
-    let lt : c.index.result.now < length inside.pasts.pasts.items = rw r k.1 in
+index-requires-2 g c =
+    let i = c.self.inside in
+    let n : c.len.result ≡ length i.moves.items = search rules in
+    let place : c.args.place ≤ c.len.result = rw (n, same_moves c.self.view_is) c.requires.place in
+    let many : length i.aheads.numbers.items ≡ length i.moves.items + 1 = c.self.invariant.1 in
+    omega arith
+
+pub index-requires-3 : goal.index-requires-3
+index-requires-3 g c =
+    let i = c.self.inside in
+    let n : c.len.result ≡ length i.moves.items = search rules in
+    let place : c.args.place ≤ c.len.result = rw (n, same_moves c.self.view_is) c.requires.place in
+    let k = found (g.M.Machine.rules i.machine.value) i.before.value i.after.value i.moves.items i.pasts.pasts.items i.pasts.runs.items i.aheads.aheads.items i.aheads.numbers.items c.self.invariant c.args.place c.len.result c.index.result.now c.index-2.result.now n place c.index.ensures c.index-2.ensures in
+    let lt : c.index.result.now < length i.pasts.pasts.items = k.0 in
+    search rules
+
+pub index-requires-4 : goal.index-requires-4
+index-requires-4 g c =
+    let i = c.self.inside in
+    let n : c.len.result ≡ length i.moves.items = search rules in
+    let place : c.args.place ≤ c.len.result = rw (n, same_moves c.self.view_is) c.requires.place in
+    let k = found (g.M.Machine.rules i.machine.value) i.before.value i.after.value i.moves.items i.pasts.pasts.items i.pasts.runs.items i.aheads.aheads.items i.aheads.numbers.items c.self.invariant c.args.place c.len.result c.index.result.now c.index-2.result.now n place c.index.ensures c.index-2.ensures in
+    let lt : c.index-2.result.now < length i.aheads.aheads.items = k.1 in
     search rules
 
 pub possible-requires-clause-colours : goal.possible-requires-clause-colours
-possible-requires-clause-colours c =
-    let inside = c.self.inside in
-    let n : c.len.result ≡ length inside.moves.items = search rules in
-    let h = run_in inside.moves.items inside.pasts.pasts.items inside.pasts.runs.items inside.aheads.items c.args.self.now c.self.view_is c.self.invariant c.args.place c.requires.place in
-    let r : c.index.result.now ≡ get_or inside.pasts.runs.items c.args.place 0 = c.index.ensures ∙ get_or_default inside.pasts.runs.items c.args.place c.index.result.now 0 h.0 in
-    let k = line_parts inside.moves.items inside.pasts.pasts.items inside.pasts.runs.items inside.aheads.items c.args.self.now c.self.view_is c.self.invariant c.args.place c.len.result c.index.result.now n c.requires.place r c.index-2.result.now c.index-3.result.now c.index-2.ensures c.index-3.ensures in
-    k.2
+possible-requires-clause-colours g c =
+    let i = c.self.inside in
+    let n : c.len.result ≡ length i.moves.items = search rules in
+    let place : c.args.place ≤ c.len.result = rw (n, same_moves c.self.view_is) c.requires.place in
+    let k = found (g.M.Machine.rules i.machine.value) i.before.value i.after.value i.moves.items i.pasts.pasts.items i.pasts.runs.items i.aheads.aheads.items i.aheads.numbers.items c.self.invariant c.args.place c.len.result c.index.result.now c.index-2.result.now n place c.index.ensures c.index-2.ensures in
+    (k.2 c.index-3.result.now c.index-4.result.now c.index-3.ensures c.index-4.ensures).0
 
 pub returns : goal.returns
-returns c = λ m low at before after line e b same.
-    let inside = c.self.inside in
-    let n : c.len.result ≡ length inside.moves.items = search rules in
-    let h = run_in inside.moves.items inside.pasts.pasts.items inside.pasts.runs.items inside.aheads.items c.args.self.now c.self.view_is c.self.invariant c.args.place c.requires.place in
-    let r : c.index.result.now ≡ get_or inside.pasts.runs.items c.args.place 0 = c.index.ensures ∙ get_or_default inside.pasts.runs.items c.args.place c.index.result.now 0 h.0 in
-    let k = line_parts inside.moves.items inside.pasts.pasts.items inside.pasts.runs.items inside.aheads.items c.args.self.now c.self.view_is c.self.invariant c.args.place c.len.result c.index.result.now n c.requires.place r c.index-2.result.now c.index-3.result.now c.index-2.ensures c.index-3.ensures in
-    let sees = rw (k.0, k.1) at c.possible.ensures in
-    sees_passing m low at before after c.args.self.now c.args.place c.args.test.now c.possible.result c.requires.place line e b same sees
+returns g c =
+    let i = c.self.inside in
+    let n : c.len.result ≡ length i.moves.items = search rules in
+    let place : c.args.place ≤ c.len.result = rw (n, same_moves c.self.view_is) c.requires.place in
+    let k = found (g.M.Machine.rules i.machine.value) i.before.value i.after.value i.moves.items i.pasts.pasts.items i.pasts.runs.items i.aheads.aheads.items i.aheads.numbers.items c.self.invariant c.args.place c.len.result c.index.result.now c.index-2.result.now n place c.index.ensures c.index-2.ensures in
+    let both = k.2 c.index-3.result.now c.index-4.result.now c.index-3.ensures c.index-4.ensures in
+    rw (← c.self.view_is) (λ low at early order e b same. sees_between (g.M.Machine.rules i.machine.value) low at i.before.value i.after.value i.moves.items c.args.place c.index-3.result.now c.index-4.result.now c.args.test.now c.possible.result both early order e b same c.possible.ensures)

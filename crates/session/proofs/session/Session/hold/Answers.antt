@@ -25,4 +25,4 @@ returns-in-Err-clause-stop g c =
 pub renew-requires-clause-kept : goal.renew-requires-clause-kept
 renew-requires-clause-kept g c =
     let lt = rw (← c.self.view_is) at c.requires.in_store in
-    rw c.exchange-before.ensures.store (kept_but_hour c.self.inside.config c.self.inside.store c.args.hour c.args.entry c.self.inside.worked.carries.items c.self.inside.worked.futures.items c.self.inside.worked.report lt c.self.invariant.kept)
+    rw c.exchange-before.ensures.store (kept_but_hour c.self.inside.config c.self.inside.store c.args.hour c.args.entry c.self.inside.worked.carries.items c.self.inside.worked.futures.items c.self.inside.worked.report lt c.self.invariant.is_store c.self.invariant.kept)

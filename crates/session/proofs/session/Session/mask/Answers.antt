@@ -64,7 +64,7 @@ renew-requires-clause-kept g c =
     let a : pos (36000 * c.hour_at.result) ≤ℤ c.args.from = simp to_z-of_z at c.hour_at.ensures in
     let b : c.args.to ≤ℤ pos (36000 * c.end_of.result) = simp to_z-of_z at c.end_of.ensures.to in
     let ends : AreHeldEnds s c.hour_at.result c.end_of.result (Some (c.in-Some.first, c.in-Some.last)) = rw c.set_blanks-before.ensures.store at c.in-Some.ensures in
-    rw c.set_blanks-before.ensures.store (kept_but_blanks c.self.inside.config s c.args.blanks c.args.from c.args.to c.hour_at.result c.end_of.result c.in-Some.first c.in-Some.last c.self.inside.worked.carries.items c.self.inside.worked.futures.items c.self.inside.worked.report same a b (first (length s.hours) high) ends c.self.invariant.kept)
+    rw c.set_blanks-before.ensures.store (kept_but_blanks c.self.inside.config s c.args.blanks c.args.from c.args.to c.hour_at.result c.end_of.result c.in-Some.first c.in-Some.last c.self.inside.worked.carries.items c.self.inside.worked.futures.items c.self.inside.worked.report same a b (first (length s.hours) high) ends c.self.invariant.is_store c.self.invariant.kept)
 
 pub invariant_of-self-in-Ok : goal.invariant_of-self-in-Ok
 invariant_of-self-in-Ok g c =

@@ -1,0 +1,127 @@
+// The rows of an hour in chains: those of a phase or of a detector, one after another.
+ghost use Rattle.std.specs.Prelude.{◌≡◌, ◌+◌, ◌<◌, ℕ, true, false, length, slice_index_or, MatchOption, IfOk};
+ghost use Rattle.board.specs.Logs.{no_row};
+ghost use Rattle.arrival_measures.specs.declared.chains.Chain.{Chain};
+ghost use Rattle.arrival_measures.specs.Chains.{IsNext, IsOnlyIn, cell_of, is_in, number_of};
+
+use sig_base::{NoMemory, Row};
+use std::alloc::Global;
+use std::marker::Model;
+
+/// Which rows a chain has.
+#[derive(Clone, Copy)]
+pub(crate) enum Chain {
+    /// Those that begin or end green of the phase.
+    Green(u8),
+    /// Those at which the detector goes on.
+    On(u8),
+}
+
+/// A cell for each of 256 phases and of 256 detectors.
+const CELLS: usize = 512;
+
+impl Chain {
+    // Where a table of all chains has it.
+    fn cell(self) -> usize
+        ensures cell { result ≡ cell_of self }
+        ensures within { result < 512 }
+        ensures number { number_of self < 256 }
+    {
+        match self {
+            Chain::Green(phase) => usize::from(phase),
+            Chain::On(detector) => 256 + usize::from(detector),
+        }
+    }
+}
+
+// The chain that has the row.
+fn chain_of(row: &Row) -> Option<Chain>
+    ensures { MatchOption result ((c : Chain) → number_of c < 256 → is_in c row.now ≡ false) (λ own. IsOnlyIn row.now own) }
+{
+    if row.param > 255 {
+        return None;
+    }
+    let number = row.param as u8;
+    match row.code {
+        1 | 7 | 8 => Some(Chain::Green(number)),
+        82 => Some(Chain::On(number)),
+        _ => None,
+    }
+}
+
+/// An hour's rows, of which those of a phase or of a detector are gone through without the others.
+/// A clause sees the rows.
+#[derive(Drop)]
+pub(crate) struct Chains<'a> {
+    rows: &'a [Row],
+    // The first place of each chain, by its cell.
+    heads: Vec<u32>,
+    // For each row the next place of its chain; their number where there is none.
+    next: Vec<u32>,
+}
+
+impl<'a> Model for Chains<'a> {
+    ghost use Rattle.std.specs.Prelude.{List};
+    ghost use Rattle.sig_base.specs.declared.values.Row.{Row};
+
+    ghost Value = { List Row };
+
+    ghost use Rattle.arrival_measures.specs.Chains.{AreChains};
+
+    ghost view = { λ c. c.rows.now };
+
+    ghost invariant = { λ c. AreChains c.rows.now 0 c.heads.items c.next.items };
+}
+
+impl<'a> Chains<'a> {
+    /// The chains of the rows. More than 4,294,967,295 rows count as want of memory.
+    pub(crate) fn new(alloc: Global, rows: &'a [Row]) -> Result<Chains<'a>, NoMemory>
+        ensures { IfOk result (λ c. c ≡ rows.now) }
+    {
+        if rows.len() > 4_294_967_295 {
+            return Err(NoMemory);
+        }
+        let count = rows.len() as u32;
+        let mut heads = vec![in alloc; count; CELLS]?;
+        let mut next = vec![in alloc; count; rows.len()]?;
+        for place in (0..rows.len()).rev() {
+            if let Some(chain) = chain_of(&rows[place]) {
+                let cell = chain.cell();
+                next[place] = heads[cell];
+                heads[cell] = place as u32;
+            }
+        }
+        Ok(Chains { rows, heads, next })
+    }
+
+    pub(crate) fn len(&self) -> usize
+        ensures { result ≡ length self.now }
+    {
+        self.rows.len()
+    }
+
+    /// The row with this place.
+    pub(crate) fn row(&self, place: usize) -> Row
+        requires { place < length self.now }
+        ensures { result ≡ slice_index_or self.now place no_row }
+    {
+        let rows = self.rows;
+        rows[place]
+    }
+
+    /// The chain's first place, or the number of rows where it has none.
+    pub(crate) fn first(&self, chain: Chain) -> usize
+        ensures { IsNext (is_in chain) self.now 0 result }
+    {
+        self.heads[chain.cell()] as usize
+    }
+
+    /// The next place of the chain that has the row with this place, or the number of rows where it
+    /// has none.
+    pub(crate) fn next(&self, place: usize) -> usize
+        requires { place < length self.now }
+        ensures { (c : Chain) → number_of c < 256 → is_in c (slice_index_or self.now place no_row) ≡ true → IsNext (is_in c) self.now (place + 1) result }
+    {
+        self.next[place] as usize
+    }
+}

@@ -1,0 +1,93 @@
+// The place of each channel among the specs, without a search.
+ghost use Rattle.std.specs.Prelude.{◌≡◌, ◌≢◌, ℕ, ◌<◌, ◌≤◌, List, length, slice_index_or, MatchOption, IfOk};
+ghost use Rattle.channel_tables.specs.declared.spec.Spec.{Spec};
+ghost use Rattle.board.specs.Channels.{kind_number};
+ghost use Rattle.board.specs.Logs.{no_spec};
+ghost use Rattle.board.specs.SpecPlaces.{cell_of, AreCells, HaveCells, IsTable};
+
+use channel_tables::Spec;
+use event_codes::{Channel, Kind};
+use sig_base::NoMemory;
+use std::alloc::Global;
+use std::marker::Model;
+
+/// For each channel its place among the specs, from 0, or 65,535 where it is not among them.
+#[derive(Drop)]
+pub struct SpecTable {
+    cells: Vec<u16>,
+}
+
+impl Model for SpecTable {
+    ghost use Rattle.std.specs.Prelude.{List, ℕ};
+
+    ghost Value = { List ℕ };
+
+    ghost view = { λ t. t.cells.items };
+}
+
+impl SpecTable {
+    /// The table of the specs. More than 60,000 count as want of memory.
+    pub fn new(alloc: Global, specs: &[Spec]) -> Result<SpecTable, NoMemory>
+        ensures { IfOk result (λ t. IsTable specs.now t) }
+    {
+        if specs.len() > 60_000 {
+            return Err(NoMemory);
+        }
+        let mut cells = vec![in alloc; 65_535u16; cell_count(specs)]?;
+        for i in 0..specs.len() {
+            cells[cell_of(specs[i].channel)] = i as u16;
+        }
+        Ok(SpecTable { cells })
+    }
+
+    /// The place of the channel among the specs of the table.
+    pub fn place_of(&self, channel: Channel) -> Option<u16>
+        ensures { (specs : List Spec) → IsTable specs self.now → MatchOption result ((i : ℕ) → i < length specs → (slice_index_or specs i no_spec).channel ≢ channel) (λ p. (p < length specs) × ((slice_index_or specs p no_spec).channel ≡ channel)) }
+    {
+        let cell = cell_of(channel);
+        if cell >= self.cells.len() {
+            return None;
+        }
+        let place = self.cells[cell];
+        if place < 65_535 {
+            return Some(place);
+        }
+        None
+    }
+}
+
+// As many cells as the specs need.
+fn cell_count(specs: &[Spec]) -> usize
+    ensures { HaveCells specs.now (length specs.now) result }
+{
+    let mut count = 0;
+    for i in 0..specs.len() {
+        count = count.max(cell_of(specs[i].channel) + 1);
+    }
+    count
+}
+
+// The cell of a channel.
+fn cell_of(channel: Channel) -> usize
+    ensures cell { result ≡ cell_of channel }
+    ensures within { result < 2048 }
+{
+    channel.number as usize * 8 + kind_number(channel.kind)
+}
+
+// The number of a kind.
+fn kind_number(kind: Kind) -> usize
+    ensures number { result ≡ kind_number kind }
+    ensures within { result < 8 }
+{
+    match kind {
+        Kind::Phase => 0,
+        Kind::Ped => 1,
+        Kind::Overlap => 2,
+        Kind::Detector => 3,
+        Kind::PedDetector => 4,
+        Kind::PreemptInput => 5,
+        Kind::PreemptService => 6,
+        Kind::Coordination => 7,
+    }
+}

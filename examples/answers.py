@@ -1,0 +1,209 @@
+"""What the recipes share: a session of sigaudit read back from its script and its answer. Not proved."""
+import hashlib
+import os
+import re
+import sys
+
+import logs
+
+
+class Section:
+    """The answer to a line that asks: the line's words, the lines of the answer, what was known then."""
+
+    def __init__(self, words, known):
+        self.words, self.lines, self.known = words, [], known
+
+
+class Session:
+    """The configuration, script and answer; edits are (line number, words, answer) in order."""
+
+    def __init__(self, config, script, answer):
+        self.config = logs.read_config(config)
+        self.paths = config, script, answer
+        self.start = logs.hour_of(self.config["start"])
+        self.end = self.start + self.config["hours"] * logs.HOUR
+        self.edits, self.sections = [], []
+        try:
+            with open(script, encoding="latin-1", newline="\n") as file:
+                lines = {number: line.split() for number, line in enumerate(file.read().split("\n"), 1)}
+            with open(answer, encoding="latin-1") as file:
+                answers = file.read().split("\n")
+        except OSError as error:
+            sys.exit("%s: %s" % (error.filename, error.strerror))
+        asked = {number for number, words in lines.items() if words and words[0][0] != "#"}
+        held, blanks, answered = set(), [], set()
+        for line in answers:
+            found = re.match(r"(\d+) ([a-z]+)\b(.*)", line)
+            if not found:
+                if line and not self.sections:
+                    sys.exit("%s: not an answer of a session: %s" % (answer, line[:60]))
+                if line:
+                    self.sections[-1].lines.append(line.split())
+                continue
+            number, what = int(found[1]), found[2]
+            words = lines.get(number, [])
+            if not words or (what not in ("ok", "refused") and words[0] != what):
+                sys.exit("%s: line %d of %s doesn't ask for this: %s" % (answer, number, script, line[:60]))
+            answered.add(number)
+            if what in ("ok", "refused"):
+                self.edits.append((number, words, what + found[3]))
+                if what == "ok":
+                    self.edit(words, held, blanks)
+            else:
+                self.sections.append(Section(words, (set(held), list(blanks))))
+        if answered != asked or answers[-1]:
+            sys.exit("%s: not the whole answer to %s" % (answer, script))
+
+    def edit(self, words, held, blanks):
+        if words[0] in ("load", "replace"):
+            held.add(int(words[1]))
+        elif words[0] == "withdraw":
+            held.discard(int(words[1]))
+        else:
+            low, high = (logs.parse_stamp(word)[0] for word in words[1:3])
+            if words[0] == "blank":
+                blanks.append((low, high))
+            else:
+                blanks[:] = [part for a, b in blanks for part in ((a, min(b, low)), (max(a, high), b))
+                             if part[0] < part[1]]
+
+    def hour(self, number):
+        return logs.show_hour(self.start + int(number) * logs.HOUR)
+
+    def last(self, kind, number=None):
+        """The last section of the kind, of this number where one is given, or None."""
+        wanted = [kind] if number is None else [kind, number]
+        for section in reversed(self.sections):
+            if section.words[:1] + [str(int(word)) for word in section.words[1:]] == wanted:
+                return section
+        return None
+
+    def by_hour(self, kind):
+        """The last section of the kind for each hour, by the hour."""
+        found = {int(s.words[1]): s for s in self.sections if s.words[0] == kind and len(s.words) == 2}
+        return sorted(found.items())
+
+    def unknown(self, section):
+        """The stretches of the window that weren't known at a section: from and up to, in order."""
+        held, blanks = section.known
+        cuts = [(self.start + h * logs.HOUR, self.start + (h + 1) * logs.HOUR)
+                for h in range(self.config["hours"]) if h not in held]
+        merged = []
+        for low, high in sorted(cuts + blanks):
+            if merged and low <= merged[-1][1]:
+                merged[-1] = merged[-1][0], max(high, merged[-1][1])
+            else:
+                merged.append((low, high))
+        return merged
+
+    def names(self):
+        """The name of each rule by its number, by the audits of the answer."""
+        found = {}
+        for section in self.sections:
+            for line in section.lines:
+                if line[0] == "rule":
+                    found[int(line[1])] = line[2:line.index("kept")]
+        return found
+
+
+COLOURS = {"Term": "end of green", "YellowDone": "time after yellow", "Clear": "red clearance",
+           "ClearDone": "time after red clearance", "DontWalk": "don't walk", "On": "time between on and green",
+           "Clearance": "pedestrian clearance"}
+
+
+def in_words(name):
+    """The rule with this name (a list of words) as a sentence."""
+    if not name:
+        return ""
+    if name[0] == "conflict":
+        return ("phases %s and %s conflict and are not both served (on, in green, in yellow or in red clearance)"
+                % tuple(name[1:3]))
+    if name[0] == "companion":
+        return "pedestrian signal %s shows walk only while phase %s is on or green" % (name[1], name[1])
+    if name[0] == "parents":
+        return "overlap %s is green only while one of its phases is served" % name[1]
+    kind, number, colour, _, bound, tenths = name
+    channel = {"ped": "pedestrian signal", "preempt": "preempt service"}.get(kind, kind)
+    return "the %s of %s %s lasts at %s %.1f s" % (
+        COLOURS.get(colour, colour.lower()), channel, number, bound, int(tenths) / 10)
+
+
+def in_short(name):
+    """The name of a rule with its time in seconds."""
+    if len(name) == 6 and name[3] == "at":
+        return "%s %.1f s" % (" ".join(name[:5]), int(name[5]) / 10)
+    return " ".join(name)
+
+
+def digest(path):
+    """The SHA-256 of a file as it stands now, or - where it isn't there."""
+    try:
+        with open(path, "rb") as file:
+            return hashlib.sha256(file.read()).hexdigest()
+    except OSError:
+        return "-"
+
+
+def find(path, script):
+    """A file that a script names: in the folder in which the program was called, else beside the script."""
+    beside = os.path.join(os.path.dirname(script), path)
+    return path if os.path.exists(path) else beside
+
+
+def seconds(tenth):
+    """A tenth as gnuplot's time axes have it: seconds since 1970."""
+    epoch = logs.hour_of("1970-01-01T00")
+    return "%d.%d" % divmod(tenth - epoch, 10)
+
+
+def add_shown(parser):
+    parser.add_argument("--from")
+    parser.add_argument("--hours", type=int)
+
+
+def shown(parser, given, session):
+    """The stretch of time that a picture shows: that of the words, or the window."""
+    start = getattr(given, "from")
+    if (start is None) != (given.hours is None):
+        parser.error("--from and --hours go together")
+    if start is None:
+        return session.start, session.end
+    try:
+        return logs.hour_of(start), logs.hour_of(start) + given.hours * logs.HOUR
+    except ValueError as error:
+        parser.error(str(error))
+
+
+def axis(start, end):
+    """The time axis of a picture."""
+    day = end - start > 24 * logs.HOUR
+    return ["set xrange [%s:%s]" % (seconds(start), seconds(end)),
+            'set xtics time format "%s"' % ("%m-%d\\n%H:%M" if day else "%H:%M")]
+
+
+def shades(session, section):
+    """Shades the stretches that weren't known at a section."""
+    return ['set object rectangle from %s, graph 0 to %s, graph 1 behind fillcolor rgb "#d0d0d0" '
+            "fillstyle solid noborder" % (seconds(low), seconds(high)) for low, high in session.unknown(section)]
+
+
+def block(name, rows):
+    """A block of data; one that has no rows gets one that isn't drawn."""
+    return ["$%s << EOD" % name] + (list(rows) or ["NaN NaN NaN NaN"]) + ["EOD"]
+
+
+def gnuplot(text, out):
+    """Draws: writes the text to the standard output where out is -, else has gnuplot make the SVG."""
+    import shutil
+    import subprocess
+    if out == "-":
+        sys.stdout.write(text)
+        return
+    if not shutil.which("gnuplot"):
+        sys.exit("this picture wants gnuplot: install the package gnuplot-nox (Debian, Ubuntu: "
+                 "apt-get install gnuplot-nox) or gnuplot (Fedora, Homebrew), version 5.2 or later")
+    made = subprocess.run(["gnuplot"], input=text, text=True, capture_output=True)
+    if made.returncode or not made.stdout:
+        sys.exit("gnuplot failed with %d\n%s" % (made.returncode, made.stderr))
+    with open(out, "w") as file:
+        file.write(made.stdout)

@@ -13,3 +13,4 @@ pub mod Hours
 pub mod Knowing
 pub mod RowPoints
 pub mod OneSum
+pub mod Fitting

@@ -1,7 +1,8 @@
 -- Points of a phase's diagram: when vehicles came in its cycles.
-use Rattle.std.specs.Prelude.{ℕ, ◌+◌, ◌-◌, ◌==◌, ◌≤◌, nat_le, nat_lt, Bool, false, if◌then◌else◌, ◌&&◌, List, [], ◌∷◌, Option, Some, None, map, filter, flat_map}
+use Rattle.std.specs.Prelude.{ℕ, ◌+◌, ◌-◌, ◌==◌, ◌<◌, ◌≤◌, All, nat_le, nat_lt, Bool, false, if◌then◌else◌, ◌&&◌, List, [], ◌∷◌, Option, Some, None, map, filter, flat_map}
 use Rattle.sig_base.specs.declared.values.Row.{Row}
 use Rattle.service_cut.specs.declared.items.Cycle.{Cycle}
+use Rattle.service_cut.specs.Whole.{CycleFits}
 use Rattle.ring_config.specs.Settings.{Settings}
 use Rattle.ring_config.specs.declared.items.Approach.{Approach}
 use Rattle.arrival_measures.specs.declared.points.Point.{Point}
@@ -43,3 +44,8 @@ diagram_of points cycle = record { cycle = cycle; points = map (since_begin cycl
 -- the diagrams of phase p in a log: of each whole cycle, in their order
 abbrev pub diagrams_of : (ℕ → Bool) → Settings → ℕ → List Row → List Diagram
 diagrams_of known c p rows = map (diagram_of (points_of c p rows)) (cycles_of known c p [] rows)
+
+-- the offsets of a diagram lie in its cycle: those of green and yellow are at most its length, and each point's is less
+pub record DiagramFits (d : Diagram) : Type 0 where
+  pub cycle_fits : CycleFits d.cycle
+  pub points_in : All (λ x. x.offset < d.cycle.to - d.cycle.from) d.points

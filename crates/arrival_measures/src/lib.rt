@@ -17,6 +17,7 @@ mod cycles;
 mod detector_rows;
 mod hour;
 mod judged;
+mod laws;
 mod own_rows;
 mod points;
 mod same;
@@ -27,5 +28,6 @@ mod under_way;
 
 pub use carry::ArrivalCarry;
 pub use hour::{ArrivalSums, arrivals_carried, arrivals_hour};
+pub use laws::diagrams_fit;
 pub use points::{Diagram, Point, Points, arrival_points, diagrams, row_points};
 pub use sums::ArrivalSum;

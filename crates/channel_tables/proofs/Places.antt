@@ -62,7 +62,7 @@ all_have = (
     (
       λ code param t _. by_code code (61 ∷ 62 ∷ 63 ∷ 64 ∷ 65 ∷ 66 ∷ []) t,
       (
-        λ code param t _. by_code code (81 ∷ 82 ∷ []) t,
+        λ code param t _. by_code code (81 ∷ 82 ∷ 83 ∷ 84 ∷ 85 ∷ 86 ∷ 87 ∷ 88 ∷ []) t,
         (
           λ code param t _. by_code code (89 ∷ 90 ∷ []) t,
           (

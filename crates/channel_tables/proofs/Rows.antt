@@ -41,7 +41,7 @@ overlap_codes : (n : ℕ) → 1 ≤ n → n ≤ 16 → AllAt (IsCode Overlap n) 
 overlap_codes n a b = let e = in_range Overlap 1 16 n a b in ((omega arith, e, rw e refl), ((omega arith, e, rw e refl), ((omega arith, e, rw e refl), ((omega arith, e, rw e refl), ((omega arith, e, rw e refl), ((omega arith, e, rw e refl), tt))))))
 
 detector_codes : (n : ℕ) → 1 ≤ n → n ≤ 128 → AllAt (IsCode Detector n) 0 (table_of Detector).signs
-detector_codes n a b = let e = in_range Detector 1 128 n a b in ((omega arith, e, rw e refl), ((omega arith, e, rw e refl), tt))
+detector_codes n a b = let e = in_range Detector 1 128 n a b in ((omega arith, e, rw e refl), ((omega arith, e, rw e refl), ((omega arith, e, rw e refl), ((omega arith, e, rw e refl), ((omega arith, e, rw e refl), ((omega arith, e, rw e refl), ((omega arith, e, rw e refl), ((omega arith, e, rw e refl), tt))))))))
 
 ped_detector_codes : (n : ℕ) → 1 ≤ n → n ≤ 16 → AllAt (IsCode PedDetector n) 0 (table_of PedDetector).signs
 ped_detector_codes n a b = let e = in_range PedDetector 1 16 n a b in ((omega arith, e, rw e refl), ((omega arith, e, rw e refl), tt))

@@ -3,6 +3,7 @@ pub mod PhaseTable
 pub mod PedTable
 pub mod OverlapTable
 pub mod SwitchTables
+pub mod DetectorTable
 pub mod PreemptTable
 pub mod CoordinationTable
 pub mod Tables

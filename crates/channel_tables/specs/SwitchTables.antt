@@ -1,4 +1,4 @@
--- The tables of what is only off or on: detectors, pedestrian detectors and preempt inputs.
+-- The tables of what is only off or on: pedestrian detectors and preempt inputs.
 use Rattle.std.specs.Prelude.{ℕ, [], ◌∷◌, codes}
 use Rattle.channel_tables.specs.Table.{Table, line}
 
@@ -15,10 +15,6 @@ switch_table off_code on_code = record {
   signs = off_code ∷ on_code ∷ [];
   lines = line off_code (off ∷ on ∷ []) off ∷ line on_code (off ∷ on ∷ []) on ∷ [];
 }
-
--- 81 detector off, 82 detector on
-abbrev pub detector_table : Table
-detector_table = switch_table 81 82
 
 -- 89 pedestrian detector off, 90 pedestrian detector on
 abbrev pub ped_detector_table : Table

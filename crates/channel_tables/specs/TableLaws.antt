@@ -6,7 +6,8 @@ use Rattle.channel_tables.specs.Laws.{table_laws}
 use Rattle.channel_tables.specs.PhaseTable.{phase_table}
 use Rattle.channel_tables.specs.PedTable.{ped_table}
 use Rattle.channel_tables.specs.OverlapTable.{overlap_table}
-use Rattle.channel_tables.specs.SwitchTables.{detector_table}
+use Rattle.channel_tables.specs.SwitchTables.{ped_detector_table}
+use Rattle.channel_tables.specs.DetectorTable.{detector_table}
 use Rattle.channel_tables.specs.PreemptTable.{preempt_table}
 use Rattle.channel_tables.specs.CoordinationTable.{coordination_table}
 
@@ -22,8 +23,11 @@ ped_laws floors low = table_laws ped_table floors refl low
 pub overlap_laws : (floors : List ℕ) → AreFloors floors → IsMachine (table_rules overlap_table floors)
 overlap_laws floors low = table_laws overlap_table floors refl low
 
-pub switch_laws : IsMachine (table_rules detector_table [])
-switch_laws = table_laws detector_table [] refl no_floors
+pub switch_laws : IsMachine (table_rules ped_detector_table [])
+switch_laws = table_laws ped_detector_table [] refl no_floors
+
+pub detector_laws : IsMachine (table_rules detector_table [])
+detector_laws = table_laws detector_table [] refl no_floors
 
 pub preempt_laws : (floors : List ℕ) → AreFloors floors → IsMachine (table_rules preempt_table floors)
 preempt_laws floors low = table_laws preempt_table floors refl low

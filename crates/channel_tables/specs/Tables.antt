@@ -6,7 +6,8 @@ use Rattle.channel_tables.specs.Table.{Table}
 use Rattle.channel_tables.specs.PhaseTable.{phase_table}
 use Rattle.channel_tables.specs.PedTable.{ped_table}
 use Rattle.channel_tables.specs.OverlapTable.{overlap_table}
-use Rattle.channel_tables.specs.SwitchTables.{detector_table, ped_detector_table, preempt_input_table}
+use Rattle.channel_tables.specs.SwitchTables.{ped_detector_table, preempt_input_table}
+use Rattle.channel_tables.specs.DetectorTable.{detector_table}
 use Rattle.channel_tables.specs.PreemptTable.{preempt_table}
 use Rattle.channel_tables.specs.CoordinationTable.{coordination_table}
 

@@ -4,7 +4,8 @@ ghost use Rattle.channel_tables.specs.Any.{any_rules};
 ghost use Rattle.channel_tables.specs.Spec.{IsSpec, rules_of};
 
 use crate::{
-    CoordMachine, OverlapMachine, PedMachine, PhaseMachine, PreemptMachine, Spec, SwitchMachine,
+    CoordMachine, DetectorMachine, OverlapMachine, PedMachine, PhaseMachine, PreemptMachine, Spec,
+    SwitchMachine,
 };
 use colour_machine::Machine;
 use event_codes::Kind;
@@ -16,6 +17,7 @@ pub enum AnyMachine {
     Ped(PedMachine),
     Overlap(OverlapMachine),
     Switch(SwitchMachine),
+    Detector(DetectorMachine),
     Preempt(PreemptMachine),
     Coord(CoordMachine),
 }
@@ -33,6 +35,7 @@ impl Machine for AnyMachine {
             AnyMachine::Ped(machine) => machine.colours(),
             AnyMachine::Overlap(machine) => machine.colours(),
             AnyMachine::Switch(machine) => machine.colours(),
+            AnyMachine::Detector(machine) => machine.colours(),
             AnyMachine::Preempt(machine) => machine.colours(),
             AnyMachine::Coord(machine) => machine.colours(),
         }
@@ -44,6 +47,7 @@ impl Machine for AnyMachine {
             AnyMachine::Ped(machine) => machine.letters(),
             AnyMachine::Overlap(machine) => machine.letters(),
             AnyMachine::Switch(machine) => machine.letters(),
+            AnyMachine::Detector(machine) => machine.letters(),
             AnyMachine::Preempt(machine) => machine.letters(),
             AnyMachine::Coord(machine) => machine.letters(),
         }
@@ -55,6 +59,7 @@ impl Machine for AnyMachine {
             AnyMachine::Ped(machine) => machine.step(colour, letter),
             AnyMachine::Overlap(machine) => machine.step(colour, letter),
             AnyMachine::Switch(machine) => machine.step(colour, letter),
+            AnyMachine::Detector(machine) => machine.step(colour, letter),
             AnyMachine::Preempt(machine) => machine.step(colour, letter),
             AnyMachine::Coord(machine) => machine.step(colour, letter),
         }
@@ -66,6 +71,7 @@ impl Machine for AnyMachine {
             AnyMachine::Ped(machine) => machine.floor(colour),
             AnyMachine::Overlap(machine) => machine.floor(colour),
             AnyMachine::Switch(machine) => machine.floor(colour),
+            AnyMachine::Detector(machine) => machine.floor(colour),
             AnyMachine::Preempt(machine) => machine.floor(colour),
             AnyMachine::Coord(machine) => machine.floor(colour),
         }
@@ -81,9 +87,8 @@ pub fn machine_of(spec: &Spec) -> AnyMachine
         Kind::Phase => AnyMachine::Phase(PhaseMachine::new(spec.floors)),
         Kind::Ped => AnyMachine::Ped(PedMachine::new(spec.floors)),
         Kind::Overlap => AnyMachine::Overlap(OverlapMachine::new(spec.floors)),
-        Kind::Detector | Kind::PedDetector | Kind::PreemptInput => {
-            AnyMachine::Switch(SwitchMachine {})
-        }
+        Kind::Detector => AnyMachine::Detector(DetectorMachine {}),
+        Kind::PedDetector | Kind::PreemptInput => AnyMachine::Switch(SwitchMachine {}),
         Kind::PreemptService => AnyMachine::Preempt(PreemptMachine::new(spec.floors)),
         Kind::Coordination => AnyMachine::Coord(CoordMachine {}),
     }

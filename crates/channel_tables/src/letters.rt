@@ -10,7 +10,8 @@ ghost use Rattle.channel_tables.specs.OverlapTable.{overlap_table};
 ghost use Rattle.channel_tables.specs.PedTable.{ped_table};
 ghost use Rattle.channel_tables.specs.PhaseTable.{phase_table};
 ghost use Rattle.channel_tables.specs.PreemptTable.{preempt_table};
-ghost use Rattle.channel_tables.specs.SwitchTables.{detector_table, ped_detector_table, preempt_input_table};
+ghost use Rattle.channel_tables.specs.DetectorTable.{detector_table};
+ghost use Rattle.channel_tables.specs.SwitchTables.{ped_detector_table, preempt_input_table};
 
 use event_codes::{Kind, channel_of};
 
@@ -96,6 +97,12 @@ fn detector_letter(code: u8) -> Option<u8>
     match code {
         81 => Some(0),
         82 => Some(1),
+        83 => Some(2),
+        84 => Some(3),
+        85 => Some(4),
+        86 => Some(5),
+        87 => Some(6),
+        88 => Some(7),
         _ => None,
     }
 }

@@ -7,6 +7,7 @@
 
 mod any;
 mod coordination;
+mod detector;
 mod letters;
 mod names;
 mod overlap;
@@ -18,6 +19,7 @@ mod switch;
 
 pub use any::{AnyMachine, machine_of};
 pub use coordination::CoordMachine;
+pub use detector::DetectorMachine;
 pub use letters::letter_of;
 pub use names::{colour_name, colour_named};
 pub use overlap::OverlapMachine;

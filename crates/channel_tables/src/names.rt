@@ -6,7 +6,8 @@ ghost use Rattle.channel_tables.specs.OverlapTable.{overlap_table};
 ghost use Rattle.channel_tables.specs.PedTable.{ped_table};
 ghost use Rattle.channel_tables.specs.PhaseTable.{phase_table};
 ghost use Rattle.channel_tables.specs.PreemptTable.{preempt_table};
-ghost use Rattle.channel_tables.specs.SwitchTables.{detector_table};
+ghost use Rattle.channel_tables.specs.SwitchTables.{ped_detector_table};
+ghost use Rattle.channel_tables.specs.DetectorTable.{detector_table};
 
 use event_codes::Kind;
 
@@ -44,7 +45,8 @@ pub fn colour_name(kind: Kind, colour: u8) -> Option<&'static str>
         Kind::Phase => phase_name(colour),
         Kind::Ped => ped_name(colour),
         Kind::Overlap => overlap_name(colour),
-        Kind::Detector | Kind::PedDetector | Kind::PreemptInput => switch_name(colour),
+        Kind::Detector => detector_name(colour),
+        Kind::PedDetector | Kind::PreemptInput => switch_name(colour),
         Kind::PreemptService => preempt_name(colour),
         Kind::Coordination => coordination_name(colour),
     }
@@ -95,9 +97,21 @@ fn overlap_name(colour: u8) -> Option<&'static str>
     }
 }
 
+// The name of a detector's colour.
+fn detector_name(colour: u8) -> Option<&'static str>
+    ensures { MatchOption result (slice_get detector_table.names colour ≡ None) (λ name. slice_get detector_table.names colour ≡ Some name.now) }
+{
+    match colour {
+        0 => Some("Off"),
+        1 => Some("On"),
+        2 => Some("Fault"),
+        _ => None,
+    }
+}
+
 // The name of a switch's colour.
 fn switch_name(colour: u8) -> Option<&'static str>
-    ensures { MatchOption result (slice_get detector_table.names colour ≡ None) (λ name. slice_get detector_table.names colour ≡ Some name.now) }
+    ensures { MatchOption result (slice_get ped_detector_table.names colour ≡ None) (λ name. slice_get ped_detector_table.names colour ≡ Some name.now) }
 {
     match colour {
         0 => Some("Off"),

@@ -1,117 +1,117 @@
--- What the runs of a switch have in common is what is told, and two of them have no more.
-use Rattle.std.proofs.Common.{suc, zero, ◌≡◌, refl, ap, sym, ◌∙◌, subst, inl, inr, ℕ, ◌+◌, ◌<◌, ◌≤◌, ℤ, pos, Bool, IsTrue, if◌then◌else◌, Option, Some, None, List, [], ◌∷◌, length, take, arith}
+-- The masks have the colours that are reached.
+use Rattle.std.proofs.Common.{suc, zero, ◌≡◌, refl, ap, sym, ◌∙◌, subst, ◌↔◌, inl, inr, ℕ, ◌+◌, ◌<◌, ◌≤◌, ℤ, pos, negsuc, ◌≤ℤ◌, ◌<ℤ◌, Bool, true, false, if◌then◌else◌, List, [], ◌∷◌, length, arith}
+use Rattle.std.proofs.lemmas.Int.{ints}
 use Rattle.std.proofs.lemmas.Bool.{cases_Bool}
-use Rattle.reach.specs.Runs.{State, Steps, Run}
-use Rattle.board.specs.History.{Agree, Event, Track, letters, put}
-use Rattle.board.proofs.Joining.{Small, AllSmall}
+use Rattle.colour_machine.specs.Mask.{Has}
+use Rattle.colour_machine.specs.Rules.{IsMachine, Leads, Rules}
+use Rattle.reach.specs.Runs.{State, state, Steps}
+use Rattle.board.specs.History.{Agree, Agreeing, Event, Track, letters}
+use Rattle.board.proofs.Bridge.{agreeing_first, agreeing_join, agreeing_none}
 use Rattle.board.proofs.Tracks.{Lettered}
-use Rattle.detector_state.specs.declared.signs.Shown.{Shown}
-use Rattle.detector_state.specs.Tellings.{shown_of, after_letters, after_tenth, after_tenths, Fits, colour_in}
-use Rattle.detector_state.proofs.Switching.{IsSwitching, step_to}
+use Rattle.signal_log.proofs.Hour.{Reached}
+use Rattle.signal_log.proofs.Runs.{agreeing_colour, agreeing_early}
+use Rattle.free_channels.specs.Free.{IsFree, IsMixed}
+use Rattle.free_channels.proofs.Free.{run_is, step_goes}
+use Rattle.free_channels.proofs.Filling.{fill, fill-agrees, fill-length, fill_small, letters_small}
+use Rattle.detector_state.specs.Masks.{all_below}
+use Rattle.detector_state.proofs.Masks.{after, after_is, has_all_below}
 
-fits_letter : (l c : ℕ) → l < 2 → c ≡ l → Fits (shown_of l) c
-fits_letter zero c lt e = e
-fits_letter (suc zero) c lt e = e
-fits_letter (suc (suc l)) c lt e = absurd (omega arith)
+steps_lead : (m : Rules) (t : ℤ) (ls : List ℕ) (s u : State) → Steps m t s ls u → Leads m s.colour ls u.colour
+steps_lead m t [] s u e = ap (λ (z : State). z.colour) (sym e)
+steps_lead m t (l ∷ ls) s u (v, st, more) = (v.colour, st.0, steps_lead m t ls v u more)
 
-colour_letter : (d l : ℕ) → l < 2 → colour_in d (shown_of l) ≡ l
-colour_letter d zero lt = refl
-colour_letter d (suc zero) lt = refl
-colour_letter d (suc (suc l)) lt = absurd (omega arith)
+lead_steps : (m : Rules) → IsFree m → (t : ℤ) (ls : List ℕ) (s : State) (d : ℕ) → s.entry ≤ℤ t → Leads m s.colour ls d → (u : State) × Steps m t s ls u × (u.colour ≡ d)
+lead_steps m free t [] s d early e = (s, refl, e)
+lead_steps m free t (l ∷ ls) s d early (x, g, more) =
+    let (v, st, c, e) = step_goes m free t s l x early g in
+    let (u, rest, f) = lead_steps m free t ls v d e (subst (λ (z : ℕ). Leads m z ls d) (sym c) more) in
+    (u, (v, st, rest), f)
 
--- the lists of a run that agrees and whose unknown tenths have letter d alone
-pub fill : Track → (ℕ → Bool) → (ℕ → List Event) → ℕ → ℕ → ℕ → List (List ℕ)
-fill k known given d zero t = []
-fill k known given d (suc n) t = (if known t then letters k (given t) else d ∷ []) ∷ fill k known given d n (t + 1)
+module _ (k : Track) (mixed : IsMixed k.rules) (laws : IsMachine k.rules) (lettered : Lettered k) (known : ℕ → Bool) (given : ℕ → List Event) where
+  -- a run leads from before the window to the colour at tenth t
+  abbrev pub ReachedColour : ℕ → ℕ → Type 0
+  ReachedColour t c = (u : State) × Reached k known given t u × (u.colour ≡ c)
 
-pub fill-length : (k : Track) (known : ℕ → Bool) (given : ℕ → List Event) (d n t : ℕ) → length (fill k known given d n t) ≡ n
-unfolding fill
-fill-length k known given d zero t = refl
-fill-length k known given d (suc n) t = ap suc (fill-length k known given d n (t + 1))
+  few : k.rules.colours ≤ 16
+  few = laws.few_colours
 
-pub fill-agrees : (k : Track) (known : ℕ → Bool) (given : ℕ → List Event) (d n t : ℕ) → Agree known (λ x. letters k (given x)) t (fill k known given d n t)
-unfolding fill
-fill-agrees k known given d zero t = tt
-fill-agrees k known given d (suc n) t = ((λ is. rw is refl), fill-agrees k known given d n (t + 1))
+  abbrev pub after_one : ℕ → ℕ → ℕ
+  after_one t mask = if known t then after k.rules mask (letters k (given t)) else all_below k.rules.colours
 
-pub fill-take : (k : Track) (known : ℕ → Bool) (given : ℕ → List Event) (d n m t : ℕ) → m ≤ n → take m (fill k known given d n t) ≡ fill k known given d m t
-unfolding fill
-fill-take k known given d n zero t le = refl
-fill-take k known given d zero (suc m) t le = absurd (omega arith)
-fill-take k known given d (suc n) (suc m) t le = ap (λ ls. (if known t then letters k (given t) else d ∷ []) ∷ ls) (fill-take k known given d n m (t + 1) (omega arith))
+  abbrev pub IsReachedBy : ℕ → ℕ → Type 0
+  IsReachedBy t mask = (c : ℕ) → Has mask c ↔ ReachedColour t c
 
-put_small : (o : Option ℕ) (ls : List ℕ) → ((l : ℕ) → o ≡ Some l → l < 2) → Small 2 ls → Small 2 (put o ls)
-put_small None ls few small = small
-put_small (Some l) ls few small = (few l refl, small)
+  reached_early : (t : ℕ) (u : State) → Reached k known given t u → u.entry <ℤ pos t
+  reached_early t u (s, bw, g) = agreeing_early k known given 0 t s u g bw.1
 
-module _ (k : Track) (is : IsSwitching k.rules) where
-  steps_fit : (t : ℤ) (ls : List ℕ) (s u : State) (b : Shown) → s.colour < 2 → Fits b s.colour → Steps k.rules t s ls u → (u.colour < 2) × Fits (after_letters b ls) u.colour
-  steps_fit t [] s u b few fit e = let same = ap (λ (w : State). w.colour) e in (omega arith, subst (λ (c : ℕ). Fits b c) (sym same) fit)
-  steps_fit t (l ∷ ls) s u b few fit (v, st, more) =
-      let (lt, c) = step_to k.rules is t s v l few st in
-      steps_fit t ls v u (shown_of l) (omega arith) (fits_letter l v.colour lt c) more
+  reached_few : (t : ℕ) (u : State) → Reached k known given t u → u.colour < k.rules.colours
+  reached_few t u (s, bw, g) = (agreeing_colour k known given 0 t s u laws g).0 bw.0
 
-  steps_coloured : (t : ℤ) (d : ℕ) (ls : List ℕ) (s u : State) (b : Shown) → s.colour < 2 → s.colour ≡ colour_in d b → Steps k.rules t s ls u → (u.colour < 2) × (u.colour ≡ colour_in d (after_letters b ls))
-  steps_coloured t d [] s u b few e r = let same = ap (λ (w : State). w.colour) r in (omega arith, same ∙ e)
-  steps_coloured t d (l ∷ ls) s u b few e (v, st, more) =
-      let (lt, c) = step_to k.rules is t s v l few st in
-      steps_coloured t d ls v u (shown_of l) (omega arith) (c ∙ sym (colour_letter d l lt)) more
+  -- one tenth more
+  reached_on : (t : ℕ) (u v : State) → Reached k known given t u → Agreeing k known given t (t + 1) u v → Reached k known given (t + 1) v
+  reached_on t u v (s, bw, g) h = (s, bw, (agreeing_join k known given 0 t (t + 1) s v (omega arith) (omega arith)).1 (u, g, h))
 
-  module _ (known : ℕ → Bool) (given : ℕ → List Event) where
-    tenth_fits : (t : ℕ) (ls : List ℕ) (s u : State) (b : Shown) → s.colour < 2 → Fits b s.colour → (IsTrue (known t) → ls ≡ letters k (given t)) → Steps k.rules (pos t) s ls u → (u.colour < 2) × Fits (after_tenth k known given t b) u.colour
-    tenth_fits t ls s u b few fit agree st = elim (cases_Bool (known t)) [
-      | inl held ↦ rw held (steps_fit (pos t) (letters k (given t)) s u b few fit (subst (λ (xs : List ℕ). Steps k.rules (pos t) s xs u) (agree held) st))
-      | inr open_tenth ↦ rw open_tenth ((steps_fit (pos t) ls s u b few fit st).0, tt)
-    ]
+  reached_back : (t : ℕ) (v : State) → Reached k known given (t + 1) v → (u : State) × Reached k known given t u × Agreeing k known given t (t + 1) u v
+  reached_back t v (s, bw, g) = let (u, g1, g2) = (agreeing_join k known given 0 t (t + 1) s v (omega arith) (omega arith)).0 g in (u, (s, bw, g1), g2)
 
-    -- every run that agrees is as is told
-    pub run_fits : (lists : List (List ℕ)) (t : ℕ) (s u : State) (b : Shown) → s.colour < 2 → Fits b s.colour → Agree known (λ x. letters k (given x)) t lists → Run k.rules (pos t) s lists u → Fits (after_tenths k known given (length lists) t b) u.colour
-    run_fits [] t s u b few fit ag r = let same = ap (λ (w : State). w.colour) r in subst (λ (c : ℕ). Fits b c) (sym same) fit
-    run_fits (ls ∷ rest) t s u b few fit (a, ag) (v, st, more) =
-        let (few2, fit2) = tenth_fits t ls s v b few fit a st in
-        run_fits rest (t + 1) v u (after_tenth k known given t b) few2 fit2 ag more
+  -- a known tenth
+  known_tenth : (t mask : ℕ) → known t ≡ true → IsReachedBy t mask → IsReachedBy (t + 1) (after k.rules mask (letters k (given t)))
+  known_tenth t mask held is d =
+      let ls = letters k (given t) in
+      let both = after_is k.rules few laws.stays ls mask d (letters_small k lettered (given t)) in
+      let first = λ (u v : State). agreeing_first k known given t (t + 1) u v (omega arith) held in
+      let none = λ (z v : State). agreeing_none k known given (t + 1) z v in (
+        (λ h.
+            let (c, hc, lead) = both.0 h in
+            let (u, r, e) = (is c).0 hc in
+            let early = reached_early t u r in
+            let (v, st, f) = lead_steps k.rules mixed.free (pos t) ls u d (omega (arith, ints)) (subst (λ (z : ℕ). Leads k.rules z ls d) (sym e) lead) in
+            (v, reached_on t u v r ((first u v).1 (v, st, (none v v).1 refl)), f)),
+        λ (v, r, f).
+            let (u, r0, g) = reached_back t v r in
+            let (z, st, g2) = (first u v).0 g in
+            let same : v ≡ z = (none z v).0 g2 in
+            let lead = steps_lead k.rules (pos t) ls u z st in
+            both.1 (u.colour, (is u.colour).1 (u, r0, refl), subst (λ (y : ℕ). Leads k.rules u.colour ls y) (ap (λ (s : State). s.colour) (sym same) ∙ f) lead),
+      )
 
-    tenth_coloured : (t d : ℕ) (s u : State) (b : Shown) → s.colour < 2 → s.colour ≡ colour_in d b → Steps k.rules (pos t) s (if known t then letters k (given t) else d ∷ []) u → (u.colour < 2) × (u.colour ≡ colour_in d (after_tenth k known given t b))
-    tenth_coloured t d s u b few e st = elim (cases_Bool (known t)) [
-      | inl held ↦ rw held (steps_coloured (pos t) d (letters k (given t)) s u b few e (rw held at st))
-      | inr open_tenth ↦
-          let (v, one, last) = rw open_tenth at st in
-          let (lt, c) = step_to k.rules is (pos t) s v d few one in
-          let same = ap (λ (w : State). w.colour) last in
-          rw open_tenth (omega arith, same ∙ c)
-    ]
+  -- an unknown one
+  open_tenth : (t mask : ℕ) → known t ≡ false → ((c : ℕ) × ReachedColour t c) → IsReachedBy (t + 1) (all_below k.rules.colours)
+  open_tenth t mask gap (c, (u, r, e)) d =
+      let both = has_all_below k.rules.colours d few in (
+        (λ h.
+            let lt = both.0 h in
+            let early : u.entry ≤ℤ pos t = (let e1 = reached_early t u r in omega (arith, ints)) in
+            let (l, g) = mixed.all u.colour d (reached_few t u r) lt in
+            let (v, st, f, _) = step_goes k.rules mixed.free (pos t) u l d early g in
+            let agree : Agree known (λ x. letters k (given x)) t ((l ∷ []) ∷ []) = ((λ is. let bad : true ≡ false = sym is ∙ gap in absurd (cc)), tt) in
+            (v, reached_on t u v r ((l ∷ []) ∷ [], omega arith, (agree, (v, (v, st, refl), refl))), f)),
+        λ (v, r2, f). both.1 (subst (λ (z : ℕ). z < k.rules.colours) f (reached_few (t + 1) v r2)),
+      )
 
-    -- the one whose unknown tenths have letter d alone is no other than is told only where nothing is
-    pub fill_coloured : (d n t : ℕ) (s u : State) (b : Shown) → s.colour < 2 → s.colour ≡ colour_in d b → Run k.rules (pos t) s (fill k known given d n t) u → u.colour ≡ colour_in d (after_tenths k known given n t b)
-    unfolding fill
-    fill_coloured d zero t s u b few e r = let same = ap (λ (w : State). w.colour) r in same ∙ e
-    fill_coloured d (suc n) t s u b few e (v, st, more) =
-        let (few2, e2) = tenth_coloured t d s v b few e st in
-        fill_coloured d n (t + 1) v u (after_tenth k known given t b) few2 e2 more
+  -- any
+  pub tenth : (t mask : ℕ) → ((c : ℕ) × ReachedColour t c) → IsReachedBy t mask → IsReachedBy (t + 1) (after_one t mask)
+  tenth t mask some is = elim (cases_Bool (known t)) [
+    | inl held ↦ rw held (known_tenth t mask held is)
+    | inr gap ↦ rw gap (open_tenth t mask gap some)
+  ]
 
-    letters_small : Lettered k → (acts : List Event) → Small 2 (letters k acts)
-    letters_small few [] = tt
-    letters_small few (a ∷ acts) = put_small (k.letter a.code a.param) (letters k acts) (λ j e. let two = is.letters in let lt = few a.code a.param j e in omega arith) (letters_small few acts)
+  -- there is always one
+  pub some_reached : (t : ℕ) → (c : ℕ) × ReachedColour t c
+  some_reached t =
+      let s = state 0 (negsuc 0) in
+      let lists = fill k known given [] t 0 in
+      let one = laws.some_colour in
+      let (u, run) = run_is k.rules mixed.free (pos 0) lists s (omega arith) (omega (arith, ints)) (fill_small k known given lettered [] t 0 tt) in
+      let len : length lists ≡ t = fill-length k known given [] t 0 in
+      (u.colour, (u, (s, (omega arith, omega (arith, ints)), (lists, omega arith, (fill-agrees k known given [] t 0, run))), refl))
 
-    -- its letters are the machine's
-    pub fill_small : Lettered k → (d n t : ℕ) → d < 2 → AllSmall 2 (fill k known given d n t)
-    unfolding fill
-    fill_small l d zero t lt = tt
-    fill_small l d (suc n) t lt = (
-      elim (cases_Bool (known t)) [ inl held ↦ rw held (letters_small l (given t)) | inr open_tenth ↦ rw open_tenth (lt, tt) ],
-      fill_small l d n (t + 1) lt,
-    )
-
-pub agree_take : (known : ℕ → Bool) (given : ℕ → List ℕ) (n t : ℕ) (lists : List (List ℕ)) → Agree known given t lists → Agree known given t (take n lists)
-agree_take known given zero t lists ag = tt
-agree_take known given (suc n) t [] ag = tt
-agree_take known given (suc n) t (ls ∷ rest) (a, ag) = (a, agree_take known given n (t + 1) rest ag)
-
--- after n tenths and one more
-pub after_tenths-more : (k : Track) (known : ℕ → Bool) (given : ℕ → List Event) (n t : ℕ) (b : Shown) → after_tenths k known given (n + 1) t b ≡ after_tenth k known given (t + n) (after_tenths k known given n t b)
-after_tenths-more k known given zero t b = let e : t ≡ t + 0 = omega arith in ap (λ x. after_tenth k known given x b) e
-after_tenths-more k known given (suc n) t b =
-    let c = after_tenth k known given t b in
-    let e : (t + 1) + n ≡ t + suc n = omega arith in
-    let one : suc n + 1 ≡ suc (n + 1) = omega arith in
-    rw one (after_tenths-more k known given n (t + 1) c ∙ ap (λ x. after_tenth k known given x (after_tenths k known given n (t + 1) c)) e)
+  -- from tenth f on masks that go on so have the colours that are reached
+  pub masks_go : (F : ℕ → ℕ) (n f : ℕ) → ((x : ℕ) → f ≤ x → x < f + n → F (x + 1) ≡ after_one x (F x)) → IsReachedBy f (F f) → IsReachedBy (f + n) (F (f + n))
+  masks_go F zero f goes is = let e : f ≡ f + 0 = omega arith in subst (λ (t : ℕ). IsReachedBy t (F t)) e is
+  masks_go F (suc n) f goes is =
+      let x = f + n in
+      let before = masks_go F n f (λ y l u. goes y l (omega arith)) is in
+      let next = tenth x (F x) (some_reached x) before in
+      let e : x + 1 ≡ f + suc n = omega arith in
+      subst (λ (t : ℕ). IsReachedBy t (F t)) e (subst (λ (m : ℕ). IsReachedBy (x + 1) m) (sym (goes x (omega arith) (omega arith))) next)

@@ -1,43 +1,60 @@
-// How many tenths of a range a switch is on, at least and at most.
+// How many tenths of a range a channel has a colour, at least and at most.
 ghost use Rattle.std.specs.Prelude.{ℕ, ◌≤◌};
 ghost use Rattle.state_tenths.specs.Ranges.{Counts};
-ghost use Rattle.detector_state.specs.Runs.{AllOn, FollowOn, IsOnIn, IsSwitched, LiesIn, NoneOn, SwitchLog, TellsEach};
+ghost use Rattle.signal_log.specs.Log.{Log};
+ghost use Rattle.detector_state.specs.Hours.{FollowOn, IsAskable, LiesIn, Meets, TellsEach};
+ghost use Rattle.detector_state.specs.Hours.{IsGreatestOn, IsLeastOn, IsSureFault};
 
+use crate::asked::{Asked, meets};
 use crate::part::{Part, Switched};
-use crate::signs::{Filling, is_on};
 
-/// The least number of tenths that the switch was on, of those of the hour from tenth `from` up to
-/// tenth `to`: those at the end of which it is on in all histories.
+// The colours, as numbers.
+const ON: u8 = 1;
+
+const FAULT: u8 = 2;
+
+/// The least number of tenths that the channel was on, of those of the hour from tenth `from` up to
+/// tenth `to`: those at the end of which it can't be else.
 pub fn least_on(switched: &Switched, from: u32, to: u32) -> u32
     requires { LiesIn switched.now from to }
-    ensures { (log : SwitchLog) → IsSwitched log switched.now → Counts (AllOn log) from to result }
+    ensures { IsLeastOn switched.now from to result }
 {
-    tenths_on(switched.parts(), from, to, Filling::Least)
+    tenths(switched.parts(), from, to, Asked::Only(ON))
 }
 
-/// The greatest number of tenths that it was on: those at the end of which it isn't off in all
-/// histories.
+/// The greatest number of tenths that it was on: those at the end of which it may be on.
 pub fn greatest_on(switched: &Switched, from: u32, to: u32) -> u32
     requires { LiesIn switched.now from to }
-    ensures { (log : SwitchLog) → IsSwitched log switched.now → Counts (λ x. NoneOn log x → ⊥) from to result }
+    ensures { IsGreatestOn switched.now from to result }
 {
-    tenths_on(switched.parts(), from, to, Filling::Greatest)
+    tenths(switched.parts(), from, to, Asked::May(ON))
+}
+
+/// Whether it is sure at the end of some of these tenths that the detector has a fault.
+pub fn sure_fault(switched: &Switched, from: u32, to: u32) -> bool
+    requires { LiesIn switched.now from to }
+    ensures { IsSureFault switched.now from to result }
+{
+    tenths(switched.parts(), from, to, Asked::Only(FAULT)) > 0
 }
 
 // The parts without those that end at the tenth or before.
 fn ending_after(parts: &[Part], from: u32) -> &[Part]
     requires ordered { (a : ℕ) × (b : ℕ) × FollowOn a b parts.now }
-    ensures { (log : SwitchLog) (a b : ℕ) → TellsEach log a b parts.now → a ≤ from → (m : ℕ) × (m ≤ from) × TellsEach log m b result.now }
+    ensures { (log : Log) (i a b : ℕ) → TellsEach log i a b parts.now → a ≤ from
+        → (m : ℕ) × (m ≤ from) × TellsEach log i m b result.now }
 {
     let first = parts.partition_point(|part| part.to <= from);
     let (_ended, others) = parts.split_at(first);
     others
 }
 
-// The tenths of the range at the end of which the switch is on in the filling.
-fn tenths_on(parts: &[Part], from: u32, to: u32, filling: Filling) -> u32
-    requires { LiesIn parts.now from to }
-    ensures { (log : SwitchLog) (a b : ℕ) → TellsEach log a b parts.now → a ≤ from → to ≤ b → Counts (IsOnIn log filling) from to result }
+// The tenths of the range at the end of which what is asked holds.
+fn tenths(parts: &[Part], from: u32, to: u32, asked: Asked) -> u32
+    requires range { LiesIn parts.now from to }
+    requires asked { IsAskable asked }
+    ensures { (log : Log) (i a b : ℕ) → TellsEach log i a b parts.now → a ≤ from → to ≤ b
+        → Counts (Meets log i asked) from to result }
 {
     let mut count: u32 = 0;
     let mut at = from;
@@ -47,7 +64,7 @@ fn tenths_on(parts: &[Part], from: u32, to: u32, filling: Filling) -> u32
             return count;
         }
         let end = part.to.min(to).max(at);
-        if is_on(part.shown, filling) {
+        if meets(part.mask, asked) {
             count = count.saturating_add(end - at);
         }
         at = end;

@@ -1,21 +1,27 @@
-//! How long a detector, a pedestrian detector or a preempt input was on in any part of an hour, at
-//! least and at most over all histories that agree with the log.
+//! Which colours a detector, a pedestrian detector or a preempt input may have at the end of each
+//! tenth of an hour, and at how many tenths it was on, at least and at most.
 //!
-//! Such a switch takes every row in every colour and has no floors. So at the end of a known tenth,
-//! after a row of the switch in the same known stretch, its colour is certain. In an unknown tenth,
-//! and after it up to the switch's next row, both colours may be; before the hour's first row it is
-//! what the states before the hour say.
+//! An hour is cut into ranges, each with the set of the colours that are possible at the ends of
+//! its tenths. `least_on` counts the tenths at which it can't be else than on, `greatest_on` those
+//! at which it may be on; `sure_fault` asks for a tenth at which a detector can't be else than in a
+//! fault. `OnTenths` adds these up over ranges that cross hours. All of it says what is reached by
+//! the tenths so far, so it stays true whatever is known of later ones; that one history of the
+//! window has all least numbers at once, and one all greatest, are laws of `free_channels`.
+//! `docs/DEFINITIONS.md` has the definitions.
 #![tactic(auto)]
 
+mod asked;
+mod colours;
 mod count;
 mod hour;
 mod laws;
 mod part;
-mod signs;
+mod tenths;
 #[cfg(test)]
 mod tests;
 
-pub use count::{greatest_on, least_on};
+pub use count::{greatest_on, least_on, sure_fault};
 pub use hour::switched;
-pub use laws::{bounds_are_reached, runs_lie_between};
+pub use laws::{hours_fit, switches_are_ordered};
 pub use part::Switched;
+pub use tenths::OnTenths;

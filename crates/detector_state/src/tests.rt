@@ -1,18 +1,32 @@
-use crate::{greatest_on, least_on, switched};
+// Detector 5 in an hour before which nothing is known of it.
+ghost use Rattle.std.specs.Prelude.{IfOk};
+ghost use Rattle.board.specs.Logs.{IsHour};
+ghost use Rattle.detector_state.specs.Hours.{FollowOn};
+
+use crate::{Switched, greatest_on, least_on, sure_fault, switched};
 use event_codes::{Channel, Kind};
 use gap_map::Stretch;
 use reach::Past;
-use sig_base::Row;
+use sig_base::{NoMemory, Row};
+use std::alloc::Global;
 use std::test::Fail;
 
-// A detector of which nothing is known before it comes on at tenth 100.
-#[test]
-fn a_detector_that_comes_on(rt: HostRuntime) -> Result<(), Fail> {
+fn told(alloc: Global, rows: &[Row], stretches: &[Stretch]) -> Result<Switched, NoMemory>
+    requires { IsHour 0 rows.now stretches.now }
+    ensures { IfOk result (λ v. FollowOn 0 36000 v) }
+{
     let channel = Channel {
         kind: Kind::Detector,
         number: 5,
     };
-    let before = Past::start(rt.alloc(), 2)?;
+    let before = Past::start(alloc, 3)?;
+    let told = switched(alloc, channel, &before, rows, stretches)?;
+    Ok(told)
+}
+
+// It comes on at tenth 100.
+#[test]
+fn a_detector_that_comes_on(rt: HostRuntime) -> Result<(), Fail> {
     let rows = [Row {
         at: 100,
         code: 82,
@@ -23,8 +37,62 @@ fn a_detector_that_comes_on(rt: HostRuntime) -> Result<(), Fail> {
         to: 36_000,
         known: true,
     }];
-    let told = switched(rt.alloc(), channel, &before, &rows, &stretches)?;
+    let told = told(rt.alloc(), &rows, &stretches)?;
     assert_eq!(rt; least_on(&told, 0, 200), 100);
     assert_eq!(rt; greatest_on(&told, 0, 200), 200);
+    Ok(())
+}
+
+// It has a fault from tenth 100 on, is restored at 200 and on at 300; a row 83 after unknown tenths
+// leaves it off or on.
+#[test]
+fn a_detector_with_a_fault(rt: HostRuntime) -> Result<(), Fail> {
+    let rows = [
+        Row {
+            at: 100,
+            code: 85,
+            param: 5,
+        },
+        Row {
+            at: 200,
+            code: 83,
+            param: 5,
+        },
+        Row {
+            at: 300,
+            code: 82,
+            param: 5,
+        },
+        Row {
+            at: 1_000,
+            code: 83,
+            param: 5,
+        },
+    ];
+    let stretches = [
+        Stretch {
+            from: 0,
+            to: 400,
+            known: true,
+        },
+        Stretch {
+            from: 400,
+            to: 1_000,
+            known: false,
+        },
+        Stretch {
+            from: 1_000,
+            to: 36_000,
+            known: true,
+        },
+    ];
+    let told = told(rt.alloc(), &rows, &stretches)?;
+    assert!(rt; !sure_fault(&told, 0, 100));
+    assert!(rt; sure_fault(&told, 0, 101));
+    assert!(rt; sure_fault(&told, 199, 200));
+    assert!(rt; !sure_fault(&told, 200, 36_000));
+    assert_eq!(rt; greatest_on(&told, 100, 300), 0);
+    assert_eq!(rt; least_on(&told, 200, 2_000), 100);
+    assert_eq!(rt; greatest_on(&told, 300, 2_000), 1_700);
     Ok(())
 }

@@ -23,7 +23,7 @@ channel_lines =
     line Phase (0 ∷ 1 ∷ 7 ∷ 8 ∷ 9 ∷ 10 ∷ 11 ∷ 12 ∷ []) 1 16
     ∷ line Ped (21 ∷ 22 ∷ 23 ∷ 24 ∷ []) 1 16
     ∷ line Overlap (61 ∷ 62 ∷ 63 ∷ 64 ∷ 65 ∷ 66 ∷ []) 1 16
-    ∷ line Detector (81 ∷ 82 ∷ []) 1 128
+    ∷ line Detector (81 ∷ 82 ∷ 83 ∷ 84 ∷ 85 ∷ 86 ∷ 87 ∷ 88 ∷ []) 1 128
     ∷ line PedDetector (89 ∷ 90 ∷ []) 1 16
     ∷ line PreemptInput (102 ∷ 104 ∷ []) 1 16
     ∷ line PreemptService (105 ∷ 106 ∷ 107 ∷ 111 ∷ []) 1 16

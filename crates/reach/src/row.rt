@@ -133,7 +133,7 @@ fn change(sets: &mut [SpanSet], keep: Mask, enter: Mask, at: Tenth) -> Result<()
 }
 
 // Whether the sets hold a state.
-fn is_some_state(sets: &[SpanSet]) -> bool
+pub fn is_some_state(sets: &[SpanSet]) -> bool
     ensures { IsTrue result ↔ ((u : State) × Holds sets.now u) }
 {
     for set in sets {

@@ -6,3 +6,4 @@ pub mod Rooms
 pub mod PartLaws
 pub mod ToldRows
 pub mod HourLists
+pub mod Fitting

@@ -1,5 +1,5 @@
 -- Whole services, ends of yellow and whole cycles in their own words: rows between rows.
-use Rattle.std.specs.Prelude.{ℕ, ◌≡◌, ◌≤◌, Bool, true, false, List, ◌∷◌, ◌++◌, Some, All}
+use Rattle.std.specs.Prelude.{ℕ, ◌≡◌, ◌≤◌, ◌-◌, Bool, true, false, List, ◌∷◌, ◌++◌, Some, All}
 use Rattle.sig_base.specs.declared.values.Row.{Row}
 use Rattle.hour_sweep.specs.Rows.{last}
 use Rattle.service_cut.specs.declared.items.Service.{Service}
@@ -65,3 +65,9 @@ pub record IsCycle (known : ℕ → Bool) (p : ℕ) (before : List Row) (r : Row
   pub none : (xs : List Row) (x : Row) (ys : List Row) → between ≡ xs ++ x ∷ ys → IsYellowEnd known p (to_from ++ from ∷ xs) x → ⊥
   pub all_known : AllKnown known from.at r.at
   pub c_is : c ≡ record { phase = p; from = from.at; to = r.at; green = offset_of from.at (last (λ z. is_begin (sign p z)) between); yellow = offset_of from.at (last (λ z. is_yellow (sign p z)) between) }
+
+-- a cycle doesn't end before it begins, and its last begins of green and of yellow lie in it
+pub record CycleFits (c : Cycle) : Type 0 where
+  pub in_order : c.from ≤ c.to
+  pub green_in : c.green ≤ c.to - c.from
+  pub yellow_in : c.yellow ≤ c.to - c.from

@@ -8,7 +8,7 @@ ghost use Rattle.service_cut.specs.declared.items.Service.{Service};
 ghost use Rattle.service_cut.specs.declared.items.Cycle.{Cycle};
 ghost use Rattle.service_cut.specs.Services.{service_at};
 ghost use Rattle.service_cut.specs.Cycles.{cycle_at};
-ghost use Rattle.service_cut.specs.Whole.{IsService, IsCycle};
+ghost use Rattle.service_cut.specs.Whole.{IsService, IsCycle, CycleFits};
 ghost use Rattle.service_cut.specs.Cut.{services_from, cycles_from, service_is_in, cycle_is_in};
 
 /// A row ends exactly the whole services: four rows of the phase, each the first of its kind, no
@@ -23,6 +23,13 @@ pub fn services_are_whole()
 pub fn cycles_are_whole()
     ensures { (known : ℕ → Bool) (p a b : ℕ) (before : List Row) (r : Row) (c : Cycle) → AreOrdered a b before → All (λ z. known z.at ≡ true) before → known r.at ≡ true
         → (cycle_at known p before r ≡ Some c) ↔ IsCycle known p before r c }
+{}
+
+/// The cycles that end among ordered rows, where the first rows stand before them: none ends before
+/// it begins, and the offsets of green and of yellow are at most its length.
+pub fn cycles_fit()
+    ensures { (known : ℕ → Bool) (phases : List PhaseItem) (a b : ℕ) (before rows : List Row) → AreOrdered a b (before ++ rows)
+        → All CycleFits (cycles_from known phases before rows) }
 {}
 
 /// The lists of two parts of a log, one after the other, are those of the whole, wherever it is

@@ -24,4 +24,4 @@ mod tests;
 pub use carry::CutCarry;
 pub use hour::{Cuts, cut_hour};
 pub use items::{Cycle, OpenCycle, OpenService, Service, Termination};
-pub use laws::{cycles_are_whole, hours_add_up, hours_count, services_are_whole};
+pub use laws::{cycles_are_whole, cycles_fit, hours_add_up, hours_count, services_are_whole};

@@ -1,3 +1,6 @@
 pub mod Adding
 pub mod Ones
 pub mod Tables
+pub mod Numbers
+pub mod Telling
+pub mod Failing

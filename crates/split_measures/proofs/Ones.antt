@@ -24,7 +24,7 @@ unfolding capped
 count_if true = omega arith
 count_if false = omega arith
 
-count_one : {X : Type 0} (p : X → Bool) (x : X) → capped (count_by p (x ∷ [])) ≡ cond (p x) 1 0
+pub count_one : {X : Type 0} (p : X → Bool) (x : X) → capped (count_by p (x ∷ [])) ≡ cond (p x) 1 0
 count_one p x = count_if (p x)
 
 pub one_service : (s : Service) (n m a b c d : ℕ) → n ≡ split s → m ≡ n → n < 2 ^ 32 → a ≡ ends_by GapOut s → b ≡ ends_by MaxOut s → c ≡ ends_by ForceOff s → d ≡ ends_by Unlogged s → record { services = 1; least = Some n; greatest = Some n; sum = m; gap_out = a; max_out = b; force_off = c; unlogged = d; cycles = 0; cycle_sum = 0 } ≡ phase_sum_of (s ∷ []) []

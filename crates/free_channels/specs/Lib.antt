@@ -1,0 +1,4 @@
+pub mod Free
+pub mod Tables
+pub mod Tells
+pub mod Bounds

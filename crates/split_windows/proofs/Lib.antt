@@ -1,0 +1,4 @@
+pub mod Going
+pub mod Fitting
+pub mod Waiting
+pub mod Staying

@@ -1,0 +1,3 @@
+pub mod Windows
+pub mod Going
+pub mod Staying

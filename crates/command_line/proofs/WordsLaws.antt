@@ -46,10 +46,10 @@ is_parsed words app m same none has =
 pub given : (r : Option (Bor Text)) (f : Found) (id : Text) → option_map (λ s. s.now) r ≡ first_value f id → text_of r ≡ first_of id (rows_of f)
 given r f id e = e ∙ first_value-rows f id
 
-pub six : (a b c d e f : Option Text) (found : List Row) → a ≡ first_of (codes "config") found → b ≡ first_of (codes "script") found → c ≡ first_of (codes "count") found
-    → d ≡ first_of (codes "signal") found → e ≡ first_of (codes "hour") found → f ≡ first_of (codes "demo") found → asked_by a b c d e f ≡ asked_for (given_by found)
+pub seven : (a b c d e f g : Option Text) (found : List Row) → a ≡ first_of (codes "config") found → b ≡ first_of (codes "script") found → c ≡ first_of (codes "count") found
+    → d ≡ first_of (codes "signal") found → e ≡ first_of (codes "hour") found → f ≡ first_of (codes "pack") found → g ≡ first_of (codes "demo") found → asked_by a b c d e f g ≡ asked_for (given_by found)
 unfolding asked_for
-six a b c d e f found p q r s t u = rw (p, q, r, s, t, u) refl
+seven a b c d e f g found p q r s t u v = rw (p, q, r, s, t, u, v) refl
 
 pub some_asked : (o : Option Asked) (found : List Row) (words : List Text) → faults words ≡ [] → found ≡ rows words → o ≡ asked_for (given_by found) → request_of words ≡ o
 unfolding request_of

@@ -1,5 +1,5 @@
 -- What the words of the command line ask for.
-use Rattle.std.specs.Prelude.{◌≡◌, ℕ, ℤ, ◌==◌, ◌&&◌, ◌<◌, not, nat_le, Bool, true, false, List, [], ◌∷◌, length, codes, Option, Some, None, Result, Ok, Err, option_map, if◌then◌else◌}
+use Rattle.std.specs.Prelude.{◌≡◌, ℕ, ℤ, ◌<◌, Bool, true, List, [], ◌∷◌, length, codes, Option, Some, None, Result, Ok, Err, option_map, if◌then◌else◌}
 use Rattle.std.specs.Borrow.{Bor}
 use Rattle.clap.specs.Walk.{Text, Rule, Row, first_of, is_empty, rows_of}
 use Rattle.clap.specs.Matches.{found_of}
@@ -9,6 +9,7 @@ use Rattle.clap.specs.Faults.{fault_of}
 use Rattle.clap.specs.Kinds.{Kinds}
 use Rattle.clap.specs.declared.builder.action.ArgAction.TheVariants.{Set}
 use Rattle.sig_base.specs.Window.{IsDay}
+use Rattle.row_reader.specs.Signal.{is_signal}
 use Rattle.row_reader.specs.Stamp.{hour_stamp_of}
 use Rattle.command_line.specs.declared.Request.{Request}
 use Rattle.command_line.specs.declared.Request.TheVariants as code
@@ -19,25 +20,27 @@ use Rattle.command_line.specs.declared.Refused.TheVariants.{Usage, Memory}
 abbrev pub option_rule : Text → Rule
 option_rule name = record (new_rule name) { long = Some name; action = Some Set }
 
--- the command: six options, none of them required
+-- the command: seven options, none of them required
 abbrev pub sigaudit : App
 sigaudit =
-    with_rule (with_rule (with_rule (with_rule (with_rule (with_rule (new_app (codes "sigaudit"))
+    with_rule (with_rule (with_rule (with_rule (with_rule (with_rule (with_rule (new_app (codes "sigaudit"))
     (option_rule (codes "config"))) (option_rule (codes "script"))) (option_rule (codes "count")))
-    (option_rule (codes "signal"))) (option_rule (codes "hour"))) (option_rule (codes "demo"))
+    (option_rule (codes "signal"))) (option_rule (codes "hour"))) (option_rule (codes "pack"))) (option_rule (codes "demo"))
 
--- a run of a script over a configuration, or a count of the codes of one file of this signal and this hour of a day
+-- a run of a script over a configuration; of one file of this signal and this hour of a day, a count of the codes or its packed bytes
 pub data Asked : Type 0 where
   for_run : Text → Text → Asked
   for_count : Text → Text → ℤ → ℕ → Asked
+  for_pack : Text → Text → ℤ → ℕ → Asked
 
--- the values of the six options
+-- the values of the seven options
 pub record Given : Type 0 where
   pub config : Option Text
   pub script : Option Text
   pub count : Option Text
   pub signal : Option Text
   pub hour : Option Text
+  pub pack : Option Text
   pub demo : Option Text
 
 abbrev pub given_by : List Row → Given
@@ -47,31 +50,30 @@ given_by found = record {
   count = first_of (codes "count") found;
   signal = first_of (codes "signal") found;
   hour = first_of (codes "hour") found;
+  pack = first_of (codes "pack") found;
   demo = first_of (codes "demo") found;
 }
 
--- each byte can stand in a signal's name: 0x21 to 0x7E without comma or double quote
-abbrev pub all_plain : Text → Bool
-all_plain [] = true
-all_plain (b ∷ bs) = nat_le 33 b && nat_le b 126 && not (b == 44) && not (b == 34) && all_plain bs
+-- the day and the hour that the words name for a signal, where both are readable
+abbrev pub hour_asked : Text → Text → Option (ℤ × ℕ)
+hour_asked signal hour = if is_signal signal then hour_stamp_of hour else None
 
--- 1 to 32 of these bytes
-abbrev pub is_signal : Text → Bool
-is_signal text = nat_le 1 (length text) && nat_le (length text) 32 && all_plain text
-
--- the count of this file, signal and hour, where the last two are readable
+-- the count of this file, signal and hour, and its packed bytes, where the last two are readable
 abbrev pub count_asked : Text → Text → Text → Option Asked
-count_asked file signal hour =
-    if is_signal signal then option_map (λ s. for_count file signal s.0 s.1) (hour_stamp_of hour) else None
+count_asked file signal hour = option_map (λ at. for_count file signal at.0 at.1) (hour_asked signal hour)
+
+abbrev pub pack_asked : Text → Text → Text → Option Asked
+pack_asked file signal hour = option_map (λ at. for_pack file signal at.0 at.1) (hour_asked signal hour)
 
 -- the request of exactly these options
-abbrev pub asked_by : Option Text → Option Text → Option Text → Option Text → Option Text → Option Text → Option Asked
-asked_by (Some c) (Some s) None None None None = Some (for_run c s)
-asked_by None None (Some f) (Some i) (Some h) None = count_asked f i h
-asked_by _ _ _ _ _ _ = None
+abbrev pub asked_by : Option Text → Option Text → Option Text → Option Text → Option Text → Option Text → Option Text → Option Asked
+asked_by (Some c) (Some s) None None None None None = Some (for_run c s)
+asked_by None None (Some f) (Some i) (Some h) None None = count_asked f i h
+asked_by None None None (Some i) (Some h) (Some f) None = pack_asked f i h
+asked_by _ _ _ _ _ _ _ = None
 
 unfoldable pub asked_for : Given → Option Asked
-asked_for g = asked_by g.config g.script g.count g.signal g.hour g.demo
+asked_for g = asked_by g.config g.script g.count g.signal g.hour g.pack g.demo
 
 -- what the command says of the words: the kinds of error that they give, and the matches
 unfoldable pub faults : List Text → Kinds
@@ -87,6 +89,7 @@ request_of words = if is_empty (faults words) then asked_for (given_by (rows wor
 abbrev pub seen : Request → Asked
 seen (code.Run config script) = for_run config.now script.now
 seen (code.Count file signal day hour) = for_count file.now signal.now day hour
+seen (code.Pack file signal day hour) = for_pack file.now signal.now day hour
 
 -- the answer is the request of the words, or Usage where there is none, unless memory ran out
 abbrev pub Answers : Result Request Refused → Option Asked → Type 0
@@ -97,9 +100,10 @@ Answers (Err Memory) asked = Unit {0}
 abbrev pub text_of : Option (Bor Text) → Option Text
 text_of = option_map (λ s. s.now)
 
-abbrev pub AsksFor : Option Request → Option (Bor Text) → Option (Bor Text) → Option (Bor Text) → Option (Bor Text) → Option (Bor Text) → Option (Bor Text) → Type 0
-AsksFor result config script count signal hour demo =
-    option_map seen result ≡ asked_by (text_of config) (text_of script) (text_of count) (text_of signal) (text_of hour) (text_of demo)
+abbrev pub AsksFor : Option Request → Option (Bor Text) → Option (Bor Text) → Option (Bor Text) → Option (Bor Text) → Option (Bor Text) → Option (Bor Text) → Option (Bor Text) → Type 0
+AsksFor result config script count signal hour pack demo =
+    option_map seen result
+    ≡ asked_by (text_of config) (text_of script) (text_of count) (text_of signal) (text_of hour) (text_of pack) (text_of demo)
 
 -- the matches are those of the words, or there is no request, unless memory ran out
 abbrev pub Parses : Result ArgMatches Refused → List Text → Type 0
@@ -107,7 +111,8 @@ Parses (Ok m) words = (faults words ≡ []) × (rows_of (found_of m) ≡ rows wo
 Parses (Err Usage) words = request_of words ≡ None
 Parses (Err Memory) words = Unit {0}
 
--- the day and the hour of a count are ones that there are
-abbrev pub HasDay : Request → Type 0
-HasDay (code.Run config script) = Unit {0}
-HasDay (code.Count file signal day hour) = IsDay day × (hour < 24)
+-- a signal, a day and an hour that are named are ones that there can be
+abbrev pub IsReadable : Request → Type 0
+IsReadable (code.Run config script) = Unit {0}
+IsReadable (code.Count file signal day hour) = IsDay day × (hour < 24) × (is_signal signal.now ≡ true)
+IsReadable (code.Pack file signal day hour) = IsDay day × (hour < 24) × (is_signal signal.now ≡ true)

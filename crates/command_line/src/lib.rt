@@ -1,16 +1,18 @@
-//! What the words of a command line ask for: one simple command of six options, each taking one
-//! value, and the three sets of them that the program has. The rules are those of
+//! What the words of a command line ask for: one simple command of seven options, each taking one
+//! value, and the four sets of them that the program has. The rules are those of
 //! `docs/FORMATS.md`.
 #![tactic(auto)]
 
-ghost use Rattle.std.specs.Prelude.{◌≡◌, false, map, IfOk, IfSome, List, Option, option_map, Some, None};
+ghost use Rattle.std.specs.Prelude.{◌≡◌, ◌<◌, true, false, map, IfOk, IfSome, List, Option, option_map, Some, None};
+ghost use Rattle.sig_base.specs.Window.{IsDay};
+ghost use Rattle.row_reader.specs.Signal.{is_signal};
 ghost use Rattle.clap.specs.Words.{app_of, rule_of, found_of, rows_of};
-ghost use Rattle.command_line.specs.Words.{all_plain, is_signal, count_asked, option_rule, sigaudit, request_of, Answers, HasDay, Parses, asked_for, given_by, seen, AsksFor};
+ghost use Rattle.command_line.specs.Words.{count_asked, hour_asked, pack_asked, option_rule, sigaudit, request_of, Answers, IsReadable, Parses, asked_for, given_by, seen, AsksFor};
 ghost use Rattle.command_line.specs.declared.Refused.TheVariants.{Memory};
 
 use clap::error::ErrorKind;
 use clap::{Arg, ArgAction, ArgMatches, Command};
-use row_reader::read_hour_stamp;
+use row_reader::{is_signal, read_hour_stamp};
 use std::alloc::{AllocError, Global};
 
 /// What the words ask for.
@@ -21,6 +23,8 @@ pub enum Request<'a> {
     /// A file by its name, the signal, and the hour: a day, counted from 1970-01-01, and an hour of
     /// it, 0 to 23.
     Count(&'a str, &'a str, i64, u8),
+    /// The same of a file whose rows are to be packed.
+    Pack(&'a str, &'a str, i64, u8),
 }
 
 /// Why there is no request.
@@ -56,38 +60,38 @@ fn command<'a>(alloc: Global) -> Result<Command<'a>, AllocError>
         .arg(option(alloc, "count"))?
         .arg(option(alloc, "signal"))?
         .arg(option(alloc, "hour"))?
+        .arg(option(alloc, "pack"))?
         .arg(option(alloc, "demo"))
 }
 
-fn all_plain(text: &[u8]) -> bool
-    ensures { result ≡ all_plain text.now }
+// The hour of one signal that the words name, a day and an hour of it, where both are readable.
+fn hour_asked(signal: &str, hour: &str) -> Option<(i64, u8)>
+    ensures value { result ≡ hour_asked signal.now hour.now }
+    ensures day { IfSome result (λ at. IsDay at.0 × (at.1 < 24) × (is_signal signal.now ≡ true)) }
 {
-    let mut rest = text;
-    while let [first, after @ ..] = rest {
-        if *first < 33 || *first > 126 || *first == b',' || *first == b'"' {
-            return false;
-        }
-        rest = after;
+    if is_signal(signal) {
+        read_hour_stamp(hour.as_bytes())
+    } else {
+        None
     }
-    true
 }
 
-fn is_signal(text: &[u8]) -> bool
-    ensures { result ≡ is_signal text.now }
-{
-    1 <= text.len() && text.len() <= 32 && all_plain(text)
-}
-
-// The count of this file, signal and hour, where the last two are readable.
 fn count_asked<'a>(file: &'a str, signal: &'a str, hour: &str) -> Option<Request<'a>>
     ensures value { option_map seen result ≡ count_asked file.entry.now signal.entry.now hour.now }
-    ensures day { IfSome result HasDay }
+    ensures readable { IfSome result IsReadable }
 {
-    if !is_signal(signal.as_bytes()) {
-        return None;
-    }
-    match read_hour_stamp(hour.as_bytes()) {
+    match hour_asked(signal, hour) {
         Some((day, hour)) => Some(Request::Count(file, signal, day, hour)),
+        None => None,
+    }
+}
+
+fn pack_asked<'a>(file: &'a str, signal: &'a str, hour: &str) -> Option<Request<'a>>
+    ensures value { option_map seen result ≡ pack_asked file.entry.now signal.entry.now hour.now }
+    ensures readable { IfSome result IsReadable }
+{
+    match hour_asked(signal, hour) {
+        Some((day, hour)) => Some(Request::Pack(file, signal, day, hour)),
         None => None,
     }
 }
@@ -98,14 +102,23 @@ fn choose<'a>(
     count: Option<&'a str>,
     signal: Option<&'a str>,
     hour: Option<&'a str>,
+    pack: Option<&'a str>,
     demo: Option<&'a str>,
 ) -> Option<Request<'a>>
-    ensures value { AsksFor result config.entry script.entry count.entry signal.entry hour.entry demo.entry }
-    ensures day { IfSome result HasDay }
+    ensures value { AsksFor result config.entry script.entry count.entry signal.entry hour.entry
+        pack.entry demo.entry }
+    ensures readable { IfSome result IsReadable }
 {
-    match (config, script, count, signal, hour, demo) {
-        (Some(config), Some(script), None, None, None, None) => Some(Request::Run(config, script)),
-        (None, None, Some(file), Some(signal), Some(hour), None) => count_asked(file, signal, hour),
+    match (config, script, count, signal, hour, pack, demo) {
+        (Some(config), Some(script), None, None, None, None, None) => {
+            Some(Request::Run(config, script))
+        }
+        (None, None, Some(file), Some(signal), Some(hour), None, None) => {
+            count_asked(file, signal, hour)
+        }
+        (None, None, None, Some(signal), Some(hour), Some(file), None) => {
+            pack_asked(file, signal, hour)
+        }
         _ => None,
     }
 }
@@ -127,7 +140,7 @@ fn parse<'a>(alloc: Global, words: &'a [&'a str]) -> Result<ArgMatches<'a>, Refu
 // What the options that were given ask for.
 fn asked<'a>(matches: &ArgMatches<'a>) -> Option<Request<'a>>
     ensures value { option_map seen result ≡ asked_for (given_by (rows_of (found_of matches.now))) }
-    ensures day { IfSome result HasDay }
+    ensures readable { IfSome result IsReadable }
 {
     choose(
         matches.get_str("config"),
@@ -135,6 +148,7 @@ fn asked<'a>(matches: &ArgMatches<'a>) -> Option<Request<'a>>
         matches.get_str("count"),
         matches.get_str("signal"),
         matches.get_str("hour"),
+        matches.get_str("pack"),
         matches.get_str("demo"),
     )
 }
@@ -144,7 +158,7 @@ fn asked<'a>(matches: &ArgMatches<'a>) -> Option<Request<'a>>
 /// program has, or where the signal or the hour isn't readable.
 pub fn parse_words<'a>(alloc: Global, words: &'a [&'a str]) -> Result<Request<'a>, Refused>
     ensures value { Answers result (request_of (map (λ w. w.now) words.entry.now)) }
-    ensures day { IfOk result HasDay }
+    ensures readable { IfOk result IsReadable }
 {
     let matches = parse(alloc, words)?;
     match asked(&matches) {
@@ -161,12 +175,27 @@ mod tests {
     fn words_in_any_order(rt: HostRuntime) {
         let run = Ok(Request::Run("c", "s"));
         let count = Ok(Request::Count("f", "7", 19_786, 6));
+        let pack = Ok(Request::Pack("f", "7", 19_786, 6));
         for (words, wanted) in [
             (["--config", "c", "--script", "s", "--"].as_slice(), run),
             (["--script=s", "--config", "c"].as_slice(), run),
             (
                 ["--hour=2024-03-04T06", "--count=f", "--signal", "7"].as_slice(),
                 count,
+            ),
+            (
+                ["--signal=7", "--hour=2024-03-04T06", "--pack", "f"].as_slice(),
+                pack,
+            ),
+            (
+                [
+                    "--pack=f",
+                    "--count=f",
+                    "--signal=7",
+                    "--hour=2024-03-04T06",
+                ]
+                .as_slice(),
+                Err(Refused::Usage),
             ),
             (["--config", "c"].as_slice(), Err(Refused::Usage)),
             (

@@ -1,5 +1,4 @@
 pub mod Number
-pub mod Signal
 pub mod Grammar
 pub mod Reading
 pub mod Repeats

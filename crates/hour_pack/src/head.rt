@@ -1,6 +1,6 @@
 // What stands in front of the count: the mark, the signal and the hour.
 ghost use Rattle.std.specs.Prelude.{◌≡◌, ◌*◌, ◌<◌, ◌++◌, true, OnOk};
-ghost use Rattle.hour_pack.specs.Signal.{is_signal};
+ghost use Rattle.row_reader.specs.Signal.{is_signal};
 ghost use Rattle.hour_pack.specs.Grammar.{head_bytes, hour_part};
 ghost use Rattle.hour_pack.specs.Reading.{Gives, after_head, after_mark, after_part};
 

@@ -4,7 +4,7 @@ ghost use Rattle.std.specs.List.{AllByRecursion};
 ghost use Rattle.sig_base.specs.HourRows.{AreRowsOf};
 ghost use Rattle.sig_base.specs.Reads.{raised};
 ghost use Rattle.row_reader.specs.Repeats.{HasNoRepeat};
-ghost use Rattle.hour_pack.specs.Signal.{is_signal};
+ghost use Rattle.row_reader.specs.Signal.{is_signal};
 ghost use Rattle.hour_pack.specs.Grammar.{IsEvent, packed, row_bytes, rows_bytes};
 ghost use Rattle.hour_pack.specs.Reading.{reading};
 

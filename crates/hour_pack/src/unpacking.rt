@@ -3,7 +3,7 @@ ghost use Rattle.std.specs.Prelude.{◌≡◌, ◌+◌, ◌*◌, ◌<◌, ◌≤
 ghost use Rattle.sig_base.specs.declared.values.Row.{Row as Row_type};
 ghost use Rattle.hour_pack.specs.declared.pack_error.PackError.{PackError as PackError_type};
 ghost use Rattle.hour_pack.specs.Faults.{HasCause};
-ghost use Rattle.hour_pack.specs.Signal.{is_signal};
+ghost use Rattle.row_reader.specs.Signal.{is_signal};
 ghost use Rattle.hour_pack.specs.Grammar.{ArePackable, packed};
 ghost use Rattle.hour_pack.specs.Reading.{Gives, GivesInMemory, count_at, hour_rows, reading, rows_at};
 

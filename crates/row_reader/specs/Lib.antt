@@ -1,5 +1,6 @@
 pub mod CsvRest
 pub mod Number
+pub mod Signal
 pub mod Stamp
 pub mod Forms
 pub mod Trim

@@ -12,6 +12,7 @@ mod reader;
 mod repeats;
 mod row;
 mod row_error;
+mod signal;
 mod stamp;
 #[cfg(test)]
 mod tests;
@@ -23,4 +24,5 @@ pub use order::put_in_order;
 pub use reader::read_rows;
 pub use repeats::drop_repeats;
 pub use row_error::RowError;
+pub use signal::is_signal;
 pub use stamp::{read_hour_stamp, read_stamp};

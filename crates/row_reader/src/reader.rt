@@ -1,8 +1,9 @@
 // Reads a log file, record by record.
-ghost use Rattle.std.specs.Prelude.{◌≡◌, ◌+◌, ◌*◌, ◌<◌, ◌≤◌, Ok, IfOk, IfErr, length};
+ghost use Rattle.std.specs.Prelude.{◌≡◌, ◌+◌, ◌*◌, ◌<◌, ◌≤◌, [], Ok, IfOk, IfErr, length};
 ghost use Rattle.sig_base.specs.HourRows.{AreRowsOf};
 ghost use Rattle.row_reader.specs.Order.{AreWithin};
 ghost use Rattle.row_reader.specs.Rows.{good_rows, rows_of, shown_of, IsRefusal};
+ghost use Rattle.row_reader.specs.Repeats.{HasNoRepeat};
 ghost use Rattle.row_reader.specs.Request.{wanted};
 
 use crate::RowError;
@@ -54,7 +55,8 @@ fn hour_rows<L>(alloc: Global, hour: Hour, mut rows: Vec<Row>) -> Result<HourRow
     requires hour { hour < 744 }
     requires within { AreWithin (36000 * hour) (36000 * hour + 36000) rows.items }
     requires few { length rows.items ≤ 400000 }
-    ensures { IfOk result (λ h. h ≡ shown_of hour rows.items) }
+    ensures shown { IfOk result (λ h. h ≡ shown_of hour rows.items) }
+    ensures no_repeat { IfOk result (λ h. HasNoRepeat [] h.rows) }
 {
     put_in_order(hour, &mut rows)?;
     let kept = drop_repeats(alloc, hour, &rows)?;
@@ -80,6 +82,7 @@ pub fn read_rows<L>(
     requires { hour < 744 }
     ensures ok { IfOk result (λ h. rows_of (record { signal = signal.now; hour = hour; window = window.now }) bytes.now ≡ Ok h) }
     ensures err { IfErr result (IsRefusal (rows_of (record { signal = signal.now; hour = hour; window = window.now }) bytes.now)) }
+    ensures no_repeat { IfOk result (λ h. HasNoRepeat [] h.rows) }
 {
     let request = Request {
         signal,

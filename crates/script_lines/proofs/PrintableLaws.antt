@@ -45,7 +45,10 @@ printable_after (b ∷ bs) h = elim (cases_Bool (eqb b 32)) as (λ _. ArePrintab
   | inr f ↦ rw f (printable_after bs (and_parts (is_printable b) (list_all is_printable bs) h).1)
 ]
 
--- the third word of a printable line
+-- the second word of a printable line, and the third
+pub printable_second : (line : List ℕ) → ArePrintable line → ArePrintable (word (skip_spaces (after_word (skip_spaces line))))
+printable_second line h = printable_word _ (printable_skip _ (printable_after _ (printable_skip line h)))
+
 pub printable_third : (line : List ℕ) → ArePrintable line → ArePrintable (word (skip_spaces (after_word (skip_spaces (after_word (skip_spaces line))))))
 printable_third line h =
     printable_word _ (printable_skip _ (printable_after _ (printable_skip _ (printable_after _ (printable_skip line h)))))

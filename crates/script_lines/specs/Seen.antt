@@ -1,7 +1,7 @@
 -- What the code's lines say.
 use Rattle.script_lines.specs.declared.words.Line.{Line}
 use Rattle.script_lines.specs.declared.words.Line.TheVariants as code
-use Rattle.script_lines.specs.Words.{Said, skip, bad, load, replace, withdraw, blank, unblank, audit, verdicts, measures, measures_of, points}
+use Rattle.script_lines.specs.Words.{Said, skip, bad, load, replace, withdraw, blank, unblank, audit, verdicts, measures, measures_of, points, offsets}
 
 abbrev pub seen : Line → Said
 seen code.Skip = skip
@@ -16,3 +16,4 @@ seen (code.Verdicts hour) = verdicts hour
 seen code.Measures = measures
 seen (code.MeasuresOf hour) = measures_of hour
 seen (code.Points phase) = points phase
+seen (code.Offsets name) = offsets name.now

@@ -34,6 +34,7 @@ pub data Said : Type 0 where
   measures : Said
   measures_of : ℕ → Said
   points : ℕ → Said
+  offsets : List ℕ → Said
 
 -- an hour of one to six digits
 abbrev pub hour_at : List ℕ → Option ℕ
@@ -43,7 +44,7 @@ hour_at text = number_of 1 6 999999 text
 abbrev pub phase_at : List ℕ → Option ℕ
 phase_at text = number_of 1 2 99 text
 
--- the name of a file, 1 to 255 bytes
+-- the name of a file or of an approach, 1 to 255 bytes
 abbrev pub name_at : List ℕ → Option (List ℕ)
 name_at text = if nat_le 1 (length text) && nat_le (length text) 255 then Some text else None
 
@@ -55,6 +56,10 @@ abbrev pub by_name : (ℕ → List ℕ → Said) → Option ℕ → Option (List
 by_name make None name = bad
 by_name make (Some h) None = bad
 by_name make (Some h) (Some name) = make h name
+
+abbrev pub by_text : (List ℕ → Said) → Option (List ℕ) → Said
+by_text make None = bad
+by_text make (Some name) = make name
 
 abbrev pub by_range : (ℤ → ℤ → Said) → Option ℤ → Option ℤ → Said
 by_range make None to = bad
@@ -72,7 +77,8 @@ report_words verb a rest =
     else (if bytes_eq verb (codes "verdicts") then (if is_over rest then by_hour verdicts (hour_at a) else bad)
     else (if bytes_eq verb (codes "measures") then (if is_over a then measures else (if is_over rest then by_hour measures_of (hour_at a) else bad))
     else (if bytes_eq verb (codes "points") then (if is_over rest then by_hour points (phase_at a) else bad)
-    else bad)))
+    else (if bytes_eq verb (codes "offsets") then (if is_over rest then by_text offsets (name_at a) else bad)
+    else bad))))
 
 -- the line of these words: the first, the second, the third, and what follows them
 abbrev pub of_words : Span → List ℕ → List ℕ → List ℕ → List ℕ → Said

@@ -1,8 +1,8 @@
 // What a line says.
 ghost use Rattle.std.specs.Prelude.{◌≡◌, true, option_map};
 ghost use Rattle.std.specs.List.{list_all};
-ghost use Rattle.script_lines.specs.Words.{skip_spaces, word, after_word, hour_at, name_at, phase_at, by_hour, by_name, by_range, is_comment, is_printable, of_words, report_words, said, worded};
-ghost use Rattle.script_lines.specs.Words.{load, replace, withdraw, blank, unblank, measures_of as of_hour, points, verdicts};
+ghost use Rattle.script_lines.specs.Words.{skip_spaces, word, after_word, hour_at, name_at, phase_at, by_hour, by_name, by_range, by_text, is_comment, is_printable, of_words, report_words, said, worded};
+ghost use Rattle.script_lines.specs.Words.{load, replace, withdraw, blank, unblank, measures_of as of_hour, offsets, points, verdicts};
 ghost use Rattle.row_reader.specs.Stamp.{stamp_in};
 ghost use Rattle.script_lines.specs.Seen.{seen};
 
@@ -38,6 +38,9 @@ pub enum Line<'a> {
     /// The cycles of a phase, 0 to 99, and the arrivals that end at it. Whether the phase is
     /// configured isn't asked here.
     Points(u8),
+    /// The best shift of the approach of this name, and the counts of all its shifts. Whether there
+    /// is such an approach isn't asked here.
+    Offsets(&'a str),
 }
 
 fn without_spaces(text: &[u8]) -> &[u8]
@@ -178,9 +181,20 @@ fn points_of<'a>(phase: &[u8]) -> Line<'a>
     }
 }
 
+fn offsets_of<'a>(name: &'a [u8]) -> Line<'a>
+    requires { list_all is_printable name.now ≡ true }
+    ensures { seen result ≡ by_text offsets (name_at name.entry.now) }
+{
+    match name_of(name) {
+        Some(name) => Line::Offsets(name),
+        None => Line::Bad,
+    }
+}
+
 // The line of these words, if it asks for a report: the first, the second, and what follows them.
-fn read_report<'a>(verb: &[u8], second: &[u8], rest: &[u8]) -> Line<'a>
-    ensures { seen result ≡ report_words verb.now second.now rest.now }
+fn read_report<'a>(verb: &[u8], second: &'a [u8], rest: &[u8]) -> Line<'a>
+    requires { list_all is_printable second.now ≡ true }
+    ensures { seen result ≡ report_words verb.now second.entry.now rest.now }
 {
     if verb == b"audit".as_slice() {
         if !second.is_empty() {
@@ -209,19 +223,26 @@ fn read_report<'a>(verb: &[u8], second: &[u8], rest: &[u8]) -> Line<'a>
         }
         return points_of(second);
     }
+    if verb == b"offsets".as_slice() {
+        if !rest.is_empty() {
+            return Line::Bad;
+        }
+        return offsets_of(second);
+    }
     Line::Bad
 }
 
 // The line of these words: the first, the second, the third, and what follows them.
 fn read_words<'a>(
     verb: &[u8],
-    second: &[u8],
+    second: &'a [u8],
     third: &'a [u8],
     rest: &[u8],
     window: &Window,
 ) -> Line<'a>
-    requires { list_all is_printable third.now ≡ true }
-    ensures { seen result ≡ of_words window.now verb.now second.now third.entry.now rest.now }
+    requires second { list_all is_printable second.now ≡ true }
+    requires third { list_all is_printable third.now ≡ true }
+    ensures { seen result ≡ of_words window.now verb.now second.entry.now third.entry.now rest.now }
 {
     if verb == b"load".as_slice() {
         if !rest.is_empty() {

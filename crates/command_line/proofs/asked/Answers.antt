@@ -1,15 +1,16 @@
 use Rattle.std.proofs.Common.{◌≡◌, ◌∙◌, codes}
 use Rattle.clap.specs.Words.{found_of, rows_of}
-use Rattle.command_line.proofs.WordsLaws.{given, six}
+use Rattle.command_line.proofs.WordsLaws.{given, seven}
 use Rattle.command_line.proofs.asked.Goals as goal
 
 pub returns-clause-value : goal.returns-clause-value
 returns-clause-value c =
     let f = found_of c.args.matches.now in
-    c.choose.ensures.value ∙ six _ _ _ _ _ _ (rows_of f)
+    c.choose.ensures.value ∙ seven _ _ _ _ _ _ _ (rows_of f)
     (given c.get_str.result f (codes "config") c.get_str.ensures)
     (given c.get_str-2.result f (codes "script") c.get_str-2.ensures)
     (given c.get_str-3.result f (codes "count") c.get_str-3.ensures)
     (given c.get_str-4.result f (codes "signal") c.get_str-4.ensures)
     (given c.get_str-5.result f (codes "hour") c.get_str-5.ensures)
-    (given c.get_str-6.result f (codes "demo") c.get_str-6.ensures)
+    (given c.get_str-6.result f (codes "pack") c.get_str-6.ensures)
+    (given c.get_str-7.result f (codes "demo") c.get_str-7.ensures)

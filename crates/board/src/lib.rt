@@ -18,6 +18,7 @@ mod view;
 
 pub use aheads::{Aheads, aheads_hour};
 pub use clause::{Clause, Term, clause_verdict};
+pub use courses::{Course, courses_of};
 pub use pasts::{Pasts, PastsError, pasts_hour};
 pub use spec_table::SpecTable;
 pub use view::HourView;

@@ -81,25 +81,25 @@ event_elsewhere r rs t e = rw e refl
 -- ---- what rows tell
 
 -- row by row
-abbrev pub told : (Row → Bool → Bool) → Bool → List Row → Bool
+abbrev pub told : {A : Type 0} → (Row → A → A) → A → List Row → A
 told after b [] = b
 told after b (x ∷ xs) = told after (after x b) xs
 
-pub told_join : (after : Row → Bool → Bool) (b : Bool) (xs ys : List Row) → told after b (xs ++ ys) ≡ told after (told after b xs) ys
+pub told_join : {A : Type 0} (after : Row → A → A) (b : A) (xs ys : List Row) → told after b (xs ++ ys) ≡ told after (told after b xs) ys
 told_join after b [] ys = refl
 told_join after b (x ∷ xs) ys = told_join after (after x b) xs ys
 
--- what is told of a colour stays true over each legal row of the channel, and over each row of another
-pub record Tells (k : Track) (after : Row → Bool → Bool) (R : Bool → ℕ → Type 0) : Type 0 where
-  pub step : (x : Row) (b : Bool) (t : ℤ) (v u : State) (l : ℕ) → k.letter x.code x.param ≡ Some l → Step k.rules t v l u → R b v.colour → R (after x b) u.colour
-  pub other : (x : Row) (b : Bool) (c : ℕ) → k.letter x.code x.param ≡ None → R b c → R (after x b) c
+-- what is told, of any type, stays true of the colour over each legal row of the channel, and over each row of another
+pub record Tells {A : Type 0} (k : Track) (after : Row → A → A) (R : A → ℕ → Type 0) : Type 0 where
+  pub step : (x : Row) (b : A) (t : ℤ) (v u : State) (l : ℕ) → k.letter x.code x.param ≡ Some l → Step k.rules t v l u → R b v.colour → R (after x b) u.colour
+  pub other : (x : Row) (b : A) (c : ℕ) → k.letter x.code x.param ≡ None → R b c → R (after x b) c
 
-module _ (k : Track) (after : Row → Bool → Bool) (R : Bool → ℕ → Type 0) (tells : Tells k after R) where
-  put_told : (r : Row) (t : ℤ) (ls : List ℕ) (b : Bool) (v u : State) (o : Option ℕ) (to : Bool → Bool) → k.letter r.code r.param ≡ o → ((d : Bool) (z : State) → Steps k.rules t z ls u → R d z.colour → R (to d) u.colour) → Steps k.rules t v (put o ls) u → R b v.colour → R (to (after r b)) u.colour
+module _ {A : Type 0} (k : Track) (after : Row → A → A) (R : A → ℕ → Type 0) (tells : Tells k after R) where
+  put_told : (r : Row) (t : ℤ) (ls : List ℕ) (b : A) (v u : State) (o : Option ℕ) (to : A → A) → k.letter r.code r.param ≡ o → ((d : A) (z : State) → Steps k.rules t z ls u → R d z.colour → R (to d) u.colour) → Steps k.rules t v (put o ls) u → R b v.colour → R (to (after r b)) u.colour
   put_told r t ls b v u None to e more run h = more (after r b) v run (tells.other r b v.colour e h)
   put_told r t ls b v u (Some l) to e more run h = let (z, step, rest) = run in more (after r b) z rest (tells.step r b t v z l e step h)
 
-  tenth_told : (t : ℕ) (rows : List Row) (b : Bool) (v u : State) → Steps k.rules (pos t) v (letters k (events_at rows t)) u → R b v.colour → R (told after b (rows_within t (t + 1) rows)) u.colour
+  tenth_told : (t : ℕ) (rows : List Row) (b : A) (v u : State) → Steps k.rules (pos t) v (letters k (events_at rows t)) u → R b v.colour → R (told after b (rows_within t (t + 1) rows)) u.colour
   tenth_told t [] b v u run h = subst (λ (z : State). R b z.colour) (sym run) h
   tenth_told t (r ∷ rs) b v u run h = elim (eqb_tells r.at t) [
     | inl (test, e) ↦
@@ -113,7 +113,7 @@ module _ (k : Track) (after : Row → Bool → Bool) (R : Bool → ℕ → Type 
   ]
 
   -- over tenths that are all known
-  run_told : (known : ℕ → Bool) (rows : List Row) (low end : ℕ) → AreOrdered low end rows → (es : List (List Event)) (a c : ℕ) (b : Bool) (v u : State) → a + length es ≡ c → ((t : ℕ) → a ≤ t → t < c → known t ≡ true) → Agree known (events_at rows) a es → Run k.rules (pos a) v (map (letters k) es) u → R b v.colour → R (told after b (rows_within a c rows)) u.colour
+  run_told : (known : ℕ → Bool) (rows : List Row) (low end : ℕ) → AreOrdered low end rows → (es : List (List Event)) (a c : ℕ) (b : A) (v u : State) → a + length es ≡ c → ((t : ℕ) → a ≤ t → t < c → known t ≡ true) → Agree known (events_at rows) a es → Run k.rules (pos a) v (map (letters k) es) u → R b v.colour → R (told after b (rows_within a c rows)) u.colour
   run_told known rows low end order [] a c b v u e all agree run h =
       let none : rows_within a c rows ≡ [] = nothing_within a c rows (omega arith) in
       subst (λ (zs : List Row). R (told after b zs) u.colour) (sym none) (subst (λ (z : State). R b z.colour) (sym run) h)
@@ -126,7 +126,7 @@ module _ (k : Track) (after : Row → Bool → Bool) (R : Bool → ℕ → Type 
       let more = run_told known rows low end order es (a + 1) c (told after b first) z u (omega arith) (λ t lo hi. all t (omega arith) hi) agree.1 (subst (λ (y : ℤ). Run k.rules y z (map (letters k) es) u) next rest) here in
       let same : told after (told after b first) (rows_within (a + 1) c rows) ≡ told after b (rows_within a c rows) =
       sym (told_join after b first (rows_within (a + 1) c rows)) ∙ ap (λ zs. told after b zs) (within_join a (a + 1) c low end rows (omega arith) (omega arith) order) in
-      subst (λ (d : Bool). R d u.colour) same more
+      subst (λ (d : A). R d u.colour) same more
 
 -- ---- in a history
 
@@ -167,7 +167,7 @@ module _ (log : Log) (h : History) (agrees : AgreesWith log h) where
       ((agree_join log.known (events_at log.rows) 0 a (take a es) (drop a es) (omega arith)).0 (subst (λ (ws : List (List Event)). Agree log.known (events_at log.rows) 0 ws) (sym (take-append-drop a es)) first)).1
 
   -- what the rows of known tenths tell of the channel's colour
-  pub told_since : (i a c low end : ℕ) (after : Row → Bool → Bool) (R : Bool → ℕ → Type 0) → Tells (track_at log i) after R → AreOrdered low end log.rows → a ≤ c → c ≤ window_end log → ((t : ℕ) → a ≤ t → t < c → log.known t ≡ true) → (b : Bool) (v : State) (cut : IsCutAt i a c v) → R b cut.between.colour → R (told after b (rows_within a c log.rows)) v.colour
+  pub told_since : {A : Type 0} (i a c low end : ℕ) (after : Row → A → A) (R : A → ℕ → Type 0) → Tells (track_at log i) after R → AreOrdered low end log.rows → a ≤ c → c ≤ window_end log → ((t : ℕ) → a ≤ t → t < c → log.known t ≡ true) → (b : A) (v : State) (cut : IsCutAt i a c v) → R b cut.between.colour → R (told after b (rows_within a c log.rows)) v.colour
   told_since i a c low end after R tells order ac le all b v cut start =
       let es = take c h.events in
       let size = first_length c le in

@@ -41,31 +41,31 @@ use Rattle.hour_work.proofs.PhaseLaws.{green_tells, greens_told, yellow_after, y
 
 -- ---- rows in order
 
-front_ordered : (a b : ℕ) (xs : List Row) (f : Row) (ys : List Row) → AreOrdered a b (xs ++ f ∷ ys) → AreOrdered a b xs
+pub front_ordered : (a b : ℕ) (xs : List Row) (f : Row) (ys : List Row) → AreOrdered a b (xs ++ f ∷ ys) → AreOrdered a b xs
 front_ordered a b [] f ys h = let l = h.0 in let u = h.1 in omega arith
 front_ordered a b (x ∷ xs) f ys h = (h.0, h.1, front_ordered x.at b xs f ys h.2)
 
-tail_ordered : (a b : ℕ) (xs : List Row) (f : Row) (ys : List Row) → AreOrdered a b (xs ++ f ∷ ys) → AreOrdered f.at b (f ∷ ys)
+pub tail_ordered : (a b : ℕ) (xs : List Row) (f : Row) (ys : List Row) → AreOrdered a b (xs ++ f ∷ ys) → AreOrdered f.at b (f ∷ ys)
 tail_ordered a b [] f ys h = (omega arith, h.1, h.2)
 tail_ordered a b (x ∷ xs) f ys h = tail_ordered x.at b xs f ys h.2
 
-row_after : (a b : ℕ) (xs : List Row) (f : Row) (ys : List Row) → AreOrdered a b (xs ++ f ∷ ys) → a ≤ f.at
+pub row_after : (a b : ℕ) (xs : List Row) (f : Row) (ys : List Row) → AreOrdered a b (xs ++ f ∷ ys) → a ≤ f.at
 row_after a b [] f ys h = h.0
 row_after a b (x ∷ xs) f ys h = let l = h.0 in let m = row_after x.at b xs f ys h.2 in omega arith
 
-row_below : (a b : ℕ) (xs : List Row) (f : Row) (ys : List Row) → AreOrdered a b (xs ++ f ∷ ys) → f.at < b
+pub row_below : (a b : ℕ) (xs : List Row) (f : Row) (ys : List Row) → AreOrdered a b (xs ++ f ∷ ys) → f.at < b
 row_below a b [] f ys h = h.1
 row_below a b (x ∷ xs) f ys h = row_below x.at b xs f ys h.2
 
-each_front : {X : Type 0} (P : X → Type 0) (xs ys : List X) → Each P (xs ++ ys) → Each P xs
+pub each_front : {X : Type 0} (P : X → Type 0) (xs ys : List X) → Each P (xs ++ ys) → Each P xs
 each_front P [] ys h = tt
 each_front P (x ∷ xs) ys h = (h.0, each_front P xs ys h.1)
 
-each_at : {X : Type 0} (P : X → Type 0) (xs : List X) (y : X) (ys : List X) → Each P (xs ++ y ∷ ys) → P y
+pub each_at : {X : Type 0} (P : X → Type 0) (xs : List X) (y : X) (ys : List X) → Each P (xs ++ y ∷ ys) → P y
 each_at P [] y ys h = h.0
 each_at P (x ∷ xs) y ys h = each_at P xs y ys h.1
 
-within_split : (a c : ℕ) (xs : List Row) (y : Row) (ys : List Row) → a ≤ y.at → y.at < c → rows_within a c (xs ++ y ∷ ys) ≡ rows_within a c xs ++ y ∷ rows_within a c ys
+pub within_split : (a c : ℕ) (xs : List Row) (y : Row) (ys : List Row) → a ≤ y.at → y.at < c → rows_within a c (xs ++ y ∷ ys) ≡ rows_within a c xs ++ y ∷ rows_within a c ys
 within_split a c xs y ys le lt = filter-append (λ (x : Row). nat_le a x.at && nat_lt x.at c) xs (y ∷ ys) ∙ ap (λ zs. rows_within a c xs ++ zs) (within_here a c y ys le lt)
 
 -- ---- from a row 8 on
@@ -169,7 +169,7 @@ cycle_if true o c e = e
 cycle_if false o c e = absurd (cc)
 
 -- the row that gives an element of what the rows give
-record IsGivenBy {O : Type 0} (out_at : ℕ → List Row → Row → List Row → Option O) (has : ℕ → Bool) (before rows : List Row) (o : O) : Type 0 where
+pub record IsGivenBy {O : Type 0} (out_at : ℕ → List Row → Row → List Row → Option O) (has : ℕ → Bool) (before rows : List Row) (o : O) : Type 0 where
   pub front : List Row
   pub row : Row
   pub rest : List Row
@@ -199,7 +199,7 @@ given_cons out_at has before x xs n d None e lt more = given_later out_at has be
 given_cons out_at has before x xs zero d (Some o) e lt more = given_here out_at has before x xs o e
 given_cons out_at has before x xs (suc n) d (Some o) e lt more = given_later out_at has before x xs (get_or (outs_from out_at has (before ++ x ∷ []) xs) n d) (more n (omega arith))
 
-given_by : {O : Type 0} (out_at : ℕ → List Row → Row → List Row → Option O) (has : ℕ → Bool) (before rows : List Row) (n : ℕ) (d : O) → n < length (outs_from out_at has before rows) → IsGivenBy out_at has before rows (get_or (outs_from out_at has before rows) n d)
+pub given_by : {O : Type 0} (out_at : ℕ → List Row → Row → List Row → Option O) (has : ℕ → Bool) (before rows : List Row) (n : ℕ) (d : O) → n < length (outs_from out_at has before rows) → IsGivenBy out_at has before rows (get_or (outs_from out_at has before rows) n d)
 given_by out_at has before [] n d lt = absurd (omega arith)
 given_by out_at has before (x ∷ xs) n d lt = given_cons out_at has before x xs n d (given out_at has before x xs) refl lt (λ m l. given_by out_at has (before ++ x ∷ []) xs m d l)
 
@@ -225,7 +225,7 @@ channel_is a p e =
 pub place_within : (c : Settings) (p i : ℕ) → spec_place c.specs (phase_channel p) ≡ Some i → i < length c.specs
 place_within c p i at = (position-Some (λ (z : Spec). is_same_channel z.channel (phase_channel p)) c.specs i no_spec at).0
 
-place_channel : (c : Settings) (p i : ℕ) → spec_place c.specs (phase_channel p) ≡ Some i → (get_or c.specs i no_spec).channel ≡ phase_channel p
+pub place_channel : (c : Settings) (p i : ℕ) → spec_place c.specs (phase_channel p) ≡ Some i → (get_or c.specs i no_spec).channel ≡ phase_channel p
 place_channel c p i at = channel_is (get_or c.specs i no_spec).channel p (position-Some (λ (z : Spec). is_same_channel z.channel (phase_channel p)) c.specs i no_spec at).1
 
 regroup : (us : List Row) (y : Row) (vs : List Row) (f : Row) (ws zs : List Row) → ((us ++ y ∷ vs) ++ f ∷ ws) ++ zs ≡ us ++ y ∷ (vs ++ f ∷ (ws ++ zs))

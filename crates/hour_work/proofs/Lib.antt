@@ -18,3 +18,4 @@ pub mod PatchLaws
 pub mod BlockLaws
 pub mod PhaseLaws
 pub mod GreenLaws
+pub mod OrderLaws

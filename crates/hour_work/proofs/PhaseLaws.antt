@@ -25,7 +25,7 @@ use Rattle.hour_work.proofs.ColourLaws.{Tells, told}
 
 -- ---- the table
 
-abbrev all_ok : (ℕ → Bool) → List ℕ → Bool
+abbrev pub all_ok : (ℕ → Bool) → List ℕ → Bool
 all_ok ok [] = true
 all_ok ok (y ∷ ys) = ok y && all_ok ok ys
 
@@ -108,7 +108,7 @@ channel_number (x ∷ xs) code param channel e = elim (cases_Bool (list_any (λ 
   | inr f ↦ channel_number xs code param channel (rw f at e)
 ]
 
-in_phase : (p : ℕ) → 1 ≤ p → p ≤ 16 → numbered_channel Phase 1 16 p ≡ Some (phase_channel p)
+pub in_phase : (p : ℕ) → 1 ≤ p → p ≤ 16 → numbered_channel Phase 1 16 p ≡ Some (phase_channel p)
 in_phase p low high = elim (cases_Bool (nat_lt p 1)) [
   | inl t ↦ let a = ltb-true p 1 t in absurd (omega arith)
   | inr f ↦ elim (cases_Bool (nat_lt 16 p)) [ inl t ↦ let a = ltb-true 16 p t in absurd (omega arith) | inr g ↦ rw (f, g) refl ]
@@ -136,10 +136,10 @@ green_lines = (refl, (refl, (refl, (refl, (refl, (refl, (refl, (refl, (refl, (re
 abbrev yellow_by : ℕ → Bool → Bool
 yellow_by code b = if is_yellow (code_sign code) then true else (if is_end (code_sign code) then false else b)
 
-abbrev yellow_ok : ℕ → ℕ → ℕ → Bool
+abbrev pub yellow_ok : ℕ → ℕ → ℕ → Bool
 yellow_ok code to c = if is_yellow (code_sign code) then to == yellow else (if is_end (code_sign code) then true else (not (c == yellow) || to == yellow))
 
-yellow_lines : Each (λ x. all_ok (yellow_ok x.sign x.to) x.legal_in ≡ true) phase_table.lines
+pub yellow_lines : Each (λ x. all_ok (yellow_ok x.sign x.to) x.legal_in ≡ true) phase_table.lines
 yellow_lines = (refl, (refl, (refl, (refl, (refl, (refl, (refl, (refl, (refl, (refl, (refl, (refl, (refl, tt)))))))))))))
 
 green_code_kept : (code : ℕ) (b : Bool) → (code ≡ 1 → ⊥) → (code ≡ 7 → ⊥) → (code ≡ 8 → ⊥) → green_by code b ≡ b
@@ -158,7 +158,7 @@ not_yellow false false true e h = absurd (cc)
 not_yellow false false false true h = absurd (cc)
 not_yellow false false false false h = absurd (cc)
 
-yellow_code : (code : ℕ) → is_yellow (code_sign code) ≡ true → code ≡ 8
+pub yellow_code : (code : ℕ) → is_yellow (code_sign code) ≡ true → code ≡ 8
 yellow_code code e = elim (cases_Bool (code == 8)) [
   | inl t ↦ eqb-true code 8 t
   | inr f ↦ absurd (not_yellow (code == 1) (code == 7) ((code == 9) || (code == 10)) ((code == 4) || (code == 5) || (code == 6)) (rw f at e))
@@ -177,11 +177,11 @@ yellow_kept false false b f h = h
 
 -- ---- the same by the row
 
-sign_own : (p : ℕ) (x : Row) → x.param ≡ p → sign p x ≡ code_sign x.code
+pub sign_own : (p : ℕ) (x : Row) → x.param ≡ p → sign p x ≡ code_sign x.code
 unfolding sign
 sign_own p x e = rw (eq-eqb x.param p e) refl
 
-sign_other : (p : ℕ) (x : Row) → (x.param == p) ≡ false → sign p x ≡ code_sign 0
+pub sign_other : (p : ℕ) (x : Row) → (x.param == p) ≡ false → sign p x ≡ code_sign 0
 unfolding sign
 sign_other p x f = rw f refl
 
@@ -216,7 +216,7 @@ greens_told p g (x ∷ xs) = greens_told p (green_after p x g) xs
 
 module _ (s : Spec) (p : ℕ) (is : s.channel ≡ phase_channel p) (low : 1 ≤ p) (high : p ≤ 16) where
   -- a legal row is the phase's own, and passes each test that all lines of the table pass
-  step_ok : (ok : ℕ → ℕ → ℕ → Bool) → Each (λ x. all_ok (ok x.sign x.to) x.legal_in ≡ true) phase_table.lines → (code param l : ℕ) (t : ℤ) (v u : State) → letter_in s code param ≡ Some l → Step (rules_of s) t v l u → (param ≡ p) × (ok code u.colour v.colour ≡ true)
+  pub step_ok : (ok : ℕ → ℕ → ℕ → Bool) → Each (λ x. all_ok (ok x.sign x.to) x.legal_in ≡ true) phase_table.lines → (code param l : ℕ) (t : ℤ) (v u : State) → letter_in s code param ≡ Some l → Step (rules_of s) t v l u → (param ≡ p) × (ok code u.colour v.colour ≡ true)
   step_ok ok lines code param l t v u e step =
       let (here, letter) = spec_letter s code param l e in
       let there : channel_in_table code param ≡ Some (phase_channel p) = here ∙ ap (λ (x : Channel). Some x) is in
@@ -231,7 +231,7 @@ module _ (s : Spec) (p : ℕ) (is : s.channel ≡ phase_channel p) (low : 1 ≤ 
       (sym number, subst (λ (n : ℕ). ok n u.colour v.colour ≡ true) same (subst (λ (d : ℕ). ok x.sign d v.colour ≡ true) found.leads okay))
 
   -- a row of the phase with one of its codes has a letter
-  no_code : (x : Row) (code l : ℕ) → channel_in_table code p ≡ Some (phase_channel p) → letter_in_table code p ≡ Some l → x.param ≡ p → letter_in s x.code x.param ≡ None → x.code ≡ code → ⊥
+  pub no_code : (x : Row) (code l : ℕ) → channel_in_table code p ≡ Some (phase_channel p) → letter_in_table code p ≡ Some l → x.param ≡ p → letter_in s x.code x.param ≡ None → x.code ≡ code → ⊥
   no_code x code l channel letter number none same =
       let own : channel_in_table code p ≡ Some s.channel = channel ∙ ap (λ (y : Channel). Some y) (sym is) in
       let some : letter_in s code p ≡ Some l = letter_here s code p own ∙ letter in

@@ -1,9 +1,10 @@
 // What the definitions alone say. Each law is the contract of a function that does nothing.
-ghost use Rattle.std.specs.Prelude.{◌≡◌, ◌↔◌, ◌+◌, ◌++◌, ◌<◌, ◌≤◌, ℕ, true, false, List, [], Some, length, slice_index_or};
+ghost use Rattle.std.specs.Prelude.{◌≡◌, ◌↔◌, ◌+◌, ◌++◌, ◌<◌, ◌≤◌, ℕ, true, false, All, List, [], Some, length, slice_index_or};
 ghost use Rattle.std.specs.List.{filter};
 ghost use Rattle.board.specs.Logs.{first_tenth};
 ghost use Rattle.hour_store.specs.Store.{IsStore, Store, is_known, known_rows};
 ghost use Rattle.ring_config.specs.Settings.{Settings};
+ghost use Rattle.ring_config.specs.Sound.{IsSound};
 ghost use Rattle.signal_log.specs.Log.{HasHistory, log_of};
 ghost use Rattle.rule_audit.specs.declared.lines.AuditLine.{AuditLine};
 ghost use Rattle.board.specs.Channels.{AreSpecs};
@@ -13,7 +14,7 @@ ghost use Rattle.service_cut.specs.declared.items.Cycle.{Cycle};
 ghost use Rattle.cycle_arrivals.specs.Green.{shows_green};
 ghost use Rattle.arrival_measures.specs.Judged.{AllPass, NonePass, is_green, phase_channel};
 ghost use Rattle.arrival_measures.specs.Hours.{HaveCycles};
-ghost use Rattle.arrival_measures.specs.Points.{points_of};
+ghost use Rattle.arrival_measures.specs.Points.{diagrams_of, points_of};
 ghost use Rattle.service_cut.specs.Cut.{cycle_is_in, cycles_from, service_is_in, services_from};
 ghost use Rattle.split_measures.specs.Phases.{phase_sums};
 ghost use Rattle.other_measures.specs.Hours.{AreNumbers, delays_from, events_from};
@@ -70,4 +71,13 @@ pub fn cycles_show_green()
         → let x = slice_index_or (cycles_in c s hour) n d in
         spec_place c.specs (phase_channel x.phase) ≡ Some i → x.from ≤ t → t < x.to
         → (shows_green x.phase x.from (earlier_rows s hour ++ own_rows s hour) t ≡ false) ↔ NonePass is_green (MayBeIn c s i t) }
+{}
+
+/// Law: where some history agrees with a store, no whole cycle of it has its last begin of green
+/// after its last begin of yellow, since a phase that is yellow doesn't begin green.
+pub fn green_before_yellow()
+    ensures cycles { (c : Settings) (s : Store) → IsSound c → IsStore s → HasHistory (log_of c.specs s)
+        → All (λ x. x.green ≤ x.yellow) (cycles_from (is_known s) c.phases [] (known_rows s)) }
+    ensures diagrams { (c : Settings) (s : Store) (p : ℕ) → IsSound c → IsStore s → HasHistory (log_of c.specs s)
+        → All (λ d. d.cycle.green ≤ d.cycle.yellow) (diagrams_of (is_known s) c p (known_rows s)) }
 {}

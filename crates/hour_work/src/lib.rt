@@ -28,7 +28,10 @@ mod tests;
 pub use carry::{Carry, Future};
 pub use counts::RuleCount;
 pub use hour::{audit_lines, partial};
-pub use laws::{cycles_show_green, hours_make_up_the_log, reports_are_one, totals_are_of_the_log};
+pub use laws::{
+    cycles_show_green, green_before_yellow, hours_make_up_the_log, reports_are_one,
+    totals_are_of_the_log,
+};
 pub use lists::{pick, put_in};
 pub use numbers::Partial;
 pub use points::{phase_cycles, phase_points};

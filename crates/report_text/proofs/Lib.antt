@@ -2,3 +2,4 @@ mod Tallies
 pub mod RuleLines
 pub mod NumberLines
 pub mod ApproachLines
+pub mod ShiftLines

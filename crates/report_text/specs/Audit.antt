@@ -1,5 +1,5 @@
 -- The lines of an audit.
-use Rattle.std.specs.Prelude.{◌++◌, ◌+◌, ◌==◌, ◌&&◌, if◌then◌else◌, Bool, ℕ, List, [], ◌∷◌, codes, decimal, slice_index_or}
+use Rattle.std.specs.Prelude.{◌++◌, ◌+◌, ◌*◌, ◌<◌, ◌==◌, ◌&&◌, if◌then◌else◌, Bool, ℕ, List, [], ◌∷◌, Option, Some, None, codes, decimal, slice_index_or, ⊤}
 use Rattle.sig_base.specs.Stamp.{stamp_at}
 use Rattle.sig_base.specs.Window.{Span}
 use Rattle.sig_base.specs.declared.values.Verdict.{Verdict}
@@ -42,9 +42,23 @@ counts_text specs rules counts = counts_from specs counts 0 rules
 
 -- ---- verdicts
 
--- the word, the number of the rule, and when
+-- from when to when, where the line has a window
+abbrev pub window_parts : Span → Option (ℕ × ℕ) → List (List ℕ)
+window_parts w None = []
+window_parts w (Some ends) = codes " from " ∷ stamp_at w ends.0 ∷ codes " to " ∷ stamp_at w ends.1 ∷ []
+
+-- the word, the number of the rule, when, and the window
 abbrev pub verdict_text : Span → List ℕ → AuditLine → List ℕ
-verdict_text w word l = line_of (word ∷ decimal l.rule ∷ codes " " ∷ stamp_at w l.at ∷ [])
+verdict_text w word l = line_of (word ∷ decimal l.rule ∷ codes " " ∷ stamp_at w l.at ∷ window_parts w l.window)
+
+-- the line's tenths are in the window of the configuration
+abbrev pub EndIn : Span → Option (ℕ × ℕ) → Type 0
+EndIn w None = ⊤
+EndIn w (Some ends) = (ends.0 < 36000 * w.hours) × (ends.1 < 36000 * w.hours)
+
+pub record IsLineIn (w : Span) (l : AuditLine) : Type 0 where
+  pub at : l.at < 36000 * w.hours
+  pub ends : EndIn w l.window
 
 abbrev pub text_by : Verdict → Span → AuditLine → List ℕ
 text_by Idle w l = []

@@ -1,8 +1,10 @@
 pub mod Line
 pub mod Counts
 pub mod Refusals
+pub mod Packed
 pub mod Applied
 pub mod Approaches
 pub mod Measures
 pub mod Rules
 pub mod Audit
+pub mod Shifts

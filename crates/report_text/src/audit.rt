@@ -1,7 +1,7 @@
 // The lines of an audit.
-ghost use Rattle.std.specs.Prelude.{◌≡◌, ◌<◌, ◌*◌, ◌++◌, ◌∷◌, [], slice_index_or};
+ghost use Rattle.std.specs.Prelude.{◌≡◌, ◌<◌, ◌*◌, ◌++◌, ◌∷◌, [], Some, None, slice_index_or};
 ghost use Rattle.outside.specs.Sink.{Puts};
-ghost use Rattle.report_text.specs.Audit.{audit_line_text, counts_tail, counts_text, is_none_counted, none_counted, rule_head, rule_line, verdict_text};
+ghost use Rattle.report_text.specs.Audit.{audit_line_text, IsLineIn, counts_tail, counts_text, is_none_counted, none_counted, rule_head, rule_line, verdict_text};
 
 use crate::rules::put_rule_name;
 use hour_work::{Partial, RuleCount};
@@ -104,13 +104,15 @@ pub fn put_audit_counts<K: Sink>(
     Ok(())
 }
 
-fn put_verdict<K: Sink>(
+// The line of a verdict without a window.
+fn put_plain<K: Sink>(
     window: &Window,
     word: &[u8],
     line: &AuditLine,
     sink: &mut K,
 ) -> Result<(), PutFailed>
-    requires { line.now.at < 36000 * window.now.hours }
+    requires at { line.now.at < 36000 * window.now.hours }
+    requires none { line.now.window ≡ None }
     ensures { Puts (K.written sink.old) (K.written sink.new) (K.faults sink.old) (K.faults sink.new) (verdict_text window.now word.now line.now) result }
 {
     let stamp = window.stamp(line.at);
@@ -127,14 +129,61 @@ fn put_verdict<K: Sink>(
     )
 }
 
-/// Writes the line of one verdict: kept, broken or undecided, the rule's number and the tenth. An
-/// idle one has no line.
+// The line of a verdict with this window.
+fn put_windowed<K: Sink>(
+    window: &Window,
+    word: &[u8],
+    line: &AuditLine,
+    ends: (u32, u32),
+    sink: &mut K,
+) -> Result<(), PutFailed>
+    requires line { IsLineIn window.now line.now }
+    requires ends { line.now.window ≡ Some ends }
+    ensures { Puts (K.written sink.old) (K.written sink.new) (K.faults sink.old) (K.faults sink.new) (verdict_text window.now word.now line.now) result }
+{
+    let stamp = window.stamp(line.at);
+    let from = window.stamp(ends.0);
+    let to = window.stamp(ends.1);
+    let mut number = Buffer::new();
+    put_parts(
+        sink,
+        &[
+            word,
+            number.format(line.rule).as_bytes(),
+            b" ",
+            &stamp,
+            b" from ",
+            &from,
+            b" to ",
+            &to,
+            b"\n",
+        ],
+    )
+}
+
+fn put_verdict<K: Sink>(
+    window: &Window,
+    word: &[u8],
+    line: &AuditLine,
+    sink: &mut K,
+) -> Result<(), PutFailed>
+    requires { IsLineIn window.now line.now }
+    ensures { Puts (K.written sink.old) (K.written sink.new) (K.faults sink.old) (K.faults sink.new) (verdict_text window.now word.now line.now) result }
+{
+    match line.window {
+        None => put_plain(window, word, line, sink),
+        Some(ends) => put_windowed(window, word, line, ends, sink),
+    }
+}
+
+/// Writes the line of one verdict: kept, broken or undecided, the rule's number, the tenth, and the
+/// window where the line has one. An idle one has no line.
 pub fn put_audit_line<K: Sink>(
     config: &Config,
     line: &AuditLine,
     sink: &mut K,
 ) -> Result<(), PutFailed>
-    requires { line.now.at < 36000 * config.now.window.hours }
+    requires { IsLineIn config.now.window line.now }
     ensures { Puts (K.written sink.old) (K.written sink.new) (K.faults sink.old) (K.faults sink.new) (audit_line_text config.now.window line.now) result }
 {
     let window = config.window();

@@ -36,7 +36,11 @@ fn put_head<K: Sink>(line: Option<u32>, sink: &mut K) -> Result<(), PutFailed>
 }
 
 // Writes the head of a refusal and the parts of its reason.
-fn put_refused<K: Sink>(line: Option<u32>, reason: &[&[u8]], sink: &mut K) -> Result<(), PutFailed>
+pub(crate) fn put_refused<K: Sink>(
+    line: Option<u32>,
+    reason: &[&[u8]],
+    sink: &mut K,
+) -> Result<(), PutFailed>
     ensures { Puts (K.written sink.old) (K.written sink.new) (K.faults sink.old) (K.faults sink.new) (refused line ++ texts reason.now) result }
 {
     match put_head(line, sink) {
@@ -46,7 +50,11 @@ fn put_refused<K: Sink>(line: Option<u32>, reason: &[&[u8]], sink: &mut K) -> Re
     put_parts(sink, reason)
 }
 
-fn put_reason<K: Sink>(line: Option<u32>, reason: &[u8], sink: &mut K) -> Result<(), PutFailed>
+pub(crate) fn put_reason<K: Sink>(
+    line: Option<u32>,
+    reason: &[u8],
+    sink: &mut K,
+) -> Result<(), PutFailed>
     ensures { Puts (K.written sink.old) (K.written sink.new) (K.faults sink.old) (K.faults sink.new) (refused line ++ line_of (reason.now ∷ [])) result }
 {
     put_refused(line, &[reason, b"\n"], sink)

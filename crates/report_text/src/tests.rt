@@ -1,6 +1,7 @@
 use crate::approaches::put_approaches;
-use crate::put_diagram;
+use crate::{put_diagram, put_shifts};
 use arrival_measures::{ArrivalSum, Diagram, Point, Points};
+use offset_search::{Arrival, shift_counts};
 use outside::MemSink;
 use ring_config::read_config;
 use service_cut::Cycle;
@@ -102,5 +103,47 @@ fn lines_of_a_diagram(rt: HostRuntime) -> Result<(), Fail> {
     assert_eq!(rt; put_diagram(&config, &diagram, &mut sink), Ok(()));
     let wanted = "cycle 2024-03-04T06:00:10.0 length 600 green 200 yellow 550\npoint NB 250\n";
     assert_eq!(rt; sink.bytes(), wanted.as_bytes());
+    Ok(())
+}
+
+#[test]
+fn lines_of_shifts(rt: HostRuntime) -> Result<(), Fail> {
+    let alloc = rt.alloc();
+    let early = Arrival {
+        length: 1200,
+        green: 815,
+        yellow: 1165,
+        offset: 515,
+    };
+    let late = Arrival {
+        offset: 825,
+        ..early
+    };
+    let shifts = shift_counts(alloc, &[early, late])?;
+    let mut wanted = format!(in alloc; "5 offsets NB\nbest 30 count 2 of 2\n")?;
+    for (from, to, count) in [
+        (0u32, 30u32, 1u32),
+        (30, 34, 2),
+        (34, 65, 1),
+        (65, 119, 0),
+        (119, 120, 1),
+    ] {
+        for shift in from..to {
+            wanted.push_str(&format!(in alloc; "shift {shift} count {count}\n")?)?;
+        }
+    }
+    let mut sink = MemSink::new(alloc, 10_000)?;
+    assert_eq!(rt; put_shifts(5, b"NB", 2, &shifts, &mut sink), Ok(()));
+    assert_eq!(rt; sink.bytes(), wanted.as_bytes());
+    Ok(())
+}
+
+#[test]
+fn lines_of_no_shifts(rt: HostRuntime) -> Result<(), Fail> {
+    let alloc = rt.alloc();
+    let shifts = shift_counts(alloc, &[])?;
+    let mut sink = MemSink::new(alloc, 100)?;
+    assert_eq!(rt; put_shifts(1, b"X", 0, &shifts, &mut sink), Ok(()));
+    assert_eq!(rt; sink.bytes(), b"1 offsets X\nbest -\n".as_slice());
     Ok(())
 }

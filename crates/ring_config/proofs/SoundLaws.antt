@@ -8,12 +8,13 @@ use Rattle.toml.specs.Data.{as_str}
 use Rattle.event_codes.specs.declared.channels.Channel.{Channel}
 use Rattle.channel_tables.specs.Tables.{table_of}
 use Rattle.channel_tables.specs.Spec.{HasNoFloor, IsSpec}
+use Rattle.row_reader.specs.Signal.{is_signal}
 use Rattle.ring_config.specs.declared.error.KeyName.TheVariants as keys
 use Rattle.ring_config.specs.declared.items.FloorItem.{FloorItem}
 use Rattle.ring_config.specs.declared.items.IntervalItem.{IntervalItem}
 use Rattle.ring_config.specs.Reading.{◌>>=◌, EntryData, required, defaulted, only}
 use Rattle.ring_config.specs.Values as values
-use Rattle.ring_config.specs.Values.{whole, configured, has_pair, is_signal_byte, is_short_text}
+use Rattle.ring_config.specs.Values.{whole, configured, has_pair}
 use Rattle.ring_config.specs.Walk.{NoneRepeats, entries_of}
 use Rattle.ring_config.specs.Tables.{Top, LayoutArrays, DetailArrays, top_keys, top_of, layout_arrays_of, detail_arrays_of, phase_rules, ped_rules, overlap_rules, preempt_rules, conflict_rules, allow_rules, floor_rules, interval_rules, approach_rules}
 use Rattle.ring_config.specs.Settings.{Layout, Details, Parts, layout_of, details_of, parts_of, settings_of, specs_of, signal_channels, all_channels}
@@ -28,7 +29,7 @@ use Rattle.ring_config.proofs.OrderLaws.{channels_ordered, specs_ordered, length
 
 -- ---- the document's own keys
 
-pub top_is : (e : EntryData) (t : Top) → top_of e ≡ Ok t → is_short_text is_signal_byte t.signal ≡ true
+pub top_is : (e : EntryData) (t : Top) → top_of e ≡ Ok t → is_signal t.signal ≡ true
 unfolding top_of values.signal
 top_is e t h =
     let a = bound (required values.signal keys.Signal e) (λ s. required values.start keys.Start e >>= λ f. required (values.window f) keys.Hours e >>= λ w. defaulted false values.yes_or_no keys.Coordination e >>= λ c. Ok (record { signal = s; window = w; coordination = c })) t h in
@@ -36,7 +37,7 @@ top_is e t h =
     let c = bound (required (values.window b.0) keys.Hours e) (λ w. defaulted false values.yes_or_no keys.Coordination e >>= λ c. Ok (record { signal = a.0; window = w; coordination = c })) t b.2 in
     let d = bound (defaulted false values.yes_or_no keys.Coordination e) (λ x. Ok (record { signal = a.0; window = c.0; coordination = x })) t c.2 in
     let r = required_means values.signal keys.Signal e a.0 a.1 in
-    ok_is (λ (x : Top). is_short_text is_signal_byte x.signal ≡ true) (record { signal = a.0; window = c.0; coordination = d.0 }) t d.2 (passing_is (is_short_text is_signal_byte) (as_str r.0) a.0 r.1).1
+    ok_is (λ (x : Top). is_signal x.signal ≡ true) (record { signal = a.0; window = c.0; coordination = d.0 }) t d.2 (passing_is is_signal (as_str r.0) a.0 r.1).1
 
 -- ---- the layout
 
@@ -122,7 +123,7 @@ module _ (t : Top) (l : Layout) (d : Details) (are : AreDetails l d) where
 
 -- ---- all of it
 
-sound : (t : Top) (l : Layout) (d : Details) → is_short_text is_signal_byte t.signal ≡ true → IsLayout l → AreDetails l d → IsSound (settings_of t l d)
+sound : (t : Top) (l : Layout) (d : Details) → is_signal t.signal ≡ true → IsLayout l → AreDetails l d → IsSound (settings_of t l d)
 sound t l d signal has are = record {
   signal = signal;
   phases = all_at IsPhase l.phases has.phases.all;

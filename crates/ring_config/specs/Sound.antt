@@ -14,7 +14,8 @@ use Rattle.ring_config.specs.declared.items.Pair.{Pair}
 use Rattle.ring_config.specs.declared.items.OverlapItem.{OverlapItem}
 use Rattle.ring_config.specs.declared.items.IntervalItem.{IntervalItem}
 use Rattle.ring_config.specs.declared.items.Approach.{Approach}
-use Rattle.ring_config.specs.Values.{has_phase, has_pair, is_name_byte, is_short_text, is_signal_byte}
+use Rattle.row_reader.specs.Signal.{is_signal}
+use Rattle.ring_config.specs.Values.{has_phase, has_pair, is_name_byte, is_short_text}
 use Rattle.ring_config.specs.Settings.{Settings, kind_rank, is_tracked, spec_place}
 
 abbrev pub IsBetween : ℕ → ℕ → ℕ → Type 0
@@ -77,7 +78,7 @@ abbrev pub IsBefore : Channel → Channel → Type 0
 IsBefore a b = (kind_rank a.kind < kind_rank b.kind) ⊎ ((a.kind ≡ b.kind) × (a.number < b.number))
 
 pub record IsSound (c : Settings) : Type 0 where
-  pub signal : is_short_text is_signal_byte c.signal ≡ true
+  pub signal : is_signal c.signal ≡ true
   pub phases : All IsPhase c.phases
   pub distinct_phases : AllPairs (λ p q. p.number ≢ q.number) c.phases
   pub few_phases : length c.phases ≤ 16

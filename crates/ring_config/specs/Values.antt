@@ -9,6 +9,7 @@ use Rattle.event_codes.specs.declared.channels.Kind.{Kind}
 use Rattle.event_codes.specs.declared.channels.Kind.TheVariants as kinds
 use Rattle.event_codes.specs.declared.channels.Channel.{Channel}
 use Rattle.channel_tables.specs.Tables.{table_of}
+use Rattle.row_reader.specs.Signal.{is_signal}
 use Rattle.row_reader.specs.Stamp.{hour_stamp_of}
 use Rattle.ring_config.specs.declared.items.Pair.{Pair}
 use Rattle.ring_config.specs.declared.items.Named.{Named}
@@ -36,13 +37,9 @@ yes_or_no d = as_bool d
 abbrev pub is_short_text : (ℕ → Bool) → List ℕ → Bool
 is_short_text test text = (nat_le 1 (length text) && nat_le (length text) 32) && list_all test text
 
--- a printed character other than a comma or a double quote
-abbrev pub is_signal_byte : ℕ → Bool
-is_signal_byte b = (nat_le 0x21 b && nat_le b 0x7E) && not (b == 44 || b == 34)
-
 -- the text of a signal
 unfoldable pub signal : Data → Option (List ℕ)
-signal d = passing (is_short_text is_signal_byte) (as_str d)
+signal d = passing is_signal (as_str d)
 
 -- a letter, a digit, `_` or `-`
 abbrev pub is_name_byte : ℕ → Bool

@@ -1,6 +1,7 @@
 // A configuration that was accepted.
-ghost use Rattle.std.specs.Prelude.{is_some, ◌≡◌, ◌≢◌, ◌≤◌, ◌<◌, ℕ, All, AllPairs, List, Option, IfOk, IfSome, length, map, option_map, option_copied, slice_get, find, position};
+ghost use Rattle.std.specs.Prelude.{is_some, true, ◌≡◌, ◌≢◌, ◌≤◌, ◌<◌, ℕ, All, AllPairs, List, Option, IfOk, IfSome, length, map, option_map, option_copied, slice_get, find, position};
 ghost use Rattle.std.specs.Str.{bytes_eq};
+ghost use Rattle.row_reader.specs.Signal.{is_signal};
 ghost use Rattle.channel_tables.specs.Spec.{IsSpec};
 ghost use Rattle.ring_config.specs.Settings.{Settings, settings_of, approach_place, clash, conflict_by, in_conflict, is_same_channel, is_tracked, kind_rank, phase_of, spec_place};
 ghost use Rattle.ring_config.specs.Sound.{IsApproach, IsBefore, IsConfigured, IsIntervalOf, IsOverlap, IsPhase, IsSound};
@@ -158,7 +159,8 @@ impl Config {
     /// The signal as its log files name it: 1 to 32 printed characters without comma and double
     /// quote.
     pub fn signal(&self) -> &str
-        ensures { result.now ≡ self.now.signal }
+        ensures value { result.now ≡ self.now.signal }
+        ensures readable { is_signal result.now ≡ true }
     {
         self.signal.as_str()
     }

@@ -4,13 +4,13 @@ ghost use Rattle.std.specs.List.{list_all};
 ghost use Rattle.sig_base.specs.Window.{IsDay};
 ghost use Rattle.toml.specs.View.{view};
 ghost use Rattle.ring_config.specs.Reading.{Gives, required, optional};
-ghost use Rattle.ring_config.specs.Values.{whole, yes_or_no, is_signal_byte, is_name_byte, is_short_text, signal, name, start, window, window_from};
+ghost use Rattle.ring_config.specs.Values.{whole, yes_or_no, is_name_byte, is_short_text, signal, name, start, window, window_from};
 ghost use Rattle.ring_config.specs.Seen.{entry_seen};
 
 use crate::error::{ConfigError, KeyName};
 use crate::items::Name;
 use crate::reading::{Entry, good, place, present, value_at};
-use row_reader::read_hour_stamp;
+use row_reader::{is_signal, read_hour_stamp};
 use sig_base::Window;
 use toml::Value;
 
@@ -70,25 +70,6 @@ pub(crate) fn yes_or_no(value: &Value) -> Option<bool>
     ensures { result ≡ yes_or_no (view value.now) }
 {
     value.as_bool()
-}
-
-fn is_signal_byte(byte: u8) -> bool
-    ensures { result ≡ is_signal_byte byte }
-{
-    byte >= 0x21 && byte <= 0x7E && byte != b',' && byte != b'"'
-}
-
-fn are_signal_bytes(text: &[u8]) -> bool
-    ensures { result ≡ list_all is_signal_byte text.now }
-{
-    text.iter().all(|byte| is_signal_byte(*byte))
-}
-
-#[tactic(auto, using(std::proofs::lemmas::Bool::Decides::nat_tests))]
-fn is_signal(text: &str) -> bool
-    ensures { result ≡ is_short_text is_signal_byte text.now }
-{
-    text.len() >= 1 && text.len() <= 32 && are_signal_bytes(text.as_bytes())
 }
 
 /// The text of a signal.

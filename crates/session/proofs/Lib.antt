@@ -10,3 +10,4 @@ pub mod BeginLaws
 pub mod MaskLaws
 pub mod LessLaws
 pub mod DiagramLaws
+pub mod WindowLaws

@@ -9,14 +9,14 @@ ghost use Rattle.ring_config.specs.Sound.{IsSound};
 ghost use Rattle.signal_log.specs.Log.{HasHistory, log_of};
 ghost use Rattle.rule_audit.specs.Rules.{rules_for};
 ghost use Rattle.hour_work.specs.Points.{NamesRow};
-ghost use Rattle.hour_work.specs.Verdicts.{AreAuditLines};
 ghost use Rattle.hour_work.specs.Reports.{IsReport};
 ghost use Rattle.session.specs.Edits.{blank, change_of, load, replace, step_of, unblank, withdraw};
 ghost use Rattle.session.specs.Ranges.{SameApart};
 ghost use Rattle.session.specs.Sessions.{AreCounted, Grow, Kept, MayRefuse, OpensNone, Steps, StopsAt};
+ghost use Rattle.session.specs.Windows.{AreHourLines};
 
 use crate::Edit;
-use crate::audit::lines_of;
+use crate::audit::{lines_of, with_windows};
 use crate::begin::begin;
 use crate::blanks::{reaches_out, with_range, without_range};
 use crate::hours::{end_of, exchange, held_ends, hour_at};
@@ -118,22 +118,30 @@ impl<L> Session<L> {
     }
 
     /// The lines of the audit of an hour, in their order: the verdicts that aren't idle, over all
-    /// histories that agree with the log. No line has a window.
-    pub fn audit_hour(&self, hour: Hour, reads: &mut Reads<L>) -> Result<Vec<AuditLine>, NoMemory>
+    /// histories that agree with the log. Where `windows` are wanted each broken line has its
+    /// decisive window, else no line has one.
+    pub fn audit_hour(
+        &self,
+        hour: Hour,
+        windows: bool,
+        reads: &mut Reads<L>,
+    ) -> Result<Vec<AuditLine>, NoMemory>
         requires { hour < length self.now.store.hours }
-        ensures lines { IfOk result (λ v. AreAuditLines self.now.config self.now.store hour v.items) }
+        ensures lines { IfOk result (λ v. AreHourLines self.now.config self.now.store hour windows v.items) }
         ensures history { HasHistory (log_of self.now.config.specs self.now.store) }
+        ensures store { IsStore self.now.store }
         ensures grow { Grow reads.old reads.new }
     {
-        lines_of(
-            self.alloc,
-            &self.config,
-            &self.rules,
-            &self.store,
-            &self.worked,
-            hour,
-            reads,
-        )
+        let alloc = self.alloc;
+        let config = &self.config;
+        let rules = &self.rules;
+        let store = &self.store;
+        let plain = lines_of(alloc, config, rules, store, &self.worked, hour, reads)?;
+        if !windows {
+            return Ok(plain);
+        }
+        let before = self.worked.carries[hour as usize].pasts();
+        with_windows(alloc, config, rules, store, before, &plain, reads)
     }
 
     /// The whole cycles of a phase, in their order, each with the arrivals in it at the advance

@@ -1,21 +1,21 @@
 -- The lines of an audit, one hour after another.
-use Rattle.std.proofs.Common.{◌≡◌, ◌<◌, ◌≤◌, ◌+◌, ◌-◌, ◌*◌, ◌++◌, ◌∙◌, ℕ, zero, suc, Bool, true, false, List, [], ◌∷◌, length, drop, Option, None, Result, Ok, Err, refl, inl, inr, nat_lt, nat_eq, arith, append_assoc, append-nil, get_or, add-one}
+use Rattle.std.proofs.Common.{◌≡◌, ◌<◌, ◌≤◌, ◌+◌, ◌-◌, ◌*◌, ◌++◌, ◌∙◌, ℕ, zero, suc, Bool, true, false, List, [], ◌∷◌, length, drop, Option, Some, None, Result, Ok, Err, refl, sym, ap, subst, inl, inr, nat_lt, nat_eq, arith, append_assoc, append-nil, get_or, add-one}
 use Rattle.std.specs.List.{All}
 use Rattle.std.specs.Prelude.{if◌then◌else◌}
 use Rattle.std.proofs.Math.Seq.{drop-cons}
 use Rattle.std.proofs.lemmas.Bool.{cases_Bool, eqb-true, lt-ltb, le-ltb}
-use Rattle.std.proofs.lemmas.List.Elements.{All-append, All-cons, All-head, All-nil, All-same, All-tail, All-weaker}
+use Rattle.std.proofs.lemmas.List.Elements.{All-append, All-cons, All-get_or, All-head, All-nil, All-same, All-tail, All-weaker, filter_passes}
 use Rattle.std.proofs.lemmas.List.{drop_all}
 use Rattle.std.specs.Io.KnownBytes.{Appends}
 use Rattle.outside.specs.Sink.{Stops}
-use Rattle.outside.proofs.PutsFacts.{appends-nothing, appends-then, puts-then, stops-front, stops-in}
+use Rattle.outside.proofs.PutsFacts.{appends-then, puts-then, stops-front}
 use Rattle.sig_base.specs.Window.{Span}
 use Rattle.sig_base.specs.declared.values.Row.{Row}
 use Rattle.sig_base.specs.declared.values.Verdict.{Verdict}
 use Rattle.sig_base.specs.declared.values.Verdict.TheVariants.{Idle, Kept, Broken, Undecided}
-use Rattle.hour_store.specs.Store.{Store, is_known}
+use Rattle.hour_store.specs.Store.{Store, is_known, known_rows, rows_of as all_rows_of}
 use Rattle.channel_tables.specs.declared.spec.Spec.{Spec}
-use Rattle.board.specs.Logs.{first_tenth}
+use Rattle.board.specs.Logs.{first_tenth, no_row}
 use Rattle.ring_config.specs.Settings.{Settings}
 use Rattle.signal_log.specs.Log.{HasHistory, log_of}
 use Rattle.rule_audit.specs.declared.rules.Rule.{Rule}
@@ -24,16 +24,19 @@ use Rattle.rule_audit.specs.declared.lines.Place.TheVariants.{BeforeRow, EndOfTe
 use Rattle.rule_audit.specs.Rules.{rules_for}
 use Rattle.rule_audit.specs.Obligations.{Obligation, end_obligations, is_due, obligation, is_timed_by, obligations_from, row_obligations, rows_obligations, tenth_obligations}
 use Rattle.rule_audit.specs.Lines.{AreLinesOf, line_of, lines_of}
+use Rattle.decisive.specs.Window.{IsCandidate, obligation_of}
+use Rattle.session.specs.Windows.{AreHourLines, AreWithWindows, HasWindow, with_window}
 use Rattle.hour_work.specs.Numbers.{Numbers, total_of}
 use Rattle.hour_work.specs.Points.{is_known_before}
 use Rattle.hour_work.specs.Verdicts.{AreAuditLines, HasStoreVerdict, obligations_in}
 use Rattle.hour_work.specs.Rows.{hour_rows}
-use Rattle.hour_work.specs.Reports.{IsReport}
 use Rattle.sig_base.specs.declared.values.EditError.TheVariants.{OutOfWindow}
 use Rattle.report_text.specs.declared.refusal.Refusal.TheVariants.{Edit}
 use Rattle.sigaudit.specs.Turns.{refuses, writes}
-use Rattle.sigaudit.specs.Audit.{AreVerdicts, IsAudited, IsHoursText, IsReportOf, audit_start, lines_text, shown_text, verdicts_head}
-use Rattle.sigaudit.specs.Run.{PutsHour, PutsHours, TakesBy, TakesPut}
+use Rattle.report_text.specs.Audit.{EndIn, IsLineIn, audit_line_text}
+use Rattle.sigaudit.specs.Audit.{AddsHour, AreFailing, AreVerdicts, IsAudited, IsReportOf, audit_start, failing_at, failing_of, is_kept, lines_text, verdicts_head}
+use Rattle.sigaudit.specs.Run.{TakesBy, TakesPut}
+use Rattle.sigaudit.proofs.EditFacts.{known_within}
 use Rattle.sigaudit.proofs.TakeFacts.{by_refusal}
 use Rattle.sigaudit.specs.declared.status.Stopped.{Stopped}
 use Rattle.sigaudit.specs.declared.status.Stopped.TheVariants as stopped
@@ -44,16 +47,16 @@ use Rattle.sigaudit.specs.declared.status.Stopped.TheVariants as stopped
 abbrev pub no_line : AuditLine
 no_line = record { rule = 0; at = 0; place = BeforeRow 0; verdict = Idle; window = None }
 
-pub lines_next : (k : Bool) (w : Span) (lines : List AuditLine) (i : ℕ) → i < length lines
-    → lines_text k w (drop i lines) ≡ shown_text k w (get_or lines i no_line) ++ lines_text k w (drop (i + 1) lines)
+pub lines_next : (w : Span) (lines : List AuditLine) (i : ℕ) → i < length lines
+    → lines_text w (drop i lines) ≡ audit_line_text w (get_or lines i no_line) ++ lines_text w (drop (i + 1) lines)
 unfolding lines_text
-lines_next k w lines i h =
+lines_next w lines i h =
     let e : drop i lines ≡ get_or lines i no_line ∷ drop (i + 1) lines = rw add-one (drop-cons lines i no_line h) in
     rw e refl
 
-pub lines_over : (k : Bool) (w : Span) (lines : List AuditLine) (i : ℕ) → length lines ≤ i → lines_text k w (drop i lines) ≡ []
+pub lines_over : (w : Span) (lines : List AuditLine) (i : ℕ) → length lines ≤ i → lines_text w (drop i lines) ≡ []
 unfolding lines_text
-lines_over k w lines i h = rw (drop_all i lines h) refl
+lines_over w lines i h = rw (drop_all i lines h) refl
 
 -- ---- each line is at a tenth of its hour
 
@@ -120,156 +123,173 @@ lines_before t Has (o ∷ os) lines all h =
     (All-append (λ (l : AuditLine). l.at < t) (lines_of o h.0) h.2.0 (lines_of_before t o h.0 (All-head (IsBefore t) o os all)) (lines_before t Has os h.2.0 (All-tail (IsBefore t) o os all) h.2.1))
 
 -- the lines of an hour are at tenths of the window
-pub lines_within : (c : Settings) (s : Store) (hour : ℕ) (lines : List AuditLine) → hour < c.window.hours → AreAuditLines c s hour lines → All (λ l. l.at < 36000 * c.window.hours) lines
+plain_within : (c : Settings) (s : Store) (hour : ℕ) (lines : List AuditLine) → hour < c.window.hours → AreAuditLines c s hour lines → All (λ l. l.at < 36000 * c.window.hours) lines
 unfolding obligations_in
-lines_within c s hour lines lt h =
+plain_within c s hour lines lt h =
     lines_before (36000 * c.window.hours) (HasStoreVerdict c s hour) (obligations_in c s hour) lines
     (before_end (is_known s) c.specs (rules_for c) (hour_rows s hour) (is_known_before (is_known s) (first_tenth hour)) (first_tenth hour) 36000 (36000 * c.window.hours) (omega arith)) h
 
-pub lines_in : (c c' : Settings) (s : Store) (hour : ℕ) (lines lines' : List AuditLine) → c' ≡ c → length s.hours ≡ c.window.hours → hour < length s.hours → AreAuditLines c s hour lines → lines' ≡ lines
-    → All (λ l. l.at < 36000 * c'.window.hours) lines'
-lines_in c c' s hour lines lines' ec size lt h e = rw (ec, e) (lines_within c s hour lines (rw (← size) lt) h)
+-- ---- windows lie in the window of the configuration
 
--- the lines of an hour were written, or cut off
-pub hour_put : (c c' : Settings) (s : Store) (hour : ℕ) (lines lines' : List AuditLine) (w w' : Option (List ℕ)) (f f' : ℕ) → c' ≡ c → lines' ≡ lines → AreAuditLines c s hour lines
-    → f' ≡ f → Appends w w' (lines_text false c'.window lines') → PutsHour c s hour w w' f f' (Ok tt)
-hour_put c c' s hour lines lines' w w' f f' ec e h same a = let a' = rw (ec, e) at a in (lines, h, a', same)
+known_row : (s : Store) (t k : ℕ) → k < length (known_rows s) → (get_or (known_rows s) k no_row).at ≡ t → t < 36000 * length s.hours
+known_row s t k lt e =
+    let all = filter_passes (λ r. is_known s r.at) (all_rows_of s.hours) in
+    let known : is_known s (get_or (known_rows s) k no_row).at ≡ true = All-get_or (λ r. is_known s r.at ≡ true) (known_rows s) k no_row lt all in
+    subst (λ (n : ℕ). n < 36000 * length s.hours) e (known_within s (get_or (known_rows s) k no_row).at known)
 
-pub hour_cut_off : (c c' : Settings) (s : Store) (hour : ℕ) (lines lines' : List AuditLine) (w w' : Option (List ℕ)) (f f' : ℕ) → c' ≡ c → lines' ≡ lines → AreAuditLines c s hour lines
-    → Stops w w' f f' (lines_text false c'.window lines') → PutsHour c s hour w w' f f' (Err stopped.Fault)
-hour_cut_off c c' s hour lines lines' w w' f f' ec e h k = let k' = rw (ec, e) at k in (lines, h, k')
+candidate_in : (specs : List Spec) (s : Store) (o : Obligation) (t : ℕ) → o.at < 36000 * length s.hours → IsCandidate (log_of specs s) o t → t < 36000 * length s.hours
+candidate_in specs s o t own (inl (inl e)) = omega (arith, own, e)
+candidate_in specs s o t own (inl (inr e)) = omega (arith, own, e)
+candidate_in specs s o t own (inr (inl e)) = omega (arith, e)
+candidate_in specs s o t own (inr (inr h)) = known_row s t h.place h.within h.at
+
+ends_in : (c : Settings) (s : Store) (hour : ℕ) (l : AuditLine) (x : Option (ℕ × ℕ)) → length s.hours ≡ c.window.hours → l.at < 36000 * c.window.hours
+    → HasWindow (log_of c.specs s) (rules_for c) (hour_rows s hour) l x → EndIn c.window x
+ends_in c s hour l None size own h = tt
+ends_in c s hour l (Some ends) size own h =
+    let early : ends.0 ≤ l.at = h.1.begin.early in
+    let last = candidate_in c.specs s (obligation_of (rules_for c) l) ends.1 (omega arith) h.1.end.candidate in
+    (omega arith, omega (arith, last, size))
+
+windowed_in : (c : Settings) (s : Store) (hour : ℕ) (plain lines : List AuditLine) → length s.hours ≡ c.window.hours → All (λ l. l.at < 36000 * c.window.hours) plain
+    → AreWithWindows (log_of c.specs s) (rules_for c) (hour_rows s hour) plain lines → All (IsLineIn c.window) lines
+windowed_in c s hour [] [] size own h = All-nil (IsLineIn c.window)
+windowed_in c s hour [] (l ∷ ls) size own h = absurd h
+windowed_in c s hour (p ∷ ps) [] size own h = absurd h
+windowed_in c s hour (p ∷ ps) (l ∷ ls) size own h =
+    let at = All-head (λ (x : AuditLine). x.at < 36000 * c.window.hours) p ps own in
+    let one : IsLineIn c.window (with_window p h.0.0) = record { at = at; ends = ends_in c s hour p h.0.0 size at h.0.1 } in
+    All-cons (IsLineIn c.window) l ls (subst (IsLineIn c.window) (sym h.0.2) one) (windowed_in c s hour ps ls size (All-tail (λ (x : AuditLine). x.at < 36000 * c.window.hours) p ps own) h.1)
+
+pub lines_within : (c : Settings) (s : Store) (hour : ℕ) (lines : List AuditLine) → length s.hours ≡ c.window.hours → hour < c.window.hours → AreHourLines c s hour true lines → All (IsLineIn c.window) lines
+lines_within c s hour lines size lt h = windowed_in c s hour h.0 lines size (plain_within c s hour h.0 lt h.1) h.2
+
+pub lines_in : (c c' : Settings) (s : Store) (hour : ℕ) (lines lines' : List AuditLine) → c' ≡ c → length s.hours ≡ c.window.hours → hour < length s.hours → AreHourLines c s hour true lines → lines' ≡ lines
+    → All (IsLineIn c'.window) lines'
+lines_in c c' s hour lines lines' ec size lt h e = rw (ec, e) (lines_within c s hour lines size (rw (← size) lt) h)
+
+-- ---- the broken and undecided lines
+
+failing_one : (w : Span) (l : AuditLine) → IsLineIn w l → All (IsLineIn w) (failing_at l)
+failing_one w l h = elim (cases_Bool (is_kept l.verdict)) as (λ _. All (IsLineIn w) (failing_at l)) [
+  | inl y ↦ rw y (All-nil (IsLineIn w))
+  | inr n ↦ rw n (All-cons (IsLineIn w) l [] h (All-nil (IsLineIn w)))
+]
+
+failing_all : (w : Span) (ls : List AuditLine) → All (IsLineIn w) ls → All (IsLineIn w) (failing_of ls)
+failing_all w [] h = All-nil (IsLineIn w)
+failing_all w (l ∷ ls) h =
+    All-append (IsLineIn w) (failing_at l) (failing_of ls) (failing_one w l (All-head (IsLineIn w) l ls h)) (failing_all w ls (All-tail (IsLineIn w) l ls h))
+
+failing_within : (c : Settings) (s : Store) (hour n : ℕ) (failing : List AuditLine) → length s.hours ≡ c.window.hours → hour + n ≤ c.window.hours → AreFailing c s hour n failing → All (IsLineIn c.window) failing
+unfolding AreFailing
+failing_within c s hour zero failing size le h = All-same (IsLineIn c.window) failing [] h (All-nil (IsLineIn c.window))
+failing_within c s hour (suc n) failing size le h =
+    All-same (IsLineIn c.window) failing (failing_of h.0 ++ h.1) h.4
+    (All-append (IsLineIn c.window) (failing_of h.0) h.1 (failing_all c.window h.0 (lines_within c s hour h.0 size (omega arith) h.2)) (failing_within c s (hour + 1) n h.1 size (omega arith) h.3))
+
+pub failing_in : (c c' : Settings) (s : Store) (failing failing' : List AuditLine) → c' ≡ c → length s.hours ≡ c.window.hours → AreFailing c s 0 c.window.hours failing → failing' ≡ failing
+    → All (IsLineIn c'.window) failing'
+failing_in c c' s failing failing' ec size h e = rw (ec, e) (failing_within c s 0 c.window.hours failing size (omega arith) h)
 
 -- ---- one hour after another
 
-none : Numbers
-none = total_of []
+failing_more : (c : Settings) (s : Store) (hour n : ℕ) (lines rest : List AuditLine) → AreHourLines c s hour true lines → AreFailing c s (hour + 1) n rest → AreFailing c s hour (suc n) (failing_of lines ++ rest)
+unfolding AreFailing
+failing_more c s hour n lines rest h k = (lines, rest, h, k, refl)
 
--- the hours of a store with a report have lines
-hours_exist : (c : Settings) (s : Store) (all : List Numbers) → IsReport c s all → (hour n : ℕ) → hour + n ≡ length s.hours → (text : List ℕ) × IsHoursText c s hour n text
-unfolding IsHoursText
-hours_exist c s all report hour zero e = ([], refl)
-hours_exist c s all report hour (suc n) e =
-    let part = report.each hour none (omega arith) in
-    let rest = hours_exist c s all report (hour + 1) n (omega arith) in
-    (lines_text false c.window part.lines ++ rest.0, (part.lines, rest.0, part.are_lines, rest.1, refl))
+no_failing : (c : Settings) (s : Store) (hour : ℕ) → AreFailing c s hour zero []
+unfolding AreFailing
+no_failing c s hour = refl
 
-hours_more : (c : Settings) (s : Store) (hour n : ℕ) (lines : List AuditLine) (rest : List ℕ) → AreAuditLines c s hour lines → IsHoursText c s (hour + 1) n rest → IsHoursText c s hour (suc n) (lines_text false c.window lines ++ rest)
-unfolding IsHoursText
-hours_more c s hour n lines rest h k = (lines, rest, h, k, refl)
+-- these are the lines of the hours before this one
+pub record FailingOn (c : Settings) (s : Store) (done : List AuditLine) (hour : ℕ) : Type 0 where
+  pub whole : (rest : List AuditLine) → AreFailing c s hour (c.window.hours - hour) rest → AreFailing c s 0 c.window.hours (done ++ rest)
 
-no_hours : (c : Settings) (s : Store) (hour : ℕ) → IsHoursText c s hour zero []
-unfolding IsHoursText
-no_hours c s hour = refl
-
--- the lines of the hours before this one were written
-pub record HoursOn (c : Settings) (s : Store) (w0 w : Option (List ℕ)) (f0 f hour : ℕ) : Type 0 where
-  pub same : f ≡ f0
-  pub done : List ℕ
-  pub wrote : Appends w0 w done
-  pub whole : (rest : List ℕ) → IsHoursText c s hour (c.window.hours - hour) rest → IsHoursText c s 0 c.window.hours (done ++ rest)
-
-pub hours_start : (c : Settings) (s : Store) (w : Option (List ℕ)) (f : ℕ) → HoursOn c s w w f f 0
-hours_start c s w f = record { same = refl; done = []; wrote = appends-nothing w; whole = λ rest h. let e : c.window.hours - 0 ≡ c.window.hours = omega arith in rw e at h }
+pub failing_start : (c : Settings) (s : Store) → FailingOn c s [] 0
+failing_start c s = record { whole = λ rest h. let e : c.window.hours - 0 ≡ c.window.hours = omega arith in rw e at h }
 
 -- the hours left after one more of them
 left_step : (n hour : ℕ) → hour < n → n - hour ≡ suc (n - (hour + 1))
 left_step n hour h = omega arith
 
-pub hours_on : (c : Settings) (s : Store) (w0 w w' : Option (List ℕ)) (f0 f f' hour : ℕ) → hour < c.window.hours → HoursOn c s w0 w f0 f hour → PutsHour c s hour w w' f f' (Ok tt) → HoursOn c s w0 w' f0 f' (hour + 1)
-hours_on c s w0 w w' f0 f f' hour lt on h = record {
-  same = h.3 ∙ on.same;
-  done = on.done ++ lines_text false c.window h.0;
-  wrote = appends-then w0 w w' on.done (lines_text false c.window h.0) on.wrote h.2;
+pub failing_on : (c : Settings) (s : Store) (old new : List AuditLine) (hour : ℕ) → hour < c.window.hours → FailingOn c s old hour → AddsHour c s hour old new → FailingOn c s new (hour + 1)
+failing_on c s old new hour lt on h = record {
   whole = λ rest k.
-      let more = hours_more c s hour (c.window.hours - (hour + 1)) h.0 rest h.1 k in
+      let more = failing_more c s hour (c.window.hours - (hour + 1)) h.0 rest h.1 k in
       let left = rw (← left_step c.window.hours hour lt) at more in
-      rw append_assoc (on.whole (lines_text false c.window h.0 ++ rest) left);
+      let all : AreFailing c s 0 c.window.hours (old ++ (failing_of h.0 ++ rest)) = on.whole (failing_of h.0 ++ rest) left in
+      subst (λ (zs : List AuditLine). AreFailing c s 0 c.window.hours zs) (sym (ap (λ (zs : List AuditLine). zs ++ rest) h.2 ∙ append_assoc old (failing_of h.0) rest)) all;
 }
 
-pub hours_done : (c : Settings) (s : Store) (w0 w : Option (List ℕ)) (f0 f hour : ℕ) → c.window.hours ≤ hour → HoursOn c s w0 w f0 f hour → PutsHours c s w0 w f0 f (Ok tt)
-hours_done c s w0 w f0 f hour past on =
+pub failing_done : (c : Settings) (s : Store) (done : List AuditLine) (hour : ℕ) → c.window.hours ≤ hour → FailingOn c s done hour → AreFailing c s 0 c.window.hours done
+failing_done c s done hour past on =
     let e : c.window.hours - hour ≡ zero = omega arith in
-    let last = on.whole [] (rw e (no_hours c s hour)) in
-    (on.done, rw append-nil at last, on.wrote, on.same)
+    let last = on.whole [] (rw e (no_failing c s hour)) in
+    rw append-nil at last
 
-pub hours_cut : (c : Settings) (s : Store) (all : List Numbers) (w0 w w' : Option (List ℕ)) (f0 f f' hour : ℕ) (e : Stopped) → IsReport c s all → length s.hours ≡ c.window.hours → hour < c.window.hours
-    → HoursOn c s w0 w f0 f hour → PutsHour c s hour w w' f f' (Err e) → PutsHours c s w0 w' f0 f' (Err e)
-hours_cut c s all w0 w w' f0 f f' hour stopped.Fault report size lt on h =
-    let rest = hours_exist c s all report (hour + 1) (c.window.hours - (hour + 1)) (omega arith) in
-    let more = hours_more c s hour (c.window.hours - (hour + 1)) h.0 rest.0 h.1 rest.1 in
-    let left = rw (← left_step c.window.hours hour lt) at more in
-    let piece = lines_text false c.window h.0 in
-    (on.done ++ (piece ++ rest.0), on.whole (piece ++ rest.0) left, stops-in w0 w w' f0 f f' (on.done ++ (piece ++ rest.0)) on.done piece rest.0 on.same on.wrote refl h.2)
-hours_cut c s all w0 w w' f0 f f' hour stopped.Memory report size lt on h =
-    let rest = hours_exist c s all report hour (c.window.hours - hour) (omega arith) in
-    let wrote' = rw (← h.0) at on.wrote in
-    (on.done ++ rest.0, on.whole rest.0 rest.1, (on.done, rest.0, refl, wrote'), h.1 ∙ on.same)
+-- a clean hour adds nothing
+pub adds_nothing : (c : Settings) (s : Store) (hour : ℕ) (old : List AuditLine) → AddsHour c s hour [] [] → AddsHour c s hour old old
+adds_nothing c s hour old h = (h.0, h.1, sym (append-nil old) ∙ ap (λ (zs : List AuditLine). old ++ zs) h.2)
+
+pub adds_lines : (c : Settings) (s : Store) (hour : ℕ) (lines lines' old new : List AuditLine) → AreHourLines c s hour true lines → lines' ≡ lines → new ≡ old ++ failing_of lines' → AddsHour c s hour old new
+adds_lines c s hour lines lines' old new h e n = (lines, h, n ∙ ap (λ (zs : List AuditLine). old ++ failing_of zs) e)
 
 -- ---- an audit
 
-front_after : (a b x y : List ℕ) → b ≡ x ++ y → a ++ b ≡ (a ++ x) ++ y
-front_after a b x y e = rw (e, append_assoc) refl
+audit_turn : (c : Settings) (n : ℕ) (s : Store) (all : List Numbers) (lines : List AuditLine) → IsReportOf c s all → AreFailing c s 0 c.window.hours lines
+    → IsAudited c n s (writes (audit_start n c.specs (rules_for c) (total_of all).rules ++ lines_text c.window lines) s)
+audit_turn c n s all lines report failing = (all, lines, report, failing, refl)
 
-audit_turn : (c : Settings) (n : ℕ) (s : Store) (all : List Numbers) (lines : List ℕ) → IsReportOf c s all → IsHoursText c s 0 c.window.hours lines
-    → IsAudited c n s (writes (audit_start n c.specs (rules_for c) (total_of all).rules ++ lines) s)
-audit_turn c n s all lines report hours = (all, lines, report, hours, refl)
-
--- what stands before the hours was cut off
-pub audit_cut : (c c' : Settings) (n : ℕ) (s : Store) (all : List Numbers) (rules : List Rule) (total : Numbers) (w w' : Option (List ℕ)) (f f' : ℕ) → c' ≡ c → rules ≡ rules_for c → total ≡ total_of all
-    → length s.hours ≡ c.window.hours → IsReportOf c s all → Stops w w' f f' (audit_start n c'.specs rules total.rules) → TakesBy (IsAudited c n s) w w' f f' s (Err stopped.Fault)
-audit_cut c c' n s all rules total w w' f f' ec er et size report h =
-    let hours = hours_exist c s all report.1 0 c.window.hours (omega arith) in
+-- what stands before the lines was cut off
+pub audit_cut : (c c' : Settings) (n : ℕ) (s : Store) (all : List Numbers) (rules : List Rule) (total : Numbers) (lines : List AuditLine) (w w' : Option (List ℕ)) (f f' : ℕ) → c' ≡ c → rules ≡ rules_for c → total ≡ total_of all
+    → IsReportOf c s all → AreFailing c s 0 c.window.hours lines → Stops w w' f f' (audit_start n c'.specs rules total.rules) → TakesBy (IsAudited c n s) w w' f f' s (Err stopped.Fault)
+audit_cut c c' n s all rules total lines w w' f f' ec er et report failing h =
     let h' = rw (ec, er, et) at h in
-    (writes (audit_start n c.specs (rules_for c) (total_of all).rules ++ hours.0) s, audit_turn c n s all hours.0 report hours.1, stops-front w w' f f' (audit_start n c.specs (rules_for c) (total_of all).rules) hours.0 h')
+    (writes (audit_start n c.specs (rules_for c) (total_of all).rules ++ lines_text c.window lines) s, audit_turn c n s all lines report failing, stops-front w w' f f' (audit_start n c.specs (rules_for c) (total_of all).rules) (lines_text c.window lines) h')
 
-pub audit_done : (c c' : Settings) (n : ℕ) (s : Store) (all : List Numbers) (rules : List Rule) (total : Numbers) (w w1 w2 : Option (List ℕ)) (f f1 f2 : ℕ) → c' ≡ c → rules ≡ rules_for c → total ≡ total_of all
-    → IsReportOf c s all → f1 ≡ f → Appends w w1 (audit_start n c'.specs rules total.rules) → PutsHours c s w1 w2 f1 f2 (Ok tt) → TakesBy (IsAudited c n s) w w2 f f2 s (Ok false)
-audit_done c c' n s all rules total w w1 w2 f f1 f2 ec er et report e a h =
+pub audit_done : (c c' c'' : Settings) (n : ℕ) (s : Store) (all : List Numbers) (rules : List Rule) (total : Numbers) (lines lines' : List AuditLine) (w w1 w2 : Option (List ℕ)) (f f1 f2 : ℕ) → c' ≡ c → c'' ≡ c → rules ≡ rules_for c → total ≡ total_of all
+    → IsReportOf c s all → AreFailing c s 0 c.window.hours lines → lines' ≡ lines → f1 ≡ f → Appends w w1 (audit_start n c'.specs rules total.rules) → f2 ≡ f1 → Appends w1 w2 (lines_text c''.window lines')
+    → TakesBy (IsAudited c n s) w w2 f f2 s (Ok false)
+audit_done c c' c'' n s all rules total lines lines' w w1 w2 f f1 f2 ec ed er et report failing el e a e' b =
     let start = audit_start n c.specs (rules_for c) (total_of all).rules in
     let a' = rw (ec, er, et) at a in
-    (writes (start ++ h.0) s, audit_turn c n s all h.0 report h.1, appends-then w w1 w2 start h.0 a' h.2, h.3 ∙ e, refl, refl)
+    let b' = rw (ed, el) at b in
+    (writes (start ++ lines_text c.window lines) s, audit_turn c n s all lines report failing, appends-then w w1 w2 start (lines_text c.window lines) a' b', e' ∙ e, refl, refl)
 
-pub audit_stop : (c c' : Settings) (n : ℕ) (s : Store) (all : List Numbers) (rules : List Rule) (total : Numbers) (w w1 w2 : Option (List ℕ)) (f f1 f2 : ℕ) (e : Stopped) → c' ≡ c → rules ≡ rules_for c → total ≡ total_of all
-    → IsReportOf c s all → f1 ≡ f → Appends w w1 (audit_start n c'.specs rules total.rules) → PutsHours c s w1 w2 f1 f2 (Err e) → TakesBy (IsAudited c n s) w w2 f f2 s (Err e)
-audit_stop c c' n s all rules total w w1 w2 f f1 f2 stopped.Fault ec er et report e a h =
+pub audit_stop : (c c' c'' : Settings) (n : ℕ) (s : Store) (all : List Numbers) (rules : List Rule) (total : Numbers) (lines lines' : List AuditLine) (w w1 w2 : Option (List ℕ)) (f f1 f2 : ℕ) → c' ≡ c → c'' ≡ c → rules ≡ rules_for c → total ≡ total_of all
+    → IsReportOf c s all → AreFailing c s 0 c.window.hours lines → lines' ≡ lines → f1 ≡ f → Appends w w1 (audit_start n c'.specs rules total.rules) → Stops w1 w2 f1 f2 (lines_text c''.window lines')
+    → TakesBy (IsAudited c n s) w w2 f f2 s (Err stopped.Fault)
+audit_stop c c' c'' n s all rules total lines lines' w w1 w2 f f1 f2 ec ed er et report failing el e a k =
     let start = audit_start n c.specs (rules_for c) (total_of all).rules in
     let a' = rw (ec, er, et) at a in
-    (writes (start ++ h.0) s, audit_turn c n s all h.0 report h.1, puts-then {T = Unit {0}} {E = Unit {0}} w w1 w2 f f1 f2 start h.0 (Err tt) e a' h.2)
-audit_stop c c' n s all rules total w w1 w2 f f1 f2 stopped.Memory ec er et report e a h =
-    let start = audit_start n c.specs (rules_for c) (total_of all).rules in
-    let a' = rw (ec, er, et) at a in (
-      h.3 ∙ e,
-      inr (
-        writes (start ++ h.0) s,
-        audit_turn c n s all h.0 report h.1,
-        (start ++ h.2.0, h.2.1, front_after start h.0 h.2.0 h.2.1 h.2.2, appends-then w w1 w2 start h.2.0 a' h.2.3),
-      ),
-    )
+    let k' = rw (ed, el) at k in
+    (writes (start ++ lines_text c.window lines) s, audit_turn c n s all lines report failing, puts-then {T = Unit {0}} {E = Unit {0}} w w1 w2 f f1 f2 start (lines_text c.window lines) (Err tt) e a' k')
 
 -- ---- the verdicts of an hour
 
-verdicts_turn : (c : Settings) (n hour : ℕ) (s : Store) (lines : List AuditLine) → HasHistory (log_of c.specs s) → AreAuditLines c s hour lines → AreVerdicts c n hour s true (writes (verdicts_head n hour ++ lines_text true c.window lines) s)
+verdicts_turn : (c : Settings) (n hour : ℕ) (s : Store) (lines : List AuditLine) → HasHistory (log_of c.specs s) → AreHourLines c s hour true lines → AreVerdicts c n hour s true (writes (verdicts_head n hour ++ lines_text c.window lines) s)
 verdicts_turn c n hour s lines some h = (lines, some, h, refl)
 
-pub verdicts_cut : (c : Settings) (n hour : ℕ) (s : Store) (lines : List AuditLine) (w w' : Option (List ℕ)) (f f' : ℕ) → HasHistory (log_of c.specs s) → AreAuditLines c s hour lines
+pub verdicts_cut : (c : Settings) (n hour : ℕ) (s : Store) (lines : List AuditLine) (w w' : Option (List ℕ)) (f f' : ℕ) → HasHistory (log_of c.specs s) → AreHourLines c s hour true lines
     → Stops w w' f f' (verdicts_head n hour) → TakesBy (AreVerdicts c n hour s true) w w' f f' s (Err stopped.Fault)
 verdicts_cut c n hour s lines w w' f f' some h k =
-    (writes (verdicts_head n hour ++ lines_text true c.window lines) s, verdicts_turn c n hour s lines some h, stops-front w w' f f' (verdicts_head n hour) (lines_text true c.window lines) k)
+    (writes (verdicts_head n hour ++ lines_text c.window lines) s, verdicts_turn c n hour s lines some h, stops-front w w' f f' (verdicts_head n hour) (lines_text c.window lines) k)
 
-pub verdicts_stop : (c c' : Settings) (n hour : ℕ) (s : Store) (lines lines' : List AuditLine) (w w1 w2 : Option (List ℕ)) (f f1 f2 : ℕ) → c' ≡ c → lines' ≡ lines → HasHistory (log_of c.specs s) → AreAuditLines c s hour lines → f1 ≡ f
-    → Appends w w1 (verdicts_head n hour) → Stops w1 w2 f1 f2 (lines_text true c'.window lines') → TakesBy (AreVerdicts c n hour s true) w w2 f f2 s (Err stopped.Fault)
+pub verdicts_stop : (c c' : Settings) (n hour : ℕ) (s : Store) (lines lines' : List AuditLine) (w w1 w2 : Option (List ℕ)) (f f1 f2 : ℕ) → c' ≡ c → lines' ≡ lines → HasHistory (log_of c.specs s) → AreHourLines c s hour true lines → f1 ≡ f
+    → Appends w w1 (verdicts_head n hour) → Stops w1 w2 f1 f2 (lines_text c'.window lines') → TakesBy (AreVerdicts c n hour s true) w w2 f f2 s (Err stopped.Fault)
 verdicts_stop c c' n hour s lines lines' w w1 w2 f f1 f2 ec el some h e a k =
     let k' = rw (ec, el) at k in (
-      writes (verdicts_head n hour ++ lines_text true c.window lines) s,
+      writes (verdicts_head n hour ++ lines_text c.window lines) s,
       verdicts_turn c n hour s lines some h,
-      puts-then {T = Unit {0}} {E = Unit {0}} w w1 w2 f f1 f2 (verdicts_head n hour) (lines_text true c.window lines) (Err tt) e a k',
+      puts-then {T = Unit {0}} {E = Unit {0}} w w1 w2 f f1 f2 (verdicts_head n hour) (lines_text c.window lines) (Err tt) e a k',
     )
 
-pub verdicts_done : (c c' : Settings) (n hour : ℕ) (s : Store) (lines lines' : List AuditLine) (w w1 w2 : Option (List ℕ)) (f f1 f2 : ℕ) → c' ≡ c → lines' ≡ lines → HasHistory (log_of c.specs s) → AreAuditLines c s hour lines → f1 ≡ f
-    → Appends w w1 (verdicts_head n hour) → f2 ≡ f1 → Appends w1 w2 (lines_text true c'.window lines') → TakesBy (AreVerdicts c n hour s true) w w2 f f2 s (Ok false)
+pub verdicts_done : (c c' : Settings) (n hour : ℕ) (s : Store) (lines lines' : List AuditLine) (w w1 w2 : Option (List ℕ)) (f f1 f2 : ℕ) → c' ≡ c → lines' ≡ lines → HasHistory (log_of c.specs s) → AreHourLines c s hour true lines → f1 ≡ f
+    → Appends w w1 (verdicts_head n hour) → f2 ≡ f1 → Appends w1 w2 (lines_text c'.window lines') → TakesBy (AreVerdicts c n hour s true) w w2 f f2 s (Ok false)
 verdicts_done c c' n hour s lines lines' w w1 w2 f f1 f2 ec el some h e a e' b =
     let b' = rw (ec, el) at b in
-    (writes (verdicts_head n hour ++ lines_text true c.window lines) s, verdicts_turn c n hour s lines some h, appends-then w w1 w2 (verdicts_head n hour) (lines_text true c.window lines) a b', e' ∙ e, refl, refl)
+    (writes (verdicts_head n hour ++ lines_text c.window lines) s, verdicts_turn c n hour s lines some h, appends-then w w1 w2 (verdicts_head n hour) (lines_text c.window lines) a b', e' ∙ e, refl, refl)
 
 -- an hour that the window has, or hasn't
 pub verdicts_inside : (c : Settings) (n hour : ℕ) (s : Store) (w w' : Option (List ℕ)) (f f' : ℕ) (r : Result Bool Stopped) → hour < c.window.hours

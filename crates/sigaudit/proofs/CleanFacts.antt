@@ -1,11 +1,10 @@
 -- An hour of which all verdicts are kept has no broken or undecided line.
-use Rattle.std.proofs.Common.{◌≡◌, ◌∙◌, refl, ap, sym, subst, inl, inr, ℕ, zero, suc, ◌+◌, ◌-◌, ◌<◌, ◌≤◌, ◌==◌, ◌&&◌, Bool, true, false, cond, Option, Ok, List, [], ◌∷◌, ◌++◌, length, get_or, arith, nat_eq}
+use Rattle.std.proofs.Common.{◌≡◌, ◌∙◌, refl, ap, sym, subst, inl, inr, ℕ, zero, suc, ◌+◌, ◌-◌, ◌<◌, ◌≤◌, ◌==◌, ◌&&◌, Bool, true, false, cond, None, List, [], ◌∷◌, ◌++◌, length, map, get_or, arith, nat_eq}
 use Rattle.std.specs.List.{All, count_by, sum_by}
 use Rattle.std.proofs.lemmas.Bool.{cases_Bool, eq-eqb}
 use Rattle.std.proofs.lemmas.List.Elements.{All-append, All-cons, All-nil, All-same}
 use Rattle.std.proofs.lemmas.List.FromFn.{get_or-map-range_with_len, length-map-range_with_len}
 use Rattle.std.proofs.lemmas.List.Sums.{sum_by-append}
-use Rattle.sig_base.specs.Window.{Span}
 use Rattle.sig_base.specs.declared.values.Verdict.{Verdict}
 use Rattle.sig_base.specs.declared.values.Verdict.TheVariants.{Idle, Kept, Broken, Undecided}
 use Rattle.hour_store.specs.Store.{Store}
@@ -20,10 +19,13 @@ use Rattle.hour_work.specs.Numbers.{Numbers}
 use Rattle.hour_work.specs.Reports.{IsHourPart}
 use Rattle.hour_work.specs.Verdicts.{AreAuditLines, HasStoreVerdict, obligations_in}
 use Rattle.hour_work.proofs.PointLaws.{lines_numbered}
-use Rattle.outside.proofs.PutsFacts.{appends-nothing}
-use Rattle.std.specs.Io.KnownBytes.{Appends}
-use Rattle.sigaudit.specs.Audit.{IsHourText, is_kept, lines_text, shown_text}
-use Rattle.sigaudit.specs.Run.{PutsHour}
+use Rattle.hour_work.specs.Rows.{hour_rows}
+use Rattle.signal_log.specs.Log.{Log, log_of}
+use Rattle.sig_base.specs.declared.values.Row.{Row}
+use Rattle.rule_audit.specs.declared.rules.Rule.{Rule}
+use Rattle.session.specs.Windows.{AreWithWindows, with_window}
+use Rattle.session.specs.Windows.{is_broken as is_windowed}
+use Rattle.sigaudit.specs.Audit.{AddsHour, failing_of, is_kept}
 use Rattle.sigaudit.proofs.AuditFacts.{no_line}
 
 -- ---- no line is idle
@@ -80,20 +82,29 @@ one_kept n lines k lt numbered said kept =
     let not_undecided = none_of (λ x. x.rule == l.rule && is_undecided x.verdict) lines u k no_line lt in
     kept_of l.verdict (said k no_line lt) (rw (eq-eqb l.rule l.rule refl) at not_broken) (rw (eq-eqb l.rule l.rule refl) at not_undecided)
 
--- ---- kept lines have no text
+-- ---- kept lines have no window, and none of them is added
 
-no_text : (w : Span) (lines : List AuditLine) → ((k : ℕ) → k < length lines → is_kept (get_or lines k no_line).verdict ≡ true) → lines_text false w lines ≡ []
-unfolding lines_text
-no_text w [] all = refl
-no_text w (l ∷ ls) all = rw (all 0 (omega arith), no_text w ls (λ k lt. all (suc k) (omega arith))) refl
+not_broken : (v : Verdict) → is_kept v ≡ true → is_windowed v ≡ false
+not_broken Idle k = absurd (cc)
+not_broken Kept k = refl
+not_broken Broken k = absurd (cc)
+not_broken Undecided k = absurd (cc)
 
-pub clean_hour : (c : Settings) (s : Store) (hour : ℕ) (p : Numbers) → IsHourPart c s hour p → All HasKeptAlone p.rules → IsHourText c s hour []
+abbrev plain_line : AuditLine → AuditLine
+plain_line l = with_window l None
+
+windowless : (log : Log) (rules : List Rule) (rows : List Row) (lines : List AuditLine) → ((k : ℕ) → k < length lines → is_kept (get_or lines k no_line).verdict ≡ true) → AreWithWindows log rules rows lines (map plain_line lines)
+windowless log rules rows [] all = tt
+windowless log rules rows (l ∷ ls) all = ((None, not_broken l.verdict (all 0 (omega arith)), refl), windowless log rules rows ls (λ k lt. all (suc k) (omega arith)))
+
+none_failing : (lines : List AuditLine) → ((k : ℕ) → k < length lines → is_kept (get_or lines k no_line).verdict ≡ true) → failing_of (map plain_line lines) ≡ []
+none_failing [] all = refl
+none_failing (l ∷ ls) all = rw (all 0 (omega arith)) (none_failing ls (λ k lt. all (suc k) (omega arith)))
+
+pub clean_hour : (c : Settings) (s : Store) (hour : ℕ) (p : Numbers) → IsHourPart c s hour p → All HasKeptAlone p.rules → AddsHour c s hour [] []
 clean_hour c s hour p part kept =
     let counts = subst (λ (rs : List RuleCount). All HasKeptAlone rs) part.rules kept in
     let numbered = lines_numbered c s hour part.lines part.are_lines in
     let said = all_said (HasStoreVerdict c s hour) (obligations_in c s hour) part.lines part.are_lines in
-    (part.lines, part.are_lines, sym (no_text c.window part.lines (λ k lt. one_kept (length (rules_for c)) part.lines k lt numbered said counts)))
-
--- so nothing is written of it
-pub clean_put : (c : Settings) (s : Store) (hour : ℕ) (w : Option (List ℕ)) (f : ℕ) → IsHourText c s hour [] → PutsHour c s hour w w f f (Ok tt)
-clean_put c s hour w f (lines, are, none) = (lines, are, subst (λ (text : List ℕ). Appends w w text) none (appends-nothing w), refl)
+    let each = λ (k : ℕ) (lt : k < length part.lines). one_kept (length (rules_for c)) part.lines k lt numbered said counts in
+    (map plain_line part.lines, (part.lines, part.are_lines, windowless (log_of c.specs s) (rules_for c) (hour_rows s hour) part.lines each), sym (none_failing part.lines each))

@@ -13,27 +13,26 @@ use Rattle.sig_base.specs.declared.values.Applied.{Applied}
 use Rattle.sig_base.specs.declared.values.EditError.{EditError}
 use Rattle.sig_base.specs.declared.values.EditError.TheVariants.{OutOfWindow, AlreadyHeld, NotHeld, EmptyRange, TooManyRows, TooManyBlanks, Contradiction, Memory}
 use Rattle.sig_base.specs.Window.{Span}
-use Rattle.row_reader.specs.declared.row_error.RowError.{RowError}
-use Rattle.row_reader.specs.declared.row_error.RowError.TheVariants as rows
-use Rattle.row_reader.specs.Rows.{rows_of, IsRefusal}
 use Rattle.span_set.specs.Spans.{is_member}
 use Rattle.hour_store.specs.Store.{Store, held_at, is_known, known_rows, rows_held, rows_of as all_rows_of, with_hour, with_blanks}
 use Rattle.board.specs.Logs.{no_row}
 use Rattle.channel_tables.specs.declared.spec.Spec.{Spec}
 use Rattle.ring_config.specs.Settings.{Settings}
 use Rattle.signal_log.specs.Log.{HasHistory, IsContradiction, log_of}
-use Rattle.report_text.specs.declared.refusal.Refusal.TheVariants.{Edit, File}
+use Rattle.report_text.specs.declared.refusal.Refusal.TheVariants.{Edit}
 use Rattle.report_text.specs.Refusals.{NamesRowIn}
 use Rattle.report_text.specs.Applied.{applied_text}
 use Rattle.session.specs.Edits.{Change, load, replace, withdraw, blank, unblank, step_of, reaches_out, unless_many_rows, unless_many_blanks}
 use Rattle.session.specs.Ranges.{ranges_of, blanked_with, blanked_without}
 use Rattle.session.specs.Sessions.{Steps}
-use Rattle.sigaudit.specs.Turns.{refuses}
-use Rattle.sigaudit.specs.Script.{accepts, is_edit_memory, is_row_memory, wanted_for, IsEdited, IsRead}
+use Rattle.sigaudit.specs.declared.hour_file.Unread.{Unread}
+use Rattle.sigaudit.specs.HourFile.{hour_said}
+use Rattle.sigaudit.specs.Turns.{refuses, refuses_file}
+use Rattle.sigaudit.specs.Script.{accepts, is_edit_memory, wanted_for, IsEdited, IsRead}
 use Rattle.sigaudit.specs.Run.{TakesBy, TakesPut}
 use Rattle.sigaudit.specs.declared.status.Stopped.{Stopped}
 use Rattle.sigaudit.specs.declared.status.Stopped.TheVariants as stopped
-use Rattle.sigaudit.proofs.TakeFacts.{by_refusal}
+use Rattle.sigaudit.proofs.TakeFacts.{by_put, by_refusal}
 
 -- ---- an edit changes no window
 
@@ -142,34 +141,26 @@ edit_cut c n loaded s new to a w w' f f' h ea p =
 
 -- ---- rows of a file
 
-read_refused : (c : Settings) (n : ℕ) (make : Shown → Change) (s : Store) (want : Result Shown RowError) (e : RowError) → is_row_memory e ≡ false → IsRefusal want e → IsRead c n make s want (refuses c n (File e) s)
-read_refused c n make s want rows.TooManyRows ne h = rw h refl
-read_refused c n make s want (rows.Fields k) ne h = rw h refl
-read_refused c n make s want (rows.WrongSignal k) ne h = rw h refl
-read_refused c n make s want (rows.Stamp k) ne h = rw h refl
-read_refused c n make s want (rows.OutsideHour k) ne h = rw h refl
-read_refused c n make s want (rows.Code k) ne h = rw h refl
-read_refused c n make s want (rows.Param k) ne h = rw h refl
-read_refused c n make s want rows.Memory ne h = absurd (cc)
-
 -- a refused file
-pub bytes_refused : (c c' : Settings) (n hour : ℕ) (make : Shown → Change) (s : Store) (signal : List ℕ) (window : Span) (bytes : List ℕ) (e : RowError) (w w' : Option (List ℕ)) (f f' : ℕ) (r : Result Bool Stopped)
-    → c' ≡ c → signal ≡ c'.signal → window ≡ c'.window → is_row_memory e ≡ false → IsRefusal (rows_of (record { signal = signal; hour = hour; window = window }) bytes) e
-    → ((x : Store) → TakesPut (refuses c' n (File e) x) w w' f f' x r) → TakesBy (IsRead c n make s (rows_of (wanted_for c hour) bytes)) w w' f f' s r
-bytes_refused c c' n hour make s signal window bytes e w w' f f' r ec es ew ne h p =
+pub bytes_refused : (c c' : Settings) (n hour : ℕ) (make : Shown → Change) (s : Store) (signal : List ℕ) (window : Span) (bytes : List ℕ) (e : Unread) (w w' : Option (List ℕ)) (f f' : ℕ) (r : Result Bool Stopped)
+    → c' ≡ c → signal ≡ c'.signal → window ≡ c'.window → hour_said (record { signal = signal; hour = hour; window = window }) bytes ≡ Err e
+    → ((x : Store) → TakesPut (refuses_file c' n e x) w w' f f' x r) → TakesBy (IsRead c n make s (hour_said (wanted_for c hour) bytes)) w w' f f' s r
+bytes_refused c c' n hour make s signal window bytes e w w' f f' r ec es ew h p =
     let sig : signal ≡ c.signal = es ∙ ap (λ (k : Settings). k.signal) ec in
     let win : window ≡ c.window = ew ∙ ap (λ (k : Settings). k.window) ec in
-    let h' = rw (sig, win) at h in
-    by_refusal (IsRead c n make s (rows_of (wanted_for c hour) bytes)) c c' n (File e) s w w' f f' r ec (read_refused c n make s (rows_of (wanted_for c hour) bytes) e ne h') p
+    let h' : hour_said (wanted_for c hour) bytes ≡ Err e = rw (sig, win) at h in
+    let p' = rw ec at (p s) in
+    let is : IsRead c n make s (hour_said (wanted_for c hour) bytes) (refuses_file c n e s) = rw h' refl in
+    by_put (IsRead c n make s (hour_said (wanted_for c hour) bytes)) (refuses_file c n e s) w w' f f' s r is p'
 
 -- the rows of a good file, which are loaded or replace the held ones
 pub bytes_loaded : (c c' : Settings) (n hour : ℕ) (make : Shown → Change) (s s' : Store) (signal : List ℕ) (window : Span) (bytes : List ℕ) (shown : Shown) (count repeats : ℕ) (ch : Change) (w w' : Option (List ℕ)) (f f' : ℕ) (r : Result Bool Stopped)
-    → c' ≡ c → signal ≡ c'.signal → window ≡ c'.window → rows_of (record { signal = signal; hour = hour; window = window }) bytes ≡ Ok shown
+    → c' ≡ c → signal ≡ c'.signal → window ≡ c'.window → hour_said (record { signal = signal; hour = hour; window = window }) bytes ≡ Ok shown
     → count ≡ length shown.rows → repeats ≡ shown.repeats → ch ≡ make shown
-    → TakesBy (IsEdited c n (Some (count, repeats)) s (step_of s ch)) w w' f f' s' r → TakesBy (IsRead c n make s (rows_of (wanted_for c hour) bytes)) w w' f f' s' r
+    → TakesBy (IsEdited c n (Some (count, repeats)) s (step_of s ch)) w w' f f' s' r → TakesBy (IsRead c n make s (hour_said (wanted_for c hour) bytes)) w w' f f' s' r
 bytes_loaded c c' n hour make s s' signal window bytes shown count repeats ch w w' f f' r ec es ew h ek er em p =
     let sig : signal ≡ c.signal = es ∙ ap (λ (k : Settings). k.signal) ec in
     let win : window ≡ c.window = ew ∙ ap (λ (k : Settings). k.window) ec in
-    let h' : rows_of (wanted_for c hour) bytes ≡ Ok shown = rw (sig, win) at h in
+    let h' : hour_said (wanted_for c hour) bytes ≡ Ok shown = rw (sig, win) at h in
     let p' = rw (ek, er, em) at p in
     rw h' p'

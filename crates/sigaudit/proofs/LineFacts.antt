@@ -8,7 +8,7 @@ use Rattle.outside.specs.Sink.{Stops}
 use Rattle.outside.proofs.PutsFacts.{appends-nothing, appends-then, puts-then, stops-front}
 use Rattle.sig_base.specs.HourRows.{Shown}
 use Rattle.sig_base.specs.declared.values.EditError.TheVariants.{OutOfWindow}
-use Rattle.row_reader.specs.Rows.{rows_of}
+use Rattle.sigaudit.specs.HourFile.{hour_said}
 use Rattle.hour_store.specs.Store.{Store}
 use Rattle.hour_work.specs.Numbers.{Numbers, total_of}
 use Rattle.report_text.specs.Measures.{measures_text}
@@ -22,6 +22,7 @@ use Rattle.script_lines.specs.Words as line
 use Rattle.sigaudit.specs.Turns.{Turn, passes, refuses, writes}
 use Rattle.sigaudit.specs.Audit.{AreVerdicts, IsAudited, IsReportOf}
 use Rattle.sigaudit.specs.Points.{points_of_phase}
+use Rattle.sigaudit.specs.Offsets.{offsets_of}
 use Rattle.sigaudit.specs.Script.{edit_said, hour_bytes, hour_change, hour_file, hour_head, wanted_for, window_head, IsEdited, IsFetched, IsMeasured, IsMeasuredOf, IsRead, IsTurn}
 use Rattle.sigaudit.specs.Run.{World, world, Takes, TakesBy, TakesPut}
 use Rattle.sigaudit.specs.declared.status.Stopped.{Stopped}
@@ -54,7 +55,7 @@ fetch_refused c c' n hour make s want refusal w w' f f' r ec e h =
 
 -- one that was read
 pub fetch_read : (c : Settings) (n hour : ℕ) (make : Shown → Change) (s s' : Store) (want : Result (List ℕ) Refusal) (bytes bytes' : List ℕ) (w w' : Option (List ℕ)) (f f' : ℕ) (r : Result Bool Stopped)
-    → want ≡ Ok bytes → bytes' ≡ bytes → TakesBy (IsRead c n make s (rows_of (wanted_for c hour) bytes')) w w' f f' s' r → TakesBy (IsFetched c n hour make s want) w w' f f' s' r
+    → want ≡ Ok bytes → bytes' ≡ bytes → TakesBy (IsRead c n make s (hour_said (wanted_for c hour) bytes')) w w' f f' s' r → TakesBy (IsFetched c n hour make s want) w w' f f' s' r
 fetch_read c n hour make s s' want bytes bytes' w w' f f' r e eb h =
     let h' = rw eb at h in
     rw e h'
@@ -164,6 +165,10 @@ pub turn_points : (files : Files) (c : Settings) (n p : ℕ) (s : Store) (t : Tu
 unfolding IsTurn
 turn_points files c n p s t h = h
 
+pub turn_offsets : (files : Files) (c : Settings) (n : ℕ) (name : List ℕ) (s : Store) (t : Turn) → t ≡ offsets_of c n name s → IsTurn files c n (line.offsets name) s t
+unfolding IsTurn
+turn_offsets files c n name s t h = h
+
 -- a line that is an edit and needs no file
 pub turn_edit : (files : Files) (c : Settings) (n : ℕ) (x : Said) (ch : Change) (s : Store) → Some ch ≡ edit_said x → (t : Turn) → IsEdited c n None s (step_of s ch) t → IsTurn files c n x s t
 unfolding IsTurn
@@ -179,6 +184,7 @@ turn_edit files c n (line.verdicts hour) ch s e t h = absurd (cc)
 turn_edit files c n line.measures ch s e t h = absurd (cc)
 turn_edit files c n (line.measures_of hour) ch s e t h = absurd (cc)
 turn_edit files c n (line.points p) ch s e t h = absurd (cc)
+turn_edit files c n (line.offsets name) ch s e t h = absurd (cc)
 
 -- a line that used the sink alone
 pub line_by : (files : Files) (c : Settings) (n : ℕ) (x y : Said) (s0 : Store) (Is : Turn → Type 0) (k : Counts) (w w' : Option (List ℕ)) (f f' : ℕ) (s : Store) (r : Result Bool Stopped) → x ≡ y

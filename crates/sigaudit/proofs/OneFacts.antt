@@ -1,17 +1,22 @@
 -- A script has one transcript, which begins with what is written for its first lines.
-use Rattle.std.proofs.Common.{◌≡◌, ◌++◌, ◌+◌, ◌∙◌, ℕ, zero, suc, List, [], ◌∷◌, length, take, Bool, true, false, Option, Some, None, Result, Ok, Err, refl, sym, ap, inl, inr, append_assoc, append-nil, nat_lt}
+use Rattle.std.proofs.Common.{◌≡◌, ◌++◌, ◌+◌, ◌∙◌, ℕ, zero, suc, List, [], ◌∷◌, length, take, Bool, true, false, Option, Some, None, Result, Ok, Err, refl, sym, ap, ap₂, inl, inr, append_assoc, append-nil, nat_lt}
 use Rattle.std.specs.Prelude.{slice_get}
 use Rattle.outside.specs.Shelf.{Files}
 use Rattle.sig_base.specs.HourRows.{Shown}
 use Rattle.sig_base.specs.declared.values.Row.{Row}
 use Rattle.sig_base.specs.declared.values.EditError.{EditError}
 use Rattle.sig_base.specs.declared.values.EditError.TheVariants.{Contradiction}
-use Rattle.row_reader.specs.declared.row_error.RowError.{RowError}
-use Rattle.row_reader.specs.Rows.{rows_of}
+use Rattle.sigaudit.specs.declared.hour_file.Unread.{Unread}
+use Rattle.sigaudit.specs.HourFile.{hour_said}
 use Rattle.hour_store.specs.Store.{Store, nothing_held}
 use Rattle.ring_config.specs.Reading.{Read}
 use Rattle.ring_config.specs.Settings.{Settings, config_of}
-use Rattle.signal_log.specs.Log.{HasHistory, log_of}
+use Rattle.signal_log.specs.Log.{HasHistory, Log, log_of}
+use Rattle.rule_audit.specs.declared.rules.Rule.{Rule}
+use Rattle.decisive.specs.Laws.{WindowIsOne}
+use Rattle.decisive.specs.Window.{obligation_of}
+use Rattle.hour_work.specs.Rows.{hour_rows}
+use Rattle.session.specs.Windows.{AreHourLines, AreWithWindows, HasWindow, with_window}
 use Rattle.signal_log.specs.Laws.{ContradictionIsOne}
 use Rattle.rule_audit.specs.declared.lines.AuditLine.{AuditLine}
 use Rattle.rule_audit.specs.Rules.{rules_for}
@@ -23,13 +28,13 @@ use Rattle.report_text.specs.declared.refusal.Refusal.TheVariants.{Edit}
 use Rattle.report_text.specs.Measures.{measures_text}
 use Rattle.session.specs.Edits.{Change, step_of}
 use Rattle.session.specs.Edits as change
-use Rattle.command_line.specs.Words.{Asked, for_run, for_count}
+use Rattle.command_line.specs.Words.{Asked, for_run, for_count, for_pack}
 use Rattle.script_lines.specs.Words.{Said, said}
 use Rattle.script_lines.specs.Words as line
 use Rattle.script_lines.specs.Lines.{lines_of}
 use Rattle.sigaudit.specs.Asked.{asked_of}
 use Rattle.sigaudit.specs.Turns.{Turn, refuses, writes}
-use Rattle.sigaudit.specs.Audit.{AreVerdicts, IsAudited, IsHoursText, audit_start, lines_text, verdicts_head}
+use Rattle.sigaudit.specs.Audit.{AreFailing, AreVerdicts, IsAudited, audit_start, lines_text, verdicts_head}
 use Rattle.sigaudit.specs.Script.{IsEdited, IsFetched, IsMeasured, IsMeasuredOf, IsRead, IsTold, IsTurn, Told, followed, hour_bytes, hour_change, numbers_turn, wanted_for, window_head}
 use Rattle.sigaudit.specs.Transcript.{BeginsWithFirstLines, HaveOneTranscript, IsAnswer, IsConfigOutcome, IsFileOutcome, IsScriptOutcome, Outcome, first_lines, limited, outcome, told_outcome}
 
@@ -46,6 +51,7 @@ pub record Laws : Type 0 where
   pub row : ContradictionIsOne
   pub lines : LinesAreOne
   pub report : ReportsAreOne
+  pub window : WindowIsOne
 
 -- ---- a line has one turn
 
@@ -61,12 +67,12 @@ one_edit laws c n loaded s (Ok new) t t' (inr h) (inr k) =
     let same = laws.row (log_of c.specs new) h.0 k.0 h.1 k.1 in
     h.3 ∙ ap (λ (row : Row). refuses c n (Edit (Contradiction row)) s) same ∙ sym k.3
 
-one_read : Laws → (c : Settings) (n : ℕ) (make : Shown → Change) (s : Store) (want : Result Shown RowError) (t t' : Turn) → IsRead c n make s want t → IsRead c n make s want t' → t ≡ t'
+one_read : Laws → (c : Settings) (n : ℕ) (make : Shown → Change) (s : Store) (want : Result Shown Unread) (t t' : Turn) → IsRead c n make s want t → IsRead c n make s want t' → t ≡ t'
 one_read laws c n make s (Ok shown) t t' h k = one_edit laws c n (Some (length shown.rows, shown.repeats)) s (step_of s (make shown)) t t' h k
 one_read laws c n make s (Err e) t t' h k = both h k
 
 one_fetched : Laws → (c : Settings) (n hour : ℕ) (make : Shown → Change) (s : Store) (want : Result (List ℕ) Refusal) (t t' : Turn) → IsFetched c n hour make s want t → IsFetched c n hour make s want t' → t ≡ t'
-one_fetched laws c n hour make s (Ok bytes) t t' h k = one_read laws c n make s (rows_of (wanted_for c hour) bytes) t t' h k
+one_fetched laws c n hour make s (Ok bytes) t t' h k = one_read laws c n make s (hour_said (wanted_for c hour) bytes) t t' h k
 one_fetched laws c n hour make s (Err refusal) t t' h k = both h k
 
 one_measured : Laws → (c : Settings) (n : ℕ) (s : Store) (t t' : Turn) → IsMeasured c n s t → IsMeasured c n s t' → t ≡ t'
@@ -79,25 +85,50 @@ one_measured_of laws c n hour s t t' h k =
     let same = laws.report c s h.0 k.0 h.1.0 h.1.1 k.1.1 in
     h.2 ∙ ap (λ (all : List Numbers). numbers_turn c n hour s (slice_get all hour)) same ∙ sym k.2
 
-one_hours : Laws → (c : Settings) (s : Store) → HasHistory (log_of c.specs s) → (hour n : ℕ) (a b : List ℕ) → IsHoursText c s hour n a → IsHoursText c s hour n b → a ≡ b
-unfolding IsHoursText
-one_hours laws c s some hour zero a b h k = h ∙ sym k
-one_hours laws c s some hour (suc n) a b h k =
-    let lines = laws.lines c s hour h.0 k.0 some h.2 k.2 in
-    let rest = one_hours laws c s some (hour + 1) n h.1 k.1 h.3 k.3 in
+-- a broken line has one window, every other has none
+one_window : Laws → (log : Log) (rules : List Rule) (rows : List Row) (l : AuditLine) (x y : Option (ℕ × ℕ)) → HasWindow log rules rows l x → HasWindow log rules rows l y → x ≡ y
+one_window laws log rules rows l None None h k = refl
+one_window laws log rules rows l None (Some y) h k = absurd (cc (h, k.0))
+one_window laws log rules rows l (Some x) None h k = absurd (cc (h.0, k))
+one_window laws log rules rows l (Some x) (Some y) h k =
+    let same = laws.window log rows (obligation_of rules l) x.0 x.1 y.0 y.1 h.1 k.1 in
+    ap₂ (λ (u v : ℕ). Some (u, v)) same.0 same.1
+
+one_windowed : Laws → (log : Log) (rules : List Rule) (rows : List Row) (plain a b : List AuditLine) → AreWithWindows log rules rows plain a → AreWithWindows log rules rows plain b → a ≡ b
+one_windowed laws log rules rows [] [] [] h k = refl
+one_windowed laws log rules rows [] [] (y ∷ ys) h k = absurd k
+one_windowed laws log rules rows [] (x ∷ xs) b h k = absurd h
+one_windowed laws log rules rows (p ∷ ps) [] b h k = absurd h
+one_windowed laws log rules rows (p ∷ ps) (x ∷ xs) [] h k = absurd k
+one_windowed laws log rules rows (p ∷ ps) (x ∷ xs) (y ∷ ys) h k =
+    let ends = one_window laws log rules rows p h.0.0 k.0.0 h.0.1 k.0.1 in
+    let first : x ≡ y = h.0.2 ∙ ap (λ (w : Option (ℕ × ℕ)). with_window p w) ends ∙ sym k.0.2 in
+    ap₂ (λ (l : AuditLine) (ls : List AuditLine). l ∷ ls) first (one_windowed laws log rules rows ps xs ys h.1 k.1)
+
+one_hour : Laws → (c : Settings) (s : Store) (hour : ℕ) → HasHistory (log_of c.specs s) → (a b : List AuditLine) → AreHourLines c s hour true a → AreHourLines c s hour true b → a ≡ b
+one_hour laws c s hour some a b h k =
+    let plain = laws.lines c s hour h.0 k.0 some h.1 k.1 in
+    one_windowed laws (log_of c.specs s) (rules_for c) (hour_rows s hour) k.0 a b (rw plain at h.2) k.2
+
+one_failing : Laws → (c : Settings) (s : Store) → HasHistory (log_of c.specs s) → (hour n : ℕ) (a b : List AuditLine) → AreFailing c s hour n a → AreFailing c s hour n b → a ≡ b
+unfolding AreFailing
+one_failing laws c s some hour zero a b h k = h ∙ sym k
+one_failing laws c s some hour (suc n) a b h k =
+    let lines = one_hour laws c s hour some h.0 k.0 h.2 k.2 in
+    let rest = one_failing laws c s some (hour + 1) n h.1 k.1 h.3 k.3 in
     h.4 ∙ (rw (lines, rest) refl) ∙ sym k.4
 
 one_audit : Laws → (c : Settings) (n : ℕ) (s : Store) (t t' : Turn) → IsAudited c n s t → IsAudited c n s t' → t ≡ t'
 one_audit laws c n s t t' h k =
     let report = laws.report c s h.0 k.0 h.2.0 h.2.1 k.2.1 in
-    let lines = one_hours laws c s h.2.0 0 c.window.hours h.1 k.1 h.3 k.3 in
-    h.4 ∙ ap (λ (all : List Numbers). writes (audit_start n c.specs (rules_for c) (total_of all).rules ++ h.1) s) report
-    ∙ ap (λ (text : List ℕ). writes (audit_start n c.specs (rules_for c) (total_of k.0).rules ++ text) s) lines ∙ sym k.4
+    let lines = one_failing laws c s h.2.0 0 c.window.hours h.1 k.1 h.3 k.3 in
+    h.4 ∙ ap (λ (all : List Numbers). writes (audit_start n c.specs (rules_for c) (total_of all).rules ++ lines_text c.window h.1) s) report
+    ∙ ap (λ (ls : List AuditLine). writes (audit_start n c.specs (rules_for c) (total_of k.0).rules ++ lines_text c.window ls) s) lines ∙ sym k.4
 
 one_verdicts : Laws → (c : Settings) (n hour : ℕ) (s : Store) (b : Bool) (t t' : Turn) → AreVerdicts c n hour s b t → AreVerdicts c n hour s b t' → t ≡ t'
 one_verdicts laws c n hour s true t t' h k =
-    let lines = laws.lines c s hour h.0 k.0 h.1 h.2 k.2 in
-    h.3 ∙ ap (λ (ls : List AuditLine). writes (verdicts_head n hour ++ lines_text true c.window ls) s) lines ∙ sym k.3
+    let lines = one_hour laws c s hour h.1 h.0 k.0 h.2 k.2 in
+    h.3 ∙ ap (λ (ls : List AuditLine). writes (verdicts_head n hour ++ lines_text c.window ls) s) lines ∙ sym k.3
 one_verdicts laws c n hour s false t t' h k = both h k
 
 one_turn : Laws → (files : Files) (c : Settings) (n : ℕ) (x : Said) (s : Store) (t t' : Turn) → IsTurn files c n x s t → IsTurn files c n x s t' → t ≡ t'
@@ -114,6 +145,7 @@ one_turn laws files c n (line.verdicts hour) s t t' h k = one_verdicts laws c n 
 one_turn laws files c n line.measures s t t' h k = one_measured laws c n s t t' h k
 one_turn laws files c n (line.measures_of hour) s t t' h k = one_measured_of laws c n hour s t t' h k
 one_turn laws files c n (line.points p) s t t' h k = both h k
+one_turn laws files c n (line.offsets name) s t t' h k = both h k
 
 -- ---- lines tell one text, which begins with that of the first of them
 
@@ -159,6 +191,7 @@ unfolding IsAnswer
 one_answer laws None files a b h k = h ∙ sym k
 one_answer laws (Some (for_run config script)) files a b h k = one_file laws files script (limited 1048576 (files config)) a b h k
 one_answer laws (Some (for_count file signal day hour)) files a b h k = h ∙ sym k
+one_answer laws (Some (for_pack file signal day hour)) files a b h k = h ∙ sym k
 
 pub one_transcript : Laws → HaveOneTranscript
 one_transcript laws words files bytes bytes' ended ended' h k =
@@ -191,6 +224,7 @@ unfolding IsAnswer
 first_answer laws None files k a b h q = same_begins a b _ h q
 first_answer laws (Some (for_run config script)) files k a b h q = first_file laws files script (limited 1048576 (files config)) k a b h q
 first_answer laws (Some (for_count file signal day hour)) files k a b h q = same_begins a b _ h q
+first_answer laws (Some (for_pack file signal day hour)) files k a b h q = same_begins a b _ h q
 
 pub begins_with_first : Laws → BeginsWithFirstLines
 begins_with_first laws words files bytes front ended k h q = first_answer laws (asked_of words) files k (outcome bytes ended) (outcome front q.0) h q.1

@@ -3,7 +3,6 @@ use Rattle.std.proofs.Common.{◌≡◌, ◌≤◌, ◌++◌, ◌^◌, ◌*◌, 
 use Rattle.std.specs.Io.KnownBytes.{Appends}
 use Rattle.outside.specs.Shelf.{Counts, Files}
 use Rattle.outside.proofs.PutsFacts.{appends-nothing}
-use Rattle.row_reader.specs.Rows.{rows_of}
 use Rattle.std.proofs.Common.{Bor, map, codes, ◌∷◌, ℤ, pos, negsuc, to_z, of_z, w64}
 use Rattle.jiff_core.proofs.SignedLemmas.{signed_arith, back_small}
 use Rattle.sig_base.specs.Window.{IsDay}
@@ -14,11 +13,13 @@ use Rattle.ring_config.specs.Settings.{Settings, config_of}
 use Rattle.ring_config.specs.declared.error.ConfigError.{ConfigError}
 use Rattle.ring_config.specs.declared.error.ConfigError.TheVariants.{NotToml, Missing, BadValue, Unknown, Repeated, TooMany, Memory}
 use Rattle.session.specs.Sessions.{Kept}
-use Rattle.command_line.specs.Words.{Asked, for_run, for_count, request_of}
-use Rattle.sigaudit.specs.Asked.{Count, asked_of}
+use Rattle.command_line.specs.Words.{Asked, for_run, for_count, for_pack, request_of}
+use Rattle.sigaudit.specs.declared.file.Task.{Task}
+use Rattle.sigaudit.specs.declared.file.Task.TheVariants.{Count, Pack}
+use Rattle.sigaudit.specs.Asked.{HourAsked, hour_asked, asked_of}
 use Rattle.sigaudit.specs.Status.{status_of_run}
 use Rattle.sigaudit.specs.ConfigText.{config_text, is_config_memory}
-use Rattle.sigaudit.specs.Transcript.{Outcome, outcome, usage_text, counted, count_outcome, first_lines, wanted_by, told_outcome, ended_by, limited, IsAnswer, IsConfigOutcome, IsFileOutcome, IsScriptOutcome}
+use Rattle.sigaudit.specs.Transcript.{Outcome, outcome, usage_text, file_outcome, outcome_of, first_lines, told_outcome, ended_by, limited, IsAnswer, IsConfigOutcome, IsFileOutcome, IsScriptOutcome}
 use Rattle.sigaudit.specs.Run.{World, world, RunsAs, CountsText, IsRun, HasCause, NeedsWords, IsCaused, TellsAll, ScriptCause, PutsOutcome}
 use Rattle.sigaudit.specs.Script.{nothing_told}
 use Rattle.sigaudit.proofs.ScriptFacts.{told_nothing}
@@ -44,10 +45,10 @@ run-of_put Is o k k' w w' f f' (Ok ended.NoFile) e is h = (o.bytes, subst (λ (x
 run-of_put Is o k k' w w' f f' (Err stopped.Fault) e is h = (inr h.1, (0, o, is (first_lines 0), h.2))
 run-of_put Is o k k' w w' f f' (Err stopped.Memory) e is h = (0, o, is (first_lines 0), ([], o.bytes, refl, still w w' h.0))
 
--- a file that is there and not too long is counted
-counted-there : (a : Count) (file : Option (List ℕ)) (there bytes : List ℕ)
-    → file ≡ Some there → length there ≤ 33554432 → bytes ≡ [] ++ there → counted a file ≡ count_outcome a (rows_of (wanted_by a) bytes)
-counted-there a file there bytes e short b = grind arith
+-- a file that is there and not too long
+file-there : (task : Task) (a : HourAsked) (file : Option (List ℕ)) (there bytes : List ℕ)
+    → file ≡ Some there → length there ≤ 33554432 → bytes ≡ [] ++ there → file_outcome task a file ≡ outcome_of task a bytes
+file-there task a file there bytes e short b = grind arith
 
 pub if_some-each : {A : Type 0} (o : Option A) (P : A → Type 0) → ((x : A) → P x) → IfSome o P
 if_some-each None P h = tt
@@ -57,14 +58,14 @@ pub if_some-weaker : {A : Type 0} (o : Option A) (P Q : A → Type 0) → ((x : 
 if_some-weaker None P Q h p = tt
 if_some-weaker (Some x) P Q h p = h x p
 
--- the counted file of a run
-pub run-of_file : (a : Count) (file : Option (List ℕ)) (bytes old new : List ℕ) (k k' : Counts) (w w' : Option (List ℕ)) (f f' : ℕ) (r : Result Ended Stopped)
-    → k' ≡ k → PutsOutcome (count_outcome a (rows_of (wanted_by a) bytes)) w w' f f' r
+-- the file of a run
+pub run-of_file : (task : Task) (a : HourAsked) (file : Option (List ℕ)) (bytes old new : List ℕ) (k k' : Counts) (w w' : Option (List ℕ)) (f f' : ℕ) (r : Result Ended Stopped)
+    → k' ≡ k → PutsOutcome (outcome_of task a bytes) w w' f f' r
     → bytes ≡ new → old ≡ [] → (there : List ℕ) × (file ≡ Some there) × (length there ≤ 33554432) × (new ≡ old ++ there)
-    → RunsAs (λ lines o. o ≡ counted a file) (world k w f) (world k' w' f') (status_of_run r)
-run-of_file a file bytes old new k k' w w' f f' r e put b o h =
+    → RunsAs (λ lines o. o ≡ file_outcome task a file) (world k w f) (world k' w' f') (status_of_run r)
+run-of_file task a file bytes old new k k' w w' f f' r e put b o h =
     let q : bytes ≡ [] ++ h.0 = b ∙ (rw o at h.3) in
-    run-of_put (λ lines o. o ≡ counted a file) (count_outcome a (rows_of (wanted_by a) bytes)) k k' w w' f f' r e (λ lines. sym (counted-there a file h.0 bytes h.1 h.2 q)) put
+    run-of_put (λ lines o. o ≡ file_outcome task a file) (outcome_of task a bytes) k k' w w' f f' r e (λ lines. sym (file-there task a file h.0 bytes h.1 h.2 q)) put
 
 -- ---- a script
 
@@ -105,7 +106,8 @@ pub answer_begun : (asked : Option Asked) (files : Files) → (o : Outcome) × I
 unfolding IsAnswer
 answer_begun None files = (outcome usage_text ended.Usage, refl)
 answer_begun (Some (for_run config script)) files = file_begun files script (limited (2 ^ 20) (files config))
-answer_begun (Some (for_count file signal day hour)) files = (counted (record { file = file; signal = signal; day = day; hour = hour }) (files file), refl)
+answer_begun (Some (for_count file signal day hour)) files = (file_outcome Count (hour_asked file signal day hour) (files file), refl)
+answer_begun (Some (for_pack file signal day hour)) files = (file_outcome Pack (hour_asked file signal day hour) (files file), refl)
 
 -- a run that stopped before it wrote anything
 pub run-of_nothing : (Is : (List ℕ → List (List ℕ)) → Outcome → Type 0) (k : Counts) (w : Option (List ℕ)) (f : ℕ) → (o : Outcome) × Is (first_lines 0) o → RunsAs Is (world k w f) (world k w f) (status_of_run (Err stopped.Memory))
@@ -172,10 +174,15 @@ answer_run : (config script : List ℕ) (files : Files) (lines : List ℕ → Li
 unfolding IsAnswer
 answer_run config script files lines o h = h
 
-answer_count : (file signal : List ℕ) (day : ℤ) (hour : ℕ) (files : Files) (lines : List ℕ → List (List ℕ)) (o : Outcome) → o ≡ counted (record { file = file; signal = signal; day = day; hour = hour }) (files file)
+answer_count : (file signal : List ℕ) (day : ℤ) (hour : ℕ) (files : Files) (lines : List ℕ → List (List ℕ)) (o : Outcome) → o ≡ file_outcome Count (hour_asked file signal day hour) (files file)
     → IsAnswer (Some (for_count file signal day hour)) files lines o
 unfolding IsAnswer
 answer_count file signal day hour files lines o h = h
+
+answer_pack : (file signal : List ℕ) (day : ℤ) (hour : ℕ) (files : Files) (lines : List ℕ → List (List ℕ)) (o : Outcome) → o ≡ file_outcome Pack (hour_asked file signal day hour) (files file)
+    → IsAnswer (Some (for_pack file signal day hour)) files lines o
+unfolding IsAnswer
+answer_pack file signal day hour files lines o h = h
 
 answer_none : (files : Files) (lines : List ℕ → List (List ℕ)) → IsAnswer None files lines (outcome usage_text ended.Usage)
 unfolding IsAnswer
@@ -187,9 +194,14 @@ request_run files x config script old new st e h =
     rw e (run_as (IsFileOutcome files script (limited 1048576 (files config))) (IsAnswer (Some (for_run config script)) files) old new st (answer_run config script files) h)
 
 pub request_count : (files : Files) (x : Asked) (file signal : List ℕ) (day : ℤ) (hour : ℕ) (old new : World) (st : Status) → x ≡ for_count file signal day hour
-    → RunsAs (λ lines o. o ≡ counted (record { file = file; signal = signal; day = day; hour = hour }) (files file)) old new st → RunsAs (IsAnswer (Some x) files) old new st
+    → RunsAs (λ lines o. o ≡ file_outcome Count (hour_asked file signal day hour) (files file)) old new st → RunsAs (IsAnswer (Some x) files) old new st
 request_count files x file signal day hour old new st e h =
-    rw e (run_as (λ lines o. o ≡ counted (record { file = file; signal = signal; day = day; hour = hour }) (files file)) (IsAnswer (Some (for_count file signal day hour)) files) old new st (answer_count file signal day hour files) h)
+    rw e (run_as (λ lines o. o ≡ file_outcome Count (hour_asked file signal day hour) (files file)) (IsAnswer (Some (for_count file signal day hour)) files) old new st (answer_count file signal day hour files) h)
+
+pub request_pack : (files : Files) (x : Asked) (file signal : List ℕ) (day : ℤ) (hour : ℕ) (old new : World) (st : Status) → x ≡ for_pack file signal day hour
+    → RunsAs (λ lines o. o ≡ file_outcome Pack (hour_asked file signal day hour) (files file)) old new st → RunsAs (IsAnswer (Some x) files) old new st
+request_pack files x file signal day hour old new st e h =
+    rw e (run_as (λ lines o. o ≡ file_outcome Pack (hour_asked file signal day hour) (files file)) (IsAnswer (Some (for_pack file signal day hour)) files) old new st (answer_pack file signal day hour files) h)
 
 -- a day of the years 0000 to 9999 as an i64 keeps it
 pub day_back : (day : ℤ) → IsDay day → to_z w64 (of_z w64 day) ≡ day

@@ -1,5 +1,5 @@
 -- The lines of an audit of a store.
-use Rattle.std.specs.Prelude.{◌≡◌, ℕ, zero, suc, ◌+◌, ◌||◌, not, List, [], ◌∷◌, ◌++◌, codes, decimal, if◌then◌else◌, Bool, true, false}
+use Rattle.std.specs.Prelude.{◌≡◌, ℕ, zero, suc, ◌+◌, List, [], ◌∷◌, ◌++◌, codes, decimal, flat_map, if◌then◌else◌, Bool, true, false}
 use Rattle.sig_base.specs.Window.{Span}
 use Rattle.sig_base.specs.declared.values.EditError.TheVariants.{OutOfWindow}
 use Rattle.sig_base.specs.declared.values.Verdict.{Verdict}
@@ -13,8 +13,8 @@ use Rattle.rule_audit.specs.declared.rules.Rule.{Rule}
 use Rattle.rule_audit.specs.Rules.{rules_for}
 use Rattle.hour_work.specs.Numbers.{Numbers, total_of}
 use Rattle.hour_work.specs.declared.counts.RuleCount.{RuleCount}
-use Rattle.hour_work.specs.Verdicts.{AreAuditLines}
 use Rattle.hour_work.specs.Reports.{IsReport}
+use Rattle.session.specs.Windows.{AreHourLines}
 use Rattle.report_text.specs.declared.refusal.Refusal.TheVariants.{Edit}
 use Rattle.report_text.specs.Line.{line_of}
 use Rattle.report_text.specs.Audit.{audit_line_text, counts_text}
@@ -26,24 +26,27 @@ is_kept Kept = true
 is_kept Broken = false
 is_kept Undecided = false
 
--- the text of a verdict's line; one that is kept has none unless these are asked for too
-abbrev pub shown_text : Bool → Span → AuditLine → List ℕ
-shown_text with_kept w l = if with_kept || not (is_kept l.verdict) then audit_line_text w l else []
-
 -- the text of the lines in their order
-unfoldable pub lines_text : Bool → Span → List AuditLine → List ℕ
-lines_text with_kept w [] = []
-lines_text with_kept w (l ∷ ls) = shown_text with_kept w l ++ lines_text with_kept w ls
+unfoldable pub lines_text : Span → List AuditLine → List ℕ
+lines_text w [] = []
+lines_text w (l ∷ ls) = audit_line_text w l ++ lines_text w ls
 
--- the broken and undecided lines of one hour
-abbrev pub IsHourText : Settings → Store → ℕ → List ℕ → Type 0
-IsHourText c s hour text = (lines : List AuditLine) × AreAuditLines c s hour lines × (text ≡ lines_text false c.window lines)
+-- a line, unless it is kept; those of lines in their order
+abbrev pub failing_at : AuditLine → List AuditLine
+failing_at l = if is_kept l.verdict then [] else l ∷ []
 
--- the broken and undecided lines of so many hours from this one on
-unfoldable pub IsHoursText : Settings → Store → ℕ → ℕ → List ℕ → Type 0
-IsHoursText c s hour zero text = text ≡ []
-IsHoursText c s hour (suc n) text =
-    (lines : List AuditLine) × (rest : List ℕ) × AreAuditLines c s hour lines × IsHoursText c s (hour + 1) n rest × (text ≡ lines_text false c.window lines ++ rest)
+abbrev pub failing_of : List AuditLine → List AuditLine
+failing_of lines = flat_map failing_at lines
+
+-- the broken and undecided lines of so many hours from this one on, each broken one with its decisive window
+unfoldable pub AreFailing : Settings → Store → ℕ → ℕ → List AuditLine → Type 0
+AreFailing c s hour zero failing = failing ≡ []
+AreFailing c s hour (suc n) failing =
+    (lines : List AuditLine) × (rest : List AuditLine) × AreHourLines c s hour true lines × AreFailing c s (hour + 1) n rest × (failing ≡ failing_of lines ++ rest)
+
+-- the second list has the broken and undecided lines of an hour behind the first one
+abbrev pub AddsHour : Settings → Store → ℕ → List AuditLine → List AuditLine → Type 0
+AddsHour c s hour old new = (lines : List AuditLine) × AreHourLines c s hour true lines × (new ≡ old ++ failing_of lines)
 
 -- this is the report of a store with which some history agrees, so that no obligation has two verdicts
 abbrev pub IsReportOf : Settings → Store → List Numbers → Type 0
@@ -60,13 +63,13 @@ verdicts_head n hour = line_of (decimal n ∷ codes " verdicts " ∷ decimal hou
 abbrev pub audit_start : ℕ → List Spec → List Rule → List RuleCount → List ℕ
 audit_start n specs rules counts = audit_head n ++ counts_text specs rules counts
 
--- an audit: how many verdicts each rule has in the window, by the store's report, and then the broken and undecided ones hour by hour
+-- an audit: how many verdicts each rule has in the window, by the store's report, and then the broken and undecided ones hour by hour, each broken one with its window
 abbrev pub IsAudited : Settings → ℕ → Store → Turn → Type 0
 IsAudited c n s t =
-    (report : List Numbers) × (lines : List ℕ) × IsReportOf c s report × IsHoursText c s 0 c.window.hours lines
-    × (t ≡ writes (audit_start n c.specs (rules_for c) (total_of report).rules ++ lines) s)
+    (report : List Numbers) × (lines : List AuditLine) × IsReportOf c s report × AreFailing c s 0 c.window.hours lines
+    × (t ≡ writes (audit_start n c.specs (rules_for c) (total_of report).rules ++ lines_text c.window lines) s)
 
 -- the verdicts of one hour, the kept ones among them; an hour past the window is refused
 abbrev pub AreVerdicts : Settings → ℕ → ℕ → Store → Bool → Turn → Type 0
-AreVerdicts c n hour s true t = (lines : List AuditLine) × HasHistory (log_of c.specs s) × AreAuditLines c s hour lines × (t ≡ writes (verdicts_head n hour ++ lines_text true c.window lines) s)
+AreVerdicts c n hour s true t = (lines : List AuditLine) × HasHistory (log_of c.specs s) × AreHourLines c s hour true lines × (t ≡ writes (verdicts_head n hour ++ lines_text c.window lines) s)
 AreVerdicts c n hour s false t = t ≡ refuses c n (Edit OutOfWindow) s

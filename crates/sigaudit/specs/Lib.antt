@@ -2,9 +2,11 @@ pub mod Asked
 pub mod Request
 pub mod Status
 pub mod ConfigText
+pub mod HourFile
 pub mod Turns
 pub mod Audit
 pub mod Points
+pub mod Offsets
 pub mod Script
 pub mod Transcript
 pub mod Run

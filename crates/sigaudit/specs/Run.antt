@@ -8,13 +8,10 @@ use Rattle.hour_store.specs.Store.{Store}
 use Rattle.sig_base.specs.Window.{Span}
 use Rattle.report_text.specs.declared.refusal.Refusal.{Refusal}
 use Rattle.report_text.specs.Refusals.{IsOfWindow}
-use Rattle.command_line.specs.Words.{Asked, for_run, for_count}
+use Rattle.command_line.specs.Words.{Asked, for_run, for_count, for_pack}
 use Rattle.ring_config.specs.Settings.{Settings}
 use Rattle.script_lines.specs.Lines.{lines_of}
 use Rattle.sigaudit.specs.Turns.{Turn}
-use Rattle.rule_audit.specs.declared.lines.AuditLine.{AuditLine}
-use Rattle.hour_work.specs.Verdicts.{AreAuditLines}
-use Rattle.sigaudit.specs.Audit.{IsHoursText, lines_text}
 use Rattle.sigaudit.specs.Script.{Told, IsTold}
 use Rattle.sigaudit.specs.Transcript.{Outcome, outcome, first_lines, IsBeginning, IsTranscript}
 use Rattle.sigaudit.specs.declared.status.Status.{Status}
@@ -54,6 +51,7 @@ abbrev pub AsksRun : Option Asked → Type 0
 AsksRun None = ⊥
 AsksRun (Some (for_run config script)) = ⊤
 AsksRun (Some (for_count file signal day hour)) = ⊥
+AsksRun (Some (for_pack file signal day hour)) = ⊥
 
 -- the run wrote all of what the words and the files give where the run ends so, and no fault came
 abbrev pub Ends : ((List ℕ → List (List ℕ)) → Outcome → Type 0) → Ended → World → World → Type 0
@@ -148,18 +146,6 @@ TakesPut t old new before now store (Ok refused) = Appends old new t.text × (no
 TakesPut t old new before now store (Err stopped.Fault) = Stops old new before now t.text
 TakesPut t old new before now store (Err stopped.Memory) = (new ≡ old) × (now ≡ before)
 
--- the broken and undecided lines of an hour were written, or a front of them
-abbrev pub PutsHour : Settings → Store → ℕ → Option (List ℕ) → Option (List ℕ) → ℕ → ℕ → Result (Unit {0}) Stopped → Type 0
-PutsHour c s hour old new before now (Ok _) = (lines : List AuditLine) × AreAuditLines c s hour lines × Appends old new (lines_text false c.window lines) × (now ≡ before)
-PutsHour c s hour old new before now (Err stopped.Fault) = (lines : List AuditLine) × AreAuditLines c s hour lines × Stops old new before now (lines_text false c.window lines)
-PutsHour c s hour old new before now (Err stopped.Memory) = (new ≡ old) × (now ≡ before)
-
--- those of all hours
-abbrev pub PutsHours : Settings → Store → Option (List ℕ) → Option (List ℕ) → ℕ → ℕ → Result (Unit {0}) Stopped → Type 0
-PutsHours c s old new before now (Ok _) = (text : List ℕ) × IsHoursText c s 0 c.window.hours text × Appends old new text × (now ≡ before)
-PutsHours c s old new before now (Err stopped.Fault) = (text : List ℕ) × IsHoursText c s 0 c.window.hours text × Stops old new before now text
-PutsHours c s old new before now (Err stopped.Memory) = (text : List ℕ) × IsHoursText c s 0 c.window.hours text × AppendsFront old new text × (now ≡ before)
-
 -- a front of the text of the first k lines was written, for some k
 abbrev pub TellsFirst : Files → Settings → List (List ℕ) → Store → World → World → Type 0
 TellsFirst files c lines s old new = (k : ℕ) × (told : Told) × IsTold files c 1 (take k lines) s told × AppendsFront old.written new.written told.text
@@ -205,17 +191,17 @@ abbrev pub FewBytes : ℕ → List ℕ → Got → Type 0
 FewBytes most bytes Have = length bytes ≤ most
 FewBytes most bytes _ = ⊤
 
--- why a count ended so
-abbrev pub CountCause : World → World → Status → Type 0
-CountCause old new Done = NoFault old new
-CountCause old new SomeRefused = NoFault old new
-CountCause old new Usage = ⊥
-CountCause old new BadConfig = ⊥
-CountCause old new NoFile = (Rose old.counts.missing new.counts.missing ⊎ Rose old.counts.long new.counts.long) × Appends old.written new.written [] × NoFault old new
-CountCause old new Fault = HasFault old new
-CountCause old new Memory = ⊤
+-- why a count or a packing ended so
+abbrev pub FileCause : World → World → Status → Type 0
+FileCause old new Done = NoFault old new
+FileCause old new SomeRefused = NoFault old new
+FileCause old new Usage = ⊥
+FileCause old new BadConfig = ⊥
+FileCause old new NoFile = (Rose old.counts.missing new.counts.missing ⊎ Rose old.counts.long new.counts.long) × Appends old.written new.written [] × NoFault old new
+FileCause old new Fault = HasFault old new
+FileCause old new Memory = ⊤
 
 -- why a script over a configuration ended so
 abbrev pub ScriptCause : World → World → Status → Type 0
 ScriptCause old new BadConfig = (new.counts ≡ old.counts) × NoFault old new
-ScriptCause old new status = CountCause old new status
+ScriptCause old new status = FileCause old new status

@@ -6,9 +6,7 @@ use Rattle.sig_base.specs.declared.values.EditError.{EditError}
 use Rattle.sig_base.specs.declared.values.Row.{Row}
 use Rattle.sig_base.specs.declared.values.EditError.TheVariants.{OutOfWindow, Contradiction}
 use Rattle.sig_base.specs.declared.values.EditError.TheVariants as edits
-use Rattle.row_reader.specs.declared.row_error.RowError.{RowError}
-use Rattle.row_reader.specs.declared.row_error.RowError.TheVariants as rows
-use Rattle.row_reader.specs.Rows.{Wanted, rows_of}
+use Rattle.row_reader.specs.Rows.{Wanted}
 use Rattle.ring_config.specs.Settings.{Settings}
 use Rattle.hour_store.specs.Store.{Store}
 use Rattle.hour_work.specs.Numbers.{Numbers, total_of}
@@ -18,15 +16,18 @@ use Rattle.session.specs.Edits as change
 use Rattle.script_lines.specs.Words.{Said, said}
 use Rattle.script_lines.specs.Words as line
 use Rattle.report_text.specs.declared.refusal.Refusal.{Refusal}
-use Rattle.report_text.specs.declared.refusal.Refusal.TheVariants.{BadLine, MissingFile, FileTooLong, File, Edit}
+use Rattle.report_text.specs.declared.refusal.Refusal.TheVariants.{BadLine, MissingFile, FileTooLong, Edit}
 use Rattle.report_text.specs.Line.{line_of}
 use Rattle.report_text.specs.Applied.{applied_text}
 use Rattle.report_text.specs.Measures.{measures_text}
-use Rattle.sigaudit.specs.Turns.{Turn, passes, refuses, writes}
+use Rattle.sigaudit.specs.declared.hour_file.Unread.{Unread}
+use Rattle.sigaudit.specs.HourFile.{hour_said}
+use Rattle.sigaudit.specs.Turns.{Turn, passes, refuses, refuses_file, writes}
 use Rattle.sigaudit.specs.Audit.{AreVerdicts, IsAudited, IsReportOf}
 use Rattle.sigaudit.specs.Points.{points_of_phase}
+use Rattle.sigaudit.specs.Offsets.{offsets_of}
 
--- these are want of memory, which no definition gives
+-- this is want of memory, which no definition gives
 abbrev pub is_edit_memory : EditError → Bool
 is_edit_memory edits.OutOfWindow = false
 is_edit_memory edits.AlreadyHeld = false
@@ -36,16 +37,6 @@ is_edit_memory edits.TooManyRows = false
 is_edit_memory edits.TooManyBlanks = false
 is_edit_memory (edits.Contradiction row) = false
 is_edit_memory edits.Memory = true
-
-abbrev pub is_row_memory : RowError → Bool
-is_row_memory rows.TooManyRows = false
-is_row_memory (rows.Fields n) = false
-is_row_memory (rows.WrongSignal n) = false
-is_row_memory (rows.Stamp n) = false
-is_row_memory (rows.OutsideHour n) = false
-is_row_memory (rows.Code n) = false
-is_row_memory (rows.Param n) = false
-is_row_memory rows.Memory = true
 
 -- an edit that is accepted is answered by the hours that moved, which are all of the window
 abbrev pub accepts : Settings → ℕ → Option (ℕ × ℕ) → Store → Turn
@@ -59,9 +50,9 @@ IsEdited c n loaded s (Ok new) t =
     ⊎ ((row : Row) × IsContradiction (log_of c.specs new) row × (HasHistory (log_of c.specs new) → ⊥) × (t ≡ refuses c n (Edit (Contradiction row)) s))
 
 -- a load or a replacement of what the file says
-abbrev pub IsRead : Settings → ℕ → (Shown → Change) → Store → Result Shown RowError → Turn → Type 0
+abbrev pub IsRead : Settings → ℕ → (Shown → Change) → Store → Result Shown Unread → Turn → Type 0
 IsRead c n make s (Ok shown) t = IsEdited c n (Some (length shown.rows, shown.repeats)) s (step_of s (make shown)) t
-IsRead c n make s (Err e) t = t ≡ refuses c n (File e) s
+IsRead c n make s (Err e) t = t ≡ refuses_file c n e s
 
 -- the rows that a line wants for an hour
 abbrev pub wanted_for : Settings → ℕ → Wanted
@@ -78,7 +69,7 @@ hour_bytes files c hour name = if nat_lt hour c.window.hours then hour_file (fil
 
 -- a load or a replacement of the hour by these bytes
 abbrev pub IsFetched : Settings → ℕ → ℕ → (Shown → Change) → Store → Result (List ℕ) Refusal → Turn → Type 0
-IsFetched c n hour make s (Ok bytes) t = IsRead c n make s (rows_of (wanted_for c hour) bytes) t
+IsFetched c n hour make s (Ok bytes) t = IsRead c n make s (hour_said (wanted_for c hour) bytes) t
 IsFetched c n hour make s (Err refusal) t = t ≡ refuses c n refusal s
 
 -- a change by the rows of a file: a replacement or a load
@@ -119,6 +110,7 @@ edit_said (line.verdicts hour) = None
 edit_said line.measures = None
 edit_said (line.measures_of hour) = None
 edit_said (line.points p) = None
+edit_said (line.offsets name) = None
 
 -- what the line of this number does to a store, by what it says
 unfoldable pub IsTurn : Files → Settings → ℕ → Said → Store → Turn → Type 0
@@ -134,6 +126,7 @@ IsTurn files c n (line.verdicts hour) s t = AreVerdicts c n hour s (nat_lt hour 
 IsTurn files c n line.measures s t = IsMeasured c n s t
 IsTurn files c n (line.measures_of hour) s t = IsMeasuredOf c n hour s t
 IsTurn files c n (line.points p) s t = t ≡ points_of_phase c n p s
+IsTurn files c n (line.offsets name) s t = t ≡ offsets_of c n name s
 
 -- the text of some lines, the store after them, and whether one of them is refused
 pub record Told : Type 0 where

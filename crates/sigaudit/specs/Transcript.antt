@@ -8,13 +8,18 @@ use Rattle.row_reader.specs.Rows.{Wanted, rows_of}
 use Rattle.report_text.specs.declared.refusal.Refusal.TheVariants.{File}
 use Rattle.report_text.specs.Counts.{count_text}
 use Rattle.report_text.specs.Refusals.{refusal_text}
+use Rattle.hour_pack.specs.Grammar.{packed}
 use Rattle.ring_config.specs.Reading.{Read}
 use Rattle.ring_config.specs.Settings.{Settings, config_of}
 use Rattle.hour_store.specs.Store.{nothing_held}
-use Rattle.command_line.specs.Words.{Asked, for_run, for_count}
+use Rattle.command_line.specs.Words.{Asked, for_run, for_count, for_pack}
 use Rattle.script_lines.specs.Lines.{lines_of}
-use Rattle.sigaudit.specs.Asked.{Count, asked_of}
+use Rattle.sigaudit.specs.Asked.{HourAsked, hour_asked, asked_of}
 use Rattle.sigaudit.specs.ConfigText.{config_text}
+use Rattle.sigaudit.specs.declared.file.Task.{Task}
+use Rattle.sigaudit.specs.declared.file.Task.TheVariants.{Count, Pack}
+use Rattle.sigaudit.specs.declared.hour_file.Unread.{Unread}
+use Rattle.sigaudit.specs.HourFile.{hour_said, unread_text}
 use Rattle.sigaudit.specs.Script.{Told, IsTold}
 use Rattle.sigaudit.specs.declared.status.Ended.{Ended}
 use Rattle.sigaudit.specs.declared.status.Ended.TheVariants as ended
@@ -28,26 +33,35 @@ abbrev pub outcome : List ℕ → Ended → Outcome
 outcome bytes ended = record { bytes = bytes; ended = ended }
 
 abbrev pub usage_text : List ℕ
-usage_text = codes "usage: sigaudit --config C --script S | --count F --signal ID --hour H | --demo N\n"
+usage_text = codes "usage: sigaudit --config C --script S | --count F --signal ID --hour H | --pack F --signal ID --hour H | --demo N\n"
 
--- a window of the one hour of a count
-abbrev pub window_of : Count → Span
+-- a window of the one hour that is asked for
+abbrev pub window_of : HourAsked → Span
 window_of a = record { day = a.day; hour = a.hour; hours = 1 }
 
--- the rows that a count wants: those of the first hour of its window
-abbrev pub wanted_by : Count → Wanted
+-- the rows that are wanted: those of the first hour of this window
+abbrev pub wanted_by : HourAsked → Wanted
 wanted_by a = record { signal = a.signal; hour = 0; window = window_of a }
 
 -- of what the counted file says: its rows by their codes, or its first refusal
-abbrev pub count_outcome : Count → Result Shown RowError → Outcome
+abbrev pub count_outcome : HourAsked → Result Shown RowError → Outcome
 count_outcome a (Ok shown) = outcome (count_text shown.rows shown.repeats) ended.Done
 count_outcome a (Err e) = outcome (refusal_text (window_of a) None (File e)) ended.SomeRefused
 
--- of a count, where this is at the name of its file: the file has a limit of 32 MiB
-abbrev pub counted : Count → Option (List ℕ) → Outcome
-counted a None = outcome [] ended.NoFile
-counted a (Some bytes) =
-    if nat_le (length bytes) (32 * 2 ^ 20) then count_outcome a (rows_of (wanted_by a) bytes) else outcome [] ended.NoFile
+-- of what the file says that is to be packed: the packed hour of its rows, or its first refusal
+abbrev pub pack_outcome : HourAsked → Result Shown Unread → Outcome
+pack_outcome a (Ok shown) = outcome (packed a.signal (window_of a) 0 shown.rows) ended.Done
+pack_outcome a (Err e) = outcome (unread_text (window_of a) None e) ended.SomeRefused
+
+-- of the bytes of a file, by what is asked of it
+abbrev pub outcome_of : Task → HourAsked → List ℕ → Outcome
+outcome_of Count a bytes = count_outcome a (rows_of (wanted_by a) bytes)
+outcome_of Pack a bytes = pack_outcome a (hour_said (wanted_by a) bytes)
+
+-- where this is at the name of the file, which has a limit of 32 MiB
+abbrev pub file_outcome : Task → HourAsked → Option (List ℕ) → Outcome
+file_outcome task a None = outcome [] ended.NoFile
+file_outcome task a (Some bytes) = if nat_le (length bytes) (32 * 2 ^ 20) then outcome_of task a bytes else outcome [] ended.NoFile
 
 -- the bytes of a file that is there and within a limit
 abbrev pub limited : ℕ → Option (List ℕ) → Option (List ℕ)
@@ -82,7 +96,8 @@ IsFileOutcome files script (Some bytes) lines o = IsConfigOutcome files script (
 unfoldable pub IsAnswer : Option Asked → Files → (List ℕ → List (List ℕ)) → Outcome → Type 0
 IsAnswer None files lines o = o ≡ outcome usage_text ended.Usage
 IsAnswer (Some (for_run config script)) files lines o = IsFileOutcome files script (limited (2 ^ 20) (files config)) lines o
-IsAnswer (Some (for_count file signal day hour)) files lines o = o ≡ counted (record { file = file; signal = signal; day = day; hour = hour }) (files file)
+IsAnswer (Some (for_count file signal day hour)) files lines o = o ≡ file_outcome Count (hour_asked file signal day hour) (files file)
+IsAnswer (Some (for_pack file signal day hour)) files lines o = o ≡ file_outcome Pack (hour_asked file signal day hour) (files file)
 
 -- these bytes and this end are the transcript of the words and the files
 abbrev pub IsTranscript : List (List ℕ) → Files → List ℕ → Ended → Type 0

@@ -4,6 +4,8 @@ use Rattle.hour_store.specs.Store.{Store}
 use Rattle.ring_config.specs.Settings.{Settings}
 use Rattle.report_text.specs.declared.refusal.Refusal.{Refusal}
 use Rattle.report_text.specs.Refusals.{refusal_text}
+use Rattle.sigaudit.specs.declared.hour_file.Unread.{Unread}
+use Rattle.sigaudit.specs.HourFile.{unread_text}
 
 -- what a line writes, the store after it, and whether it was refused
 pub record Turn : Type 0 where
@@ -18,6 +20,10 @@ passes s = record { text = []; store = s; refused = false }
 -- a line that is refused: it is named and changes nothing
 abbrev pub refuses : Settings → ℕ → Refusal → Store → Turn
 refuses c n refusal s = record { text = refusal_text c.window (Some n) refusal; store = s; refused = true }
+
+-- a line whose file is refused
+abbrev pub refuses_file : Settings → ℕ → Unread → Store → Turn
+refuses_file c n e s = record { text = unread_text c.window (Some n) e; store = s; refused = true }
 
 -- a line that writes a text and changes nothing
 abbrev pub writes : List ℕ → Store → Turn

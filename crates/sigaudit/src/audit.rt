@@ -1,11 +1,10 @@
 // The verdicts of a session: those that are broken or undecided, or all of one hour.
-ghost use Rattle.std.specs.Prelude.{◌≡◌, ◌<◌, ◌*◌, true, [], IsTrue, All, List, length, nat_lt};
+ghost use Rattle.std.specs.Prelude.{◌≡◌, ◌<◌, ◌++◌, true, [], IfOk, IsTrue, All, OnOk, length, nat_lt};
 ghost use Rattle.outside.specs.Sink.{Puts};
-ghost use Rattle.hour_work.specs.Numbers.{Numbers};
-ghost use Rattle.hour_work.specs.Reports.{IsReport};
 ghost use Rattle.session.specs.Sessions.{Grow};
-ghost use Rattle.sigaudit.specs.Audit.{AreVerdicts, IsAudited, IsHourText, audit_head, audit_start, is_kept, lines_text, shown_text, verdicts_head};
-ghost use Rattle.sigaudit.specs.Run.{PutsHour, PutsHours, TakesBy};
+ghost use Rattle.report_text.specs.Audit.{IsLineIn};
+ghost use Rattle.sigaudit.specs.Audit.{AddsHour, AreFailing, AreVerdicts, IsAudited, audit_head, audit_start, failing_at, failing_of, is_kept, lines_text, verdicts_head};
+ghost use Rattle.sigaudit.specs.Run.{TakesBy};
 
 use crate::refused::refuse;
 use crate::status::Stopped;
@@ -16,7 +15,8 @@ use report_text::{Refusal, put_audit_counts, put_audit_line};
 use ring_config::Config;
 use rule_audit::{AuditLine, Rule};
 use session::Session;
-use sig_base::{EditError, Hour, Reads, Verdict};
+use sig_base::{EditError, Hour, NoMemory, Reads, Verdict};
+use std::alloc::Global;
 
 fn is_kept(verdict: Verdict) -> bool
     ensures { result ≡ is_kept verdict }
@@ -24,34 +24,13 @@ fn is_kept(verdict: Verdict) -> bool
     matches!(verdict, Verdict::Kept)
 }
 
-// Writes the line of a verdict; that of a kept one only where these are asked for.
-fn put_shown<K: Sink>(
-    config: &Config,
-    line: &AuditLine,
-    with_kept: bool,
-    sink: &mut K,
-) -> Result<(), PutFailed>
-    requires { line.now.at < 36000 * config.now.window.hours }
-    ensures { Puts (K.written sink.old) (K.written sink.new) (K.faults sink.old) (K.faults sink.new) (shown_text with_kept config.now.window line.now) result }
-{
-    if with_kept || !is_kept(line.verdict) {
-        return put_audit_line(config, line, sink);
-    }
-    Ok(())
-}
-
-// Writes the lines in their order, the kept ones only where these are asked for.
-fn put_lines<K: Sink>(
-    config: &Config,
-    lines: &[AuditLine],
-    with_kept: bool,
-    sink: &mut K,
-) -> Result<(), PutFailed>
-    requires { All (λ l. l.at < 36000 * config.now.window.hours) lines.now }
-    ensures { Puts (K.written sink.old) (K.written sink.new) (K.faults sink.old) (K.faults sink.new) (lines_text with_kept config.now.window lines.now) result }
+// Writes the lines in their order.
+fn put_lines<K: Sink>(config: &Config, lines: &[AuditLine], sink: &mut K) -> Result<(), PutFailed>
+    requires { All (IsLineIn config.now.window) lines.now }
+    ensures { Puts (K.written sink.old) (K.written sink.new) (K.faults sink.old) (K.faults sink.new) (lines_text config.now.window lines.now) result }
 {
     for line in lines {
-        match put_shown(config, line, with_kept, sink) {
+        match put_audit_line(config, line, sink) {
             Ok(()) => {}
             Err(failed) => return Err(failed),
         }
@@ -86,7 +65,7 @@ fn put_start<K: Sink>(
 // Whether each verdict of the hour is kept, so that an audit has no line of it. No hour is opened.
 fn is_clean<L>(hour: Hour, session: &Session<L>) -> bool
     requires { hour < length session.now.store.hours }
-    ensures { IsTrue result → IsHourText session.now.config session.now.store hour [] }
+    ensures { IsTrue result → AddsHour session.now.config session.now.store hour [] [] }
 {
     match session.report().hour(hour) {
         Some(part) => part.are_all_kept(),
@@ -94,55 +73,70 @@ fn is_clean<L>(hour: Hour, session: &Session<L>) -> bool
     }
 }
 
-// Writes the broken and undecided verdicts of an hour.
-fn put_failing<L, K: Sink>(
+// Adds a line, unless it is kept.
+fn add_line(failing: &mut Vec<AuditLine>, line: &AuditLine) -> Result<(), NoMemory>
+    ensures { OnOk result (failing.new.items ≡ failing.old.items ++ failing_at line.now) }
+{
+    if is_kept(line.verdict) {
+        return Ok(());
+    }
+    failing.push(*line)?;
+    Ok(())
+}
+
+// Adds the broken and undecided ones of these lines.
+fn add_lines(failing: &mut Vec<AuditLine>, lines: &[AuditLine]) -> Result<(), NoMemory>
+    ensures { OnOk result (failing.new.items ≡ failing.old.items ++ failing_of lines.now) }
+{
+    for line in lines {
+        add_line(failing, line)?;
+    }
+    Ok(())
+}
+
+// Adds the broken and undecided lines of an hour.
+#[tactic(auto, using(crate::proofs::GrowFacts::grow_same))]
+fn add_hour<L>(
+    failing: &mut Vec<AuditLine>,
     hour: Hour,
     session: &Session<L>,
-    sink: &mut K,
     reads: &mut Reads<L>,
-) -> Result<(), Stopped>
+) -> Result<(), NoMemory>
     requires { hour < length session.now.store.hours }
-    ensures put { PutsHour session.now.config session.now.store hour (K.written sink.old) (K.written sink.new) (K.faults sink.old) (K.faults sink.new) result }
+    ensures added { OnOk result (AddsHour session.now.config session.now.store hour failing.old.items failing.new.items) }
     ensures grow { Grow reads.old reads.new }
 {
     if is_clean(hour, session) {
         return Ok(());
     }
-    let lines = match session.audit_hour(hour, reads) {
-        Ok(lines) => lines,
-        Err(_) => return Err(Stopped::Memory),
-    };
-    match put_lines(session.config(), &lines, false, sink) {
-        Ok(()) => Ok(()),
-        Err(_) => Err(Stopped::Fault),
-    }
+    let lines = session.audit_hour(hour, true, reads)?;
+    add_lines(failing, &lines)
 }
 
-// Writes the broken and undecided verdicts of all hours.
+// The broken and undecided lines of all hours, each broken one with its decisive window.
 #[tactic(auto, using(crate::proofs::GrowFacts::grow_same))]
-fn put_hours<L, K: Sink>(
+fn failing_lines<L>(
+    alloc: Global,
     session: &Session<L>,
-    sink: &mut K,
     reads: &mut Reads<L>,
-) -> Result<(), Stopped>
-    requires { (all : List Numbers) × IsReport session.now.config session.now.store all }
-    ensures put { PutsHours session.now.config session.now.store (K.written sink.old) (K.written sink.new) (K.faults sink.old) (K.faults sink.new) result }
+) -> Result<Vec<AuditLine>, NoMemory>
+    ensures lines { IfOk result (λ v. AreFailing session.now.config session.now.store 0 session.now.config.window.hours v.items) }
     ensures grow { Grow reads.old reads.new }
 {
+    let mut failing = Vec::new(alloc);
     let hours = session.config().window().hours();
     for hour in 0..hours {
-        match put_failing(hour, session, sink, reads) {
-            Ok(()) => {}
-            Err(stopped) => return Err(stopped),
-        }
+        add_hour(&mut failing, hour, session, reads)?;
     }
-    Ok(())
+    Ok(failing)
 }
 
 /// Writes an audit: how many verdicts each rule has in the window, and then the broken and
-/// undecided ones, hour by hour.
+/// undecided ones, hour by hour, each broken one with its decisive window. All of them are found
+/// before anything is written.
 #[tactic(auto, using(crate::proofs::GrowFacts::grow_same))]
 pub fn audit_line<L, K: Sink>(
+    alloc: Global,
     number: u32,
     session: &Session<L>,
     sink: &mut K,
@@ -151,14 +145,18 @@ pub fn audit_line<L, K: Sink>(
     ensures turn { TakesBy (IsAudited session.now.config number session.now.store) (K.written sink.old) (K.written sink.new) (K.faults sink.old) (K.faults sink.new) session.now.store result }
     ensures grow { Grow reads.old reads.new }
 {
+    let failing = match failing_lines(alloc, session, reads) {
+        Ok(failing) => failing,
+        Err(_) => return Err(Stopped::Memory),
+    };
     let total = session.report().total();
     match put_start(number, session.config(), session.rules(), total, sink) {
         Ok(()) => {}
         Err(_) => return Err(Stopped::Fault),
     }
-    match put_hours(session, sink, reads) {
+    match put_lines(session.config(), &failing, sink) {
         Ok(()) => Ok(false),
-        Err(stopped) => Err(stopped),
+        Err(_) => Err(Stopped::Fault),
     }
 }
 
@@ -192,7 +190,7 @@ fn hour_verdicts<L, K: Sink>(
     ensures grow { Grow reads.old reads.new }
 {
     let config = session.config();
-    let lines = match session.audit_hour(hour, reads) {
+    let lines = match session.audit_hour(hour, true, reads) {
         Ok(lines) => lines,
         Err(_) => return Err(Stopped::Memory),
     };
@@ -200,7 +198,7 @@ fn hour_verdicts<L, K: Sink>(
         Ok(()) => {}
         Err(_) => return Err(Stopped::Fault),
     }
-    match put_lines(config, &lines, true, sink) {
+    match put_lines(config, &lines, sink) {
         Ok(()) => Ok(false),
         Err(_) => Err(Stopped::Fault),
     }

@@ -6,7 +6,9 @@
 
 mod audit;
 mod config_text;
-mod count;
+mod file;
+mod hour_file;
+mod offsets;
 mod points;
 mod refused;
 mod run;

@@ -4,7 +4,7 @@ ghost use Rattle.outside.specs.Shelf.{Files};
 ghost use Rattle.sig_base.specs.Window.{IsDay};
 ghost use Rattle.session.specs.Sessions.{Grow};
 ghost use Rattle.ring_config.specs.Settings.{config_of};
-ghost use Rattle.command_line.specs.Words.{HasDay, seen};
+ghost use Rattle.command_line.specs.Words.{IsReadable, seen};
 ghost use Rattle.sigaudit.specs.Asked.{asked_of};
 ghost use Rattle.sigaudit.specs.ConfigText.{config_text, is_config_memory};
 ghost use Rattle.sigaudit.specs.Status.{status_of_run};
@@ -12,11 +12,12 @@ ghost use Rattle.sigaudit.specs.Transcript.{ended_by, limited, outcome, usage_te
 ghost use Rattle.sigaudit.specs.Run.{world, CountsText, FetchesText, FewBytes, IsRun, RunsAs, HasCause, NeedsWords, NeverFall, PutsOutcome, ScriptCause};
 
 use crate::config_text::put_config_error;
-use crate::count::{Counted, count_file};
+use crate::file::{FileAsked, Task, put_file};
 use crate::script::run_script;
 use crate::status::{Ended, Status, Stopped, status_of};
 use crate::words::Words;
 use command_line::{Refused, Request, parse_words};
+use decisive::window_is_one;
 use hour_work::reports_are_one;
 use outside::{FetchError, Shelf, Sink};
 use ring_config::{Config, ConfigError, read_config};
@@ -26,7 +27,7 @@ use signal_log::some_history_agrees;
 use std::alloc::Global;
 
 const USAGE: &[u8] =
-    b"usage: sigaudit --config C --script S | --count F --signal ID --hour H | --demo N\n";
+    b"usage: sigaudit --config C --script S | --count F --signal ID --hour H | --pack F --signal ID --hour H | --demo N\n";
 
 // The most bytes of a configuration, and of a script.
 const CONFIG_LIMIT: u64 = 1_048_576;
@@ -204,7 +205,7 @@ fn run_request<L, S: Shelf, K: Sink>(
     sink: &mut K,
     reads: &mut Reads<L>,
 ) -> Result<Ended, Stopped>
-    requires { HasDay request }
+    requires { IsReadable request }
     ensures told { (files : Files) → S.files shelf.old ≡ Some files → RunsAs (IsAnswer (Some (seen request.entry)) files) (world (S.counts shelf.old) (K.written sink.old) (K.faults sink.old)) (world (S.counts shelf.new) (K.written sink.new) (K.faults sink.new)) (status_of_run result) }
     ensures cause { HasCause (Some (seen request.entry)) (world (S.counts shelf.old) (K.written sink.old) (K.faults sink.old)) (world (S.counts shelf.new) (K.written sink.new) (K.faults sink.new)) (status_of_run result) }
     ensures never_fall { NeverFall (world (S.counts shelf.old) (K.written sink.old) (K.faults sink.old)) (world (S.counts shelf.new) (K.written sink.new) (K.faults sink.new)) }
@@ -213,18 +214,24 @@ fn run_request<L, S: Shelf, K: Sink>(
     match request {
         Request::Run(config, script) => run_files(alloc, config, script, shelf, sink, reads),
         Request::Count(file, signal, day, hour) => {
-            count_file(
-                alloc,
-                &Counted {
-                    file,
-                    signal,
-                    day,
-                    hour,
-                },
-                shelf,
-                sink,
-                reads,
-            )
+            let asked = FileAsked {
+                task: Task::Count,
+                file,
+                signal,
+                day,
+                hour,
+            };
+            put_file(alloc, &asked, shelf, sink, reads)
+        }
+        Request::Pack(file, signal, day, hour) => {
+            let asked = FileAsked {
+                task: Task::Pack,
+                file,
+                signal,
+                day,
+                hour,
+            };
+            put_file(alloc, &asked, shelf, sink, reads)
         }
     }
 }
@@ -287,4 +294,5 @@ pub fn transcripts_are_one()
 {
     some_history_agrees();
     reports_are_one();
+    window_is_one();
 }

@@ -5,23 +5,24 @@ ghost use Rattle.outside.specs.Sink.{Puts};
 ghost use Rattle.report_text.specs.Line.{line_of};
 ghost use Rattle.sig_base.specs.HourRows.{Shown};
 ghost use Rattle.hour_store.specs.Store.{Store};
-ghost use Rattle.row_reader.specs.Rows.{rows_of};
+ghost use Rattle.sigaudit.specs.HourFile.{hour_said};
 ghost use Rattle.session.specs.Edits.{change_of, step_of};
 ghost use Rattle.session.specs.Sessions.{Grow};
 ghost use Rattle.script_lines.specs.Lines.{lines_of};
 ghost use Rattle.script_lines.specs.Words.{said};
 ghost use Rattle.script_lines.specs.Seen.{seen};
-ghost use Rattle.sigaudit.specs.Script.{edit_said, hour_head, window_head, is_edit_memory, is_row_memory, hour_bytes, hour_change, hour_file, wanted_for, IsEdited, IsFetched, IsMeasured, IsMeasuredOf, IsRead, IsTurn};
+ghost use Rattle.sigaudit.specs.Script.{edit_said, hour_head, window_head, is_edit_memory, hour_bytes, hour_change, hour_file, wanted_for, IsEdited, IsFetched, IsMeasured, IsMeasuredOf, IsRead, IsTurn};
 ghost use Rattle.sigaudit.specs.Run.{world, CountsFetch, FetchesHour, NamesNoRow, IsCaused, NeverFall, Takes, TakesBy, TellsAll};
 
 use crate::audit::{audit_line, verdicts_line};
+use crate::hour_file::{Unread, read_hour};
+use crate::offsets::offsets_line;
 use crate::points::points_line;
-use crate::refused::refuse;
+use crate::refused::{refuse, refuse_packed};
 use crate::status::Stopped;
 use itoa::Buffer;
 use outside::{FetchError, PutFailed, Shelf, Sink, put_parts};
 use report_text::{Refusal, put_applied, put_measures};
-use row_reader::{RowError, read_rows};
 use script_lines::{Line, read_line, split_line};
 use session::{Edit, Session};
 use sig_base::{EditError, Hour, HourRows, Reads};
@@ -42,12 +43,6 @@ fn is_edit_memory(error: EditError) -> bool
     ensures { result ≡ is_edit_memory error }
 {
     matches!(error, EditError::Memory)
-}
-
-fn is_row_memory(error: RowError) -> bool
-    ensures { result ≡ is_row_memory error }
-{
-    matches!(error, RowError::Memory)
 }
 
 // Makes an edit and answers its line; a load or a replacement names its rows and repeats.
@@ -100,13 +95,13 @@ fn bytes_line<L, K: Sink>(
     sink: &mut K,
     reads: &mut Reads<L>,
 ) -> Result<bool, Stopped>
-    requires { hour < 744 }
-    ensures turn { TakesBy (IsRead session.old.config number (hour_change replaces) session.old.store (rows_of (wanted_for session.old.config hour) bytes.now)) (K.written sink.old) (K.written sink.new) (K.faults sink.old) (K.faults sink.new) session.new.store result }
+    requires { hour < session.old.config.window.hours }
+    ensures turn { TakesBy (IsRead session.old.config number (hour_change replaces) session.old.store (hour_said (wanted_for session.old.config hour) bytes.now)) (K.written sink.old) (K.written sink.new) (K.faults sink.old) (K.faults sink.new) session.new.store result }
     ensures config { session.new.config ≡ session.old.config }
     ensures grow { Grow reads.old reads.new }
 {
     let config = session.config();
-    match read_rows::<L>(alloc, bytes, config.signal(), hour, config.window()) {
+    match read_hour::<L>(alloc, bytes, config.signal(), hour, config.window()) {
         Ok(rows) => {
             let loaded = Some((rows.len(), rows.repeats()));
             edit_line(
@@ -118,12 +113,9 @@ fn bytes_line<L, K: Sink>(
                 reads,
             )
         }
-        Err(error) => {
-            if is_row_memory(error) {
-                return Err(Stopped::Memory);
-            }
-            refuse(config, number, Refusal::File(error), sink)
-        }
+        Err(Unread::Records(error)) => refuse(config, number, Refusal::File(error), sink),
+        Err(Unread::Packed(error)) => refuse_packed(config, number, error, sink),
+        Err(Unread::Memory) => Err(Stopped::Memory),
     }
 }
 
@@ -157,7 +149,7 @@ fn fetch_line<L, S: Shelf, K: Sink>(
     sink: &mut K,
     reads: &mut Reads<L>,
 ) -> Result<bool, Stopped>
-    requires { hour < 744 }
+    requires { hour < session.old.config.window.hours }
     ensures turn { (files : Files) → S.files shelf.old ≡ Some files
         → Takes (IsFetched session.old.config number hour (hour_change replaces) session.old.store (hour_file (files name.now))) (world (S.counts shelf.old) (K.written sink.old) (K.faults sink.old)) (world (S.counts shelf.new) (K.written sink.new) (K.faults sink.new)) session.new.store result }
     ensures cause { IsCaused (world (S.counts shelf.old) (K.written sink.old) (K.faults sink.old)) (world (S.counts shelf.new) (K.written sink.new) (K.faults sink.new)) result }
@@ -318,11 +310,12 @@ fn take_said<L, S: Shelf, K: Sink>(
         Line::Replace(hour, name) => {
             file_line(alloc, number, hour, name, true, session, shelf, sink, reads)
         }
-        Line::Audit => audit_line(number, session, sink, reads),
+        Line::Audit => audit_line(alloc, number, session, sink, reads),
         Line::Verdicts(hour) => verdicts_line(number, hour, session, sink, reads),
         Line::Measures => measures_line(number, session, sink),
         Line::MeasuresOf(hour) => hour_line(number, hour, session, sink),
         Line::Points(phase) => points_line(number, phase, session, sink, reads),
+        Line::Offsets(name) => offsets_line(alloc, number, name, session, sink, reads),
         Line::Withdraw(_) => unreachable!(),
         Line::Blank(_, _) => unreachable!(),
         Line::Unblank(_, _) => unreachable!(),

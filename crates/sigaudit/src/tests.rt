@@ -3,6 +3,8 @@ mod cases;
 mod cut_off;
 mod limits;
 mod measures;
+mod offsets;
+mod packed;
 mod points;
 
 use crate::run::run;

@@ -19,7 +19,7 @@ abbrev no_state : State
 no_state = state 0 (pos 0)
 
 -- a start and lists of letters of one channel over the window, which agree
-pub IsCourse : Log → ℕ → State → List (List ℕ) → Type 0
+unfoldable pub IsCourse : Log → ℕ → State → List (List ℕ) → Type 0
 IsCourse log i s lists = IsBeforeWindow (track_at log i).rules s × (length lists ≡ window_end log) × Agree log.known (λ x. letters (track_at log i) (events_at log.rows x)) 0 lists × ((u : State) × Run (track_at log i).rules (pos 0) s lists u)
 
 -- those of a channel of a history
@@ -95,7 +95,7 @@ course_whole : (log : Log) (i : ℕ) (s : State) (lists : List (List ℕ)) → I
 unfolding IsCourse
 course_whole log i s lists (bw, len, ag, (u, r)) = (u, (s, bw, (lists, omega arith, (ag, r))))
 
-whole_course : (log : Log) (i : ℕ) (u : State) → IsReached log i (window_end log) u → (s : State) × (lists : List (List ℕ)) × IsCourse log i s lists
+pub whole_course : (log : Log) (i : ℕ) (u : State) → IsReached log i (window_end log) u → (s : State) × (lists : List (List ℕ)) × IsCourse log i s lists
 unfolding IsCourse
 whole_course log i u (s, bw, (lists, len, (ag, r))) = (s, lists, (bw, (omega arith), ag, (u, r)))
 

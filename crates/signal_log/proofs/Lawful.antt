@@ -141,7 +141,7 @@ fewer specs more less are im il len known same has = (history_runs (log_of specs
     (u, (s, bw, subst (λ (t : ℕ). Agreeing k (is_known less) (events_at (known_rows less)) 0 t s u) ends_same g2)))
 
 -- what stores tell of the same hours is the same
-told_same : (a b : Store) (low high : ℕ) → IsStore a → IsStore b → TellSame a b low high → SameIn (is_known a) (events_at (known_rows a)) (is_known b) (events_at (known_rows b)) (first_tenth low) (first_tenth high)
+pub told_same : (a b : Store) (low high : ℕ) → IsStore a → IsStore b → TellSame a b low high → SameIn (is_known a) (events_at (known_rows a)) (is_known b) (events_at (known_rows b)) (first_tenth low) (first_tenth high)
 told_same a b low high ia ib same x l1 l2 = (
   same.known x l1 l2,
   λ is.

@@ -9,6 +9,10 @@ const TEXT: &str = "signal = \"7\"\nstart = \"2024-03-04T06\"\nhours = 2\n";
 const WITH_PHASE: &str =
     "signal = \"7\"\nstart = \"2024-03-04T06\"\nhours = 2\n\n[[phase]]\nnumber = 2\nring = 1\nside = 1\n";
 
+// Phase 2 is to be green for 15 seconds.
+const WITH_INTERVAL: &str =
+    "signal = \"7\"\nstart = \"2024-03-04T06\"\nhours = 2\n\n[[phase]]\nnumber = 2\nring = 1\nside = 1\n\n[[interval]]\nchannel = \"phase 2\"\ncolour = \"Green\"\nat_least = 150\n";
+
 fn read(alloc: Global, text: &str) -> Result<Config, Fail> {
     Ok(read_config(alloc, text.as_bytes())?)
 }
@@ -19,4 +23,8 @@ pub fn two_hours(alloc: Global) -> Result<Config, Fail> {
 
 pub fn one_phase(alloc: Global) -> Result<Config, Fail> {
     read(alloc, WITH_PHASE)
+}
+
+pub fn one_interval(alloc: Global) -> Result<Config, Fail> {
+    read(alloc, WITH_INTERVAL)
 }

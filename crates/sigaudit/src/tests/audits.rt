@@ -40,7 +40,7 @@ const AUDITED: [(&str, &str, Status, &str); 5] = [
         "load 0 f\naudit\nverdicts 0\nverdicts 2\naudit 0\n",
         "7,2024-03-04 06:01:40.0,1,2\n7,2024-03-04 06:01:54.9,8,2\n",
         Status::SomeRefused,
-        "1 ok rows 2 repeats 0 moved 0 2\n2 audit\nrule 1 phase 2 Green at least 150 kept 0 broken 1 undecided 0\nbroken 1 2024-03-04T06:01:54.9\n3 verdicts 0\nbroken 1 2024-03-04T06:01:54.9\n4 refused out of window\n5 refused bad line\n",
+        "1 ok rows 2 repeats 0 moved 0 2\n2 audit\nrule 1 phase 2 Green at least 150 kept 0 broken 1 undecided 0\nbroken 1 2024-03-04T06:01:54.9 from 2024-03-04T06:01:40.0 to 2024-03-04T06:01:54.9\n3 verdicts 0\nbroken 1 2024-03-04T06:01:54.9 from 2024-03-04T06:01:40.0 to 2024-03-04T06:01:54.9\n4 refused out of window\n5 refused bad line\n",
     ),
     (
         "load 0 f\naudit\nverdicts 0\nverdicts 1\n",
@@ -58,7 +58,7 @@ const AUDITED: [(&str, &str, Status, &str); 5] = [
         "blank 2024-03-04T06:01:45.0 2024-03-04T06:01:47.0\nload 0 f\naudit\n",
         "7,2024-03-04 06:01:40.0,1,2\n7,2024-03-04 06:01:50.0,7,2\n7,2024-03-04 06:01:51.0,8,2\n",
         Status::Done,
-        "1 ok moved 0 2\n2 ok rows 3 repeats 0 moved 0 2\n3 audit\nrule 1 phase 2 Green at least 150 kept 0 broken 1 undecided 0\nbroken 1 2024-03-04T06:01:50.0\n",
+        "1 ok moved 0 2\n2 ok rows 3 repeats 0 moved 0 2\n3 audit\nrule 1 phase 2 Green at least 150 kept 0 broken 1 undecided 0\nbroken 1 2024-03-04T06:01:50.0 from 2024-03-04T06:01:40.0 to 2024-03-04T06:01:51.0\n",
     ),
     (
         "load 0 f\nwithdraw 0\naudit\n",
@@ -108,7 +108,7 @@ const HOLES: [(&str, &str, [&str; 2], &str); 9] = [
             "7,2024-03-04 06:01:40.0,1,2\n7,2024-03-04 06:01:45.0,8,2\n7,2024-03-04 06:01:45.5,9,2\n7,2024-03-04 06:01:46.0,1,2\n7,2024-03-04 06:02:00.0,8,2\n",
             "",
         ],
-        "1 ok rows 5 repeats 0 moved 0 2\n2 audit\nrule 1 phase 2 Green at least 150 kept 0 broken 2 undecided 0\nbroken 1 2024-03-04T06:01:45.0\nbroken 1 2024-03-04T06:02:00.0\n",
+        "1 ok rows 5 repeats 0 moved 0 2\n2 audit\nrule 1 phase 2 Green at least 150 kept 0 broken 2 undecided 0\nbroken 1 2024-03-04T06:01:45.0 from 2024-03-04T06:01:40.0 to 2024-03-04T06:01:45.0\nbroken 1 2024-03-04T06:02:00.0 from 2024-03-04T06:01:46.0 to 2024-03-04T06:02:00.0\n",
     ),
     // A yellow at 07:00:14.8, with the hour before it not held.
     (
@@ -135,7 +135,7 @@ const HOLES: [(&str, &str, [&str; 2], &str); 9] = [
             "7,2024-03-04 07:00:14.8,8,2\n",
             "7,2024-03-04 06:59:59.9,1,2\n",
         ],
-        "1 ok rows 1 repeats 0 moved 0 2\n2 ok rows 1 repeats 0 moved 0 2\n3 audit\nrule 1 phase 2 Green at least 150 kept 0 broken 1 undecided 0\nbroken 1 2024-03-04T07:00:14.8\n",
+        "1 ok rows 1 repeats 0 moved 0 2\n2 ok rows 1 repeats 0 moved 0 2\n3 audit\nrule 1 phase 2 Green at least 150 kept 0 broken 1 undecided 0\nbroken 1 2024-03-04T07:00:14.8 from 2024-03-04T06:59:59.9 to 2024-03-04T07:00:14.8\n",
     ),
     // Both phases are red at 06:00:10.0 and phase 2 is green at 06:00:40.0, with ten seconds
     // between unknown.
@@ -166,7 +166,7 @@ const HOLES: [(&str, &str, [&str; 2], &str); 9] = [
             "7,2024-03-04 06:00:10.0,12,2\n7,2024-03-04 06:00:10.0,12,4\n7,2024-03-04 06:00:25.0,0,2\n7,2024-03-04 06:00:25.0,1,4\n7,2024-03-04 06:00:40.0,1,2\n",
             "",
         ],
-        "1 ok rows 5 repeats 0 moved 0 2\n2 audit\nrule 1 conflict 2 4 kept 1 broken 2 undecided 1\nundecided 1 2024-03-04T06:00:00.0\nbroken 1 2024-03-04T06:00:25.0\nbroken 1 2024-03-04T06:00:40.0\n",
+        "1 ok rows 5 repeats 0 moved 0 2\n2 audit\nrule 1 conflict 2 4 kept 1 broken 2 undecided 1\nundecided 1 2024-03-04T06:00:00.0\nbroken 1 2024-03-04T06:00:25.0 from 2024-03-04T06:00:25.0 to 2024-03-04T06:00:25.0\nbroken 1 2024-03-04T06:00:40.0 from 2024-03-04T06:00:25.0 to 2024-03-04T06:00:40.0\n",
     ),
 ];
 

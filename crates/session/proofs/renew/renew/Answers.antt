@@ -1,6 +1,5 @@
-use Rattle.std.proofs.Common.{◌≡◌, ◌+◌, ◌<◌, ◌≤◌, ℕ, arith, length, sym, subst}
-use Rattle.hour_work.specs.Numbers.{AreNewSums, patched}
-use Rattle.session.specs.Renewed.{AreNewCarries, AreNewFutures, AreNewParts, AreSameUpTo, IsRenewed}
+use Rattle.std.proofs.Common.{◌+◌, ◌≤◌}
+use Rattle.hour_work.specs.Numbers.{patched}
 use Rattle.session.proofs.GrowLaws.{grow_on}
 use Rattle.session.proofs.KeptLaws.{history_kept}
 use Rattle.session.proofs.RenewLaws.{renewed, shapes_new}

@@ -1,4 +1,4 @@
-use Rattle.std.proofs.Common.{◌≡◌, ◌∙◌, ◌+◌, ◌≤◌, arith, length, subst, sym}
+use Rattle.std.proofs.Common.{subst, sym}
 use Rattle.board.specs.Places.{AreAheadsOf}
 use Rattle.board.specs.Stops.{AreBefore}
 use Rattle.hour_work.specs.Points.{Carried}

@@ -7,4 +7,4 @@ use Rattle.sigaudit.proofs.audit.put_lines.Given as goal
 abbrev pub invariant-loop-line : goal.invariant-loop-line
 invariant-loop-line g l =
     Going (g.K.Sink.written l.fn.sink) (g.K.Sink.written l.sink) (g.K.Sink.faults l.fn.sink) (g.K.Sink.faults l.sink)
-    (lines_text l.with_kept l.config.window l.lines) (lines_text l.with_kept l.config.window (drop l.line-index l.lines))
+    (lines_text l.config.window l.lines) (lines_text l.config.window (drop l.line-index l.lines))

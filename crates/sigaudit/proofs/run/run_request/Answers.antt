@@ -3,7 +3,7 @@ use Rattle.command_line.specs.Words.{seen}
 use Rattle.sigaudit.specs.Run.{world}
 use Rattle.sigaudit.specs.Status.{status_of_run}
 use Rattle.sigaudit.proofs.GrowFacts.{grow_once}
-use Rattle.sigaudit.proofs.RunFacts.{request_run, request_count, day_back}
+use Rattle.sigaudit.proofs.RunFacts.{request_run, request_count, request_pack, day_back}
 use Rattle.sigaudit.proofs.LineFacts.{told_file}
 use Rattle.sigaudit.proofs.run.run_request.Goals as goal
 
@@ -14,8 +14,17 @@ returns-in-Run-clause-told g c = λ files told.
 pub returns-in-Count-clause-told : goal.returns-in-Count-clause-told
 returns-in-Count-clause-told g c = λ files told.
     let day = rw c.in-Count.is at c.requires in
-    let h = told_file _ (g.S.Shelf.files c.args.shelf.now) files told c.count_file.ensures.told in
-    request_count files (seen c.args.request) c.in-Count.file.now c.in-Count.signal.now c.in-Count.day c.in-Count.hour (world (g.S.Shelf.counts c.args.shelf.now) (g.K.Sink.written c.args.sink.now) (g.K.Sink.faults c.args.sink.now)) (world (g.S.Shelf.counts c.count_file.new.shelf) (g.K.Sink.written c.count_file.new.sink) (g.K.Sink.faults c.count_file.new.sink)) (status_of_run c.count_file.result) (ap seen c.in-Count.is) (rw (day_back c.in-Count.day day.0) at h)
+    let h = told_file _ (g.S.Shelf.files c.args.shelf.now) files told c.put_file.ensures.told in
+    request_count files (seen c.args.request) c.in-Count.file.now c.in-Count.signal.now c.in-Count.day c.in-Count.hour (world (g.S.Shelf.counts c.args.shelf.now) (g.K.Sink.written c.args.sink.now) (g.K.Sink.faults c.args.sink.now)) (world (g.S.Shelf.counts c.put_file.new.shelf) (g.K.Sink.written c.put_file.new.sink) (g.K.Sink.faults c.put_file.new.sink)) (status_of_run c.put_file.result) (ap seen c.in-Count.is) (rw (day_back c.in-Count.day day.0) at h)
 
 pub returns-in-Count-clause-grow : goal.returns-in-Count-clause-grow
-returns-in-Count-clause-grow g c = grow_once _ _ 0 c.count_file.ensures.reads
+returns-in-Count-clause-grow g c = grow_once _ _ 0 c.put_file.ensures.reads
+
+pub returns-in-Pack-clause-told : goal.returns-in-Pack-clause-told
+returns-in-Pack-clause-told g c = λ files told.
+    let day = rw c.in-Pack.is at c.requires in
+    let h = told_file _ (g.S.Shelf.files c.args.shelf.now) files told c.put_file-in-Pack.ensures.told in
+    request_pack files (seen c.args.request) c.in-Pack.file.now c.in-Pack.signal.now c.in-Pack.day c.in-Pack.hour (world (g.S.Shelf.counts c.args.shelf.now) (g.K.Sink.written c.args.sink.now) (g.K.Sink.faults c.args.sink.now)) (world (g.S.Shelf.counts c.put_file-in-Pack.new.shelf) (g.K.Sink.written c.put_file-in-Pack.new.sink) (g.K.Sink.faults c.put_file-in-Pack.new.sink)) (status_of_run c.put_file-in-Pack.result) (ap seen c.in-Pack.is) (rw (day_back c.in-Pack.day day.0) at h)
+
+pub returns-in-Pack-clause-grow : goal.returns-in-Pack-clause-grow
+returns-in-Pack-clause-grow g c = grow_once _ _ 0 c.put_file-in-Pack.ensures.reads

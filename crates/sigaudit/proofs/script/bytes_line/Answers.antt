@@ -1,22 +1,19 @@
-use Rattle.std.proofs.Common.{◌≡◌, ◌∙◌, false, sym, refl}
-use Rattle.row_reader.specs.Rows.{rows_of}
-use Rattle.sigaudit.specs.Script.{hour_change, is_row_memory, wanted_for, IsRead}
-use Rattle.sigaudit.proofs.GrowFacts.{grow_same}
+use Rattle.std.proofs.Common.{◌≡◌, refl}
+use Rattle.sigaudit.specs.declared.hour_file.Unread.TheVariants.{Records, Packed}
+use Rattle.sigaudit.specs.HourFile.{hour_said}
+use Rattle.sigaudit.specs.Script.{hour_change, wanted_for, IsRead}
 use Rattle.sigaudit.proofs.TakeFacts.{by_nothing}
 use Rattle.sigaudit.proofs.EditFacts.{bytes_refused}
 use Rattle.sigaudit.proofs.script.bytes_line.Goals as goal
 
-pub returns-then-is_row_memory-clause-turn : goal.returns-then-is_row_memory-clause-turn
-returns-then-is_row_memory-clause-turn g c =
-    by_nothing (IsRead c.args.session.now.config c.args.number (hour_change c.args.replaces) c.args.session.now.store (rows_of (wanted_for c.args.session.now.config c.args.hour) c.args.bytes.now)) (g.K.Sink.written c.args.sink.now) (g.K.Sink.faults c.args.sink.now) c.args.session.now.store
+pub returns-in-Err-Records-clause-turn : goal.returns-in-Err-Records-clause-turn
+returns-in-Err-Records-clause-turn g c =
+    bytes_refused c.args.session.now.config c.config-config.result.now c.args.number c.args.hour (hour_change c.args.replaces) c.args.session.now.store
+    c.signal.result.now c.window.result.now c.args.bytes.now (Records c.in-Err-Records.error) _ _ _ _ c.refuse.result
+    c.config-config.ensures.value c.signal.ensures.value c.window.ensures (rw c.in-Err-Records.field-0-is at c.in-Err-Records.ensures.err) c.refuse.ensures
 
-pub returns-else-is_row_memory : goal.returns-else-is_row_memory
-returns-else-is_row_memory g c =
-    let ne : is_row_memory c.in-Err.error ≡ false = sym c.is_row_memory.ensures ∙ c.if-is_row_memory.false in
-    record {
-      turn = bytes_refused c.args.session.now.config c.config-config.result.now c.args.number c.args.hour (hour_change c.args.replaces) c.args.session.now.store
-          c.signal.result.now c.window.result.now c.args.bytes.now c.in-Err.error _ _ _ _ c.refuse.result
-          c.config-config.ensures.value c.signal.ensures c.window.ensures ne c.in-Err.ensures.err c.refuse.ensures;
-      config = refl;
-      grow = grow_same c.args.reads.now;
-    }
+pub returns-in-Err-Packed-clause-turn : goal.returns-in-Err-Packed-clause-turn
+returns-in-Err-Packed-clause-turn g c =
+    bytes_refused c.args.session.now.config c.config-config.result.now c.args.number c.args.hour (hour_change c.args.replaces) c.args.session.now.store
+    c.signal.result.now c.window.result.now c.args.bytes.now (Packed c.in-Err-Packed.error) _ _ _ _ c.refuse_packed.result
+    c.config-config.ensures.value c.signal.ensures.value c.window.ensures (rw c.in-Err-Packed.field-0-is at c.in-Err-Packed.ensures.err) c.refuse_packed.ensures

@@ -11,7 +11,10 @@ use Rattle.sigaudit.proofs.LineFacts.{by_bad, inside_line, outside_line}
 use Rattle.sigaudit.proofs.script.file_line.Goals as goal
 
 pub fetch_line-requires : goal.fetch_line-requires
-fetch_line-requires g c = let few = c.hours.ensures.few in let within = c.if-hour-hours.false in omega arith
+fetch_line-requires g c =
+    let same : c.hours.result ≡ c.args.session.now.config.window.hours = c.hours.ensures.value ∙ ap (λ (w : Span). w.hours) c.window.ensures ∙ ap (λ (k : Settings). k.window.hours) c.config.ensures.value in
+    let within = c.if-hour-hours.false in
+    omega arith
 
 pub returns-then-hour-hours-clause-turn : goal.returns-then-hour-hours-clause-turn
 returns-then-hour-hours-clause-turn g c = λ files told.

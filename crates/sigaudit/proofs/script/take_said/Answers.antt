@@ -7,9 +7,10 @@ use Rattle.sigaudit.specs.Run.{world}
 use Rattle.sigaudit.specs.Turns.{Turn, refuses}
 use Rattle.sigaudit.specs.Audit.{AreVerdicts, IsAudited}
 use Rattle.sigaudit.specs.Points.{points_of_phase}
+use Rattle.sigaudit.specs.Offsets.{offsets_of}
 use Rattle.sigaudit.specs.Script.{hour_bytes, hour_change, IsEdited, IsFetched, IsMeasured, IsMeasuredOf}
 use Rattle.sigaudit.proofs.TakeFacts.{caused_of_by, never_of_by}
-use Rattle.sigaudit.proofs.LineFacts.{by_bad, line_as, line_by, line_skipped, turn_audit, turn_bad, turn_edit, turn_hour, turn_load, turn_measures, turn_points, turn_replace, turn_verdicts}
+use Rattle.sigaudit.proofs.LineFacts.{by_bad, line_as, line_by, line_skipped, turn_audit, turn_bad, turn_edit, turn_hour, turn_load, turn_measures, turn_offsets, turn_points, turn_replace, turn_verdicts}
 use Rattle.sigaudit.proofs.script.take_said.Goals as goal
 
 pub returns-in-Skip-clause-turn : goal.returns-in-Skip-clause-turn
@@ -85,6 +86,16 @@ returns-in-Points-clause-cause g c = caused_of_by (λ (t : Turn). t ≡ points_o
 
 pub returns-in-Points-clause-never_fall : goal.returns-in-Points-clause-never_fall
 returns-in-Points-clause-never_fall g c = never_of_by (λ (t : Turn). t ≡ points_of_phase c.args.session.now.config c.args.number c.in-Points.phase c.args.session.now.store) (g.S.Shelf.counts c.args.shelf.now) (g.S.Shelf.counts c.args.shelf.now) _ _ _ _ c.args.session.now.store c.points_line.result (omega arith) (omega arith) (omega arith) (c.points_line.ensures.turn)
+
+pub returns-in-Offsets-clause-turn : goal.returns-in-Offsets-clause-turn
+returns-in-Offsets-clause-turn g c = λ files told.
+    line_by files c.args.session.now.config c.args.number (seen c.args.line) (line.offsets c.in-Offsets.name.now) c.args.session.now.store (λ (t : Turn). t ≡ offsets_of c.args.session.now.config c.args.number c.in-Offsets.name.now c.args.session.now.store) (g.S.Shelf.counts c.args.shelf.now) _ _ _ _ c.args.session.now.store c.offsets_line.result (ap seen c.in-Offsets.is) (turn_offsets files c.args.session.now.config c.args.number c.in-Offsets.name.now c.args.session.now.store) (c.offsets_line.ensures.turn)
+
+pub returns-in-Offsets-clause-cause : goal.returns-in-Offsets-clause-cause
+returns-in-Offsets-clause-cause g c = caused_of_by (λ (t : Turn). t ≡ offsets_of c.args.session.now.config c.args.number c.in-Offsets.name.now c.args.session.now.store) (g.S.Shelf.counts c.args.shelf.now) (g.S.Shelf.counts c.args.shelf.now) _ _ _ _ c.args.session.now.store c.offsets_line.result refl (c.offsets_line.ensures.turn)
+
+pub returns-in-Offsets-clause-never_fall : goal.returns-in-Offsets-clause-never_fall
+returns-in-Offsets-clause-never_fall g c = never_of_by (λ (t : Turn). t ≡ offsets_of c.args.session.now.config c.args.number c.in-Offsets.name.now c.args.session.now.store) (g.S.Shelf.counts c.args.shelf.now) (g.S.Shelf.counts c.args.shelf.now) _ _ _ _ c.args.session.now.store c.offsets_line.result (omega arith) (omega arith) (omega arith) (c.offsets_line.ensures.turn)
 
 pub returns-in-Load-clause-turn : goal.returns-in-Load-clause-turn
 returns-in-Load-clause-turn g c = λ files told.

@@ -1,0 +1,17 @@
+pub mod Less
+pub mod Lawful
+pub mod Alone
+pub mod FreeStarts
+pub mod Numbers
+pub mod Since
+pub mod Clauses
+pub mod Parted
+pub mod Judging
+pub mod Placing
+pub mod GrowLaws
+pub mod Telling
+pub mod Placed
+pub mod Found
+pub mod Decided
+pub mod Concluded
+pub mod Finished

@@ -1,0 +1,112 @@
+// What the store tells of some hours, one after another.
+ghost use Rattle.std.specs.Prelude.{◌≡◌, ◌++◌, ◌+◌, ◌<◌, ◌≤◌, ◌^◌, ℕ, List, length, option_copied, IfOk, OnOk};
+ghost use Rattle.channel_tables.specs.declared.spec.Spec.{Spec};
+ghost use Rattle.hour_store.specs.Store.{rows_at};
+ghost use Rattle.board.specs.Logs.{first_tenth};
+ghost use Rattle.signal_log.specs.Log.{log_of};
+ghost use Rattle.signal_log.specs.Points.{rows_or_none};
+ghost use Rattle.decisive.specs.Laws.{TellsOf};
+ghost use Rattle.decisive.specs.Searches.{ArePlaced, Grow, rank};
+
+use gap_map::{Stretch, stretches};
+use hour_store::HourStore;
+use sig_base::{Hour, NoMemory, Reads, Row};
+use std::alloc::Global;
+
+/// The rows of some hours and their stretches.
+#[derive(Drop)]
+pub(crate) struct HoursTold {
+    pub(crate) rows: Vec<Row>,
+    pub(crate) stretches: Vec<Stretch>,
+}
+
+/// The same, and after how many of the rows the place is.
+#[derive(Drop)]
+pub(crate) struct Placed {
+    pub(crate) told: HoursTold,
+    pub(crate) place: usize,
+}
+
+// The rows, or none.
+fn copied(alloc: Global, rows: Option<&[Row]>) -> Result<Vec<Row>, NoMemory>
+    ensures { IfOk result (λ v. v.items ≡ rows_or_none (option_copied rows.entry)) }
+{
+    let mut own = Vec::new(alloc);
+    match rows {
+        Some(rows) => {
+            own.extend_from_slice(rows)?;
+            Ok(own)
+        }
+        None => Ok(own),
+    }
+}
+
+/// What is told of an hour, which is opened.
+pub(crate) fn hour_told<L>(
+    alloc: Global,
+    store: &HourStore<L>,
+    hour: Hour,
+    reads: &mut Reads<L>,
+) -> Result<HoursTold, NoMemory>
+    requires { hour < length store.now.hours }
+    ensures tells { IfOk result (λ t. (specs : List Spec) → TellsOf (log_of specs store.now) t.rows.items t.stretches.items (first_tenth hour) (first_tenth (hour + 1))) }
+    ensures rows { IfOk result (λ t. t.rows.items ≡ rows_or_none (rows_at store.now hour)) }
+    ensures few { IfOk result (λ t. length t.rows.items ≤ 400000) }
+    ensures grow { Grow reads.old reads.new }
+{
+    let _hours = store.hours();
+    let rows = store.open_hour(hour, reads);
+    let cut = stretches(alloc, hour, rows.is_some(), store.blanked())?;
+    let own = copied(alloc, rows)?;
+    Ok(HoursTold {
+        rows: own,
+        stretches: cut,
+    })
+}
+
+/// Adds what is told of the hours after these.
+pub(crate) fn append(told: &mut HoursTold, more: &HoursTold) -> Result<(), NoMemory>
+    ensures rows { OnOk result (told.new.rows.items ≡ told.old.rows.items ++ more.now.rows.items) }
+    ensures stretches { OnOk result (told.new.stretches.items ≡ told.old.stretches.items ++ more.now.stretches.items) }
+{
+    told.rows.extend_from_slice(&more.rows)?;
+    told.stretches.extend_from_slice(&more.stretches)?;
+    Ok(())
+}
+
+/// Adds what is told of the hour after these, which is opened.
+pub(crate) fn add_hour<L>(
+    alloc: Global,
+    store: &HourStore<L>,
+    told: &mut HoursTold,
+    hour: Hour,
+    reads: &mut Reads<L>,
+) -> Result<(), NoMemory>
+    requires { hour < length store.now.hours }
+    ensures placed { OnOk result ((f k x n : ℕ) → ArePlaced store.now told.old f (first_tenth hour) k x n → ArePlaced store.now told.new f (first_tenth (hour + 1)) (k + 1) x n) }
+    ensures rank { OnOk result ((f k x n : ℕ) → ArePlaced store.now told.old f (first_tenth hour) k x n → rank told.new x n ≡ rank told.old x n) }
+    ensures grow { Grow reads.old reads.new }
+{
+    let more = hour_told(alloc, store, hour, reads)?;
+    append(told, &more)
+}
+
+/// Puts what is told of an hour, which is opened, before what is told from the hour after it on.
+pub(crate) fn hour_before<L>(
+    alloc: Global,
+    store: &HourStore<L>,
+    hour: Hour,
+    placed: &Placed,
+    reads: &mut Reads<L>,
+) -> Result<Placed, NoMemory>
+    requires within { hour < length store.now.hours }
+    requires few { placed.now.place + 400000 < 2 ^ 32 }
+    ensures placed { IfOk result (λ p. (t k x : ℕ) → ArePlaced store.now placed.now.told (first_tenth (hour + 1)) t k x placed.now.place → ArePlaced store.now p.told (first_tenth hour) t (k + 1) x p.place) }
+    ensures rank { IfOk result (λ p. (t k x : ℕ) → ArePlaced store.now placed.now.told (first_tenth (hour + 1)) t k x placed.now.place → rank p.told x p.place ≡ rank placed.now.told x placed.now.place) }
+    ensures grow { Grow reads.old reads.new }
+{
+    let mut first = hour_told(alloc, store, hour, reads)?;
+    let place = first.rows.len() + placed.place;
+    append(&mut first, &placed.told)?;
+    Ok(Placed { told: first, place })
+}

@@ -1,0 +1,28 @@
+//! How little of a log still breaks an obligation: the decisive window of a broken line.
+//!
+//! The candidates are the line's own tenth, the tenths of known rows of its rule's channels, tenth 0
+//! and the window's last tenth. The window ends with the least candidate from the own tenth on up to
+//! which the log, from tenth 0 on, breaks the obligation. It begins with the greatest candidate up to
+//! the own tenth from which on the log up to that end breaks it.
+//!
+//! - `parts`: what a rule asks of each of its channels; it is broken where none of them has such a
+//!   state.
+//! - `judge`: whether it is broken over some tenths alone, by the moves of these channels.
+//! - `rows`, `search`: the candidates among the rows, and the first and the last that will do.
+//! - `hours`, `within`: hour by hour, on from the line's own hour and back from it.
+//! - `window`: the call. `laws`: what holds of every log.
+//!
+//! Tenths are tenths of a second from the window's start.
+#![tactic(auto)]
+
+mod hours;
+mod judge;
+mod laws;
+mod parts;
+mod rows;
+mod search;
+mod window;
+mod within;
+
+pub use laws::{channel_alone, clause_by_terms, more_is_known, window_is_one};
+pub use window::decisive_window;

@@ -1,0 +1,42 @@
+-- The lines of the audit of an hour, with the decisive window of each broken one.
+use Rattle.std.specs.Prelude.{◌≡◌, ℕ, Bool, true, false, List, [], ◌∷◌, Option, Some, None, ⊤}
+use Rattle.sig_base.specs.declared.values.Row.{Row}
+use Rattle.sig_base.specs.declared.values.Verdict.{Verdict}
+use Rattle.sig_base.specs.declared.values.Verdict.TheVariants.{Idle, Kept, Broken, Undecided}
+use Rattle.hour_store.specs.Store.{Store}
+use Rattle.ring_config.specs.Settings.{Settings}
+use Rattle.signal_log.specs.Log.{Log, log_of}
+use Rattle.rule_audit.specs.declared.lines.AuditLine.{AuditLine}
+use Rattle.rule_audit.specs.declared.rules.Rule.{Rule}
+use Rattle.rule_audit.specs.Rules.{rules_for}
+use Rattle.decisive.specs.Window.{IsDecisive, obligation_of}
+use Rattle.hour_work.specs.Rows.{hour_rows}
+use Rattle.hour_work.specs.Verdicts.{AreAuditLines}
+
+abbrev pub is_broken : Verdict → Bool
+is_broken Idle = false
+is_broken Kept = false
+is_broken Broken = true
+is_broken Undecided = false
+
+-- a broken line has the decisive window of its obligation, every other has none
+abbrev pub HasWindow : Log → List Rule → List Row → AuditLine → Option (ℕ × ℕ) → Type 0
+HasWindow log rules rows l None = is_broken l.verdict ≡ false
+HasWindow log rules rows l (Some w) = (is_broken l.verdict ≡ true) × IsDecisive log rows (obligation_of rules l) w.0 w.1
+
+abbrev pub with_window : AuditLine → Option (ℕ × ℕ) → AuditLine
+with_window l w = record l { window = w }
+
+-- the second lines are the first ones, each with its window
+abbrev pub AreWithWindows : Log → List Rule → List Row → List AuditLine → List AuditLine → Type 0
+AreWithWindows log rules rows [] [] = ⊤
+AreWithWindows log rules rows [] (l ∷ ls) = ⊥
+AreWithWindows log rules rows (p ∷ ps) [] = ⊥
+AreWithWindows log rules rows (p ∷ ps) (l ∷ ls) =
+    ((w : Option (ℕ × ℕ)) × HasWindow log rules rows p w × (l ≡ with_window p w)) × AreWithWindows log rules rows ps ls
+
+-- the lines of the audit of an hour of the store: where windows are wanted each broken one has its decisive window, else none has one
+abbrev pub AreHourLines : Settings → Store → ℕ → Bool → List AuditLine → Type 0
+AreHourLines c s hour false lines = AreAuditLines c s hour lines
+AreHourLines c s hour true lines =
+    (plain : List AuditLine) × AreAuditLines c s hour plain × AreWithWindows (log_of c.specs s) (rules_for c) (hour_rows s hour) plain lines

@@ -1,0 +1,57 @@
+-- The best shift of an approach of a store.
+use Rattle.std.specs.Prelude.{ℕ, ◌-◌, ◌==◌, ◌&&◌, nat_le, if◌then◌else◌, List, [], ◌∷◌, length, flat_map, slice_get, Bool, Option, Some, None, is_some, option_and_then}
+use Rattle.hour_store.specs.Store.{Store, is_known, known_rows}
+use Rattle.ring_config.specs.Settings.{Settings, approach_place}
+use Rattle.ring_config.specs.declared.items.Approach.{Approach}
+use Rattle.service_cut.specs.declared.items.Cycle.{Cycle}
+use Rattle.arrival_measures.specs.declared.points.Diagram.{Diagram}
+use Rattle.arrival_measures.specs.declared.points.Point.{Point}
+use Rattle.arrival_measures.specs.Points.{diagrams_of}
+use Rattle.offset_search.specs.declared.arrival.Arrival.{Arrival}
+use Rattle.offset_search.specs.Shifted.{counts_of}
+use Rattle.report_text.specs.declared.refusal.Refusal.TheVariants.{BadLine}
+use Rattle.report_text.specs.Shifts.{shifts_text}
+use Rattle.sigaudit.specs.Turns.{Turn, refuses, writes}
+
+-- the place and the phase of an approach, where it has an advance detector
+abbrev pub by_advance : ℕ → Option Approach → Option (ℕ × ℕ)
+by_advance place None = None
+by_advance place (Some a) = if is_some a.advance then Some (place, a.phase) else None
+
+-- those of the approach of this name
+abbrev pub advance_of : Settings → List ℕ → Option (ℕ × ℕ)
+advance_of c name = option_and_then (λ place. by_advance place (slice_get c.approaches place)) (approach_place c.approaches name)
+
+-- a cycle is taken that is 1 to 3,000 tenths long and whose green isn't later than its yellow
+abbrev pub is_taken : Cycle → Bool
+is_taken x = (nat_le 1 (x.to - x.from) && nat_le (x.to - x.from) 3000) && nat_le x.green x.yellow
+
+abbrev pub arrival_of : Cycle → Point → Arrival
+arrival_of x p = record { length = x.to - x.from; green = x.green; yellow = x.yellow; offset = p.offset }
+
+-- a point's arrival, where it is one at the approach of this place
+abbrev pub arrivals_at : ℕ → Cycle → Point → List Arrival
+arrivals_at place x p = if p.approach == place then arrival_of x p ∷ [] else []
+
+-- the arrivals in a diagram at this approach, and those in all of them
+abbrev pub arrivals_in : ℕ → Diagram → List Arrival
+arrivals_in place d = if is_taken d.cycle then flat_map (arrivals_at place d.cycle) d.points else []
+
+abbrev pub arrivals_of : ℕ → List Diagram → List Arrival
+arrivals_of place ds = flat_map (arrivals_in place) ds
+
+-- those of a store
+abbrev pub store_arrivals : Settings → Store → ℕ × ℕ → List Arrival
+store_arrivals c s at = arrivals_of at.0 (diagrams_of (is_known s) c at.1 (known_rows s))
+
+-- all shifts of these arrivals, and the best of them
+abbrev pub offsets_text : ℕ → List ℕ → List Arrival → List ℕ
+offsets_text n name arrivals = shifts_text n name (counts_of arrivals) (length arrivals)
+
+abbrev pub offsets_turn : Settings → ℕ → List ℕ → Store → Option (ℕ × ℕ) → Turn
+offsets_turn c n name s None = refuses c n BadLine s
+offsets_turn c n name s (Some at) = writes (offsets_text n name (store_arrivals c s at)) s
+
+-- of the approach of this name; a name that is no approach with an advance detector makes a bad line
+abbrev pub offsets_of : Settings → ℕ → List ℕ → Store → Turn
+offsets_of c n name s = offsets_turn c n name s (advance_of c name)

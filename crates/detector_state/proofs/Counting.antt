@@ -7,13 +7,12 @@ use Rattle.std.proofs.lemmas.List.{drop_more}
 use Rattle.state_tenths.specs.States.{IsCount}
 use Rattle.state_tenths.specs.Ranges.{Counts}
 use Rattle.state_tenths.proofs.Counting.{counts_all, counts_none, counts_empty, counts_join, counts_most}
-use Rattle.board.specs.Logs.{first_tenth, end_tenth}
 use Rattle.signal_log.specs.Log.{Log}
 use Rattle.free_channels.specs.Tells.{IsColourReached}
 use Rattle.detector_state.specs.declared.part.Part.{Part}
 use Rattle.detector_state.specs.declared.asked.Asked.{Asked}
 use Rattle.detector_state.specs.declared.asked.Asked.TheVariants.{Only, May}
-use Rattle.detector_state.specs.Hours.{FollowOn, IsMet, IsSwitched, LiesIn, Meets, Tells, TellsEach}
+use Rattle.detector_state.specs.Hours.{FollowOn, IsMet, Meets, Tells, TellsEach}
 
 -- ---- the order of the parts
 
@@ -32,18 +31,15 @@ rise_to a b (p ∷ ps) (suc i) (suc j) d h le lt = rise_to p.to b ps i j d h.2 (
 pub parted_to : (t a b : ℕ) (ps : List Part) → FollowOn a b ps → IsPartitionedBy (λ p. nat_le p.to t) ps
 parted_to t a b ps h i j d le lt e = let x = rise_to a b ps i j d h le lt in let y = leb-true (get_or ps j d).to t e in le-leb (get_or ps i d).to t (omega arith)
 
+pub follows : (log : Log) (i a b : ℕ) (ps : List Part) → TellsEach log i a b ps → FollowOn a b ps
+follows log i a b [] h = h
+follows log i a b (p ∷ ps) h = (h.0, h.1, follows log i p.to b ps h.3)
+
 -- without the first n, which end at the tenth or before, the parts still have it
 pub tells_since : (log : Log) (i n a b from : ℕ) (ps : List Part) → TellsEach log i a b ps → a ≤ from → ((k : ℕ) (d : Part) → k < n → k < length ps → (get_or ps k d).to ≤ from) → (m : ℕ) × (m ≤ from) × TellsEach log i m b (drop n ps)
 tells_since log i zero a b from ps h le ended = (a, le, h)
 tells_since log i (suc n) a b from [] h le ended = (a, le, h)
 tells_since log i (suc n) a b from (p ∷ ps) h le ended = tells_since log i n p.to b from ps h.3 (ended zero p (omega arith) (omega arith)) (λ k d lt len. ended (suc k) d (omega arith) (omega arith))
-
--- the parts tell of their own tenths
-pub retold : (log : Log) (i a b f t : ℕ) (ps : List Part) → FollowOn a b ps → TellsEach log i f t ps → TellsEach log i a b ps
-retold log i a b f t [] h tells = h
-retold log i a b f t (p ∷ ps) h tells =
-    let same : f ≡ a = sym tells.0 ∙ h.0 in
-    (h.0, h.1, subst (λ (z : ℕ). (x : ℕ) → z ≤ x → x < p.to → Tells log i x p.mask) same tells.2, retold log i p.to b p.to t ps h.2 tells.3)
 
 -- ---- one part
 
@@ -101,18 +97,6 @@ counted_on log n0 f from to b at count low end new on ps i p lt own le el ee eo 
 
 pub counted_off : (log : Log) (n0 : ℕ) (f : Asked) (from to b at count low end : ℕ) (on : Bool) (ps : List Part) (i : ℕ) (p : Part) → i < length ps → p ≡ get_or ps i p → at < to → low ≡ min p.to to → end ≡ max low at → (IsTrue on ↔ IsMet f p.mask) → on ≡ false → IsCounted log n0 f from to b at count (drop i ps) → IsCounted log n0 f from to b end count (drop (i + 1) ps)
 counted_off log n0 f from to b at count low end on ps i p lt own le el ee eo t h = passed_off log n0 f from to b at count end p (drop (i + 1) ps) le (ee ∙ ap (λ x. max x at) el) (λ met. let is = eo.1 met in let bad : true ≡ false = sym is ∙ t in absurd (cc)) (next_part log n0 f from to b at count ps i p lt own h)
-
--- the parts of an hour have the range
-pub counted_in : (log : Log) (k hour : ℕ) (f : Asked) (from to n : ℕ) (ps : List Part) → LiesIn ps from to → IsSwitched log k hour ps → ((l : Log) (j a b : ℕ) → TellsEach l j a b ps → a ≤ from → to ≤ b → Counts (Meets l j f) from to n) → Counts (Meets log k f) from to n
-counted_in log k hour f from to n ps lies is count = count log k lies.0 lies.1 (retold log k lies.0 lies.1 (first_tenth hour) (end_tenth hour) ps lies.2 is) lies.3 lies.5
-
-follows : (log : Log) (i a b : ℕ) (ps : List Part) → TellsEach log i a b ps → FollowOn a b ps
-follows log i a b [] h = h
-follows log i a b (p ∷ ps) h = (h.0, h.1, follows log i p.to b ps h.3)
-
--- each range of the hour lies in the parts
-pub lies_in : (log : Log) (i hour from to : ℕ) (ps : List Part) → IsSwitched log i hour ps → first_tenth hour ≤ from → from ≤ to → to ≤ end_tenth hour → LiesIn ps from to
-lies_in log i hour from to ps is low le high = (first_tenth hour, end_tenth hour, follows log i (first_tenth hour) (end_tenth hour) ps is, low, le, high)
 
 module _ (P : ℕ → Type 0) where
   count_found : (n a k : ℕ) → IsCount P a n k → (0 < k) ↔ ((x : ℕ) × (a ≤ x) × (x < a + n) × P x)

@@ -55,9 +55,9 @@ TellsEach log i a b (p ∷ ps) = (p.from ≡ a) × (a < p.to) × ((x : ℕ) → 
 abbrev pub IsSwitched : Log → ℕ → ℕ → List Part → Type 0
 IsSwitched log i hour parts = TellsEach log i (first_tenth hour) (end_tenth hour) parts
 
--- the tenths from `from` up to `to` are among those of the parts
-abbrev pub LiesIn : List Part → ℕ → ℕ → Type 0
-LiesIn parts from to = (a : ℕ) × (b : ℕ) × FollowOn a b parts × (a ≤ from) × (from ≤ to) × (to ≤ b)
+-- the tenths from `from` up to `to` are among those from a up to b
+abbrev pub LiesIn : ℕ → ℕ → ℕ → ℕ → Type 0
+LiesIn a b from to = (a ≤ from) × (from ≤ to) × (to ≤ b)
 
 -- what is asked holds at the end of tenth x
 abbrev pub Meets : Log → ℕ → Asked → ℕ → Type 0
@@ -88,21 +88,21 @@ CoversHour rows ss parts = (hour : ℕ) → IsHour hour rows ss → FollowOn (fi
 abbrev pub TellsColours : Channel → List (List Span) → List Row → List Stretch → List Part → Type 0
 TellsColours channel before rows ss parts = (log : Log) (i hour : ℕ) → IsChannelOf log i channel → IsHourIn log hour rows ss → IsPastAt log i hour before → IsSwitched log i hour parts
 
--- of the tenths from `from` up to `to` of each log of which the parts tell: at how many the channel is sure to be on
+-- of the tenths from `from` up to `to` of each log of whose tenths about them the parts tell: at how many the channel is sure to be on
 abbrev pub IsLeastOn : List Part → ℕ → ℕ → ℕ → Type 0
-IsLeastOn parts from to n = (log : Log) (i hour : ℕ) → IsSwitched log i hour parts → Counts (IsSure log i 1) from to n
+IsLeastOn parts from to n = (log : Log) (i a b : ℕ) → TellsEach log i a b parts → LiesIn a b from to → Counts (IsSure log i 1) from to n
 
 -- at how many it may be on
 abbrev pub IsGreatestOn : List Part → ℕ → ℕ → ℕ → Type 0
-IsGreatestOn parts from to n = (log : Log) (i hour : ℕ) → IsSwitched log i hour parts → Counts (IsColourReached log i 1) from to n
+IsGreatestOn parts from to n = (log : Log) (i a b : ℕ) → TellsEach log i a b parts → LiesIn a b from to → Counts (IsColourReached log i 1) from to n
 
 -- and whether it is sure to have a fault at one of them
 abbrev pub IsSureFault : List Part → ℕ → ℕ → Bool → Type 0
-IsSureFault parts from to b = (log : Log) (i hour : ℕ) → IsSwitched log i hour parts → IsTrue b ↔ ((x : ℕ) × (from ≤ x) × (x < to) × IsSure log i 2 x)
+IsSureFault parts from to is = (log : Log) (i a b : ℕ) → TellsEach log i a b parts → LiesIn a b from to → IsTrue is ↔ ((x : ℕ) × (from ≤ x) × (x < to) × IsSure log i 2 x)
 
--- numbers of tenths up to `from` go on up to `to`, in each log of which the parts tell
+-- numbers of tenths from x up to `from` go on up to `to`, in each log of whose tenths about these the parts tell
 abbrev pub GoesOn : List Part → ℕ → ℕ → OnTenths → OnTenths → Type 0
-GoesOn parts from to before after = (log : Log) (i hour a : ℕ) → IsSwitched log i hour parts → AreTenths log i a from before → AreTenths log i a to after
+GoesOn parts from to before after = (log : Log) (i a b x : ℕ) → TellsEach log i a b parts → LiesIn a b from to → AreTenths log i x from before → AreTenths log i x to after
 
 -- an hour of a store is one of its log, and each Past at the point before it is of its channel
 abbrev pub HoursFit : Type 0

@@ -2,7 +2,7 @@
 ghost use Rattle.std.specs.Prelude.{ℕ, ◌≤◌};
 ghost use Rattle.state_tenths.specs.Ranges.{Counts};
 ghost use Rattle.signal_log.specs.Log.{Log};
-ghost use Rattle.detector_state.specs.Hours.{FollowOn, IsAskable, LiesIn, Meets, TellsEach};
+ghost use Rattle.detector_state.specs.Hours.{IsAskable, LiesIn, Meets, TellsEach};
 ghost use Rattle.detector_state.specs.Hours.{IsGreatestOn, IsLeastOn, IsSureFault};
 
 use crate::asked::{Asked, meets};
@@ -16,7 +16,6 @@ const FAULT: u8 = 2;
 /// The least number of tenths that the channel was on, of those of the hour from tenth `from` up to
 /// tenth `to`: those at the end of which it can't be else.
 pub fn least_on(switched: &Switched, from: u32, to: u32) -> u32
-    requires { LiesIn switched.now from to }
     ensures { IsLeastOn switched.now from to result }
 {
     tenths(switched.parts(), from, to, Asked::Only(ON))
@@ -24,7 +23,6 @@ pub fn least_on(switched: &Switched, from: u32, to: u32) -> u32
 
 /// The greatest number of tenths that it was on: those at the end of which it may be on.
 pub fn greatest_on(switched: &Switched, from: u32, to: u32) -> u32
-    requires { LiesIn switched.now from to }
     ensures { IsGreatestOn switched.now from to result }
 {
     tenths(switched.parts(), from, to, Asked::May(ON))
@@ -32,7 +30,6 @@ pub fn greatest_on(switched: &Switched, from: u32, to: u32) -> u32
 
 /// Whether it is sure at the end of some of these tenths that the detector has a fault.
 pub fn sure_fault(switched: &Switched, from: u32, to: u32) -> bool
-    requires { LiesIn switched.now from to }
     ensures { IsSureFault switched.now from to result }
 {
     tenths(switched.parts(), from, to, Asked::Only(FAULT)) > 0
@@ -40,7 +37,6 @@ pub fn sure_fault(switched: &Switched, from: u32, to: u32) -> bool
 
 // The parts without those that end at the tenth or before.
 fn ending_after(parts: &[Part], from: u32) -> &[Part]
-    requires ordered { (a : ℕ) × (b : ℕ) × FollowOn a b parts.now }
     ensures { (log : Log) (i a b : ℕ) → TellsEach log i a b parts.now → a ≤ from
         → (m : ℕ) × (m ≤ from) × TellsEach log i m b result.now }
 {
@@ -51,9 +47,8 @@ fn ending_after(parts: &[Part], from: u32) -> &[Part]
 
 // The tenths of the range at the end of which what is asked holds.
 fn tenths(parts: &[Part], from: u32, to: u32, asked: Asked) -> u32
-    requires range { LiesIn parts.now from to }
-    requires asked { IsAskable asked }
-    ensures { (log : Log) (i a b : ℕ) → TellsEach log i a b parts.now → a ≤ from → to ≤ b
+    requires { IsAskable asked }
+    ensures { (log : Log) (i a b : ℕ) → TellsEach log i a b parts.now → LiesIn a b from to
         → Counts (Meets log i asked) from to result }
 {
     let mut count: u32 = 0;

@@ -1,7 +1,7 @@
 // How often a channel was on, over ranges of several hours.
 ghost use Rattle.std.specs.Prelude.{ℕ};
 ghost use Rattle.signal_log.specs.Log.{Log};
-ghost use Rattle.detector_state.specs.Hours.{AreTenths, GoesOn, LiesIn};
+ghost use Rattle.detector_state.specs.Hours.{AreTenths, GoesOn};
 
 use crate::count::{greatest_on, least_on, sure_fault};
 use crate::part::Switched;
@@ -29,7 +29,6 @@ impl OnTenths {
 
     /// Those of a range that goes on, in this hour, from tenth `from` up to tenth `to`.
     pub fn on(self, switched: &Switched, from: u32, to: u32) -> OnTenths
-        requires { LiesIn switched.now from to }
         ensures { GoesOn switched.now from to self result }
     {
         OnTenths {

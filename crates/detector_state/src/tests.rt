@@ -1,8 +1,4 @@
 // Detector 5 in an hour before which nothing is known of it.
-ghost use Rattle.std.specs.Prelude.{IfOk};
-ghost use Rattle.board.specs.Logs.{IsHour};
-ghost use Rattle.detector_state.specs.Hours.{FollowOn};
-
 use crate::{Switched, greatest_on, least_on, sure_fault, switched};
 use event_codes::{Channel, Kind};
 use gap_map::Stretch;
@@ -11,10 +7,7 @@ use sig_base::{NoMemory, Row};
 use std::alloc::Global;
 use std::test::Fail;
 
-fn told(alloc: Global, rows: &[Row], stretches: &[Stretch]) -> Result<Switched, NoMemory>
-    requires { IsHour 0 rows.now stretches.now }
-    ensures { IfOk result (λ v. FollowOn 0 36000 v) }
-{
+fn told(alloc: Global, rows: &[Row], stretches: &[Stretch]) -> Result<Switched, NoMemory> {
     let channel = Channel {
         kind: Kind::Detector,
         number: 5,

@@ -1,5 +1,6 @@
 -- Windows that are over, and those that wait.
 use Rattle.std.proofs.Common.{suc, zero, ◌≡◌, refl, ap, sym, ◌∙◌, subst, inl, inr, ℕ, ◌+◌, ◌<◌, ◌≤◌, true, false, not, nat_le, Option, Some, List, [], ◌∷◌, ◌++◌, length, take, get_or, arith}
+use Rattle.std.specs.Prelude.{min}
 use Rattle.std.proofs.lemmas.Bool.{cases_Bool, cases_lt, leb-true, le-leb}
 use Rattle.std.proofs.lemmas.List.{append-nil, append_assoc, take_more}
 use Rattle.std.proofs.lemmas.List.Elements.{filter_more}
@@ -7,11 +8,12 @@ use Rattle.signal_log.specs.Log.{Log}
 use Rattle.service_cut.specs.declared.items.Service.{Service}
 use Rattle.detector_state.specs.declared.part.Part.{Part}
 use Rattle.detector_state.specs.Hours.{AreTenths}
+use Rattle.detector_state.specs.declared.tenths.OnTenths.{OnTenths}
 use Rattle.split_windows.specs.declared.items.OpenGreen.{OpenGreen}
 use Rattle.split_windows.specs.declared.items.Windows.{Windows}
-use Rattle.split_windows.specs.Windows.{AreEnded, ArePending, AreServicesOf, EndIn, IsEnded, IsOpen, IsOpened, IsPending, IsServiceOf, IsTaken, IsTold, due, left, over, services_of, waits}
+use Rattle.split_windows.specs.Windows.{AreEnded, ArePending, AreServicesOf, EndIn, EndsIn, IsEnded, IsOpen, IsOpened, IsPending, IsServiceOf, IsTaken, IsTold, due, left, over, services_of, waits}
 
-pub end_at : (first end : ℕ) (ws : List Windows) (i : ℕ) (d : Windows) → EndIn first end ws → i < length ws → (first ≤ (get_or ws i d).service.r + 50) × ((get_or ws i d).service.r + 50 ≤ end)
+pub end_at : (first end : ℕ) (ws : List Windows) (i : ℕ) (d : Windows) → EndIn first end ws → i < length ws → EndsIn first end (get_or ws i d)
 end_at first end [] i d h lt = absurd (omega arith)
 end_at first end (w ∷ ws) zero d h lt = h.0
 end_at first end (w ∷ ws) (suc i) d h lt = end_at first end ws i d h.1 (omega arith)
@@ -38,6 +40,12 @@ pub ended_more : (log : Log) (n : ℕ) (ws : List Windows) (w : Windows) → Are
 ended_more log n [] w h one = (one, tt)
 ended_more log n (v ∷ ws) w h one = (h.0, ended_more log n ws w h.1 one)
 
+-- a red window's end fits
+pub red_over : (log : Log) (n end r last : ℕ) (t : OnTenths) → r + 50 ≤ end → end < 4294967296 → last ≡ min (r + 50) 4294967295 → AreTenths log n r last t → AreTenths log n r (r + 50) t
+red_over log n end r last t le fits e h =
+    let same : last ≡ r + 50 = omega arith in
+    subst (λ (x : ℕ). AreTenths log n r x t) same h
+
 -- the services of the first i and of one more
 pub taken_more : (ps : List Windows) (i : ℕ) (d : Windows) (ws : List Windows) (w : Windows) → i < length ps → services_of ws ≡ services_of (take i ps) → w.service ≡ (get_or ps i d).service → services_of (ws ++ w ∷ []) ≡ services_of (take (i + 1) ps)
 taken_more ps i d ws w lt same own =
@@ -46,22 +54,22 @@ taken_more ps i d ws w lt same own =
     ∙ (ap (λ (s : Service). services_of (take i ps) ++ s ∷ []) own
     ∙ (sym (services_more (take i ps) (get_or ps i d)) ∙ ap (λ (x : List Windows). services_of x) (sym (take_more ps i d lt)))))
 
--- what is so after the first services
-pub record AreTaken (end : ℕ) (o : Option OpenGreen) (parts : List Part) (ss : List Service) (start vs ps : List Windows) : Type 0 where
+-- what is so after the first of all services
+pub record AreTaken (first end : ℕ) (o : Option OpenGreen) (parts : List Part) (all ss : List Service) (start vs ps : List Windows) : Type 0 where
   pub ended : services_of vs ≡ services_of start ++ due end ss
   pub waiting : services_of ps ≡ left end ss
-  pub numbers : (log : Log) (n : ℕ) → IsTold log n parts o → AreEnded log n start → AreEnded log n vs
-  pub pending : (log : Log) (n : ℕ) → IsTold log n parts o → ArePending log n end ps
+  pub numbers : (log : Log) (n : ℕ) → IsTold log n first end parts o → AreServicesOf first end o all → AreEnded log n start → AreEnded log n vs
+  pub pending : (log : Log) (n : ℕ) → IsTold log n first end parts o → AreServicesOf first end o all → ArePending log n end ps
 
-pub taken_none : (end : ℕ) (o : Option OpenGreen) (parts : List Part) (vs ps : List Windows) → ps ≡ [] → AreTaken end o parts [] vs vs ps
-taken_none end o parts vs ps e = rw e (record {
+pub taken_none : (first end : ℕ) (o : Option OpenGreen) (parts : List Part) (all : List Service) (vs ps : List Windows) → ps ≡ [] → AreTaken first end o parts all [] vs vs ps
+taken_none first end o parts all vs ps e = rw e (record {
   ended = sym (append-nil (services_of vs));
   waiting = refl;
-  numbers = λ log n told h. h;
-  pending = λ log n told. tt;
+  numbers = λ log n told fit h. h;
+  pending = λ log n told fit. tt;
 })
 
-module _ (end : ℕ) (o : Option OpenGreen) (parts : List Part) (ss : List Service) (i : ℕ) (d : Service) (lt : i < length ss) (start vs ps : List Windows) (before : AreTaken end o parts (take i ss) start vs ps) where
+module _ (first end : ℕ) (o : Option OpenGreen) (parts : List Part) (ss : List Service) (i : ℕ) (d : Service) (lt : i < length ss) (start vs ps : List Windows) (before : AreTaken first end o parts ss (take i ss) start vs ps) where
   abbrev s : Service
   s = get_or ss i d
 
@@ -93,22 +101,22 @@ module _ (end : ℕ) (o : Option OpenGreen) (parts : List Part) (ss : List Servi
       ∙ (ap (λ (x : Service). services_of ps ++ x ∷ []) own
       ∙ (ap (λ (x : List Service). x ++ s ∷ []) before.waiting ∙ sym (left_more t)))
 
-  pub taken_next : (ws qs : List Windows) → IsTaken end o parts s vs ws ps qs → AreTaken end o parts (take (i + 1) ss) start ws qs
+  pub taken_next : (ws qs : List Windows) → IsTaken first end o parts s vs ws ps qs → AreTaken first end o parts ss (take (i + 1) ss) start ws qs
   taken_next ws qs (over le same w new own has) =
       let t = le-leb (s.r + 50) end le in
       record {
         ended = ap (λ (x : List Windows). services_of x) new ∙ ended_one w own t;
         waiting = ap (λ (x : List Windows). services_of x) same ∙ (before.waiting ∙ sym (left_same t));
-        numbers = λ log n told h. rw new (ended_more log n vs w (before.numbers log n told h) (has log n told));
-        pending = λ log n told. rw same (before.pending log n told);
+        numbers = λ log n told fit h. rw new (ended_more log n vs w (before.numbers log n told fit h) (has log n told (service_at first end o ss i d fit lt)));
+        pending = λ log n told fit. rw same (before.pending log n told fit);
       }
   taken_next ws qs (waits l same w new own has) =
       let t = late l in
       record {
         ended = ap (λ (x : List Windows). services_of x) same ∙ (before.ended ∙ ap (λ (x : List Service). services_of start ++ x) (sym (due_same t)));
         waiting = ap (λ (x : List Windows). services_of x) new ∙ waiting_one w own t;
-        numbers = λ log n told h. rw same (before.numbers log n told h);
-        pending = λ log n told. rw new (pending_more log n end ps w (before.pending log n told) (has log n told));
+        numbers = λ log n told fit h. rw same (before.numbers log n told fit h);
+        pending = λ log n told fit. rw new (pending_more log n end ps w (before.pending log n told fit) (has log n told (service_at first end o ss i d fit lt)));
       }
 
 -- an open green that was over before the hour

@@ -42,11 +42,11 @@ AreInOrder (s ∷ ss) = ((s.b ≤ s.g) × (s.g ≤ s.r)) × AreInOrder ss
 abbrev pub AreRowsAbout : ℕ → List Row → List Row → Type 0
 AreRowsAbout hour before rows = AreOrdered 0 (first_tenth hour) before × AreOrdered (first_tenth hour) (end_tenth hour) rows
 
--- an hour's services of a phase, as service_cut lists them, meet the condition of `windows_hour`
+-- an hour's services of a phase, as service_cut lists them, are such as `windows_hour` counts for
 abbrev pub ServicesFit : Type 0
 ServicesFit = (known : ℕ → Bool) (phases : List PhaseItem) (p hour : ℕ) (before rows : List Row) (begun : Option OpenGreen) → AreRowsAbout hour before rows → IsGreenAt (first_tenth hour) (service_begun_of known (first_tenth hour) p before) begun → AreServicesOf (first_tenth hour) (end_tenth hour) begun (of_phase p (services_from known phases before (known_rows known rows))) × AreInOrder (of_phase p (services_from known phases before (known_rows known rows)))
 
--- a green from b, which has come to tenth `to` at the hour's end, meets the conditions of `open_after`
+-- a green from b, which has come to tenth `to` at the hour's end, is such as `open_after` goes on with
 abbrev pub CanGoOn : ℕ → ℕ → Option OpenGreen → ℕ → ℕ → Type 0
 CanGoOn first end begun b to = (b ≤ to) × (to ≤ end) × (b < first → IsOpened first b to begun)
 

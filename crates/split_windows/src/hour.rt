@@ -1,11 +1,12 @@
 // The windows of one hour at one detector.
-ghost use Rattle.std.specs.Prelude.{ℕ, ◌≡◌, ◌<◌, ◌≤◌, ◌+◌, ◌++◌, ◌^◌, [], IfOk, OnOk, Some};
+ghost use Rattle.std.specs.Prelude.{ℕ, ◌≡◌, ◌<◌, ◌+◌, ◌++◌, ◌^◌, [], IfOk, OnOk, Some};
 ghost use Rattle.board.specs.Logs.{end_tenth, first_tenth};
 ghost use Rattle.signal_log.specs.Log.{Log};
-ghost use Rattle.detector_state.specs.Hours.{AreTenths, FollowOn, IsSwitched};
-ghost use Rattle.split_windows.specs.Windows.{AreEnded, ArePending, AreServicesOf, AreWindows};
-ghost use Rattle.split_windows.specs.Windows.{EndIn, IsEnded, IsOpen, IsOpened, IsPending, IsServiceOf};
-ghost use Rattle.split_windows.specs.Windows.{IsTaken, due, left, services_of};
+ghost use Rattle.detector_state.specs.Hours.{AreTenths, IsSwitched, TellsEach};
+ghost use Rattle.split_windows.specs.Windows.{AreEnded, AreFit, ArePending, AreServicesOf, AreWindows};
+ghost use Rattle.split_windows.specs.Windows.{EndIn, EndsIn, IsEnded, IsOpen, IsPending, IsTaken};
+ghost use Rattle.split_windows.specs.Windows.{IsTold, due, left, services_of};
+ghost use Rattle.split_windows.specs.Going.{CanGoOn};
 
 use crate::items::{OpenGreen, Windows};
 use detector_state::{OnTenths, Switched};
@@ -47,7 +48,8 @@ pub struct Over {
 
 /// The windows of the hour, at a detector whose tenths are `switched`: `begun` is the green of its
 /// phase that was open at the point before the hour, `pending` the services whose red window wasn't
-/// over there, and `services` are the phase's whole services that end in the hour.
+/// over there, and `services` are the phase's whole services that end in the hour. The numbers are
+/// those of the log where these are such as an hour can have.
 pub fn windows_hour(
     alloc: Global,
     begun: Option<OpenGreen>,
@@ -56,18 +58,15 @@ pub fn windows_hour(
     switched: &Switched,
     hour: Hour,
 ) -> Result<Over, NoMemory>
-    requires hour { hour < 744 }
-    requires covers { FollowOn (first_tenth hour) (end_tenth hour) switched.now }
-    requires pending { EndIn (first_tenth hour) (end_tenth hour) pending.now }
-    requires services { AreServicesOf (first_tenth hour) (end_tenth hour) begun services.now }
+    requires { hour < 744 }
     ensures ended { IfOk result (λ o. services_of o.ended.items
         ≡ services_of pending.now ++ due (end_tenth hour) services.now) }
     ensures waiting { IfOk result (λ o. services_of o.pending.items
         ≡ left (end_tenth hour) services.now) }
-    ensures numbers { IfOk result (λ o. AreWindows hour begun pending.now switched.now
-        o.ended.items o.pending.items) }
-    ensures next { IfOk result (λ o. EndIn (first_tenth (hour + 1)) (end_tenth (hour + 1))
-        o.pending.items) }
+    ensures numbers { IfOk result (λ o. AreWindows hour begun pending.now services.now
+        switched.now o.ended.items o.pending.items) }
+    ensures next { IfOk result (λ o. AreFit hour begun pending.now services.now
+        → EndIn (first_tenth (hour + 1)) (end_tenth (hour + 1)) o.pending.items) }
 {
     let tenths = bounds_of(hour);
     let mut ended = Vec::new(alloc);
@@ -82,12 +81,8 @@ pub fn windows_hour(
 
 // The numbers of a green, which goes on from the open one where it began before the hour.
 fn green_on(switched: &Switched, hour: Bounds, begun: Option<OpenGreen>, b: u32, g: u32) -> OnTenths
-    requires covers { FollowOn hour.first hour.end switched.now }
-    requires order { b ≤ g }
-    requires ends { g ≤ hour.end }
-    requires opened { b < hour.first → IsOpened hour.first b g begun }
-    ensures { (log : Log) (i h : ℕ) → IsSwitched log i h switched.now → IsOpen log i begun
-        → AreTenths log i b g result }
+    ensures { (log : Log) (i : ℕ) → IsTold log i hour.first hour.end switched.now begun
+        → CanGoOn hour.first hour.end begun b g → AreTenths log i b g result }
 {
     if b >= hour.first {
         return OnTenths::none().on(switched, b, g);
@@ -105,19 +100,16 @@ fn green_on(switched: &Switched, hour: Bounds, begun: Option<OpenGreen>, b: u32,
 
 // A service whose red window ends in the hour.
 fn end_pending(switched: &Switched, hour: Bounds, pending: &Windows) -> Windows
-    requires covers { FollowOn hour.first hour.end switched.now }
-    requires begins { hour.first ≤ pending.now.service.r + 50 }
-    requires ends { pending.now.service.r + 50 ≤ hour.end }
+    requires { hour.end < 2 ^ 31 }
     ensures service { result.service ≡ pending.now.service }
-    ensures numbers { (log : Log) (i h : ℕ) → IsSwitched log i h switched.now
-        → IsPending log i hour.first pending.now → IsEnded log i result }
+    ensures numbers { (log : Log) (i : ℕ) → TellsEach log i hour.first hour.end switched.now
+        → EndsIn hour.first hour.end pending.now → IsPending log i hour.first pending.now
+        → IsEnded log i result }
 {
     Windows {
         service: pending.service,
         green: pending.green,
-        red: pending
-            .red
-            .on(switched, hour.first, pending.service.r + RED),
+        red: pending.red.on(switched, hour.first, pending.service.r.saturating_add(RED)),
     }
 }
 
@@ -128,11 +120,11 @@ fn end_all(
     switched: &Switched,
     hour: Bounds,
 ) -> Result<(), NoMemory>
-    requires covers { FollowOn hour.first hour.end switched.now }
-    requires pending { EndIn hour.first hour.end pending.now }
+    requires low { hour.end < 2 ^ 31 }
     requires empty { ended.old.items ≡ [] }
     ensures services { OnOk result (services_of ended.new.items ≡ services_of pending.now) }
-    ensures numbers { OnOk result ((log : Log) (i h : ℕ) → IsSwitched log i h switched.now
+    ensures numbers { OnOk result ((log : Log) (i : ℕ)
+        → TellsEach log i hour.first hour.end switched.now → EndIn hour.first hour.end pending.now
         → ArePending log i hour.first pending.now → AreEnded log i ended.new.items) }
 {
     for one in pending {
@@ -150,17 +142,19 @@ fn place_all(
     switched: &Switched,
     hour: Bounds,
 ) -> Result<(), NoMemory>
-    requires covers { FollowOn hour.first hour.end switched.now }
     requires low { hour.end < 2 ^ 31 }
-    requires services { AreServicesOf hour.first hour.end begun services.now }
     requires empty { waiting.old.items ≡ [] }
     ensures ended { OnOk result (services_of ended.new.items
         ≡ services_of ended.old.items ++ due hour.end services.now) }
     ensures waiting { OnOk result (services_of waiting.new.items ≡ left hour.end services.now) }
-    ensures numbers { OnOk result ((log : Log) (i h : ℕ) → IsSwitched log i h switched.now
-        → IsOpen log i begun → AreEnded log i ended.old.items → AreEnded log i ended.new.items) }
-    ensures pending { OnOk result ((log : Log) (i h : ℕ) → IsSwitched log i h switched.now
-        → IsOpen log i begun → ArePending log i hour.end waiting.new.items) }
+    ensures numbers { OnOk result ((log : Log) (i : ℕ)
+        → IsTold log i hour.first hour.end switched.now begun
+        → AreServicesOf hour.first hour.end begun services.now
+        → AreEnded log i ended.old.items → AreEnded log i ended.new.items) }
+    ensures pending { OnOk result ((log : Log) (i : ℕ)
+        → IsTold log i hour.first hour.end switched.now begun
+        → AreServicesOf hour.first hour.end begun services.now
+        → ArePending log i hour.end waiting.new.items) }
 {
     for service in services {
         place_one(ended, waiting, begun, service, switched, hour)?;
@@ -177,15 +171,14 @@ fn place_one(
     switched: &Switched,
     hour: Bounds,
 ) -> Result<(), NoMemory>
-    requires covers { FollowOn hour.first hour.end switched.now }
     requires low { hour.end < 2 ^ 31 }
-    requires service { IsServiceOf hour.first hour.end begun service.now }
-    ensures { OnOk result (IsTaken hour.end begun switched.now service.now
+    ensures { OnOk result (IsTaken hour.first hour.end begun switched.now service.now
         ended.old.items ended.new.items waiting.old.items waiting.new.items) }
 {
     let green = green_on(switched, hour, begun, service.b, service.g);
-    if service.r + RED <= hour.end {
-        let red = OnTenths::none().on(switched, service.r, service.r + RED);
+    let over = service.r.saturating_add(RED);
+    if over <= hour.end {
+        let red = OnTenths::none().on(switched, service.r, over);
         ended.push(Windows {
             service: *service,
             green,
@@ -211,13 +204,10 @@ pub fn open_after(
     b: u32,
     to: u32,
 ) -> OpenGreen
-    requires hour { hour < 744 }
-    requires covers { FollowOn (first_tenth hour) (end_tenth hour) switched.now }
-    requires order { b ≤ to }
-    requires ends { to ≤ end_tenth hour }
-    requires opened { b < first_tenth hour → IsOpened (first_tenth hour) b to begun }
+    requires { hour < 744 }
     ensures place { (result.b ≡ b) × (result.to ≡ to) }
-    ensures tenths { (log : Log) (i h : ℕ) → IsSwitched log i h switched.now → IsOpen log i begun
+    ensures tenths { (log : Log) (i : ℕ) → IsSwitched log i hour switched.now
+        → CanGoOn (first_tenth hour) (end_tenth hour) begun b to → IsOpen log i begun
         → IsOpen log i (Some result) }
 {
     let tenths = green_on(switched, bounds_of(hour), begun, b, to);

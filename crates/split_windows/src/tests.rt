@@ -1,9 +1,5 @@
 // Detector 5, on from tenth 35,990 up to 36,010, and greens of phase 2 about the point between two
 // hours.
-ghost use Rattle.std.specs.Prelude.{◌≤◌, IfOk};
-ghost use Rattle.board.specs.Logs.{IsHour, end_tenth, first_tenth};
-ghost use Rattle.detector_state.specs.Hours.{FollowOn};
-
 use crate::{OpenGreen, Windows, open_after, windows_hour};
 use detector_state::{OnTenths, Switched, switched};
 use event_codes::{Channel, Kind};
@@ -50,10 +46,7 @@ fn told(
     rows: &[Row],
     stretches: &[Stretch],
     hour: Hour,
-) -> Result<Switched, NoMemory>
-    requires { IsHour hour rows.now stretches.now }
-    ensures { IfOk result (λ v. FollowOn (first_tenth hour) (end_tenth hour) v) }
-{
+) -> Result<Switched, NoMemory> {
     let channel = Channel {
         kind: Kind::Detector,
         number: 5,

@@ -4,16 +4,10 @@ use Rattle.split_windows.specs.Windows.{services_of}
 use Rattle.split_windows.proofs.Waiting.{end_at, ended_more, pending_at, taken_more}
 use Rattle.split_windows.proofs.hour.end_all.Goals as goal
 
-pub end_pending-requires-clause-begins : goal.end_pending-requires-clause-begins
-end_pending-requires-clause-begins c = (end_at c.args.hour.first c.args.hour.end c.args.pending.now c.loop-one.one-index _ c.requires.pending c.loop-one-test.true).0
-
-pub end_pending-requires-clause-ends : goal.end_pending-requires-clause-ends
-end_pending-requires-clause-ends c = (end_at c.args.hour.first c.args.hour.end c.args.pending.now c.loop-one.one-index _ c.requires.pending c.loop-one-test.true).1
-
 pub loop-one-preserved : goal.loop-one-preserved
 loop-one-preserved c = record {
   services = ap (λ (x : List Windows). services_of x) c.in_ok-push.ensures.items ∙ taken_more c.args.pending.now c.loop-one.one-index _ c.loop-one.ended.items c.end_pending.result c.loop-one-test.true c.loop-one.invariant.services c.end_pending.ensures.service;
-  numbers = λ log i h is all. rw c.in_ok-push.ensures.items (ended_more log i c.loop-one.ended.items c.end_pending.result (c.loop-one.invariant.numbers log i h is all) (c.end_pending.ensures.numbers log i h is (pending_at log i c.args.hour.first c.args.pending.now c.loop-one.one-index _ all c.loop-one-test.true)));
+  numbers = λ log i is end all. rw c.in_ok-push.ensures.items (ended_more log i c.loop-one.ended.items c.end_pending.result (c.loop-one.invariant.numbers log i is end all) (c.end_pending.ensures.numbers log i is (end_at c.args.hour.first c.args.hour.end c.args.pending.now c.loop-one.one-index _ end c.loop-one-test.true) (pending_at log i c.args.hour.first c.args.pending.now c.loop-one.one-index _ all c.loop-one-test.true)));
 }
 
 pub returns-clause-services : goal.returns-clause-services

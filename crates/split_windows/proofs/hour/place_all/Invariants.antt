@@ -3,4 +3,4 @@ use Rattle.split_windows.proofs.Waiting.{AreTaken}
 use Rattle.split_windows.proofs.hour.place_all.Given as goal
 
 abbrev pub invariant-loop-service : goal.invariant-loop-service
-invariant-loop-service l = AreTaken l.hour.end l.begun l.switched (take l.service-index l.services) l.initial.ended.items l.ended.items l.waiting.items
+invariant-loop-service l = AreTaken l.hour.first l.hour.end l.begun l.switched l.services (take l.service-index l.services) l.initial.ended.items l.ended.items l.waiting.items

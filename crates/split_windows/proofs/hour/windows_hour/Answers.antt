@@ -5,6 +5,6 @@ use Rattle.split_windows.proofs.Waiting.{waiting_ends}
 use Rattle.split_windows.proofs.hour.windows_hour.Goals as goal
 
 pub returns-clause-next : goal.returns-clause-next
-returns-clause-next c =
+returns-clause-next c = λ (end, fit).
     let hour = c.args.hour in
-    waiting_ends (first_tenth hour) (end_tenth hour) (first_tenth (hour + 1)) (end_tenth (hour + 1)) c.args.begun c.args.services.now c.place_all.new.waiting.items (omega arith) (omega arith) c.requires.services (c.in_ok-place_all.ensures.waiting ∙ ap (λ (e : ℕ). left e c.args.services.now) c.bounds_of-tenths.ensures.end)
+    waiting_ends (first_tenth hour) (end_tenth hour) (first_tenth (hour + 1)) (end_tenth (hour + 1)) c.args.begun c.args.services.now c.place_all.new.waiting.items (omega arith) (omega arith) fit (c.in_ok-place_all.ensures.waiting ∙ ap (λ (e : ℕ). left e c.args.services.now) c.bounds_of-tenths.ensures.end)

@@ -1,0 +1,61 @@
+-- The services of a stop bar's phase, and their windows, up to a point and in an hour.
+use Rattle.std.specs.Prelude.{ℕ, ◌≡◌, ◌+◌, ◌++◌, ◌&&◌, ◌==◌, nat_le, nat_lt, true, Bool, Option, List, [], find}
+use Rattle.std.specs.List.{filter}
+use Rattle.sig_base.specs.declared.values.PhaseItem.{PhaseItem}
+use Rattle.sig_base.specs.declared.values.Row.{Row}
+use Rattle.board.specs.Logs.{end_tenth, first_tenth}
+use Rattle.signal_log.specs.Log.{Log}
+use Rattle.hour_sweep.specs.Rows.{known_rows}
+use Rattle.service_cut.specs.declared.items.OpenService.{OpenService}
+use Rattle.service_cut.specs.declared.items.Service.{Service}
+use Rattle.service_cut.specs.Cut.{CutLists, IsCut, services_from}
+use Rattle.service_cut.specs.Parts.{has_phase}
+use Rattle.service_cut.specs.Services.{service_begun_of}
+use Rattle.detector_state.specs.declared.part.Part.{Part}
+use Rattle.detector_state.specs.Hours.{IsSwitched}
+use Rattle.split_windows.specs.declared.items.Windows.{Windows}
+use Rattle.split_windows.specs.Going.{AreRowsAbout, IsGreenAt, of_phase}
+use Rattle.split_windows.specs.Windows.{AreEnded, ArePending, IsOpen, left, services_of}
+use Rattle.stop_bar.specs.Crossing.{Crossing}
+
+-- the whole services of phase p that end among the rows
+abbrev pub services_upto : (ℕ → Bool) → List PhaseItem → ℕ → List Row → List Service
+services_upto known phases p rows = of_phase p (services_from known phases [] rows)
+
+-- the open service of phase p among these
+abbrev pub open_with : ℕ → List OpenService → Option OpenService
+open_with p ys = find (λ y. y.phase == p) ys
+
+-- the services whose red window ends after tenth a and by tenth b
+abbrev pub ending : ℕ → ℕ → List Service → List Service
+ending a b ss = filter (λ s. nat_lt a (s.r + 50) && nat_le (s.r + 50) b) ss
+
+-- this crosses point k at the detector with place i and phase p, where these are the known rows before the point: the green that is open there and the services whose red window isn't over, with the log's numbers
+pub record IsAtBar (log : Log) (i : ℕ) (phases : List PhaseItem) (p : ℕ) (before : List Row) (k : ℕ) (at : Crossing) : Type 0 where
+  pub green : IsGreenAt (first_tenth k) (service_begun_of log.known (first_tenth k) p before) at.green
+  pub tenths : IsOpen log i at.green
+  pub waiting : services_of at.pending ≡ left (first_tenth k) (services_upto log.known phases p before)
+  pub numbers : ArePending log i (first_tenth k) at.pending
+
+-- an hour of the log with these rows, where these are the known rows before it: what service_cut lists of it, and the colours of the detector
+pub record IsHourOf (log : Log) (i : ℕ) (phases : List PhaseItem) (hour : ℕ) (before rows : List Row) (cuts : CutLists) (parts : List Part) : Type 0 where
+  pub about : AreRowsAbout hour before rows
+  pub cut : IsCut log.known phases before hour rows cuts
+  pub told : IsSwitched log i hour parts
+
+-- the services of phase p whose red window ends in the hour, by the known rows up to its end, with the log's numbers
+pub record AreOver (log : Log) (i : ℕ) (phases : List PhaseItem) (p hour : ℕ) (upto : List Row) (ended : List Windows) : Type 0 where
+  pub services : services_of ended ≡ ending (first_tenth hour) (end_tenth hour) (services_upto log.known phases p upto)
+  pub numbers : AreEnded log i ended
+
+-- from what crosses the point before an hour of a log come the windows that end in the hour, and what crosses the point after it
+abbrev pub IsBarHour : ℕ → ℕ → Crossing → CutLists → List Part → List Windows → Crossing → Type 0
+IsBarHour p hour at cuts parts ended after = (log : Log) (i : ℕ) (phases : List PhaseItem) (before rows : List Row) → has_phase phases p ≡ true → IsHourOf log i phases hour before rows cuts parts → IsAtBar log i phases p before hour at → let upto = before ++ known_rows log.known rows in AreOver log i phases p hour upto ended × IsAtBar log i phases p upto (hour + 1) after
+
+-- a log has one value at a point
+abbrev pub CrossesOnce : Type 0
+CrossesOnce = (log : Log) (i : ℕ) (phases : List PhaseItem) (p : ℕ) (before : List Row) (k : ℕ) (a b : Crossing) → IsAtBar log i phases p before k a → IsAtBar log i phases p before k b → a ≡ b
+
+-- the windows that end in an hour are the same, whatever comes after
+abbrev pub AreListedOnce : Type 0
+AreListedOnce = (log : Log) (i : ℕ) (phases : List PhaseItem) (p hour : ℕ) (upto : List Row) (vs ws : List Windows) → AreOver log i phases p hour upto vs → AreOver log i phases p hour upto ws → vs ≡ ws

@@ -1,0 +1,102 @@
+// One stop bar over one hour.
+ghost use Rattle.std.specs.Prelude.{ℕ, ◌≡◌, ◌<◌, ◌+◌, ◌++◌, ◌==◌, true, List, IfOk, find, unwrap_or};
+ghost use Rattle.sig_base.specs.declared.values.PhaseItem.{PhaseItem};
+ghost use Rattle.sig_base.specs.declared.values.Row.{Row};
+ghost use Rattle.board.specs.Logs.{end_tenth};
+ghost use Rattle.signal_log.specs.Log.{Log};
+ghost use Rattle.hour_sweep.specs.Rows.{known_rows};
+ghost use Rattle.service_cut.specs.Parts.{has_phase};
+ghost use Rattle.service_cut.specs.Services.{service_begun_of};
+ghost use Rattle.split_windows.specs.Going.{IsGreenAt, of_phase};
+ghost use Rattle.split_windows.specs.Windows.{IsOpen};
+ghost use Rattle.stop_bar.specs.Bars.{IsAtBar, IsBarHour, IsHourOf, open_with};
+
+use crate::at_bar::AtBar;
+use detector_state::Switched;
+use service_cut::{Cuts, OpenService, Service};
+use sig_base::{Hour, NoMemory};
+use split_windows::{OpenGreen, Windows, open_after, windows_hour};
+use std::alloc::Global;
+
+/// What an hour gives at a stop bar.
+#[derive(Drop)]
+pub struct OverBar {
+    /// The services whose red window ends in the hour or at its end, in the order of their ends of
+    /// yellow.
+    pub ended: Vec<Windows>,
+    /// What crosses the point after the hour.
+    pub after: AtBar,
+}
+
+/// The windows that end in the hour, and what crosses the point after it, at a stop bar of this
+/// phase, whose detector's tenths are `switched`.
+pub fn bar_hour(
+    alloc: Global,
+    phase: u8,
+    before: &AtBar,
+    cuts: &Cuts,
+    switched: &Switched,
+    hour: Hour,
+) -> Result<OverBar, NoMemory>
+    requires { hour < 744 }
+    ensures { IfOk result (λ o. IsBarHour phase hour before.now cuts.now switched.now
+        o.ended.items o.after) }
+{
+    let own = own_services(alloc, cuts.services(), phase)?;
+    let over = windows_hour(alloc, before.green, &before.pending, &own, switched, hour)?;
+    let green = open_next(phase, before, cuts, switched, hour);
+    Ok(OverBar {
+        ended: over.ended,
+        after: AtBar {
+            green,
+            pending: over.pending,
+            alloc,
+        },
+    })
+}
+
+// The services of the phase, in their order.
+fn own_services(alloc: Global, services: &[Service], phase: u8) -> Result<Vec<Service>, NoMemory>
+    ensures { IfOk result (λ v. v.items ≡ of_phase phase services.now) }
+{
+    let own = services
+        .iter()
+        .copied()
+        .filter(|service| service.phase == phase)
+        .collect(alloc)?;
+    Ok(own)
+}
+
+// The open service of the phase.
+fn open_service_of(services: &[OpenService], phase: u8) -> Option<OpenService>
+    ensures { result ≡ open_with phase services.now }
+{
+    services.iter().copied().find(|one| one.phase == phase)
+}
+
+// The green that is open at the hour's end.
+fn open_next(
+    phase: u8,
+    before: &AtBar,
+    cuts: &Cuts,
+    switched: &Switched,
+    hour: Hour,
+) -> Option<OpenGreen>
+    requires { hour < 744 }
+    ensures { (log : Log) (i : ℕ) (phases : List PhaseItem) (front rows : List Row)
+        → has_phase phases phase ≡ true
+        → IsHourOf log i phases hour front rows cuts.now switched.now
+        → IsAtBar log i phases phase front hour before.now
+        → IsGreenAt (end_tenth hour)
+        (service_begun_of log.known (end_tenth hour) phase (front ++ known_rows log.known rows))
+        result
+        × IsOpen log i result }
+{
+    match open_service_of(cuts.open_services(), phase) {
+        Some(service) => {
+            let to = service.g.unwrap_or(36_000 * hour + 36_000);
+            Some(open_after(switched, hour, before.green, service.b, to))
+        }
+        None => None,
+    }
+}

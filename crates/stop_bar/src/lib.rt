@@ -1,0 +1,18 @@
+//! One stop bar over one hour: the windows of its phase's services that end in the hour, with how
+//! often its detector was on in them, and what crosses the point after it.
+//!
+//! `split_windows` counts for services that it is given; here they are those that `service_cut`
+//! lists of the log, so what is said of an hour is said of the log up to it. What crosses a point
+//! is one value, whatever is known of later tenths. `docs/DEFINITIONS.md` has the definitions.
+#![tactic(auto)]
+
+mod at_bar;
+mod hour;
+mod laws;
+mod same;
+#[cfg(test)]
+mod tests;
+
+pub use at_bar::AtBar;
+pub use hour::{OverBar, bar_hour};
+pub use laws::{what_crosses_is_one, windows_are_listed_once};

@@ -1,6 +1,4 @@
 // A green of phase 2 with its yellow, and detector 5 at its stop bar.
-ghost use Rattle.sig_base.specs.HourRows.{AreRowsOf};
-
 use crate::{SplitCarry, SplitSum, SplitVerdict, split_verdict, splits_hour, verdict_sum};
 use detector_state::switched;
 use event_codes::{Channel, Kind};
@@ -67,9 +65,7 @@ fn verdicts_by_four_numbers(rt: HostRuntime) {
 
 // The verdict of a green from tenth 1,000 up to 1,200 with its end of yellow at 1,235, at a detector
 // of which nothing is known before the rows.
-fn verdict_of_rows(alloc: Global, rows: &[Row]) -> Result<SplitSum, NoMemory>
-    requires { AreRowsOf 0 rows.now }
-{
+fn verdict_of_rows(alloc: Global, rows: &[Row]) -> Result<SplitSum, NoMemory> {
     let channel = Channel {
         kind: Kind::Detector,
         number: 5,

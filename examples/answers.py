@@ -71,11 +71,13 @@ class Session:
         return logs.show_hour(self.start + int(number) * logs.HOUR)
 
     def last(self, kind, number=None):
-        """The last section of the kind, of this number where one is given, or None."""
-        wanted = [kind] if number is None else [kind, number]
+        """The last section of the kind, of this number or name where one is given, or None."""
+        wanted = [] if number is None else [number]
         for section in reversed(self.sections):
-            if section.words[:1] + [str(int(word)) for word in section.words[1:]] == wanted:
-                return section
+            if section.words[0] == kind:
+                rest = section.words[1:]
+                if (rest if kind == "offsets" else [str(int(word)) for word in rest]) == wanted:
+                    return section
         return None
 
     def by_hour(self, kind):

@@ -1,0 +1,5 @@
+pub mod Stepping
+pub mod Passing
+pub mod Merging
+pub mod Overall
+pub mod Telling

@@ -1,0 +1,3 @@
+pub mod Strands
+pub mod Kept
+pub mod Walking

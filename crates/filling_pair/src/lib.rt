@@ -1,0 +1,20 @@
+//! Runs of a rule's channels through the tenths that aren't known, each with the events that fill
+//! them: what keeps a rule at a line of an audit, and what breaks it.
+//!
+//! A strand is one channel's start before the window and its events at unknown tenths. With the
+//! known rows they are legal for the channel from its start to the window's end.
+//!
+//! - `strands`: the data.
+//! - `step`: one event of a channel; `walk`: rows with fills between them; `hours`: hour by hour.
+//! - `fills`: the fills of one strand; `stands`: one strand; `keeps`: what a rule says of a state.
+//! - `check`: the call.
+//!
+//! Tenths are tenths of a second from the window's start.
+#![tactic(auto)]
+
+mod hours;
+mod step;
+mod strands;
+mod walk;
+
+pub use strands::{Fill, Fills, Pair, Pairs, Strand, Strands};

@@ -3,3 +3,4 @@ pub mod Passing
 pub mod Merging
 pub mod Overall
 pub mod Telling
+pub mod Judged

@@ -18,7 +18,7 @@ use Rattle.board.proofs.Bridge.{agreeing_first, agreeing_join, agreeing_none, cu
 use Rattle.board.proofs.Cutting.{events_join, none_after}
 use Rattle.board.proofs.Joining.{letters_join}
 use Rattle.board.proofs.Rows.{rows_split}
-use Rattle.signal_log.specs.Log.{log_of}
+use Rattle.signal_log.specs.Log.{log_of, track_at}
 use Rattle.signal_log.specs.Points.{rows_or_none}
 use Rattle.signal_log.proofs.Contradicting.{earlier_events}
 use Rattle.signal_log.proofs.Stored.{hour_events, rise_rows, rows_end, rows_join, rows_low}
@@ -26,8 +26,8 @@ use Rattle.rule_audit.specs.declared.lines.Place.{Place}
 use Rattle.rule_audit.specs.declared.lines.Place.TheVariants.{BeforeRow, EndOfTenth}
 use Rattle.filling_pair.specs.declared.strands.Fill.{Fill}
 use Rattle.filling_pair.specs.declared.strands.Strand.{Strand}
-use Rattle.filling_pair.specs.Strands.{AreFills, events_with, row_of, rows_of}
-use Rattle.filling_pair.specs.Kept.{IsPlaceOf, hour_rows, rows_before}
+use Rattle.filling_pair.specs.Strands.{AreFills, events_with, row_of, rows_of, start_of}
+use Rattle.filling_pair.specs.Kept.{IsPlaceOf, StandsAt, hour_rows, rows_before}
 use Rattle.filling_pair.specs.Walking.{Walks, count_to, is_own, merged, own_hours, own_of}
 use Rattle.filling_pair.proofs.Merging.{agreeing_letters, fills_there, merged_in, rows_there, walks_agree}
 
@@ -129,6 +129,27 @@ and_false true true e = inr refl
 and_false true false e = absurd (cc)
 and_false false b e = inl refl
 
+and_left : (a b : Bool) → (a && not b) ≡ true → a ≡ true
+and_left true b e = refl
+and_left false b e = e
+
+-- ---- places
+
+cut_place : (rows : List Row) (f t end : ℕ) (place : Place) → IsPlaceOf rows t place → RowsIn f end rows → f ≤ t → t < end → RowsIn f (t + 1) (take (count_to rows t place) rows) × RowsIn t end (drop (count_to rows t place) rows)
+cut_place rows f t end (BeforeRow n) (lt, e) h low high =
+    let (a, b, c, d) = rows_split f end n rows h lt in
+    (subst (λ (x : ℕ). RowsIn f (x + 1) (take n rows)) e a, subst (λ (x : ℕ). RowsIn x end (drop n rows)) e b)
+cut_place rows f t end EndOfTenth p h low high =
+    let (a, b, c, d) = cut_rows f (t + 1) end rows (omega arith) (omega arith) h in
+    (a, rows_low (t + 1) t end (drop (count_before (t + 1) rows) rows) (omega arith) b)
+
+one_tenth : (k : Track) (given : ℕ → List Event) (t : ℕ) (a v : State) → Agreeing k (λ x. true) given t (t + 1) a v ↔ Steps k.rules (pos t) a (letters k (given t)) v
+one_tenth k given t a v =
+    let f = agreeing_first k (λ x. true) given t (t + 1) a v (omega arith) refl in (
+      λ g. let (w, st, r) = f.0 g in subst (λ (z : State). Steps k.rules (pos t) a (letters k (given t)) z) (sym ((agreeing_none k (λ x. true) given (t + 1) w v).0 r)) st,
+      λ st. f.1 (v, st, (agreeing_none k (λ x. true) given (t + 1) v v).1 refl),
+    )
+
 module _ (k : Track) (s : Store) (is : IsStore s) where
   own_in : (hour : ℕ) → RowsIn (36000 * hour) (36000 * (hour + 1)) (own_of k s.blanks (hour_rows s hour))
   own_in hour =
@@ -208,3 +229,137 @@ module _ (k : Track) (s : Store) (is : IsStore s) where
         let a = walks_agree k end (merged end rs fs) start u (merged_in end end end 0 rs fs (omega arith) (omega arith) rows in_window) in
         let b = agreeing_letters k (λ x. true) (events_at (merged end rs fs)) (events_with (log_of specs s) fs) 0 end start u same in
         (λ w. b.0 (a.0 w), λ g. a.1 (b.1 g))
+
+    -- ---- up to a place of a known tenth
+
+    module _ (t : ℕ) (place : Place) (within : t < 36000 * length s.hours) (known : is_known s t ≡ true) (is_place : IsPlaceOf (hour_rows s (t / 36000)) t place) where
+      abbrev the_rows : List Row
+      the_rows = hour_rows s (t / 36000)
+
+      abbrev the_first : List Row
+      the_first = take (count_to (hour_rows s (t / 36000)) t place) (hour_rows s (t / 36000))
+
+      abbrev the_others : List Row
+      the_others = drop (count_to (hour_rows s (t / 36000)) t place) (hour_rows s (t / 36000))
+
+      abbrev to_place : List Row
+      to_place = own_hours k s 0 (t / 36000) ++ own_of k s.blanks the_first
+
+      cut : RowsIn (36000 * (t / 36000)) (t + 1) the_first × RowsIn t (36000 * (t / 36000) + 36000) the_others
+      cut = cut_place (hour_rows s (t / 36000)) (36000 * (t / 36000)) t (36000 * (t / 36000) + 36000) place is_place (hour_in s (t / 36000) is) (omega arith) (omega arith)
+
+      earlier_in : RowsIn 0 (36000 * (t / 36000)) (own_hours k s 0 (t / 36000))
+      earlier_in =
+          let rs = own_hours k s 0 (t / 36000) in
+          let e1 : 36000 * 0 ≡ 0 = omega arith in
+          let e2 : 36000 * (0 + t / 36000) ≡ 36000 * (t / 36000) = omega arith in
+          subst (λ (m : ℕ). RowsIn 0 m rs) e2 (subst (λ (f : ℕ). RowsIn f (36000 * (0 + t / 36000)) rs) e1 (hours_in 0 (t / 36000)))
+
+      own_first_in : RowsIn (36000 * (t / 36000)) (t + 1) (own_of k s.blanks the_first)
+      own_first_in = keep_in (is_own k s.blanks) (36000 * (t / 36000)) (t + 1) the_first cut.0
+
+      to_place_in : RowsIn 0 (t + 1) to_place
+      to_place_in = rows_join 0 (36000 * (t / 36000)) (t + 1) (own_hours k s 0 (t / 36000)) (own_of k s.blanks the_first) earlier_in own_first_in
+
+      -- in an earlier hour, and in the place's own
+      in_earlier : (x : ℕ) → x / 36000 < t / 36000 → events_at to_place x ≡ events_at (own_of k s.blanks (hour_rows s (x / 36000))) x
+      in_earlier x lt =
+          let own = own_of k s.blanks the_first in
+          let none : events_at own x ≡ [] = none_at own (36000 * (t / 36000)) (t + 1) x own_first_in (omega arith) in
+          events_join (own_hours k s 0 (t / 36000)) own x
+          ∙ (ap (λ (zs : List Event). events_at (own_hours k s 0 (t / 36000)) x ++ zs) none
+          ∙ (append-nil (events_at (own_hours k s 0 (t / 36000)) x) ∙ hours_events 0 (t / 36000) x (x / 36000) refl (omega arith) (omega arith)))
+
+      in_own : (x : ℕ) → 36000 * (t / 36000) ≤ x → events_at to_place x ≡ events_at (own_of k s.blanks the_first) x
+      in_own x le =
+          let own = own_of k s.blanks the_first in
+          let none : events_at (own_hours k s 0 (t / 36000)) x ≡ [] = none_after (own_hours k s 0 (t / 36000)) 0 (36000 * (t / 36000)) x earlier_in le in
+          events_join (own_hours k s 0 (t / 36000)) own x ∙ ap (λ (zs : List Event). zs ++ events_at own x) none
+
+      rows_told : (x : ℕ) → x / 36000 ≡ t / 36000 → is_known s x ≡ true → events_at (known_rows s) x ≡ events_at the_rows x
+      rows_told x e there = hour_events s (t / 36000) x (rows_at s (t / 36000)) is (omega arith) refl (omega arith) (omega arith) there
+
+      place_known : (x : ℕ) → x < t → is_known s x ≡ true → letters k (events_at to_place x) ≡ letters k (events_at (known_rows s) x)
+      place_known x lt there = elim (cases_lt (x / 36000) (t / 36000)) [
+        | inl early ↦ ap (letters k) (in_earlier x early) ∙ known_letters x (x / 36000) refl (omega arith) there
+        | inr late ↦
+            let e : x / 36000 ≡ t / 36000 = omega arith in
+            ap (letters k) (in_own x (omega arith))
+            ∙ (own_letters k s.blanks the_first x (known_not_blank x there)
+            ∙ ap (letters k) (sym (earlier_events the_rows (count_to the_rows t place) t (36000 * (t / 36000) + 36000) x cut.1 lt) ∙ sym (rows_told x e there)))
+      ]
+
+      place_unknown : (x : ℕ) → x < t → is_known s x ≡ false → events_at to_place x ≡ []
+      place_unknown x lt gone = elim (cases_lt (x / 36000) (t / 36000)) [
+        | inl early ↦ in_earlier x early ∙ unknown_none x (x / 36000) refl gone
+        | inr late ↦
+            let e : t / 36000 ≡ x / 36000 = omega arith in
+            in_own x (omega arith) ∙ elim (and_false (is_some (held_at s (x / 36000))) (is_member s.blanks (pos x)) gone) [
+              | inl none ↦ absurd (let held : is_some (held_at s (t / 36000)) ≡ true = and_left (is_some (held_at s (t / 36000))) (is_member s.blanks (pos t)) known in let bad : true ≡ false = sym held ∙ (ap (λ (h : ℕ). is_some (held_at s h)) e ∙ none) in cc)
+              | inr blank ↦ own_none k s.blanks the_first x blank
+            ]
+      ]
+
+      merged_before : (x : ℕ) → 0 ≤ x → x < t → letters k (events_at (merged t to_place fs) x) ≡ letters k (events_with (log_of specs s) fs x)
+      merged_before x low lt = merged_letters t (t + 1) x to_place lt (omega arith) (omega arith) to_place_in (place_known x lt) (place_unknown x lt)
+
+      merged_here : letters k (events_at (merged t to_place fs) t) ≡ letters k (events_at the_first t)
+      merged_here =
+          ap (letters k) (rows_there t to_place fs t (none_known k (is_known s) 0 (36000 * length s.hours) fs t fills known) ∙ in_own t (omega arith))
+          ∙ own_letters k s.blanks the_first t (known_not_blank t known)
+
+      -- a walk up to the place is a run of the tenths before, and then the rows of its tenth before it
+      upto_place : (start v : State) → Walks k (merged t to_place fs) start v ↔ ((a : State) × Agreeing k (λ x. true) (events_with (log_of specs s) fs) 0 t start a × Steps k.rules (pos t) a (letters k (events_at the_first t)) v)
+      upto_place start v =
+          let M = merged t to_place fs in
+          let G = events_with (log_of specs s) fs in
+          let one = walks_agree k (t + 1) M start v (merged_in t (t + 1) (36000 * length s.hours) 0 to_place fs (omega arith) (omega arith) to_place_in in_window) in
+          let two = agreeing_join k (λ x. true) (events_at M) 0 t (t + 1) start v (omega arith) (omega arith) in
+          let early = λ (a : State). agreeing_letters k (λ x. true) (events_at M) G 0 t start a merged_before in
+          let last = λ (a : State). one_tenth k (events_at M) t a v in (
+            λ w. let (a, g, h) = two.0 (one.0 w) in (a, (early a).0 g, subst (λ (ls : List ℕ). Steps k.rules (pos t) a ls v) merged_here ((last a).0 h)),
+            λ (a, g, h). one.1 (two.1 (a, (early a).1 g, (last a).1 (subst (λ (ls : List ℕ). Steps k.rules (pos t) a ls v) (sym merged_here) h))),
+          )
+
+      told_here : events_with (log_of specs s) fs t ≡ events_at the_first t ++ events_at the_others t
+      told_here =
+          with_known t known ∙ (rows_told t refl known
+          ∙ (ap (λ (rs : List Row). events_at rs t) (sym (take-append-drop (count_to the_rows t place) the_rows)) ∙ events_join the_first the_others t))
+
+-- ---- strands
+
+module _ (s : Store) (is : IsStore s) (specs : List Spec) (strand : Strand) (t : ℕ) (within : t < 36000 * length s.hours) (known : is_known s t ≡ true) where
+  abbrev the_track : Track
+  the_track = track_at (log_of specs s) strand.spec
+
+  -- the state at a place is that to which the walk comes
+  pub stands : (place : Place) → AreFills the_track (is_known s) 0 (36000 * length s.hours) strand.fills → IsPlaceOf (hour_rows s (t / 36000)) t place → (v : State) → Walks the_track (merged t (own_hours the_track s 0 (t / 36000) ++ own_of the_track s.blanks (take (count_to (hour_rows s (t / 36000)) t place) (hour_rows s (t / 36000)))) strand.fills) (start_of strand) v ↔ StandsAt (log_of specs s) (hour_rows s (t / 36000)) t place strand v
+  stands (BeforeRow n) fills is_place v =
+      let k = the_track in
+      let G = events_with (log_of specs s) strand.fills in
+      let rows = hour_rows s (t / 36000) in
+      let first = take n rows in
+      let j = length (events_at first (get_or rows n no_row).at) in
+      let up = upto_place k s is specs strand.fills fills t (BeforeRow n) within known is_place (start_of strand) v in
+      let told = told_here k s is specs strand.fills fills t (BeforeRow n) within known is_place in
+      let size : j ≡ length (events_at first t) = ap (λ (x : ℕ). length (events_at first x)) is_place.1 in
+      let same : letters k (take j (G t)) ≡ letters k (events_at first t) = ap (λ (es : List Event). letters k (take j es)) told ∙ ap (letters k) (take_at (events_at first t) (events_at (drop n rows) t) j (sym size)) in (
+        λ w. let (a, g, st) = up.0 w in (a, g, subst (λ (ls : List ℕ). Steps k.rules (pos t) a ls v) (sym same) st),
+        λ (a, g, st). up.1 (a, g, subst (λ (ls : List ℕ). Steps k.rules (pos t) a ls v) same st),
+      )
+  stands EndOfTenth fills is_place v =
+      let k = the_track in
+      let G = events_with (log_of specs s) strand.fills in
+      let rows = hour_rows s (t / 36000) in
+      let n = count_before (t + 1) rows in
+      let first = take n rows in
+      let up = upto_place k s is specs strand.fills fills t EndOfTenth within known is_place (start_of strand) v in
+      let told = told_here k s is specs strand.fills fills t EndOfTenth within known is_place in
+      let h = hour_in s (t / 36000) is in
+      let parts = cut_rows (36000 * (t / 36000)) (t + 1) (36000 * (t / 36000) + 36000) rows (omega arith) (omega arith) h in
+      let none : events_at (drop n rows) t ≡ [] = none_at (drop n rows) (t + 1) (36000 * (t / 36000) + 36000) t parts.1 (omega arith) in
+      let same : letters k (G t) ≡ letters k (events_at first t) = ap (letters k) (told ∙ (ap (λ (es : List Event). events_at first t ++ es) none ∙ append-nil (events_at first t))) in
+      let two = agreeing_join k (λ x. true) G 0 t (t + 1) (start_of strand) v (omega arith) (omega arith) in (
+        λ w. let (a, g, st) = up.0 w in two.1 (a, g, (one_tenth k G t a v).1 (subst (λ (ls : List ℕ). Steps k.rules (pos t) a ls v) (sym same) st)),
+        λ g. let (a, g1, g2) = two.0 g in up.1 (a, g1, subst (λ (ls : List ℕ). Steps k.rules (pos t) a ls v) same ((one_tenth k G t a v).0 g2)),
+      )

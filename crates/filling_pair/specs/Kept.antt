@@ -37,17 +37,17 @@ abbrev pub StandsAt : Log → List Row → ℕ → Place → Strand → State �
 StandsAt log rows t (BeforeRow n) s v = LeadsInto log s t (rows_before rows n) v
 StandsAt log rows t EndOfTenth s v = Leads log s (t + 1) v
 
--- in the state some term of the channel holds
-abbrev pub HoldsIn : List Term → ℕ → State → Type 0
-HoldsIn [] i v = ⊥
-HoldsIn (c ∷ cs) i v = ((c.spec ≡ i) × Has c.colours v.colour) ⊎ HoldsIn cs i v
+-- in the colour some term of the channel holds
+abbrev pub HoldsIn : List Term → ℕ → ℕ → Type 0
+HoldsIn [] i colour = ⊥
+HoldsIn (c ∷ cs) i colour = ((c.spec ≡ i) × Has c.colours colour) ⊎ HoldsIn cs i colour
 
 -- with the channel in the state the rule is kept at the place; an interval rule is judged before rows alone, and a clause at the end of tenths alone
 abbrev pub KeepsBy : List Spec → List Row → Place → Rule → ℕ → State → Type 0
 KeepsBy specs rows (BeforeRow n) (Interval item) i v = (item.spec ≡ i) × KeepsInterval (slice_index_or specs item.spec no_spec) (slice_index_or rows n no_row) item v
-KeepsBy specs rows EndOfTenth (Conflict a b terms) i v = HoldsIn terms i v
-KeepsBy specs rows EndOfTenth (Companion p terms) i v = HoldsIn terms i v
-KeepsBy specs rows EndOfTenth (Parents o terms) i v = HoldsIn terms i v
+KeepsBy specs rows EndOfTenth (Conflict a b terms) i v = HoldsIn terms i v.colour
+KeepsBy specs rows EndOfTenth (Companion p terms) i v = HoldsIn terms i v.colour
+KeepsBy specs rows EndOfTenth (Parents o terms) i v = HoldsIn terms i v.colour
 KeepsBy specs rows place rule i v = ⊥
 
 -- the strand comes at the place to a state with which the rule is kept

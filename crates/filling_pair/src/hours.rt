@@ -168,6 +168,7 @@ pub(crate) fn follow<L>(
     requires colour { strand.now.colour < (any_rules follower.now.machine).colours }
     requires hour { line.now.at / 36000 < length store.now.hours }
     requires place { IsPlaceOf (hour_rows store.now (line.now.at / 36000)) line.now.at line.now.place }
+    ensures fits { Fits (any_rules follower.now.machine) result.there }
     ensures there { (u : State) → let rows = hour_rows store.now (line.now.at / 36000) in Walks (track_of follower.now) (merged line.now.at (own_hours (track_of follower.now) store.now 0 (line.now.at / 36000) ++ own_of (track_of follower.now) store.now.blanks (take (count_to rows line.now.at line.now.place) rows)) strand.now.fills) (start_of strand.now) u ↔ In result.there (λ s. u ≡ s) }
     ensures legal { IsTrue result.is_legal ↔ ((u : State) × Walks (track_of follower.now) (merged (36000 * length store.now.hours) (own_hours (track_of follower.now) store.now 0 (length store.now.hours)) strand.now.fills) (start_of strand.now) u) }
 {

@@ -12,9 +12,14 @@
 //! Tenths are tenths of a second from the window's start.
 #![tactic(auto)]
 
+mod channels;
+mod check;
 mod hours;
+mod keeps;
+mod stands;
 mod step;
 mod strands;
 mod walk;
 
+pub use check::check_strands;
 pub use strands::{Fill, Fills, Pair, Pairs, Strand, Strands};

@@ -4,3 +4,4 @@ pub mod Merging
 pub mod Overall
 pub mod Telling
 pub mod Judged
+pub mod Growing

@@ -1,5 +1,5 @@
 -- What a rule says of strands at the place of a line.
-use Rattle.std.specs.Prelude.{◌≡◌, ◌⊎◌, ℕ, ◌+◌, ◌-◌, ◌*◌, ◌/◌, ◌<◌, ◌≤◌, pos, Bool, true, false, List, [], ◌∷◌, length, take, slice_index_or}
+use Rattle.std.specs.Prelude.{◌≡◌, ◌⊎◌, ℕ, ◌+◌, ◌-◌, ◌*◌, ◌/◌, ◌^◌, ◌<◌, ◌≤◌, pos, Bool, true, false, List, [], ◌∷◌, length, min, take, slice_index, slice_index_or}
 use Rattle.sig_base.specs.declared.values.Row.{Row}
 use Rattle.channel_tables.specs.declared.spec.Spec.{Spec}
 use Rattle.colour_machine.specs.Mask.{Has}
@@ -80,3 +80,7 @@ pub record IsLineOf (log : Log) (rules : List Rule) (rows : List Row) (line : Au
   pub within : line.at < window_end log
   pub is_known : log.known line.at ≡ true
   pub place : IsPlaceOf rows line.at line.place
+
+-- no count fell; a count ends at the last value of a u64
+unfoldable pub Grow : List ℕ → List ℕ → Type 0
+Grow old new = (h : ℕ) → min (slice_index old h) (2 ^ 64 - 1) ≤ slice_index new h

@@ -5,7 +5,7 @@ ghost use Rattle.hour_store.specs.Store.{is_known};
 ghost use Rattle.signal_log.specs.Log.{log_of};
 ghost use Rattle.rule_audit.specs.Rules.{rules_for};
 ghost use Rattle.filling_pair.specs.Strands.{AreAllStrands, AreStrands, IsStrand};
-ghost use Rattle.filling_pair.specs.Kept.{AreKept, IsAsSaid, IsLineOf, IsPlaceOf, KeepsAt, hour_rows, rule_of};
+ghost use Rattle.filling_pair.specs.Kept.{AreKept, Grow, IsAsSaid, IsLineOf, IsPlaceOf, KeepsAt, hour_rows, rule_of};
 
 use crate::channels::are_channels;
 use crate::hours::rows_of_hour;
@@ -26,6 +26,7 @@ struct Checked {
 }
 
 // One strand.
+#[tactic(auto, using(crate::proofs::Growing::grow_on, crate::proofs::Growing::grow_same))]
 fn check_one<L>(
     specs: &[Spec],
     store: &HourStore<L>,
@@ -42,6 +43,7 @@ fn check_one<L>(
     requires place { IsPlaceOf rows.now line.now.at line.now.place }
     ensures strand { IsTrue result.are_strands ↔ IsStrand (log_of specs.now store.now) strand.now }
     ensures kept { IsTrue result.are_strands → IsTrue result.is_kept ↔ KeepsAt (log_of specs.now store.now) rows.now line.now.at line.now.place rule.now strand.now }
+    ensures grow { Grow reads.old reads.new }
 {
     let stood = stand_of(specs, store, line, strand, reads);
     if !stood.is_strand {
@@ -69,6 +71,7 @@ fn either(a: bool, b: bool) -> bool
 }
 
 // All of them.
+#[tactic(auto, using(crate::proofs::Growing::grow_on, crate::proofs::Growing::grow_same))]
 fn check_each<L>(
     specs: &[Spec],
     store: &HourStore<L>,
@@ -85,6 +88,7 @@ fn check_each<L>(
     requires place { IsPlaceOf rows.now line.now.at line.now.place }
     ensures strands { IsTrue result.are_strands ↔ AreAllStrands (log_of specs.now store.now) strands.now }
     ensures kept { IsTrue result.are_strands → IsTrue result.is_kept ↔ AreKept (log_of specs.now store.now) rows.now line.now.at line.now.place rule.now strands.now }
+    ensures grow { Grow reads.old reads.new }
 {
     let mut is_kept = false;
     for strand in strands {
@@ -103,6 +107,7 @@ fn check_each<L>(
 /// Whether these are strands of the line's rule, and with them it is kept at the line's place
 /// exactly as `kept` says. It takes no memory. The line's hour is opened, and for each strand with
 /// a good start and good fills each hour of the window.
+#[tactic(auto, using(crate::proofs::Growing::grow_on, crate::proofs::Growing::grow_same))]
 pub fn check_strands<L>(
     config: &Config,
     rules: &[Rule],
@@ -114,7 +119,8 @@ pub fn check_strands<L>(
 ) -> bool
     requires rules { rules.now ≡ rules_for config.now }
     requires line { IsLineOf (log_of config.now.specs store.now) rules.now (hour_rows store.now (line.now.at / 36000)) line.now }
-    ensures { let log = log_of config.now.specs store.now in let rule = rule_of rules.now line.now in
+    ensures grow { Grow reads.old reads.new }
+    ensures answer { let log = log_of config.now.specs store.now in let rule = rule_of rules.now line.now in
         IsTrue result ↔ (AreStrands log rule strands.now × IsAsSaid kept (AreKept log (hour_rows store.now (line.now.at / 36000)) line.now.at line.now.place rule strands.now)) }
 {
     let specs = config.specs();

@@ -6,7 +6,7 @@ ghost use Rattle.reach.specs.Runs.{State};
 ghost use Rattle.board.specs.Moves.{count_before};
 ghost use Rattle.signal_log.specs.Points.{rows_or_none};
 ghost use Rattle.filling_pair.specs.Strands.{start_of};
-ghost use Rattle.filling_pair.specs.Kept.{IsPlaceOf, hour_rows};
+ghost use Rattle.filling_pair.specs.Kept.{Grow, IsPlaceOf, hour_rows};
 ghost use Rattle.filling_pair.specs.Walking.{Fits, In, Remains, Walks, count_to, merged, own_hours, own_of, track_of};
 
 use crate::step::{Follower, Stand};
@@ -27,13 +27,15 @@ fn held_rows<'a>(rows: Option<&'a [Row]>) -> &'a [Row]
 }
 
 /// The rows of an hour, which is opened; none where it isn't held.
+#[tactic(auto, using(crate::proofs::Growing::grow_raised_to))]
 pub(crate) fn rows_of_hour<'a, L>(
     store: &'a HourStore<L>,
     hour: Hour,
     reads: &mut Reads<L>,
 ) -> &'a [Row]
     requires { hour < length store.now.hours }
-    ensures { result.now ≡ hour_rows store.now hour }
+    ensures rows { result.now ≡ hour_rows store.now hour }
+    ensures grow { Grow reads.old reads.new }
 {
     held_rows(store.open_hour(hour, reads))
 }
@@ -50,12 +52,14 @@ fn pass_hour<'a, L>(
     requires hour { hour < length store.now.hours }
     ensures fits { Fits (any_rules follower.now.machine) result.here }
     ensures passed { (b : ℕ) (more : List Row) (u : State) → Remains (track_of follower.now) b (own_of (track_of follower.now) store.now.blanks (hour_rows store.now hour) ++ more) cursor.now.here cursor.now.fills.now u ↔ Remains (track_of follower.now) b more result.here result.fills.now u }
+    ensures grow { Grow reads.old reads.new }
 {
     let rows = rows_of_hour(store, hour, reads);
     pass_rows(follower, cursor, rows, store.blanked())
 }
 
 /// Goes over the rows of the hours from one up to but without another, which are opened.
+#[tactic(auto, using(crate::proofs::Growing::grow_on, crate::proofs::Growing::grow_same))]
 pub(crate) fn pass_hours<'a, L>(
     follower: &Follower,
     cursor: &Cursor<'a>,
@@ -69,6 +73,7 @@ pub(crate) fn pass_hours<'a, L>(
     requires hours { to ≤ length store.now.hours }
     ensures fits { Fits (any_rules follower.now.machine) result.here }
     ensures passed { (b : ℕ) (more : List Row) (u : State) → Remains (track_of follower.now) b (own_hours (track_of follower.now) store.now from (to - from) ++ more) cursor.now.here cursor.now.fills.now u ↔ Remains (track_of follower.now) b more result.here result.fills.now u }
+    ensures grow { Grow reads.old reads.new }
 {
     let mut at = *cursor;
     for hour in from..to {
@@ -110,6 +115,7 @@ struct Noted<'a> {
 }
 
 // Goes over the rows of the line's hour, and notes the state at its place.
+#[tactic(auto, using(crate::proofs::Growing::grow_on, crate::proofs::Growing::grow_same))]
 fn pass_place<'a, L>(
     follower: &Follower,
     cursor: &Cursor<'a>,
@@ -124,6 +130,7 @@ fn pass_place<'a, L>(
     ensures there_fits { Fits (any_rules follower.now.machine) result.there }
     ensures there { (u : State) → let rows = hour_rows store.now (line.now.at / 36000) in Remains (track_of follower.now) line.now.at (own_of (track_of follower.now) store.now.blanks (take (count_to rows line.now.at line.now.place) rows)) cursor.now.here cursor.now.fills.now u ↔ In result.there (λ s. u ≡ s) }
     ensures passed { (b : ℕ) (more : List Row) (u : State) → Remains (track_of follower.now) b (own_of (track_of follower.now) store.now.blanks (hour_rows store.now (line.now.at / 36000)) ++ more) cursor.now.here cursor.now.fills.now u ↔ Remains (track_of follower.now) b more result.cursor.here result.cursor.fills.now u }
+    ensures grow { Grow reads.old reads.new }
 {
     let rows = rows_of_hour(store, line.at / 36_000, reads);
     let (first, later) = rows.split_at(count_to(rows, line.at, line.place));
@@ -158,6 +165,7 @@ fn start_of<'a>(strand: &'a Strand) -> Cursor<'a>
 }
 
 /// Follows a strand over the whole window. Each hour is opened.
+#[tactic(auto, using(crate::proofs::Growing::grow_on, crate::proofs::Growing::grow_same))]
 pub(crate) fn follow<L>(
     follower: &Follower,
     store: &HourStore<L>,
@@ -171,6 +179,7 @@ pub(crate) fn follow<L>(
     ensures fits { Fits (any_rules follower.now.machine) result.there }
     ensures there { (u : State) → let rows = hour_rows store.now (line.now.at / 36000) in Walks (track_of follower.now) (merged line.now.at (own_hours (track_of follower.now) store.now 0 (line.now.at / 36000) ++ own_of (track_of follower.now) store.now.blanks (take (count_to rows line.now.at line.now.place) rows)) strand.now.fills) (start_of strand.now) u ↔ In result.there (λ s. u ≡ s) }
     ensures legal { IsTrue result.is_legal ↔ ((u : State) × Walks (track_of follower.now) (merged (36000 * length store.now.hours) (own_hours (track_of follower.now) store.now 0 (length store.now.hours)) strand.now.fills) (start_of strand.now) u) }
+    ensures grow { Grow reads.old reads.new }
 {
     let hours = store.hours();
     let hour = line.at / 36_000;

@@ -23,3 +23,6 @@ mod walk;
 
 pub use check::check_strands;
 pub use strands::{Fill, Fills, Pair, Pairs, Strand, Strands};
+
+#[cfg(test)]
+mod tests;

@@ -7,7 +7,7 @@ ghost use Rattle.board.specs.Channels.{track};
 ghost use Rattle.board.specs.Logs.{no_spec};
 ghost use Rattle.signal_log.specs.Log.{IsBeforeWindow, log_of};
 ghost use Rattle.filling_pair.specs.Strands.{AreFills, IsStrand, start_of};
-ghost use Rattle.filling_pair.specs.Kept.{IsPlaceOf, StandsAt, hour_rows};
+ghost use Rattle.filling_pair.specs.Kept.{Grow, IsPlaceOf, StandsAt, hour_rows};
 ghost use Rattle.filling_pair.specs.Walking.{Fits, In, track_of};
 
 use crate::hours::follow;
@@ -30,8 +30,8 @@ fn follower_of(spec: &Spec) -> Follower
     }
 }
 
-// Whether the tenth is known.
-fn is_known<L>(store: &HourStore<L>, at: u32) -> bool
+/// Whether the tenth is known.
+pub(crate) fn is_known<L>(store: &HourStore<L>, at: u32) -> bool
     requires { at / 36000 < length store.now.hours }
     ensures { result ≡ is_known store.now at }
 {
@@ -91,6 +91,7 @@ pub(crate) struct Stood {
 
 /// Whether the strand is one of the store, and if so its state at the line's place. The hours are
 /// opened where its start and its fills are good.
+#[tactic(auto, using(crate::proofs::Growing::grow_on, crate::proofs::Growing::grow_same))]
 pub(crate) fn stand_of<L>(
     specs: &[Spec],
     store: &HourStore<L>,
@@ -105,6 +106,7 @@ pub(crate) fn stand_of<L>(
     ensures strand { IsTrue result.is_strand ↔ IsStrand (log_of specs.now store.now) strand.now }
     ensures there { IsTrue result.is_strand → (v : State) → StandsAt (log_of specs.now store.now) (hour_rows store.now (line.now.at / 36000)) line.now.at line.now.place strand.now v ↔ In result.there (λ s. v ≡ s) }
     ensures fits { Fits (rules_of (slice_index_or specs.now strand.now.spec no_spec)) result.there }
+    ensures grow { Grow reads.old reads.new }
 {
     let none = Stood {
         is_strand: false,

@@ -5,3 +5,4 @@ pub mod Overall
 pub mod Telling
 pub mod Judged
 pub mod Growing
+pub mod Histories

@@ -223,9 +223,9 @@ module _ (k : Track) (s : Store) (is : IsStore s) where
         let rows : RowsIn 0 end rs = subst (λ (t : ℕ). RowsIn 0 t rs) e2 (subst (λ (f : ℕ). RowsIn f (36000 * (0 + length s.hours)) rs) e1 (hours_in 0 (length s.hours))) in
         let tell : (x : ℕ) → x < end → events_at rs x ≡ events_at (own_of k s.blanks (hour_rows s (x / 36000))) x = λ x lt. hours_events 0 (length s.hours) x (x / 36000) refl (omega arith) (omega arith) in
         let same : (x : ℕ) → 0 ≤ x → x < end → letters k (events_at (merged end rs fs) x) ≡ letters k (events_with (log_of specs s) fs x) = λ x low lt.
-            merged_letters end end x rs lt (omega arith) (omega arith) rows
-            (λ known. ap (letters k) (tell x lt) ∙ known_letters x (x / 36000) refl (omega arith) known)
-            (λ unknown. tell x lt ∙ unknown_none x (x / 36000) refl unknown) in
+        merged_letters end end x rs lt (omega arith) (omega arith) rows
+        (λ known. ap (letters k) (tell x lt) ∙ known_letters x (x / 36000) refl (omega arith) known)
+        (λ unknown. tell x lt ∙ unknown_none x (x / 36000) refl unknown) in
         let a = walks_agree k end (merged end rs fs) start u (merged_in end end end 0 rs fs (omega arith) (omega arith) rows in_window) in
         let b = agreeing_letters k (λ x. true) (events_at (merged end rs fs)) (events_with (log_of specs s) fs) 0 end start u same in
         (λ w. b.0 (a.0 w), λ g. a.1 (b.1 g))

@@ -68,7 +68,7 @@ IsAsSaid false P = P → ⊥
 abbrev pub rule_of : List Rule → AuditLine → Rule
 rule_of rules line = slice_index_or rules (line.rule - 1) no_rule
 
--- a place before a row is that of a row at the tenth, for an interval rule
+-- a place before a row is that of a row at the tenth
 abbrev pub IsPlaceOf : List Row → ℕ → Place → Type 0
 IsPlaceOf rows t (BeforeRow n) = (n < length rows) × ((slice_index_or rows n no_row).at ≡ t)
 IsPlaceOf rows t EndOfTenth = Unit {0}

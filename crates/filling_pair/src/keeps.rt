@@ -87,14 +87,7 @@ fn holds_in(terms: &[Term], spec: u16, colour: u8) -> bool
 }
 
 // Whether the rule is kept with this state of the channel before the row.
-fn keeps_before(
-    specs: &[Spec],
-    rows: &[Row],
-    row: u32,
-    rule: &Rule,
-    spec: u16,
-    here: Stand,
-) -> bool
+fn keeps_before(specs: &[Spec], rows: &[Row], row: u32, rule: &Rule, spec: u16, here: Stand) -> bool
     requires specs { All IsSpec specs.now }
     requires within { spec < length specs.now }
     requires row { row < length rows.now }

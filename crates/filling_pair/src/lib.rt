@@ -4,10 +4,12 @@
 //! A strand is one channel's start before the window and its events at unknown tenths. With the
 //! known rows they are legal for the channel from its start to the window's end.
 //!
-//! - `strands`: the data.
-//! - `step`: one event of a channel; `walk`: rows with fills between them; `hours`: hour by hour.
-//! - `fills`: the fills of one strand; `stands`: one strand; `keeps`: what a rule says of a state.
-//! - `check`: the call.
+//! - `strands`: fills, strands and pairs of strands, as lists.
+//! - `step`: one event of a channel; `walk`: rows with fills between them; `hours`: the whole window,
+//!   with the state at a line's place noted on the way.
+//! - `stands`: one strand; `channels`: one for each channel of a rule; `keeps`: what a rule says of
+//!   a channel's state.
+//! - `check`: the call. `laws`: what holds of every log.
 //!
 //! Tenths are tenths of a second from the window's start.
 #![tactic(auto)]
@@ -16,12 +18,14 @@ mod channels;
 mod check;
 mod hours;
 mod keeps;
+mod laws;
 mod stands;
 mod step;
 mod strands;
 mod walk;
 
 pub use check::check_strands;
+pub use laws::strands_are_of_history;
 pub use strands::{Fill, Fills, Pair, Pairs, Strand, Strands};
 
 #[cfg(test)]

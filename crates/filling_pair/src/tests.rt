@@ -123,9 +123,7 @@ fn checks(alloc: Global, colour: &str, fills: &[(u32, u8)], kept: bool) -> Resul
     if !is_line(rules, &store, &line, &mut reads) {
         return Err(Fail::from("line"));
     }
-    Ok(check_strands(
-        &config, rules, &store, &line, &strands, kept, &mut reads,
-    ))
+    Ok(check_strands(&config, rules, &store, &line, &strands, kept, &mut reads))
 }
 
 #[test]

@@ -41,11 +41,7 @@ fn moved(follower: &Follower, here: Option<Stand>, row: Row) -> Option<Stand>
 }
 
 /// Goes over the first fills, as far as they are before the tenth.
-pub(crate) fn pass_fills<'a>(
-    follower: &Follower,
-    cursor: &Cursor<'a>,
-    until: u32,
-) -> Cursor<'a>
+pub(crate) fn pass_fills<'a>(follower: &Follower, cursor: &Cursor<'a>, until: u32) -> Cursor<'a>
     requires { Fits (any_rules follower.now.machine) cursor.now.here }
     ensures fits { Fits (any_rules follower.now.machine) result.here }
     ensures rest { result.fills.now ≡ since until cursor.now.fills.now }
@@ -90,12 +86,7 @@ fn is_own(follower: &Follower, row: Row, blanked: &SpanSet) -> bool
 }
 
 // Goes over the row, where it is of the channel and its tenth isn't blanked.
-fn pass_own<'a>(
-    follower: &Follower,
-    cursor: &Cursor<'a>,
-    row: Row,
-    blanked: &SpanSet,
-) -> Cursor<'a>
+fn pass_own<'a>(follower: &Follower, cursor: &Cursor<'a>, row: Row, blanked: &SpanSet) -> Cursor<'a>
     requires { Fits (any_rules follower.now.machine) cursor.now.here }
     ensures fits { Fits (any_rules follower.now.machine) result.here }
     ensures passed { (b : ℕ) (more : List Row) (u : State) → Remains (track_of follower.now) b (own_of (track_of follower.now) blanked.now (row ∷ []) ++ more) cursor.now.here cursor.now.fills.now u ↔ Remains (track_of follower.now) b more result.here result.fills.now u }

@@ -31,8 +31,8 @@ returns-clause-passed g c =
     let back : c.split_at.result.1.now ≡ drop n rows = rw (count, same) at c.split_at.ensures.back in
     let blanks = c.blanked-blanked.result.now in
     let own : own_of k blanks c.split_at.result.0.now ++ own_of k blanks c.split_at.result.1.now ≡ own_of k s.blanks rows =
-        ap (λ (xs : List Row). own_of k blanks xs ++ own_of k blanks c.split_at.result.1.now) front
-        ∙ (ap (λ (xs : List Row). own_of k blanks (take n rows) ++ own_of k blanks xs) back
-        ∙ (ap (λ (b : List Span). own_of k b (take n rows) ++ own_of k b (drop n rows)) c.blanked-blanked.ensures.value ∙ own_parts k s.blanks n rows)) in
+    ap (λ (xs : List Row). own_of k blanks xs ++ own_of k blanks c.split_at.result.1.now) front
+    ∙ (ap (λ (xs : List Row). own_of k blanks (take n rows) ++ own_of k blanks xs) back
+    ∙ (ap (λ (b : List Span). own_of k b (take n rows) ++ own_of k b (drop n rows)) c.blanked-blanked.ensures.value ∙ own_parts k s.blanks n rows)) in
     over_same k (own_of k blanks c.split_at.result.0.now ++ own_of k blanks c.split_at.result.1.now) (own_of k s.blanks rows) c.args.cursor.now.here c.pass_rows.result.here c.args.cursor.now.fills.now c.pass_rows.result.fills.now own
     (over_join k (own_of k blanks c.split_at.result.0.now) (own_of k blanks c.split_at.result.1.now) c.args.cursor.now.here c.pass_rows-before.result.here c.pass_rows.result.here c.args.cursor.now.fills.now c.pass_rows-before.result.fills.now c.pass_rows.result.fills.now c.pass_rows-before.ensures.passed c.pass_rows.ensures.passed)

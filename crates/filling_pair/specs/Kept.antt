@@ -1,0 +1,86 @@
+-- What a rule says of strands at the place of a line.
+use Rattle.std.specs.Prelude.{◌≡◌, ◌⊎◌, ℕ, ◌+◌, ◌-◌, ◌*◌, ◌/◌, ◌^◌, ◌<◌, ◌≤◌, pos, Bool, true, false, List, [], ◌∷◌, length, min, take, slice_index, slice_index_or}
+use Rattle.sig_base.specs.declared.values.Row.{Row}
+use Rattle.channel_tables.specs.declared.spec.Spec.{Spec}
+use Rattle.colour_machine.specs.Mask.{Has}
+use Rattle.reach.specs.Runs.{State, Steps}
+use Rattle.hour_store.specs.Store.{Store, rows_at}
+use Rattle.board.specs.declared.clause.Term.{Term}
+use Rattle.board.specs.History.{events_at, letters}
+use Rattle.board.specs.Logs.{no_row, no_spec}
+use Rattle.signal_log.specs.Log.{Log, track_at, window_end}
+use Rattle.signal_log.specs.Points.{rows_or_none}
+use Rattle.rule_audit.specs.declared.lines.AuditLine.{AuditLine}
+use Rattle.rule_audit.specs.declared.lines.Place.{Place}
+use Rattle.rule_audit.specs.declared.lines.Place.TheVariants.{BeforeRow, EndOfTenth}
+use Rattle.rule_audit.specs.declared.rules.Rule.{Rule}
+use Rattle.rule_audit.specs.declared.rules.Rule.TheVariants.{Interval, Conflict, Companion, Parents}
+use Rattle.rule_audit.specs.Index.{no_rule}
+use Rattle.rule_audit.specs.Judged.{KeepsInterval}
+use Rattle.filling_pair.specs.declared.strands.Strand.{Strand}
+use Rattle.filling_pair.specs.Strands.{Leads, events_with, start_of}
+
+-- the rows of an hour, none where it isn't held
+abbrev pub hour_rows : Store → ℕ → List Row
+hour_rows s hour = rows_or_none (rows_at s hour)
+
+-- how many rows of its tenth stand before row n
+abbrev pub rows_before : List Row → ℕ → ℕ
+rows_before rows n = length (events_at (take n rows) (slice_index_or rows n no_row).at)
+
+-- what stands at the tenths before t, and then the first j events of tenth t, lead the strand's channel to the state
+abbrev pub LeadsInto : Log → Strand → ℕ → ℕ → State → Type 0
+LeadsInto log s t j v = (a : State) × Leads log s t a × Steps (track_at log s.spec).rules (pos t) a (letters (track_at log s.spec) (take j (events_with log s.fills t))) v
+
+-- the strand comes to the state at the place of tenth t, where these are the rows of its hour
+abbrev pub StandsAt : Log → List Row → ℕ → Place → Strand → State → Type 0
+StandsAt log rows t (BeforeRow n) s v = LeadsInto log s t (rows_before rows n) v
+StandsAt log rows t EndOfTenth s v = Leads log s (t + 1) v
+
+-- in the colour some term of the channel holds
+abbrev pub HoldsIn : List Term → ℕ → ℕ → Type 0
+HoldsIn [] i colour = ⊥
+HoldsIn (c ∷ cs) i colour = ((c.spec ≡ i) × Has c.colours colour) ⊎ HoldsIn cs i colour
+
+-- with the channel in the state the rule is kept at the place; an interval rule is judged before rows alone, and a clause at the end of tenths alone
+abbrev pub KeepsBy : List Spec → List Row → Place → Rule → ℕ → State → Type 0
+KeepsBy specs rows (BeforeRow n) (Interval item) i v = (item.spec ≡ i) × KeepsInterval (slice_index_or specs item.spec no_spec) (slice_index_or rows n no_row) item v
+KeepsBy specs rows EndOfTenth (Conflict a b terms) i v = HoldsIn terms i v.colour
+KeepsBy specs rows EndOfTenth (Companion p terms) i v = HoldsIn terms i v.colour
+KeepsBy specs rows EndOfTenth (Parents o terms) i v = HoldsIn terms i v.colour
+KeepsBy specs rows place rule i v = ⊥
+
+-- the strand comes at the place to a state with which the rule is kept
+abbrev pub KeepsAt : Log → List Row → ℕ → Place → Rule → Strand → Type 0
+KeepsAt log rows t place rule s = (v : State) × StandsAt log rows t place s v × KeepsBy log.specs rows place rule s.spec v
+
+-- one of the strands does
+abbrev pub AreKept : Log → List Row → ℕ → Place → Rule → List Strand → Type 0
+AreKept log rows t place rule [] = ⊥
+AreKept log rows t place rule (s ∷ ss) = KeepsAt log rows t place rule s ⊎ AreKept log rows t place rule ss
+
+-- it holds or doesn't, as said
+abbrev pub IsAsSaid : Bool → Type 0 → Type 0
+IsAsSaid true P = P
+IsAsSaid false P = P → ⊥
+
+-- the rule that a line is of
+abbrev pub rule_of : List Rule → AuditLine → Rule
+rule_of rules line = slice_index_or rules (line.rule - 1) no_rule
+
+-- a place before a row is that of a row at the tenth
+abbrev pub IsPlaceOf : List Row → ℕ → Place → Type 0
+IsPlaceOf rows t (BeforeRow n) = (n < length rows) × ((slice_index_or rows n no_row).at ≡ t)
+IsPlaceOf rows t EndOfTenth = Unit {0}
+
+-- the line is of one of the rules, at a place of a known tenth
+pub record IsLineOf (log : Log) (rules : List Rule) (rows : List Row) (line : AuditLine) : Type 0 where
+  pub some_rule : 1 ≤ line.rule
+  pub last_rule : line.rule ≤ length rules
+  pub within : line.at < window_end log
+  pub is_known : log.known line.at ≡ true
+  pub place : IsPlaceOf rows line.at line.place
+
+-- no count fell; a count ends at the last value of a u64
+unfoldable pub Grow : List ℕ → List ℕ → Type 0
+Grow old new = (h : ℕ) → min (slice_index old h) (2 ^ 64 - 1) ≤ slice_index new h

@@ -1,0 +1,4 @@
+pub mod Strands
+pub mod Kept
+pub mod Walking
+pub mod Laws

@@ -1,0 +1,195 @@
+// A channel's walk over the whole window, hour by hour.
+ghost use Rattle.std.specs.Prelude.{◌≡◌, ◌↔◌, ℕ, ◌+◌, ◌-◌, ◌*◌, ◌/◌, ◌<◌, ◌≤◌, IsTrue, Some, List, ◌++◌, length, take, drop, option_copied};
+ghost use Rattle.sig_base.specs.declared.values.Row.{Row};
+ghost use Rattle.channel_tables.specs.Any.{any_rules};
+ghost use Rattle.reach.specs.Runs.{State};
+ghost use Rattle.board.specs.Moves.{count_before};
+ghost use Rattle.signal_log.specs.Points.{rows_or_none};
+ghost use Rattle.filling_pair.specs.Strands.{start_of};
+ghost use Rattle.filling_pair.specs.Kept.{Grow, IsPlaceOf, hour_rows};
+ghost use Rattle.filling_pair.specs.Walking.{Fits, In, Remains, Walks, count_to, merged, own_hours, own_of, track_of};
+
+use crate::step::{Follower, Stand};
+use crate::strands::Strand;
+use crate::walk::{Cursor, pass_fills, pass_rows};
+use hour_store::HourStore;
+use rule_audit::{AuditLine, Place};
+use sig_base::{Hour, Reads, Row};
+
+// The rows that are held, none where none are.
+fn held_rows<'a>(rows: Option<&'a [Row]>) -> &'a [Row]
+    ensures { result.now ≡ rows_or_none (option_copied rows.entry) }
+{
+    match rows {
+        Some(rows) => rows,
+        None => &[],
+    }
+}
+
+/// The rows of an hour, which is opened; none where it isn't held.
+#[tactic(auto, using(crate::proofs::Growing::grow_raised_to))]
+pub(crate) fn rows_of_hour<'a, L>(
+    store: &'a HourStore<L>,
+    hour: Hour,
+    reads: &mut Reads<L>,
+) -> &'a [Row]
+    requires { hour < length store.now.hours }
+    ensures rows { result.now ≡ hour_rows store.now hour }
+    ensures grow { Grow reads.old reads.new }
+{
+    held_rows(store.open_hour(hour, reads))
+}
+
+// Goes over the rows of an hour, which is opened.
+fn pass_hour<'a, L>(
+    follower: &Follower,
+    cursor: &Cursor<'a>,
+    store: &HourStore<L>,
+    hour: Hour,
+    reads: &mut Reads<L>,
+) -> Cursor<'a>
+    requires fits { Fits (any_rules follower.now.machine) cursor.now.here }
+    requires hour { hour < length store.now.hours }
+    ensures fits { Fits (any_rules follower.now.machine) result.here }
+    ensures passed { (b : ℕ) (more : List Row) (u : State) → Remains (track_of follower.now) b (own_of (track_of follower.now) store.now.blanks (hour_rows store.now hour) ++ more) cursor.now.here cursor.now.fills.now u ↔ Remains (track_of follower.now) b more result.here result.fills.now u }
+    ensures grow { Grow reads.old reads.new }
+{
+    let rows = rows_of_hour(store, hour, reads);
+    pass_rows(follower, cursor, rows, store.blanked())
+}
+
+/// Goes over the rows of the hours from one up to but without another, which are opened.
+#[tactic(auto, using(crate::proofs::Growing::grow_on, crate::proofs::Growing::grow_same))]
+pub(crate) fn pass_hours<'a, L>(
+    follower: &Follower,
+    cursor: &Cursor<'a>,
+    store: &HourStore<L>,
+    from: Hour,
+    to: Hour,
+    reads: &mut Reads<L>,
+) -> Cursor<'a>
+    requires fits { Fits (any_rules follower.now.machine) cursor.now.here }
+    requires order { from ≤ to }
+    requires hours { to ≤ length store.now.hours }
+    ensures fits { Fits (any_rules follower.now.machine) result.here }
+    ensures passed { (b : ℕ) (more : List Row) (u : State) → Remains (track_of follower.now) b (own_hours (track_of follower.now) store.now from (to - from) ++ more) cursor.now.here cursor.now.fills.now u ↔ Remains (track_of follower.now) b more result.here result.fills.now u }
+    ensures grow { Grow reads.old reads.new }
+{
+    let mut at = *cursor;
+    for hour in from..to {
+        at = pass_hour(follower, &at, store, hour, reads);
+    }
+    at
+}
+
+// The number of first rows before the tenth.
+fn rows_until(rows: &[Row], tenth: u64) -> usize
+    ensures count { result ≡ count_before tenth rows.now }
+    ensures within { result ≤ length rows.now }
+{
+    for (i, row) in rows.iter().enumerate() {
+        if row.at as u64 >= tenth {
+            return i;
+        }
+    }
+    rows.len()
+}
+
+// How many of the hour's rows are before the place.
+fn count_to(rows: &[Row], at: u32, place: Place) -> usize
+    requires { IsPlaceOf rows.now at place }
+    ensures count { result ≡ count_to rows.now at place }
+    ensures within { result ≤ length rows.now }
+{
+    match place {
+        Place::BeforeRow(row) => row as usize,
+        Place::EndOfTenth => rows_until(rows, at as u64 + 1),
+    }
+}
+
+// Where a walk has come, and its state at a place on the way.
+#[derive(Clone, Copy)]
+struct Noted<'a> {
+    there: Option<Stand>,
+    cursor: Cursor<'a>,
+}
+
+// Goes over the rows of the line's hour, and notes the state at its place.
+#[tactic(auto, using(crate::proofs::Growing::grow_on, crate::proofs::Growing::grow_same))]
+fn pass_place<'a, L>(
+    follower: &Follower,
+    cursor: &Cursor<'a>,
+    store: &HourStore<L>,
+    line: &AuditLine,
+    reads: &mut Reads<L>,
+) -> Noted<'a>
+    requires fits { Fits (any_rules follower.now.machine) cursor.now.here }
+    requires hour { line.now.at / 36000 < length store.now.hours }
+    requires place { IsPlaceOf (hour_rows store.now (line.now.at / 36000)) line.now.at line.now.place }
+    ensures fits { Fits (any_rules follower.now.machine) result.cursor.here }
+    ensures there_fits { Fits (any_rules follower.now.machine) result.there }
+    ensures there { (u : State) → let rows = hour_rows store.now (line.now.at / 36000) in Remains (track_of follower.now) line.now.at (own_of (track_of follower.now) store.now.blanks (take (count_to rows line.now.at line.now.place) rows)) cursor.now.here cursor.now.fills.now u ↔ In result.there (λ s. u ≡ s) }
+    ensures passed { (b : ℕ) (more : List Row) (u : State) → Remains (track_of follower.now) b (own_of (track_of follower.now) store.now.blanks (hour_rows store.now (line.now.at / 36000)) ++ more) cursor.now.here cursor.now.fills.now u ↔ Remains (track_of follower.now) b more result.cursor.here result.cursor.fills.now u }
+    ensures grow { Grow reads.old reads.new }
+{
+    let rows = rows_of_hour(store, line.at / 36_000, reads);
+    let (first, later) = rows.split_at(count_to(rows, line.at, line.place));
+    let blanked = store.blanked();
+    let before = pass_rows(follower, cursor, first, blanked);
+    let place = pass_fills(follower, &before, line.at);
+    Noted {
+        there: place.here,
+        cursor: pass_rows(follower, &before, later, blanked),
+    }
+}
+
+/// The state of a strand at the place of a line, and whether no event of the window is illegal.
+#[derive(Clone, Copy)]
+pub(crate) struct Followed {
+    pub(crate) there: Option<Stand>,
+    pub(crate) is_legal: bool,
+}
+
+// The start of a strand.
+fn start_of<'a>(strand: &'a Strand) -> Cursor<'a>
+    ensures here { result.here ≡ Some (record { colour = strand.now.colour; entry = strand.now.entry }) }
+    ensures fills { result.fills.now ≡ strand.now.fills }
+{
+    Cursor {
+        here: Some(Stand {
+            colour: strand.colour,
+            entry: strand.entry,
+        }),
+        fills: strand.fills.list(),
+    }
+}
+
+/// Follows a strand over the whole window. Each hour is opened.
+#[tactic(auto, using(crate::proofs::Growing::grow_on, crate::proofs::Growing::grow_same))]
+pub(crate) fn follow<L>(
+    follower: &Follower,
+    store: &HourStore<L>,
+    line: &AuditLine,
+    strand: &Strand,
+    reads: &mut Reads<L>,
+) -> Followed
+    requires colour { strand.now.colour < (any_rules follower.now.machine).colours }
+    requires hour { line.now.at / 36000 < length store.now.hours }
+    requires place { IsPlaceOf (hour_rows store.now (line.now.at / 36000)) line.now.at line.now.place }
+    ensures fits { Fits (any_rules follower.now.machine) result.there }
+    ensures there { (u : State) → let rows = hour_rows store.now (line.now.at / 36000) in Walks (track_of follower.now) (merged line.now.at (own_hours (track_of follower.now) store.now 0 (line.now.at / 36000) ++ own_of (track_of follower.now) store.now.blanks (take (count_to rows line.now.at line.now.place) rows)) strand.now.fills) (start_of strand.now) u ↔ In result.there (λ s. u ≡ s) }
+    ensures legal { IsTrue result.is_legal ↔ ((u : State) × Walks (track_of follower.now) (merged (36000 * length store.now.hours) (own_hours (track_of follower.now) store.now 0 (length store.now.hours)) strand.now.fills) (start_of strand.now) u) }
+    ensures grow { Grow reads.old reads.new }
+{
+    let hours = store.hours();
+    let hour = line.at / 36_000;
+    let start = start_of(strand);
+    let before = pass_hours(follower, &start, store, 0, hour, reads);
+    let noted = pass_place(follower, &before, store, line, reads);
+    let after = pass_hours(follower, &noted.cursor, store, hour + 1, hours, reads);
+    let end = pass_fills(follower, &after, 36_000 * hours);
+    Followed {
+        there: noted.there,
+        is_legal: end.here.is_some(),
+    }
+}

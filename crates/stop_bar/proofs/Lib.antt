@@ -1,3 +1,6 @@
 pub mod Listing
 pub mod Opening
 pub mod Hours
+pub mod Places
+pub mod AllBars
+pub mod ToldAt

@@ -1,2 +1,4 @@
 pub mod Crossing
 pub mod Bars
+pub mod Lists
+pub mod All

@@ -6,13 +6,19 @@
 //! is one value, whatever is known of later tenths. `docs/DEFINITIONS.md` has the definitions.
 #![tactic(auto)]
 
+mod all;
 mod at_bar;
+mod bars;
+mod detectors;
 mod hour;
 mod laws;
 mod same;
 #[cfg(test)]
 mod tests;
 
+pub use all::{AtBars, Ended, bars_hour};
 pub use at_bar::AtBar;
+pub use bars::{StopBar, stop_bars};
+pub use detectors::detectors_hour;
 pub use hour::{OverBar, bar_hour};
 pub use laws::{what_crosses_is_one, windows_are_listed_once};

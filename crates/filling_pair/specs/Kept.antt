@@ -1,5 +1,5 @@
 -- What a rule says of strands at the place of a line.
-use Rattle.std.specs.Prelude.{◌≡◌, ◌⊎◌, ℕ, ◌+◌, ◌-◌, ◌*◌, ◌/◌, ◌^◌, ◌<◌, ◌≤◌, pos, Bool, true, false, List, [], ◌∷◌, length, min, take, slice_index, slice_index_or}
+use Rattle.std.specs.Prelude.{◌≡◌, ◌⊎◌, ℕ, ◌+◌, ◌-◌, ◌^◌, ◌<◌, ◌≤◌, pos, Bool, true, false, List, [], ◌∷◌, length, min, take, slice_index, slice_index_or}
 use Rattle.sig_base.specs.declared.values.Row.{Row}
 use Rattle.channel_tables.specs.declared.spec.Spec.{Spec}
 use Rattle.colour_machine.specs.Mask.{Has}
@@ -18,7 +18,7 @@ use Rattle.rule_audit.specs.declared.rules.Rule.TheVariants.{Interval, Conflict,
 use Rattle.rule_audit.specs.Index.{no_rule}
 use Rattle.rule_audit.specs.Judged.{KeepsInterval}
 use Rattle.filling_pair.specs.declared.strands.Strand.{Strand}
-use Rattle.filling_pair.specs.Strands.{Leads, events_with, start_of}
+use Rattle.filling_pair.specs.Strands.{Leads, events_with}
 
 -- the rows of an hour, none where it isn't held
 abbrev pub hour_rows : Store → ℕ → List Row

@@ -18,7 +18,7 @@ use Rattle.rule_audit.specs.declared.lines.Place.TheVariants.{BeforeRow, EndOfTe
 use Rattle.filling_pair.specs.declared.strands.Fill.{Fill}
 use Rattle.filling_pair.specs.declared.step.Stand.{Stand}
 use Rattle.filling_pair.specs.declared.step.Follower.{Follower}
-use Rattle.filling_pair.specs.Strands.{row_of, rows_of}
+use Rattle.filling_pair.specs.Strands.{rows_of}
 use Rattle.filling_pair.specs.Kept.{hour_rows}
 
 -- ---- steps

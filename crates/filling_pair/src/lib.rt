@@ -25,7 +25,7 @@ mod strands;
 mod walk;
 
 pub use check::check_strands;
-pub use laws::strands_are_of_history;
+pub use laws::{kept_by_states, obligations_have_lines, strands_are_of_history};
 pub use strands::{Fill, Fills, Pair, Pairs, Strand, Strands};
 
 #[cfg(test)]

@@ -1,5 +1,4 @@
-use Rattle.std.proofs.Common.{◌≡◌, ◌∙◌, ◌↔◌, ap, sym, subst, arith, ℕ, ◌+◌, ◌-◌, ◌*◌, ◌/◌, ◌++◌, List, length, take}
-use Rattle.reach.specs.Runs.{State}
+use Rattle.std.proofs.Common.{◌≡◌, ◌↔◌, subst, arith, ℕ, ◌+◌, ◌-◌, ◌*◌, ◌/◌, ◌++◌, length, take}
 use Rattle.reach.proofs.Later.{then_iff}
 use Rattle.filling_pair.specs.Strands.{start_of}
 use Rattle.filling_pair.specs.Kept.{hour_rows}

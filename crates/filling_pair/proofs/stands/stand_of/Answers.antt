@@ -1,13 +1,10 @@
-use Rattle.std.proofs.Common.{◌≡◌, ◌∙◌, sym, subst, arith, true, false, length, get_or, ◌*◌, ◌/◌, ◌++◌, List, take, ℕ}
+use Rattle.std.proofs.Common.{◌∙◌, sym, subst, get_or}
 use Rattle.std.proofs.lemmas.Bool.{false≢true}
-use Rattle.hour_store.specs.Store.{is_known}
 use Rattle.board.specs.Channels.{track}
 use Rattle.board.specs.History.{Track}
 use Rattle.board.specs.Logs.{no_spec}
 use Rattle.signal_log.specs.Log.{IsBeforeWindow}
-use Rattle.filling_pair.specs.declared.strands.Fill.{Fill}
-use Rattle.filling_pair.specs.Strands.{AreFills, start_of}
-use Rattle.filling_pair.specs.Walking.{track_of}
+use Rattle.filling_pair.specs.Strands.{start_of}
 use Rattle.filling_pair.proofs.Telling.{stands, whole}
 use Rattle.filling_pair.proofs.stands.stand_of.Goals as goal
 

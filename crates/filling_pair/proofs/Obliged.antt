@@ -33,7 +33,7 @@ each_where : {X : Type 0} (P : X → Type 0) (b : Bool) (xs : List X) → (b ≡
 each_where P true xs p = p refl
 each_where P false xs p = tt
 
-record IsPlaced (known : ℕ → Bool) (rules : List Rule) (rows : List Row) (o : Obligation) : Type 0 where
+record IsJudged (known : ℕ → Bool) (rules : List Rule) (rows : List Row) (o : Obligation) : Type 0 where
   pub is_known : known o.at ≡ true
   pub place : IsPlaceOf rows o.at o.place
   pub from_one : 1 ≤ o.number
@@ -72,11 +72,11 @@ module _ (P : Obligation → Type 0) (specs : List Spec) where
       let next : i + suc j ≡ (i + 1) + j = omega arith in
       subst (λ (k : ℕ). P (obligation m x (get_or rs j no_row).at (BeforeRow k))) next (p (suc j) m x (omega arith) at low high)))
 
-all_placed : (known : ℕ → Bool) (specs : List Spec) (rules : List Rule) (rows : List Row) (before : Bool) (t n : ℕ) → Each (IsPlaced known rules rows) (obligations_from known specs rules rows before t n)
+all_placed : (known : ℕ → Bool) (specs : List Spec) (rules : List Rule) (rows : List Row) (before : Bool) (t n : ℕ) → Each (IsJudged known rules rows) (obligations_from known specs rules rows before t n)
 unfolding obligations_from
 all_placed known specs rules rows before t zero = tt
 all_placed known specs rules rows before t (suc n) =
-    let P = IsPlaced known rules rows in
+    let P = IsJudged known rules rows in
     each_join P _ (obligations_from known specs rules rows (known t) (t + 1) n)
     (each_where P (known t) (tenth_obligations specs rules rows before t) (λ is.
     each_join P (rows_obligations specs rules t 0 rows) (end_obligations specs rows before t 1 rules)
@@ -113,7 +113,7 @@ obligations_have_lines c s line h =
     let hour = line.at / 36000 in
     let rows = hour_rows s hour in
     let rules = rules_for c in
-    let (o, p, number, at, place) = one_of (IsPlaced (is_known s) rules rows) line (obligations_from (is_known s) c.specs rules rows (is_known_before (is_known s) (first_tenth hour)) (first_tenth hour) 36000) (all_placed (is_known s) c.specs rules rows (is_known_before (is_known s) (first_tenth hour)) (first_tenth hour) 36000) h in
+    let (o, p, number, at, place) = one_of (IsJudged (is_known s) rules rows) line (obligations_from (is_known s) c.specs rules rows (is_known_before (is_known s) (first_tenth hour)) (first_tenth hour) 36000) (all_placed (is_known s) c.specs rules rows (is_known_before (is_known s) (first_tenth hour)) (first_tenth hour) 36000) h in
     let known : is_known s line.at ≡ true = subst (λ (x : ℕ). is_known s x ≡ true) at p.is_known in
     let held = and_left (is_some (held_at s hour)) (is_member s.blanks (pos line.at)) known in
     let within = held_within s.hours hour held in
@@ -122,7 +122,9 @@ obligations_have_lines c s line h =
     record {
       some_rule = omega arith;
       last_rule = omega arith;
-      within = omega arith;
-      is_known = known;
-      place = subst (λ (x : ℕ). IsPlaceOf rows x line.place) at (subst (λ (q : Place). IsPlaceOf rows o.at q) place p.place);
+      placed = record {
+        within = omega arith;
+        is_known = known;
+        place = subst (λ (x : ℕ). IsPlaceOf rows x line.place) at (subst (λ (q : Place). IsPlaceOf rows o.at q) place p.place);
+      };
     }

@@ -3,7 +3,6 @@ use Rattle.std.specs.Prelude.{◌≡◌, ◌⊎◌, ℕ, ◌-◌, ◌/◌, ◌&&
 use Rattle.hour_store.specs.Store.{Store, is_known}
 use Rattle.board.specs.Logs.{first_tenth}
 use Rattle.ring_config.specs.Settings.{Settings}
-use Rattle.signal_log.specs.Log.{log_of}
 use Rattle.rule_audit.specs.declared.lines.AuditLine.{AuditLine}
 use Rattle.rule_audit.specs.Rules.{rules_for}
 use Rattle.rule_audit.specs.Obligations.{Obligation, obligations_from}
@@ -24,4 +23,4 @@ IsOfOne line (o ∷ os) = ((o.number ≡ line.rule) × (o.at ≡ line.at) × (o.
 
 -- each obligation of a store has a line of one of the rules, at a place of a known tenth
 abbrev pub ObligationsHaveLines : Type 0
-ObligationsHaveLines = (c : Settings) (s : Store) (line : AuditLine) → IsOfOne line (obligations_in c s (line.at / 36000)) → IsLineOf (log_of c.specs s) (rules_for c) (hour_rows s (line.at / 36000)) line
+ObligationsHaveLines = (c : Settings) (s : Store) (line : AuditLine) → IsOfOne line (obligations_in c s (line.at / 36000)) → IsLineOf s (rules_for c) line

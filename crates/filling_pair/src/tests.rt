@@ -1,8 +1,6 @@
 // One green with a short gap in it: it is long enough only without a second start in the gap.
-ghost use Rattle.std.specs.Prelude.{ℕ, ◌/◌, ◌<◌, IsTrue, List, length};
-ghost use Rattle.channel_tables.specs.declared.spec.Spec.{Spec};
-ghost use Rattle.signal_log.specs.Log.{log_of};
-ghost use Rattle.filling_pair.specs.Kept.{IsLineOf, IsPlaceOf, hour_rows};
+ghost use Rattle.std.specs.Prelude.{IsTrue};
+ghost use Rattle.filling_pair.specs.Kept.{IsLineOf, IsPlaceOf};
 
 use crate::hours::rows_of_hour;
 use crate::stands::is_known;
@@ -73,7 +71,7 @@ fn is_line(
     line: &AuditLine,
     reads: &mut Reads<Mark>,
 ) -> bool
-    ensures { (specs : List Spec) → IsTrue result → IsLineOf (log_of specs store.now) rules.now (hour_rows store.now (line.now.at / 36000)) line.now }
+    ensures { IsTrue result → IsLineOf store.now rules.now line.now }
 {
     if line.rule < 1 || line.rule as usize > rules.len() {
         return false;

@@ -82,7 +82,8 @@ fn check_each<L>(
     requires specs { All IsSpec specs.now }
     requires line { IsPlaced store.now line.now }
     requires rows { rows.now ≡ line_rows store.now line.now }
-    ensures strands { IsTrue result.are_strands ↔ AreAllStrands (log_of specs.now store.now) strands.now }
+    ensures strands { IsTrue result.are_strands
+        ↔ AreAllStrands (log_of specs.now store.now) strands.now }
     ensures kept { IsTrue result.are_strands → IsTrue result.is_kept
         ↔ KeepLine specs.now store.now rows.now line.now rule.now strands.now }
     ensures grow { Grow reads.old reads.new }

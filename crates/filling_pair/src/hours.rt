@@ -69,7 +69,8 @@ pub(crate) fn pass_hours<'a, L>(
     requires order { from ≤ to }
     requires hours { to ≤ length store.now.hours }
     ensures fits { IsFit follower.now result.here }
-    ensures passed { Passes follower.now (rows_between follower.now store.now from to) cursor.now result }
+    ensures passed { Passes follower.now (rows_between follower.now store.now from to)
+        cursor.now result }
     ensures grow { Grow reads.old reads.new }
 {
     let mut at = *cursor;
@@ -125,7 +126,8 @@ fn pass_place<'a, L>(
     ensures fits { IsFit follower.now result.cursor.here }
     ensures there_fits { IsFit follower.now result.there }
     ensures there { IsNoted follower.now store.now line.now cursor.now result.there }
-    ensures passed { Passes follower.now (rows_in follower.now store.now (line.now.at / 36000)) cursor.now result.cursor }
+    ensures passed { Passes follower.now (rows_in follower.now store.now (line.now.at / 36000))
+        cursor.now result.cursor }
     ensures grow { Grow reads.old reads.new }
 {
     let rows = rows_of_hour(store, line.at / 36_000, reads);
@@ -148,7 +150,8 @@ pub(crate) struct Followed {
 
 // The start of a strand.
 fn start_of<'a>(strand: &'a Strand) -> Cursor<'a>
-    ensures here { result.here ≡ Some (record { colour = strand.now.colour; entry = strand.now.entry }) }
+    ensures here { result.here
+        ≡ Some (record { colour = strand.now.colour; entry = strand.now.entry }) }
     ensures fills { result.fills.now ≡ strand.now.fills }
 {
     Cursor {

@@ -12,7 +12,8 @@ pub fn kept_by_states()
     ensures { KeptByStates }
 {}
 
-/// Law: what is to be judged in a store has a line of one of the rules, at a place of a known tenth.
+/// Law: what is to be judged in a store has a line of one of the rules, at a place of a known
+/// tenth.
 pub fn obligations_have_lines()
     ensures { ObligationsHaveLines }
 {}

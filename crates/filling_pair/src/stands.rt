@@ -101,7 +101,8 @@ pub(crate) fn stand_of<L>(
     requires specs { All IsSpec specs.now }
     requires line { IsPlaced store.now line.now }
     ensures strand { IsTrue result.is_strand ↔ IsStrand (log_of specs.now store.now) strand.now }
-    ensures there { IsTrue result.is_strand → IsStood specs.now store.now line.now strand.now result.there }
+    ensures there { IsTrue result.is_strand
+        → IsStood specs.now store.now line.now strand.now result.there }
     ensures fits { Fits (rules_of (slice_index_or specs.now strand.now.spec no_spec)) result.there }
     ensures grow { Grow reads.old reads.new }
 {

@@ -42,7 +42,8 @@ pub(crate) fn pass_fills<'a>(follower: &Follower, cursor: &Cursor<'a>, until: u3
     requires { IsFit follower.now cursor.now.here }
     ensures fits { IsFit follower.now result.here }
     ensures rest { result.fills.now ≡ since until cursor.now.fills.now }
-    ensures walked { Carries follower.now (rows_of (before until cursor.now.fills.now)) cursor.now.here result.here }
+    ensures walked { Carries follower.now (rows_of (before until cursor.now.fills.now))
+        cursor.now.here result.here }
 {
     let fills = cursor.fills;
     let mut here = cursor.here;
@@ -86,7 +87,8 @@ fn is_own(follower: &Follower, row: Row, blanked: &SpanSet) -> bool
 fn pass_own<'a>(follower: &Follower, cursor: &Cursor<'a>, row: Row, blanked: &SpanSet) -> Cursor<'a>
     requires { IsFit follower.now cursor.now.here }
     ensures fits { IsFit follower.now result.here }
-    ensures passed { Passes follower.now (own_rows follower.now blanked.now (row ∷ [])) cursor.now result }
+    ensures passed { Passes follower.now (own_rows follower.now blanked.now (row ∷ []))
+        cursor.now result }
 {
     if is_own(follower, row, blanked) {
         return pass_row(follower, cursor, row);
@@ -103,7 +105,8 @@ pub(crate) fn pass_rows<'a>(
 ) -> Cursor<'a>
     requires { IsFit follower.now cursor.now.here }
     ensures fits { IsFit follower.now result.here }
-    ensures passed { Passes follower.now (own_rows follower.now blanked.now rows.now) cursor.now result }
+    ensures passed { Passes follower.now (own_rows follower.now blanked.now rows.now)
+        cursor.now result }
 {
     let mut at = *cursor;
     for row in rows {

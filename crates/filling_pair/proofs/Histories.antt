@@ -1,17 +1,14 @@
 -- Strands are part of a history that agrees.
-use Rattle.std.proofs.Common.{suc, zero, ◌≡◌, refl, sym, ap, ◌∙◌, subst, inl, inr, ℕ, ◌+◌, ◌<◌, ◌≤◌, pos, Bool, true, false, IsTrue, List, [], ◌∷◌, length, map, get_or, arith}
+use Rattle.std.proofs.Common.{suc, zero, ◌≡◌, refl, ap, ◌∙◌, subst, inl, inr, ℕ, ◌+◌, ◌<◌, true, IsTrue, List, [], ◌∷◌, length, map, get_or, arith}
 use Rattle.std.proofs.lemmas.Bool.{cases_eq}
-use Rattle.std.specs.Prelude.{if◌then◌else◌}
-use Rattle.reach.specs.Runs.{State, Run}
-use Rattle.board.specs.Channels.{AreSpecs}
+use Rattle.reach.specs.Runs.{State}
 use Rattle.board.specs.History.{Agree, Event, History, events_at, letters, start_of as begins}
-use Rattle.signal_log.specs.Log.{AgreesWith, HasHistory, IsBeforeWindow, Log, track_at, window_end}
+use Rattle.signal_log.specs.Log.{AgreesWith, Log, track_at}
 use Rattle.signal_log.proofs.Joined.{IsCourse, history_course, history_with}
-use Rattle.rule_audit.specs.declared.rules.Rule.{Rule}
 use Rattle.filling_pair.specs.declared.strands.Fill.{Fill}
 use Rattle.filling_pair.specs.declared.strands.Strand.{Strand}
-use Rattle.filling_pair.specs.Strands.{AreAllStrands, AreStrands, Ascend, IsStrand, events_with, start_of}
-use Rattle.filling_pair.specs.Laws.{GoesAs, GoesAsAll, StrandsAreOfHistory}
+use Rattle.filling_pair.specs.Strands.{AreAllStrands, Ascend, IsStrand, events_with, start_of}
+use Rattle.filling_pair.specs.Laws.{GoesAsAll, StrandsAreOfHistory}
 
 -- the channel begins as the strand does, and its lists are those of the strand
 abbrev IsAs : Log → Strand → State → List (List ℕ) → Type 0

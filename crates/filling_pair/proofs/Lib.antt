@@ -6,3 +6,5 @@ pub mod Telling
 pub mod Judged
 pub mod Growing
 pub mod Histories
+pub mod Obliged
+pub mod Clauses

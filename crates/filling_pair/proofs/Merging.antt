@@ -1,19 +1,18 @@
 -- Rows and the fills between them, tenth by tenth.
-use Rattle.std.proofs.Common.{suc, zero, ◌≡◌, ◌≢◌, refl, sym, ap, ◌∙◌, subst, inl, inr, ◌⊎◌, ◌↔◌, ℕ, ◌+◌, ◌<◌, ◌≤◌, ℤ, pos, ◌+ℤ◌, Bool, true, false, nat_eq, nat_lt, List, [], ◌∷◌, ◌++◌, length, Option, Some, None, arith}
+use Rattle.std.proofs.Common.{◌≡◌, ◌≢◌, refl, sym, ap, ◌∙◌, subst, inl, inr, ◌↔◌, ℕ, ◌+◌, ◌<◌, ◌≤◌, Bool, true, nat_eq, List, [], ◌∷◌, ◌++◌, length, Option, Some, None, arith}
 use Rattle.std.proofs.lemmas.Bool.{cases_Bool}
 use Rattle.std.proofs.lemmas.Bool.Decides.{eqb_tells}
 use Rattle.std.proofs.lemmas.List.{append-nil}
 use Rattle.colour_machine.specs.Rules.{Rules}
 use Rattle.sig_base.specs.declared.values.Row.{Row}
 use Rattle.reach.specs.Runs.{State}
-use Rattle.reach.proofs.Later.{then_iff}
 use Rattle.lane.specs.declared.moves.Move.{Move}
 use Rattle.lane.specs.Walks.{Walk}
 use Rattle.board.specs.History.{Agree, Agreeing, Event, Track, event_of, events_at, letters}
 use Rattle.board.specs.Moves.{RowsIn, letter_moves, with_letter}
 use Rattle.board.proofs.Bridge.{event_not_here, lt_tells, none_at, rows_walk}
-use Rattle.board.proofs.Cutting.{events_join, none_after}
-use Rattle.signal_log.proofs.Stored.{rows_join, rows_low}
+use Rattle.board.proofs.Cutting.{events_join}
+use Rattle.signal_log.proofs.Stored.{rows_join}
 use Rattle.filling_pair.specs.declared.strands.Fill.{Fill}
 use Rattle.filling_pair.specs.Strands.{row_of, rows_of}
 use Rattle.filling_pair.specs.Walking.{MovesBy, Walks, before, merged, since}

@@ -1,6 +1,6 @@
 -- A walk over a window, hour by hour.
-use Rattle.std.proofs.Common.{suc, zero, ◌≡◌, refl, sym, ap, ◌∙◌, subst, ◌↔◌, ℕ, ◌+◌, ◌-◌, ◌*◌, ◌<◌, ◌≤◌, Bool, true, false, List, [], ◌∷◌, ◌++◌, length, take, drop, take-append-drop, append_assoc, Option, Some, None, arith}
-use Rattle.std.specs.Prelude.{filter, is_some}
+use Rattle.std.proofs.Common.{suc, zero, ◌≡◌, refl, sym, ap, ◌∙◌, subst, ◌↔◌, ℕ, ◌+◌, ◌-◌, ◌<◌, true, List, [], ◌++◌, take, drop, take-append-drop, append_assoc, Option, Some, None, arith}
+use Rattle.std.specs.Prelude.{is_some}
 use Rattle.std.proofs.lemmas.List.{append-nil}
 use Rattle.std.proofs.lemmas.List.Elements.{filter-append}
 use Rattle.sig_base.specs.declared.values.Row.{Row}
@@ -13,7 +13,7 @@ use Rattle.filling_pair.specs.declared.strands.Fill.{Fill}
 use Rattle.filling_pair.specs.declared.step.Stand.{Stand}
 use Rattle.filling_pair.specs.Strands.{rows_of}
 use Rattle.filling_pair.specs.Kept.{hour_rows}
-use Rattle.filling_pair.specs.Walking.{In, Remains, Walks, before, is_own, merged, own_hours, own_of, state_of}
+use Rattle.filling_pair.specs.Walking.{In, Remains, Walks, before, is_own, own_hours, own_of, state_of}
 
 module _ (k : Track) where
   -- these rows have been passed, whatever follows

@@ -1,6 +1,6 @@
 -- What the channel's rows of a store, with the fills between them, tell tenth by tenth.
-use Rattle.std.proofs.Common.{suc, zero, ◌≡◌, ◌≢◌, refl, sym, ap, ◌∙◌, subst, inl, inr, ◌⊎◌, ◌↔◌, ℕ, ◌+◌, ◌-◌, ◌*◌, ◌/◌, ◌<◌, ◌≤◌, ℤ, pos, Bool, true, false, nat_eq, ◌&&◌, List, [], ◌∷◌, ◌++◌, length, take, drop, take-append-drop, get_or, Option, Some, None, arith}
-use Rattle.std.specs.Prelude.{filter, is_some, not, option_map, IsSome, if◌then◌else◌}
+use Rattle.std.proofs.Common.{suc, zero, ◌≡◌, refl, sym, ap, ◌∙◌, subst, inl, inr, ◌⊎◌, ◌↔◌, ℕ, ◌+◌, ◌*◌, ◌/◌, ◌<◌, ◌≤◌, pos, Bool, true, false, ◌&&◌, List, [], ◌∷◌, ◌++◌, length, take, drop, take-append-drop, get_or, Option, Some, None, arith}
+use Rattle.std.specs.Prelude.{filter, is_some, not, option_map}
 use Rattle.std.proofs.lemmas.Bool.{cases_Bool, cases_eq, cases_lt}
 use Rattle.std.proofs.lemmas.Bool.Decides.{eqb_tells}
 use Rattle.std.proofs.lemmas.List.{append-nil, take_at}
@@ -16,18 +16,17 @@ use Rattle.board.specs.Logs.{no_row}
 use Rattle.board.specs.Moves.{RowsIn, count_before}
 use Rattle.board.proofs.Bridge.{agreeing_first, agreeing_join, agreeing_none, cut_rows, event_not_here, none_at}
 use Rattle.board.proofs.Cutting.{events_join, none_after}
-use Rattle.board.proofs.Joining.{letters_join}
 use Rattle.board.proofs.Rows.{rows_split}
 use Rattle.signal_log.specs.Log.{log_of, track_at}
 use Rattle.signal_log.specs.Points.{rows_or_none}
 use Rattle.signal_log.proofs.Contradicting.{earlier_events}
-use Rattle.signal_log.proofs.Stored.{hour_events, rise_rows, rows_end, rows_join, rows_low}
+use Rattle.signal_log.proofs.Stored.{hour_events, rise_rows, rows_join, rows_low}
 use Rattle.rule_audit.specs.declared.lines.Place.{Place}
 use Rattle.rule_audit.specs.declared.lines.Place.TheVariants.{BeforeRow, EndOfTenth}
 use Rattle.filling_pair.specs.declared.strands.Fill.{Fill}
 use Rattle.filling_pair.specs.declared.strands.Strand.{Strand}
 use Rattle.filling_pair.specs.Strands.{AreFills, events_with, row_of, rows_of, start_of}
-use Rattle.filling_pair.specs.Kept.{IsPlaceOf, StandsAt, hour_rows, rows_before}
+use Rattle.filling_pair.specs.Kept.{IsPlaceOf, StandsAt, hour_rows}
 use Rattle.filling_pair.specs.Walking.{Walks, count_to, is_own, merged, own_hours, own_of}
 use Rattle.filling_pair.proofs.Merging.{agreeing_letters, fills_there, merged_in, rows_there, walks_agree}
 

@@ -4,11 +4,11 @@ use Rattle.sig_base.specs.declared.values.Row.{Row}
 use Rattle.channel_tables.specs.declared.spec.Spec.{Spec}
 use Rattle.colour_machine.specs.Mask.{Has}
 use Rattle.reach.specs.Runs.{State, Steps}
-use Rattle.hour_store.specs.Store.{Store, rows_at}
+use Rattle.hour_store.specs.Store.{Store, is_known, rows_at}
 use Rattle.board.specs.declared.clause.Term.{Term}
 use Rattle.board.specs.History.{events_at, letters}
 use Rattle.board.specs.Logs.{no_row, no_spec}
-use Rattle.signal_log.specs.Log.{Log, track_at, window_end}
+use Rattle.signal_log.specs.Log.{Log, log_of, track_at}
 use Rattle.signal_log.specs.Points.{rows_or_none}
 use Rattle.rule_audit.specs.declared.lines.AuditLine.{AuditLine}
 use Rattle.rule_audit.specs.declared.lines.Place.{Place}
@@ -18,7 +18,7 @@ use Rattle.rule_audit.specs.declared.rules.Rule.TheVariants.{Interval, Conflict,
 use Rattle.rule_audit.specs.Index.{no_rule}
 use Rattle.rule_audit.specs.Judged.{KeepsInterval}
 use Rattle.filling_pair.specs.declared.strands.Strand.{Strand}
-use Rattle.filling_pair.specs.Strands.{Leads, events_with, start_of}
+use Rattle.filling_pair.specs.Strands.{AreStrands, Leads, events_with}
 
 -- the rows of an hour, none where it isn't held
 abbrev pub hour_rows : Store → ℕ → List Row
@@ -73,13 +73,36 @@ abbrev pub IsPlaceOf : List Row → ℕ → Place → Type 0
 IsPlaceOf rows t (BeforeRow n) = (n < length rows) × ((slice_index_or rows n no_row).at ≡ t)
 IsPlaceOf rows t EndOfTenth = Unit {0}
 
+-- the rows of the line's hour
+abbrev pub line_rows : Store → AuditLine → List Row
+line_rows s line = hour_rows s (line.at / 36000)
+
+-- the line is at a place of a known tenth
+pub record IsPlaced (s : Store) (line : AuditLine) : Type 0 where
+  pub within : line.at < 36000 * length s.hours
+  pub is_known : is_known s line.at ≡ true
+  pub place : IsPlaceOf (line_rows s line) line.at line.place
+
 -- the line is of one of the rules, at a place of a known tenth
-pub record IsLineOf (log : Log) (rules : List Rule) (rows : List Row) (line : AuditLine) : Type 0 where
+pub record IsLineOf (s : Store) (rules : List Rule) (line : AuditLine) : Type 0 where
   pub some_rule : 1 ≤ line.rule
   pub last_rule : line.rule ≤ length rules
-  pub within : line.at < window_end log
-  pub is_known : log.known line.at ≡ true
-  pub place : IsPlaceOf rows line.at line.place
+  pub placed : IsPlaced s line
+
+-- the strand comes to the state at the line's place
+abbrev pub StandsAtLine : List Spec → Store → AuditLine → Strand → State → Type 0
+StandsAtLine specs s line z v = StandsAt (log_of specs s) (line_rows s line) line.at line.place z v
+
+-- with the strand, and with one of the strands, the rule is kept at the line's place, where these are the rows of its hour
+abbrev pub KeepsLine : List Spec → Store → List Row → AuditLine → Rule → Strand → Type 0
+KeepsLine specs s rows line rule z = KeepsAt (log_of specs s) rows line.at line.place rule z
+
+abbrev pub KeepLine : List Spec → Store → List Row → AuditLine → Rule → List Strand → Type 0
+KeepLine specs s rows line rule ss = AreKept (log_of specs s) rows line.at line.place rule ss
+
+-- these are strands of the line's rule, and with them it is kept at the line's place as said
+abbrev pub AreShown : List Spec → Store → List Rule → AuditLine → List Strand → Bool → Type 0
+AreShown specs s rules line ss kept = AreStrands (log_of specs s) (rule_of rules line) ss × IsAsSaid kept (KeepLine specs s (line_rows s line) line (rule_of rules line) ss)
 
 -- no count fell; a count ends at the last value of a u64
 unfoldable pub Grow : List ℕ → List ℕ → Type 0

@@ -2,3 +2,4 @@ pub mod Strands
 pub mod Kept
 pub mod Walking
 pub mod Laws
+pub mod Lines

@@ -95,7 +95,8 @@ fn all_there(rule: &Rule, strands: &[Strand]) -> bool
 
 /// Whether there is one strand for each channel of the rule, by ascending channel.
 pub(crate) fn are_channels(rule: &Rule, strands: &[Strand]) -> bool
-    ensures { IsTrue result ↔ (Ascend 0 strands.now × ((i : ℕ) → HasStrand i strands.now ↔ IsAbout rule.now i)) }
+    ensures { IsTrue result
+        ↔ (Ascend 0 strands.now × ((i : ℕ) → HasStrand i strands.now ↔ IsAbout rule.now i)) }
 {
     ascend(strands) && all_about(rule, strands) && all_there(rule, strands)
 }

@@ -1,11 +1,10 @@
 // Whether strands are those of a line, and keep its rule or break it.
-ghost use Rattle.std.specs.Prelude.{◌≡◌, ◌↔◌, ◌⊎◌, ◌*◌, ◌/◌, ◌<◌, true, IsTrue, length, All};
+ghost use Rattle.std.specs.Prelude.{◌≡◌, ◌↔◌, ◌⊎◌, IsTrue, All};
 ghost use Rattle.channel_tables.specs.Spec.{IsSpec};
-ghost use Rattle.hour_store.specs.Store.{is_known};
 ghost use Rattle.signal_log.specs.Log.{log_of};
 ghost use Rattle.rule_audit.specs.Rules.{rules_for};
-ghost use Rattle.filling_pair.specs.Strands.{AreAllStrands, AreStrands, IsStrand};
-ghost use Rattle.filling_pair.specs.Kept.{AreKept, Grow, IsAsSaid, IsLineOf, IsPlaceOf, KeepsAt, hour_rows, rule_of};
+ghost use Rattle.filling_pair.specs.Strands.{AreAllStrands, IsStrand};
+ghost use Rattle.filling_pair.specs.Kept.{AreShown, Grow, IsLineOf, IsPlaced, KeepLine, KeepsLine, line_rows};
 
 use crate::channels::are_channels;
 use crate::hours::rows_of_hour;
@@ -37,12 +36,11 @@ fn check_one<L>(
     reads: &mut Reads<L>,
 ) -> Checked
     requires specs { All IsSpec specs.now }
-    requires rows { rows.now ≡ hour_rows store.now (line.now.at / 36000) }
-    requires within { line.now.at < 36000 * length store.now.hours }
-    requires known { is_known store.now line.now.at ≡ true }
-    requires place { IsPlaceOf rows.now line.now.at line.now.place }
+    requires line { IsPlaced store.now line.now }
+    requires rows { rows.now ≡ line_rows store.now line.now }
     ensures strand { IsTrue result.are_strands ↔ IsStrand (log_of specs.now store.now) strand.now }
-    ensures kept { IsTrue result.are_strands → IsTrue result.is_kept ↔ KeepsAt (log_of specs.now store.now) rows.now line.now.at line.now.place rule.now strand.now }
+    ensures kept { IsTrue result.are_strands → IsTrue result.is_kept
+        ↔ KeepsLine specs.now store.now rows.now line.now rule.now strand.now }
     ensures grow { Grow reads.old reads.new }
 {
     let stood = stand_of(specs, store, line, strand, reads);
@@ -82,12 +80,12 @@ fn check_each<L>(
     reads: &mut Reads<L>,
 ) -> Checked
     requires specs { All IsSpec specs.now }
-    requires rows { rows.now ≡ hour_rows store.now (line.now.at / 36000) }
-    requires within { line.now.at < 36000 * length store.now.hours }
-    requires known { is_known store.now line.now.at ≡ true }
-    requires place { IsPlaceOf rows.now line.now.at line.now.place }
-    ensures strands { IsTrue result.are_strands ↔ AreAllStrands (log_of specs.now store.now) strands.now }
-    ensures kept { IsTrue result.are_strands → IsTrue result.is_kept ↔ AreKept (log_of specs.now store.now) rows.now line.now.at line.now.place rule.now strands.now }
+    requires line { IsPlaced store.now line.now }
+    requires rows { rows.now ≡ line_rows store.now line.now }
+    ensures strands { IsTrue result.are_strands
+        ↔ AreAllStrands (log_of specs.now store.now) strands.now }
+    ensures kept { IsTrue result.are_strands → IsTrue result.is_kept
+        ↔ KeepLine specs.now store.now rows.now line.now rule.now strands.now }
     ensures grow { Grow reads.old reads.new }
 {
     let mut is_kept = false;
@@ -118,10 +116,10 @@ pub fn check_strands<L>(
     reads: &mut Reads<L>,
 ) -> bool
     requires rules { rules.now ≡ rules_for config.now }
-    requires line { IsLineOf (log_of config.now.specs store.now) rules.now (hour_rows store.now (line.now.at / 36000)) line.now }
+    requires line { IsLineOf store.now rules.now line.now }
     ensures grow { Grow reads.old reads.new }
-    ensures answer { let log = log_of config.now.specs store.now in let rule = rule_of rules.now line.now in
-        IsTrue result ↔ (AreStrands log rule strands.now × IsAsSaid kept (AreKept log (hour_rows store.now (line.now.at / 36000)) line.now.at line.now.place rule strands.now)) }
+    ensures answer { IsTrue result
+        ↔ AreShown config.now.specs store.now rules.now line.now strands.now kept }
 {
     let specs = config.specs();
     let _hours = store.hours();

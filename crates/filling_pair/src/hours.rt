@@ -1,13 +1,10 @@
 // A channel's walk over the whole window, hour by hour.
-ghost use Rattle.std.specs.Prelude.{◌≡◌, ◌↔◌, ℕ, ◌+◌, ◌-◌, ◌*◌, ◌/◌, ◌<◌, ◌≤◌, IsTrue, Some, List, ◌++◌, length, take, drop, option_copied};
-ghost use Rattle.sig_base.specs.declared.values.Row.{Row};
+ghost use Rattle.std.specs.Prelude.{◌≡◌, ◌↔◌, ◌/◌, ◌<◌, ◌≤◌, IsTrue, Some, length, option_copied};
 ghost use Rattle.channel_tables.specs.Any.{any_rules};
-ghost use Rattle.reach.specs.Runs.{State};
 ghost use Rattle.board.specs.Moves.{count_before};
 ghost use Rattle.signal_log.specs.Points.{rows_or_none};
-ghost use Rattle.filling_pair.specs.Strands.{start_of};
-ghost use Rattle.filling_pair.specs.Kept.{Grow, IsPlaceOf, hour_rows};
-ghost use Rattle.filling_pair.specs.Walking.{Fits, In, Remains, Walks, count_to, merged, own_hours, own_of, track_of};
+ghost use Rattle.filling_pair.specs.Kept.{Grow, IsPlaceOf, IsPlaced, hour_rows};
+ghost use Rattle.filling_pair.specs.Walking.{IsFit, IsFollowed, IsNoted, LeadsOn, Passes, count_to, rows_between, rows_in};
 
 use crate::step::{Follower, Stand};
 use crate::strands::Strand;
@@ -48,10 +45,10 @@ fn pass_hour<'a, L>(
     hour: Hour,
     reads: &mut Reads<L>,
 ) -> Cursor<'a>
-    requires fits { Fits (any_rules follower.now.machine) cursor.now.here }
+    requires fits { IsFit follower.now cursor.now.here }
     requires hour { hour < length store.now.hours }
-    ensures fits { Fits (any_rules follower.now.machine) result.here }
-    ensures passed { (b : ℕ) (more : List Row) (u : State) → Remains (track_of follower.now) b (own_of (track_of follower.now) store.now.blanks (hour_rows store.now hour) ++ more) cursor.now.here cursor.now.fills.now u ↔ Remains (track_of follower.now) b more result.here result.fills.now u }
+    ensures fits { IsFit follower.now result.here }
+    ensures passed { Passes follower.now (rows_in follower.now store.now hour) cursor.now result }
     ensures grow { Grow reads.old reads.new }
 {
     let rows = rows_of_hour(store, hour, reads);
@@ -68,11 +65,12 @@ pub(crate) fn pass_hours<'a, L>(
     to: Hour,
     reads: &mut Reads<L>,
 ) -> Cursor<'a>
-    requires fits { Fits (any_rules follower.now.machine) cursor.now.here }
+    requires fits { IsFit follower.now cursor.now.here }
     requires order { from ≤ to }
     requires hours { to ≤ length store.now.hours }
-    ensures fits { Fits (any_rules follower.now.machine) result.here }
-    ensures passed { (b : ℕ) (more : List Row) (u : State) → Remains (track_of follower.now) b (own_hours (track_of follower.now) store.now from (to - from) ++ more) cursor.now.here cursor.now.fills.now u ↔ Remains (track_of follower.now) b more result.here result.fills.now u }
+    ensures fits { IsFit follower.now result.here }
+    ensures passed { Passes follower.now (rows_between follower.now store.now from to)
+        cursor.now result }
     ensures grow { Grow reads.old reads.new }
 {
     let mut at = *cursor;
@@ -123,13 +121,13 @@ fn pass_place<'a, L>(
     line: &AuditLine,
     reads: &mut Reads<L>,
 ) -> Noted<'a>
-    requires fits { Fits (any_rules follower.now.machine) cursor.now.here }
-    requires hour { line.now.at / 36000 < length store.now.hours }
-    requires place { IsPlaceOf (hour_rows store.now (line.now.at / 36000)) line.now.at line.now.place }
-    ensures fits { Fits (any_rules follower.now.machine) result.cursor.here }
-    ensures there_fits { Fits (any_rules follower.now.machine) result.there }
-    ensures there { (u : State) → let rows = hour_rows store.now (line.now.at / 36000) in Remains (track_of follower.now) line.now.at (own_of (track_of follower.now) store.now.blanks (take (count_to rows line.now.at line.now.place) rows)) cursor.now.here cursor.now.fills.now u ↔ In result.there (λ s. u ≡ s) }
-    ensures passed { (b : ℕ) (more : List Row) (u : State) → Remains (track_of follower.now) b (own_of (track_of follower.now) store.now.blanks (hour_rows store.now (line.now.at / 36000)) ++ more) cursor.now.here cursor.now.fills.now u ↔ Remains (track_of follower.now) b more result.cursor.here result.cursor.fills.now u }
+    requires fits { IsFit follower.now cursor.now.here }
+    requires line { IsPlaced store.now line.now }
+    ensures fits { IsFit follower.now result.cursor.here }
+    ensures there_fits { IsFit follower.now result.there }
+    ensures there { IsNoted follower.now store.now line.now cursor.now result.there }
+    ensures passed { Passes follower.now (rows_in follower.now store.now (line.now.at / 36000))
+        cursor.now result.cursor }
     ensures grow { Grow reads.old reads.new }
 {
     let rows = rows_of_hour(store, line.at / 36_000, reads);
@@ -152,7 +150,8 @@ pub(crate) struct Followed {
 
 // The start of a strand.
 fn start_of<'a>(strand: &'a Strand) -> Cursor<'a>
-    ensures here { result.here ≡ Some (record { colour = strand.now.colour; entry = strand.now.entry }) }
+    ensures here { result.here
+        ≡ Some (record { colour = strand.now.colour; entry = strand.now.entry }) }
     ensures fills { result.fills.now ≡ strand.now.fills }
 {
     Cursor {
@@ -174,11 +173,10 @@ pub(crate) fn follow<L>(
     reads: &mut Reads<L>,
 ) -> Followed
     requires colour { strand.now.colour < (any_rules follower.now.machine).colours }
-    requires hour { line.now.at / 36000 < length store.now.hours }
-    requires place { IsPlaceOf (hour_rows store.now (line.now.at / 36000)) line.now.at line.now.place }
-    ensures fits { Fits (any_rules follower.now.machine) result.there }
-    ensures there { (u : State) → let rows = hour_rows store.now (line.now.at / 36000) in Walks (track_of follower.now) (merged line.now.at (own_hours (track_of follower.now) store.now 0 (line.now.at / 36000) ++ own_of (track_of follower.now) store.now.blanks (take (count_to rows line.now.at line.now.place) rows)) strand.now.fills) (start_of strand.now) u ↔ In result.there (λ s. u ≡ s) }
-    ensures legal { IsTrue result.is_legal ↔ ((u : State) × Walks (track_of follower.now) (merged (36000 * length store.now.hours) (own_hours (track_of follower.now) store.now 0 (length store.now.hours)) strand.now.fills) (start_of strand.now) u) }
+    requires line { IsPlaced store.now line.now }
+    ensures fits { IsFit follower.now result.there }
+    ensures there { IsFollowed follower.now store.now line.now strand.now result.there }
+    ensures legal { IsTrue result.is_legal ↔ LeadsOn follower.now store.now strand.now }
     ensures grow { Grow reads.old reads.new }
 {
     let hours = store.hours();

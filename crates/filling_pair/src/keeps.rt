@@ -23,7 +23,8 @@ use sig_base::Row;
 fn letter_leaves(spec: &Spec, letter: u8, colour: u8) -> bool
     requires fit { IsSpec spec.now }
     requires colour { colour < (rules_of spec.now).colours }
-    ensures { IsTrue result ↔ ((d : ℕ) × ((rules_of spec.now).next colour letter ≡ Some d) × (d ≢ colour)) }
+    ensures { IsTrue result
+        ↔ ((d : ℕ) × ((rules_of spec.now).next colour letter ≡ Some d) × (d ≢ colour)) }
 {
     let machine = machine_of(spec);
     if letter >= machine.letters() {
@@ -92,7 +93,8 @@ fn keeps_before(specs: &[Spec], rows: &[Row], row: u32, rule: &Rule, spec: u16, 
     requires within { spec < length specs.now }
     requires row { row < length rows.now }
     requires colour { here.colour < (rules_of (slice_index_or specs.now spec no_spec)).colours }
-    ensures { IsTrue result ↔ KeepsBy specs.now rows.now (BeforeRow row) rule.now spec (state_of here) }
+    ensures { IsTrue result
+        ↔ KeepsBy specs.now rows.now (BeforeRow row) rule.now spec (state_of here) }
 {
     match rule {
         Rule::Interval(item) => {
@@ -110,7 +112,8 @@ fn keeps_before(specs: &[Spec], rows: &[Row], row: u32, rule: &Rule, spec: u16, 
 // Whether the rule is kept with this state of the channel at a tenth's end.
 fn keeps_at_end(rule: &Rule, spec: u16, here: Stand) -> bool
     requires { here.colour < 16 }
-    ensures { (specs : List Spec) (rows : List Row) → IsTrue result ↔ KeepsBy specs rows EndOfTenth rule.now spec (state_of here) }
+    ensures { (specs : List Spec) (rows : List Row) → IsTrue result
+        ↔ KeepsBy specs rows EndOfTenth rule.now spec (state_of here) }
 {
     match rule {
         Rule::Interval(_) => false,

@@ -5,8 +5,8 @@
 //! known rows they are legal for the channel from its start to the window's end.
 //!
 //! - `strands`: fills, strands and pairs of strands, as lists.
-//! - `step`: one event of a channel; `walk`: rows with fills between them; `hours`: the whole window,
-//!   with the state at a line's place noted on the way.
+//! - `step`: one event of a channel; `walk`: rows with fills between them; `hours`: the whole
+//!   window, with the state at a line's place noted on the way.
 //! - `stands`: one strand; `channels`: one for each channel of a rule; `keeps`: what a rule says of
 //!   a channel's state.
 //! - `check`: the call. `laws`: what holds of every log.
@@ -25,7 +25,7 @@ mod strands;
 mod walk;
 
 pub use check::check_strands;
-pub use laws::strands_are_of_history;
+pub use laws::{kept_by_states, obligations_have_lines, strands_are_of_history};
 pub use strands::{Fill, Fills, Pair, Pairs, Strand, Strands};
 
 #[cfg(test)]

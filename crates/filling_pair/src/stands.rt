@@ -1,14 +1,13 @@
 // Whether one strand is one, and its state at the place of a line.
-ghost use Rattle.std.specs.Prelude.{◌≡◌, ◌↔◌, ◌*◌, ◌/◌, ◌<◌, true, IsTrue, [], ◌∷◌, length, slice_index_or, All};
+ghost use Rattle.std.specs.Prelude.{◌≡◌, ◌↔◌, ◌/◌, ◌<◌, IsTrue, [], ◌∷◌, length, slice_index_or, All};
 ghost use Rattle.channel_tables.specs.Spec.{IsSpec, rules_of};
-ghost use Rattle.reach.specs.Runs.{State};
 ghost use Rattle.hour_store.specs.Store.{is_known};
 ghost use Rattle.board.specs.Channels.{track};
 ghost use Rattle.board.specs.Logs.{no_spec};
 ghost use Rattle.signal_log.specs.Log.{IsBeforeWindow, log_of};
-ghost use Rattle.filling_pair.specs.Strands.{AreFills, IsStrand, start_of};
-ghost use Rattle.filling_pair.specs.Kept.{Grow, IsPlaceOf, StandsAt, hour_rows};
-ghost use Rattle.filling_pair.specs.Walking.{Fits, In, track_of};
+ghost use Rattle.filling_pair.specs.Strands.{IsStrand, start_of};
+ghost use Rattle.filling_pair.specs.Kept.{Grow, IsPlaced};
+ghost use Rattle.filling_pair.specs.Walking.{FillsFrom, Fits, IsStood, track_of};
 
 use crate::hours::follow;
 use crate::step::{Follower, Stand, letter_on};
@@ -41,7 +40,7 @@ pub(crate) fn is_known<L>(store: &HourStore<L>, at: u32) -> bool
 // Whether the fill is a letter of the channel at an unknown tenth of the window, at the first tenth
 // or a later one.
 fn is_fill<L>(follower: &Follower, store: &HourStore<L>, low: u32, fill: Fill) -> bool
-    ensures { IsTrue result ↔ AreFills (track_of follower.now) (is_known store.now) low (36000 * length store.now.hours) (fill ∷ []) }
+    ensures { IsTrue result ↔ FillsFrom follower.now store.now low (fill ∷ []) }
 {
     if fill.at < low || 36_000 * store.hours() <= fill.at {
         return false;
@@ -54,7 +53,7 @@ fn is_fill<L>(follower: &Follower, store: &HourStore<L>, low: u32, fill: Fill) -
 
 // Whether these can be the fills of the channel.
 fn are_fills<L>(follower: &Follower, store: &HourStore<L>, fills: &[Fill]) -> bool
-    ensures { IsTrue result ↔ AreFills (track_of follower.now) (is_known store.now) 0 (36000 * length store.now.hours) fills.now }
+    ensures { IsTrue result ↔ FillsFrom follower.now store.now 0 fills.now }
 {
     let mut low = 0;
     for fill in fills {
@@ -100,11 +99,10 @@ pub(crate) fn stand_of<L>(
     reads: &mut Reads<L>,
 ) -> Stood
     requires specs { All IsSpec specs.now }
-    requires within { line.now.at < 36000 * length store.now.hours }
-    requires known { is_known store.now line.now.at ≡ true }
-    requires place { IsPlaceOf (hour_rows store.now (line.now.at / 36000)) line.now.at line.now.place }
+    requires line { IsPlaced store.now line.now }
     ensures strand { IsTrue result.is_strand ↔ IsStrand (log_of specs.now store.now) strand.now }
-    ensures there { IsTrue result.is_strand → (v : State) → StandsAt (log_of specs.now store.now) (hour_rows store.now (line.now.at / 36000)) line.now.at line.now.place strand.now v ↔ In result.there (λ s. v ≡ s) }
+    ensures there { IsTrue result.is_strand
+        → IsStood specs.now store.now line.now strand.now result.there }
     ensures fits { Fits (rules_of (slice_index_or specs.now strand.now.spec no_spec)) result.there }
     ensures grow { Grow reads.old reads.new }
 {

@@ -62,7 +62,8 @@ fn entered(colour: u8, at: u32) -> Stand
 // The state to which the letter leads at the tenth, or `None` where it isn't legal.
 fn step_at(machine: &AnyMachine, here: Stand, at: u32, letter: u8) -> Option<Stand>
     requires { here.colour < (any_rules machine.now).colours }
-    ensures { IsEnd (any_rules machine.now) (Step (any_rules machine.now) (pos at) (state_of here) letter) result }
+    ensures { IsEnd (any_rules machine.now)
+        (Step (any_rules machine.now) (pos at) (state_of here) letter) result }
 {
     if letter >= machine.letters() {
         return None;
@@ -79,11 +80,12 @@ fn step_at(machine: &AnyMachine, here: Stand, at: u32, letter: u8) -> Option<Sta
     Some(entered(next, at))
 }
 
-/// The state after the row, which stays the same where the row isn't the channel's; `None` where the
-/// row isn't legal.
+/// The state after the row, which stays the same where the row isn't the channel's; `None` where
+/// the row isn't legal.
 pub(crate) fn move_on(follower: &Follower, here: Stand, row: Row) -> Option<Stand>
     requires { here.colour < (any_rules follower.now.machine).colours }
-    ensures { IsEnd (any_rules follower.now.machine) (Moves (track_of follower.now) row (state_of here)) result }
+    ensures { IsEnd (any_rules follower.now.machine)
+        (Moves (track_of follower.now) row (state_of here)) result }
 {
     match letter_on(follower.channel, row.code, row.param) {
         Some(letter) => step_at(&follower.machine, here, row.at, letter),

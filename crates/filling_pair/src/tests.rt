@@ -1,12 +1,11 @@
-// One green with a short gap in it: it is long enough only without a second start in the gap.
-ghost use Rattle.std.specs.Prelude.{ℕ, ◌/◌, ◌<◌, IsTrue, List, length};
-ghost use Rattle.channel_tables.specs.declared.spec.Spec.{Spec};
-ghost use Rattle.signal_log.specs.Log.{log_of};
-ghost use Rattle.filling_pair.specs.Kept.{IsLineOf, IsPlaceOf, hour_rows};
+// A green with a short gap in it, which is long enough only without a second start in the gap; and
+// two phases that conflict.
+ghost use Rattle.std.specs.Prelude.{IsTrue};
+ghost use Rattle.filling_pair.specs.Kept.{IsLineOf, IsPlaceOf};
 
 use crate::hours::rows_of_hour;
 use crate::stands::is_known;
-use crate::{Fill, Fills, Strand, Strands, check_strands};
+use crate::{Fill, Fills, Pair, Pairs, Strand, Strands, check_strands};
 use channel_tables::colour_named;
 use event_codes::Kind;
 use hour_store::HourStore;
@@ -28,6 +27,19 @@ side = 1
 channel = "phase 2"
 colour = "Green"
 at_least = 150
+"#;
+
+const RING: &[u8] = br#"signal = "7"
+start = "2024-03-04T06"
+hours = 2
+[[phase]]
+number = 2
+ring = 1
+side = 1
+[[phase]]
+number = 4
+ring = 1
+side = 2
 "#;
 
 #[derive(Drop)]
@@ -73,7 +85,7 @@ fn is_line(
     line: &AuditLine,
     reads: &mut Reads<Mark>,
 ) -> bool
-    ensures { (specs : List Spec) → IsTrue result → IsLineOf (log_of specs store.now) rules.now (hour_rows store.now (line.now.at / 36000)) line.now }
+    ensures { IsTrue result → IsLineOf store.now rules.now line.now }
 {
     if line.rule < 1 || line.rule as usize > rules.len() {
         return false;
@@ -91,30 +103,52 @@ fn is_line(
     )
 }
 
-// What `check_strands` says of a strand of phase 2 with this start and these fills.
-fn checks(alloc: Global, colour: &str, fills: &[(u32, u8)], kept: bool) -> Result<bool, Fail> {
-    let config: Config = read_config(alloc, CONFIG)?;
-    let rules = rules_of(alloc, &config)?;
-    let store = green_with_a_gap(alloc)?;
-    let mut own = Fills::new(alloc);
-    for (at, code) in fills {
-        own.push(Fill {
+// A strand of one of the phases, which comes into the window with this colour; its fills are of
+// phase 2.
+#[derive(Clone, Copy)]
+struct Given<'a> {
+    spec: u16,
+    colour: &'a str,
+    fills: &'a [(u32, u8)],
+}
+
+fn strand_of(alloc: Global, given: Given<'_>) -> Result<Strand, Fail> {
+    let mut fills = Fills::new(alloc);
+    for (at, code) in given.fills {
+        fills.push(Fill {
             at: *at,
             code: *code,
             param: 2,
         })?;
     }
-    let mut strands = Strands::new(alloc);
-    strands.push(Strand {
-        spec: 0,
-        colour: colour_named(Kind::Phase, colour).ok_or("colour")?,
+    Ok(Strand {
+        spec: given.spec,
+        colour: colour_named(Kind::Phase, given.colour).ok_or("colour")?,
         entry: -1,
-        fills: own,
-    })?;
+        fills,
+    })
+}
+
+// What `check_strands` says of these strands at this place of the first rule.
+fn checks(
+    alloc: Global,
+    config: &[u8],
+    at: u32,
+    place: Place,
+    given: &[Given<'_>],
+    kept: bool,
+) -> Result<bool, Fail> {
+    let config: Config = read_config(alloc, config)?;
+    let rules = rules_of(alloc, &config)?;
+    let store = green_with_a_gap(alloc)?;
+    let mut strands = Strands::new(alloc);
+    for one in given {
+        strands.push(strand_of(alloc, *one)?)?;
+    }
     let line = AuditLine {
         rule: 1,
-        at: 1200,
-        place: Place::BeforeRow(1),
+        at,
+        place,
         verdict: Verdict::Undecided,
         window: None,
     };
@@ -124,6 +158,14 @@ fn checks(alloc: Global, colour: &str, fills: &[(u32, u8)], kept: bool) -> Resul
         return Err(Fail::from("line"));
     }
     Ok(check_strands(&config, rules, &store, &line, &strands, kept, &mut reads))
+}
+
+fn from<'a>(spec: u16, colour: &'a str, fills: &'a [(u32, u8)]) -> Given<'a> {
+    Given {
+        spec,
+        colour,
+        fills,
+    }
 }
 
 #[test]
@@ -138,7 +180,43 @@ fn a_green_with_a_gap_in_it(rt: HostRuntime) -> Result<(), Fail> {
         ("Red", early, false, false),
         ("Yellow", [].as_slice(), true, false),
     ] {
-        assert_eq!(rt; checks(rt.alloc(), colour, fills, kept)?, wanted);
+        let strands = [from(0, colour, fills)];
+        let place = Place::BeforeRow(1);
+        let said = checks(rt.alloc(), CONFIG, 1200, place, &strands, kept)?;
+        assert_eq!(rt; said, wanted);
     }
+    Ok(())
+}
+
+// Phase 4 is in the ring of phase 2, whose green begins at 1000.
+#[test]
+fn two_phases_that_conflict(rt: HostRuntime) -> Result<(), Fail> {
+    let own = from(0, "Red", &[]);
+    let red = from(1, "Red", &[]);
+    let green = from(1, "Green", &[]);
+    for (strands, kept, wanted) in [
+        ([own, red].as_slice(), true, true),
+        ([own, green].as_slice(), false, true),
+        ([own, green].as_slice(), true, false),
+        ([own].as_slice(), true, false),
+        ([own, red, red].as_slice(), true, false),
+        ([red, own].as_slice(), true, false),
+    ] {
+        let said = checks(rt.alloc(), RING, 1000, Place::EndOfTenth, strands, kept)?;
+        assert_eq!(rt; said, wanted);
+    }
+    Ok(())
+}
+
+#[test]
+fn lists_pairs(rt: HostRuntime) -> Result<(), Fail> {
+    let mut keeps = Strands::new(rt.alloc());
+    keeps.push(strand_of(rt.alloc(), from(0, "Red", &[(5, 1)]))?)?;
+    let mut pairs = Pairs::new(rt.alloc());
+    pairs.push(Pair {
+        keeps,
+        breaks: Strands::new(rt.alloc()),
+    })?;
+    assert_eq!(rt; pairs.list().len(), 1);
     Ok(())
 }

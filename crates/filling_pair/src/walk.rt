@@ -1,10 +1,7 @@
 // Known rows of a channel, with fills between them.
-ghost use Rattle.std.specs.Prelude.{◌≡◌, ◌↔◌, ℕ, List, [], ◌∷◌, ◌++◌};
-ghost use Rattle.sig_base.specs.declared.values.Row.{Row};
-ghost use Rattle.channel_tables.specs.Any.{any_rules};
-ghost use Rattle.reach.specs.Runs.{State};
+ghost use Rattle.std.specs.Prelude.{◌≡◌, [], ◌∷◌};
 ghost use Rattle.filling_pair.specs.Strands.{row_of, rows_of};
-ghost use Rattle.filling_pair.specs.Walking.{Fits, In, Remains, Walks, before, is_own, own_of, since, track_of};
+ghost use Rattle.filling_pair.specs.Walking.{Carries, IsFit, Passes, before, is_own, own_rows, since, track_of};
 
 use crate::step::{Follower, Stand, letter_on, move_on};
 use crate::strands::Fill;
@@ -30,9 +27,9 @@ fn row_of(fill: Fill) -> Row
 
 // The state after the row, where there is one before it.
 fn moved(follower: &Follower, here: Option<Stand>, row: Row) -> Option<Stand>
-    requires { Fits (any_rules follower.now.machine) here }
-    ensures fits { Fits (any_rules follower.now.machine) result }
-    ensures moved { (more : List Row) (u : State) → In here (λ s. Walks (track_of follower.now) (row ∷ more) s u) ↔ In result (λ s. Walks (track_of follower.now) more s u) }
+    requires { IsFit follower.now here }
+    ensures fits { IsFit follower.now result }
+    ensures moved { Carries follower.now (row ∷ []) here result }
 {
     match here {
         Some(here) => move_on(follower, here, row),
@@ -42,10 +39,11 @@ fn moved(follower: &Follower, here: Option<Stand>, row: Row) -> Option<Stand>
 
 /// Goes over the first fills, as far as they are before the tenth.
 pub(crate) fn pass_fills<'a>(follower: &Follower, cursor: &Cursor<'a>, until: u32) -> Cursor<'a>
-    requires { Fits (any_rules follower.now.machine) cursor.now.here }
-    ensures fits { Fits (any_rules follower.now.machine) result.here }
+    requires { IsFit follower.now cursor.now.here }
+    ensures fits { IsFit follower.now result.here }
     ensures rest { result.fills.now ≡ since until cursor.now.fills.now }
-    ensures walked { (more : List Row) (u : State) → In cursor.now.here (λ s. Walks (track_of follower.now) (rows_of (before until cursor.now.fills.now) ++ more) s u) ↔ In result.here (λ s. Walks (track_of follower.now) more s u) }
+    ensures walked { Carries follower.now (rows_of (before until cursor.now.fills.now))
+        cursor.now.here result.here }
 {
     let fills = cursor.fills;
     let mut here = cursor.here;
@@ -66,9 +64,9 @@ pub(crate) fn pass_fills<'a>(follower: &Follower, cursor: &Cursor<'a>, until: u3
 
 // Goes over the fills before the row, and then over the row.
 fn pass_row<'a>(follower: &Follower, cursor: &Cursor<'a>, row: Row) -> Cursor<'a>
-    requires { Fits (any_rules follower.now.machine) cursor.now.here }
-    ensures fits { Fits (any_rules follower.now.machine) result.here }
-    ensures passed { (b : ℕ) (more : List Row) (u : State) → Remains (track_of follower.now) b (row ∷ more) cursor.now.here cursor.now.fills.now u ↔ Remains (track_of follower.now) b more result.here result.fills.now u }
+    requires { IsFit follower.now cursor.now.here }
+    ensures fits { IsFit follower.now result.here }
+    ensures passed { Passes follower.now (row ∷ []) cursor.now result }
 {
     let at_row = pass_fills(follower, cursor, row.at);
     Cursor {
@@ -87,9 +85,10 @@ fn is_own(follower: &Follower, row: Row, blanked: &SpanSet) -> bool
 
 // Goes over the row, where it is of the channel and its tenth isn't blanked.
 fn pass_own<'a>(follower: &Follower, cursor: &Cursor<'a>, row: Row, blanked: &SpanSet) -> Cursor<'a>
-    requires { Fits (any_rules follower.now.machine) cursor.now.here }
-    ensures fits { Fits (any_rules follower.now.machine) result.here }
-    ensures passed { (b : ℕ) (more : List Row) (u : State) → Remains (track_of follower.now) b (own_of (track_of follower.now) blanked.now (row ∷ []) ++ more) cursor.now.here cursor.now.fills.now u ↔ Remains (track_of follower.now) b more result.here result.fills.now u }
+    requires { IsFit follower.now cursor.now.here }
+    ensures fits { IsFit follower.now result.here }
+    ensures passed { Passes follower.now (own_rows follower.now blanked.now (row ∷ []))
+        cursor.now result }
 {
     if is_own(follower, row, blanked) {
         return pass_row(follower, cursor, row);
@@ -104,9 +103,10 @@ pub(crate) fn pass_rows<'a>(
     rows: &[Row],
     blanked: &SpanSet,
 ) -> Cursor<'a>
-    requires { Fits (any_rules follower.now.machine) cursor.now.here }
-    ensures fits { Fits (any_rules follower.now.machine) result.here }
-    ensures passed { (b : ℕ) (more : List Row) (u : State) → Remains (track_of follower.now) b (own_of (track_of follower.now) blanked.now rows.now ++ more) cursor.now.here cursor.now.fills.now u ↔ Remains (track_of follower.now) b more result.here result.fills.now u }
+    requires { IsFit follower.now cursor.now.here }
+    ensures fits { IsFit follower.now result.here }
+    ensures passed { Passes follower.now (own_rows follower.now blanked.now rows.now)
+        cursor.now result }
 {
     let mut at = *cursor;
     for row in rows {

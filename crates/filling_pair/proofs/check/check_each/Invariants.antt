@@ -1,4 +1,4 @@
-use Rattle.std.proofs.Common.{◌↔◌, ◌/◌, ◌⊎◌, IsTrue, drop}
+use Rattle.std.proofs.Common.{◌↔◌, ◌⊎◌, IsTrue, drop}
 use Rattle.signal_log.specs.Log.{log_of}
 use Rattle.filling_pair.specs.Strands.{AreAllStrands}
 use Rattle.filling_pair.specs.Kept.{AreKept, Grow}

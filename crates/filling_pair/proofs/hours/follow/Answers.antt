@@ -1,5 +1,4 @@
-use Rattle.std.proofs.Common.{◌≡◌, ◌∙◌, ◌↔◌, ap, sym, subst, arith, ℕ, ◌+◌, ◌-◌, ◌*◌, ◌/◌, ◌++◌, List, length, take}
-use Rattle.reach.specs.Runs.{State}
+use Rattle.std.proofs.Common.{◌≡◌, ◌↔◌, subst, arith, ℕ, ◌+◌, ◌-◌, ◌*◌, ◌/◌, ◌++◌, length, take}
 use Rattle.reach.proofs.Later.{then_iff}
 use Rattle.filling_pair.specs.Strands.{start_of}
 use Rattle.filling_pair.specs.Kept.{hour_rows}
@@ -25,6 +24,7 @@ returns-clause-legal g c =
     let k = track_of c.args.follower.now in
     let s = c.args.store.now in
     let n = length s.hours in
+    let within = c.requires.line.within in
     let hour = c.args.line.now.at / 36000 in
     let a = c.start_of-start.result in
     let b = c.pass_hours-before.result in
@@ -35,7 +35,7 @@ returns-clause-legal g c =
     let after = rw c.hours-hours.ensures.value at c.pass_hours-after.ensures.passed in
     let over = over_join k (own_hours k s 0 (hour - 0)) (own ++ later) a.here b.here e.here a.fills.now b.fills.now e.fills.now c.pass_hours-before.ensures.passed
     (over_join k own later b.here d.here e.here b.fills.now d.fills.now e.fills.now c.pass_place-noted.ensures.passed after) in
-    let whole = over_same k (own_hours k s 0 (hour - 0) ++ (own ++ later)) (own_hours k s 0 n) a.here e.here a.fills.now e.fills.now (hours_around k s hour n c.requires.hour) over in
+    let whole = over_same k (own_hours k s 0 (hour - 0) ++ (own ++ later)) (own_hours k s 0 n) a.here e.here a.fills.now e.fills.now (hours_around k s hour n (omega arith)) over in
     let ends = rw c.hours-hours.ensures.value at c.pass_fills-end.ensures.walked in
     let all = all_passed k (own_hours k s 0 n) (36000 * n) a.here e.here c.pass_fills-end.result.here a.fills.now e.fills.now whole ends in
     let now = rw (c.start_of-start.ensures.here, c.start_of-start.ensures.fills) at all in

@@ -1,4 +1,4 @@
-use Rattle.std.proofs.Common.{◌≡◌, ◌∙◌, ap, sym, ◌/◌, ◌++◌, List, take, drop}
+use Rattle.std.proofs.Common.{◌≡◌, ◌∙◌, ap, ◌/◌, ◌++◌, List, take, drop}
 use Rattle.span_set.specs.declared.set.Span.{Span}
 use Rattle.sig_base.specs.declared.values.Row.{Row}
 use Rattle.filling_pair.specs.Kept.{hour_rows}

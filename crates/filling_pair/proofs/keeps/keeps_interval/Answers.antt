@@ -1,4 +1,4 @@
-use Rattle.std.proofs.Common.{sym, subst, ℕ}
+use Rattle.std.proofs.Common.{subst, ℕ}
 use Rattle.rule_audit.specs.Judged.{Leaves}
 use Rattle.filling_pair.proofs.keeps.keeps_interval.Goals as goal
 

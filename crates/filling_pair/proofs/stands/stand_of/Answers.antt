@@ -1,13 +1,10 @@
-use Rattle.std.proofs.Common.{◌≡◌, ◌∙◌, sym, subst, arith, true, false, length, get_or, ◌*◌, ◌/◌, ◌++◌, List, take, ℕ}
+use Rattle.std.proofs.Common.{◌∙◌, sym, subst, get_or}
 use Rattle.std.proofs.lemmas.Bool.{false≢true}
-use Rattle.hour_store.specs.Store.{is_known}
 use Rattle.board.specs.Channels.{track}
 use Rattle.board.specs.History.{Track}
 use Rattle.board.specs.Logs.{no_spec}
 use Rattle.signal_log.specs.Log.{IsBeforeWindow}
-use Rattle.filling_pair.specs.declared.strands.Fill.{Fill}
-use Rattle.filling_pair.specs.Strands.{AreFills, start_of}
-use Rattle.filling_pair.specs.Walking.{track_of}
+use Rattle.filling_pair.specs.Strands.{start_of}
 use Rattle.filling_pair.proofs.Telling.{stands, whole}
 use Rattle.filling_pair.proofs.stands.stand_of.Goals as goal
 
@@ -44,5 +41,5 @@ returns-clause-there g c = λ is v.
     let same = c.follower_at-follower.ensures in
     let fills = (rw (same, c.list.ensures) at c.are_fills.ensures).0 c.if-not-are_fills.false in
     let there = rw same at (c.follow-followed.ensures.there v) in
-    let at_place = stands s c.hours-hours.ensures.store c.args.specs.now strand c.args.line.now.at c.requires.within c.requires.known c.args.line.now.place fills c.requires.place v in
+    let at_place = stands s c.hours-hours.ensures.store c.args.specs.now strand c.args.line.now.at c.requires.line.within c.requires.line.is_known c.args.line.now.place fills c.requires.line.place v in
     ((λ p. there.0 (at_place.1 p)), (λ p. at_place.0 (there.1 p)))

@@ -1,9 +1,9 @@
-use Rattle.std.proofs.Common.{◌≡◌, ◌↔◌, ◌∷◌, subst, drop, get_or, List}
+use Rattle.std.proofs.Common.{◌↔◌, ◌∷◌, subst, List}
 use Rattle.sig_base.specs.declared.values.Row.{Row}
 use Rattle.reach.specs.Runs.{State}
 use Rattle.filling_pair.specs.Strands.{no_fill}
 use Rattle.filling_pair.specs.Walking.{In, Walks, track_of}
-use Rattle.filling_pair.proofs.Passing.{fill_end, fill_stop, fill_turn, since_end, since_stop, since_turn}
+use Rattle.filling_pair.proofs.Passing.{fill_end, fill_stop, fill_turn, since_turn}
 use Rattle.filling_pair.proofs.walk.pass_fills.Goals as goal
 
 pub returns-then-until-fill-clause-walked : goal.returns-then-until-fill-clause-walked

@@ -1,4 +1,3 @@
-use Rattle.std.proofs.Common.{drop, get_or}
 use Rattle.board.specs.Logs.{no_row}
 use Rattle.filling_pair.specs.Walking.{track_of}
 use Rattle.filling_pair.proofs.Passing.{rows_end, rows_turn}

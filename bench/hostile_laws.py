@@ -10,7 +10,8 @@ REFUSAL = r"(bad line|out of window|missing file|file too long|already held|not 
 HEAD = re.compile(r"(\d+) (ok (rows \d+ repeats \d+ )?moved 0 \d+|refused " + REFUSAL
                   + r"|measures( \d+)?|audit|verdicts \d+|points \d+|offsets [A-Za-z0-9_-]+)")
 NUMBERS = r"( \w+ (\d+(/\d+)?|-))+"
-VERDICT = r"(kept|broken|undecided) \d+ " + STAMP
+WINDOW = r" from " + STAMP + r" to " + STAMP
+VERDICT = r"(kept|undecided) \d+ " + STAMP + r"|broken \d+ " + STAMP + WINDOW
 BODY = {
     "measures": r"held \d+ rows \d+ known \d+|((phase|ped|preempt) \d+|coordination|approach [A-Za-z0-9_-]+)" + NUMBERS,
     "audit": r"rule \d+ (.* at (least|most) \d+|conflict \d+ \d+|companion \d+|parents \d+)"
@@ -174,10 +175,11 @@ def report_faults(signal, blocks):
 
 
 def broken_intervals(signal, blocks):
-    """The broken verdicts of interval rules, which come before all other rules."""
+    """The broken verdicts of interval rules, which come before all other rules; without their windows."""
     audit = blocks[signal.hours + 1][1:]
     broken = [line for line in audit if line.startswith("broken")]
-    return Counter(line for line in broken if int(line.split(" ")[1]) <= len(signal.intervals))
+    broken = [line.split(" ") for line in broken]
+    return Counter(" ".join(words[:3]) for words in broken if int(words[1]) <= len(signal.intervals))
 
 
 def lost(fewer, more):

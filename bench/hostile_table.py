@@ -190,5 +190,5 @@ def scripts(bench):
     text = "\n".join(["load 0 f"] + blanks + ["audit"]) + "\n"
     made = ["1 ok rows 2 repeats 0 moved 0 2"] + ["%d ok moved 0 2" % n for n in range(2, 1002)]
     made += ["1002 audit", "rule 1 phase 2 Green at least 150 kept 0 broken 1 undecided 0"]
-    made += ["broken 1 2024-03-04T06:01:54.9"]
+    made += ["broken 1 2024-03-04T06:01:54.9 from 2024-03-04T06:01:40.0 to 2024-03-04T06:01:54.9"]
     scripted(bench, "1,000 blanks, then a broken line", text.encode(), 0, ("\n".join(made) + "\n").encode())

@@ -100,7 +100,8 @@ def total_faults(total, hours):
                 made = str((min if key == "least" else max)(there)) if there else "-"
                 made = "0" if value == "0" and made == "-" else made
             elif key == "share":
-                made = "%s/%s" % (wanted["green"], wanted["arrivals"]) if wanted["arrivals"] != "0" else "-"
+                seen = int(wanted["arrivals"]) - int(wanted["unseen"])
+                made = "%s/%d" % (wanted["green"], seen) if seen > 0 else "-"
             elif key == "platoon":
                 made = value
             else:

@@ -105,7 +105,7 @@ def configurations(bench):
     configured(bench, "400,000 parents", BASE + b"[[overlap]]\nnumber = 1\nparents = [" + b"2," * 400000 + b"]\n", 3,
                b"config refused: bad value overlap[0].parents\n")
     configured(bench, "the widest", widest(), 0)
-    fine = bench.out.count(b"\n") == 1 + 1 + 3 * 16 + 1 + 2 * 64
+    fine = bench.out.count(b"\n") == 1 + 1 + 3 * 16 + 1 + 3 * 64
     bench.check("table, configuration: a line for each channel of the widest", fine)
 
 

@@ -14,7 +14,7 @@ use Rattle.hour_sums.specs.Numbers.{capped}
 use Rattle.board.specs.Logs.{no_row}
 use Rattle.arrival_measures.specs.declared.judged.Judged.{Judged}
 use Rattle.arrival_measures.specs.Judged.{AllPass, NonePass, CountOf}
-use Rattle.arrival_measures.specs.Steps.{IsMaskOf, Says, AreJudgedRows, judged_with, no_judged, one_if}
+use Rattle.arrival_measures.specs.Steps.{IsMaskOf, Says, AreJudgedRows, judged_unseen, judged_with, no_judged, one_if}
 use Rattle.arrival_measures.proofs.Filters.{clash}
 use Rattle.arrival_measures.proofs.Chaining.{one_kept, one_left}
 
@@ -57,30 +57,56 @@ capped_next : (n m : ℕ) → n ≡ capped m → capped (n + 1) ≡ capped (m + 
 unfolding capped
 capped_next n m e = omega arith
 
-length_push : (xs : List Row) (x : Row) → length (xs ++ x ∷ []) ≡ length xs + 1
-length_push [] x = refl
-length_push (y ∷ ys) x = let r = length_push ys x in omega arith
-
-pub judged_next : (test : ℕ → Bool) (May : ℕ → State → Type 0) (xs : List Row) (x : Row) (j : Judged) (seen : Seen) → length xs + 1 < 2 ^ 64 → Says test (May x.at) seen → AreJudgedRows test May xs j → AreJudgedRows test May (xs ++ x ∷ []) (judged_with j seen)
-judged_next test May xs x j seen few s h = record {
-  count = capped_next j.rows (length xs) h.count ∙ ap (λ n. capped n) (sym (length_push xs x));
-  all = count_next _ xs x j.all _ few s.all h.all;
-  none = count_next _ xs x j.none _ few s.none h.none;
-  some = count_next _ xs x j.some _ few s.some h.some;
-}
-
--- the rows that pass a test, one by one
+-- rows one by one, with a test of which of them are seen
 
 few_pass : (T : Row → Bool) (rows : List Row) (i : ℕ) → i ≤ length rows → length (filter T (take i rows)) ≤ i
 few_pass T rows i le = let a = length-filter T (take i rows) in let b = count_by-le-length T (take i rows) in let e = length-take-le i rows le in omega arith
 
-pub judged_on : (test : ℕ → Bool) (May : ℕ → State → Type 0) (T : Row → Bool) (rows : List Row) (i : ℕ) (j new : Judged) (seen : Seen) → length rows < 2 ^ 64 → i < length rows → T (get_or rows i no_row) ≡ true → Says test (May (get_or rows i no_row).at) seen → new ≡ judged_with j seen → AreJudgedRows test May (filter T (take i rows)) j → AreJudgedRows test May (filter T (take (i + 1) rows)) new
-judged_on test May T rows i j new seen few lt on s n h =
-    let le = few_pass T rows i (omega arith) in
-    rw (n, one_kept T rows i lt on) (judged_next test May (filter T (take i rows)) (get_or rows i no_row) j seen (omega arith) s h)
+-- one row more
+taken : (rows : List Row) (i : ℕ) → i < length rows → length (take i rows) + 1 ≡ length (take (i + 1) rows)
+taken rows i lt = let a = length-take-le i rows (omega arith) in let b = length-take-le (i + 1) rows (omega arith) in omega arith
 
-pub judged_off : (test : ℕ → Bool) (May : ℕ → State → Type 0) (T : Row → Bool) (rows : List Row) (i : ℕ) (j new : Judged) → i < length rows → T (get_or rows i no_row) ≡ false → new ≡ j → AreJudgedRows test May (filter T (take i rows)) j → AreJudgedRows test May (filter T (take (i + 1) rows)) new
-judged_off test May T rows i j new lt off n h = rw (n, one_left T rows i lt off) h
+pushed_length : (T : Row → Bool) (rows : List Row) (i : ℕ) → i < length rows → T (get_or rows i no_row) ≡ true → length (filter T (take i rows)) + 1 ≡ length (filter T (take (i + 1) rows))
+pushed_length T rows i lt e = sym (ap (λ zs. length zs) (one_kept T rows i lt e) ∙ one_longer (filter T (take i rows)) (get_or rows i no_row))
+  where
+    one_longer : (xs : List Row) (x : Row) → length (xs ++ x ∷ []) ≡ length xs + 1
+    one_longer [] x = refl
+    one_longer (y ∷ ys) x = let r = one_longer ys x in omega arith
+
+not_seen : (b : Bool) → b ≡ true → not b ≡ false
+not_seen true e = refl
+not_seen false e = absurd (cc)
+
+not_hidden : (b : Bool) → b ≡ false → not b ≡ true
+not_hidden false e = refl
+not_hidden true e = absurd (cc)
+
+module _ (test : ℕ → Bool) (May : ℕ → State → Type 0) (sees : Row → Bool) (rows : List Row) (i : ℕ) (lt : i < length rows) (few : length rows < 2 ^ 64) where
+  count_on : (P : Row → Type 0) (n : ℕ) (b : Bool) → sees (get_or rows i no_row) ≡ true → (IsTrue b ↔ P (get_or rows i no_row)) → CountOf P (filter sees (take i rows)) n → CountOf P (filter sees (take (i + 1) rows)) (capped (n + one_if b))
+  count_on P n b on d h =
+      let le = few_pass sees rows i (omega arith) in
+      subst (λ (zs : List Row). CountOf P zs (capped (n + one_if b))) (sym (one_kept sees rows i lt on)) (count_next P (filter sees (take i rows)) (get_or rows i no_row) n b (omega arith) d h)
+
+  pub judged_on : (j new : Judged) (seen : Seen) → sees (get_or rows i no_row) ≡ true → Says test (May (get_or rows i no_row).at) seen → new ≡ judged_with j seen → AreJudgedRows test May sees (take i rows) j → AreJudgedRows test May sees (take (i + 1) rows) new
+  judged_on j new seen on s n h = rw n (record {
+    count = capped_next j.rows (length (take i rows)) h.count ∙ ap (λ k. capped k) (taken rows i lt);
+    all = count_on _ j.all _ on s.all h.all;
+    none = count_on _ j.none _ on s.none h.none;
+    some = count_on _ j.some _ on s.some h.some;
+    unseen = h.unseen ∙ ap (λ zs. capped (length zs)) (sym (one_left (λ x. not (sees x)) rows i lt (not_seen (sees (get_or rows i no_row)) on)));
+  })
+
+  count_off : (P : Row → Type 0) (n : ℕ) → sees (get_or rows i no_row) ≡ false → CountOf P (filter sees (take i rows)) n → CountOf P (filter sees (take (i + 1) rows)) n
+  count_off P n off h = subst (λ (zs : List Row). CountOf P zs n) (sym (one_left sees rows i lt off)) h
+
+  pub judged_off : (j new : Judged) → sees (get_or rows i no_row) ≡ false → new ≡ judged_unseen j → AreJudgedRows test May sees (take i rows) j → AreJudgedRows test May sees (take (i + 1) rows) new
+  judged_off j new off n h = rw n (record {
+    count = capped_next j.rows (length (take i rows)) h.count ∙ ap (λ k. capped k) (taken rows i lt);
+    all = count_off _ j.all off h.all;
+    none = count_off _ j.none off h.none;
+    some = count_off _ j.some off h.some;
+    unseen = capped_next j.unseen (length (filter (λ x. not (sees x)) (take i rows))) h.unseen ∙ ap (λ k. capped k) (pushed_length (λ x. not (sees x)) rows i lt (not_hidden (sees (get_or rows i no_row)) off));
+  })
 
 -- what is seen at one tenth
 
@@ -136,5 +162,19 @@ capped_zero : 0 ≡ capped 0
 unfolding capped
 capped_zero = omega arith
 
-pub judged_none : (test : ℕ → Bool) (May : ℕ → State → Type 0) (j : Judged) → j ≡ no_judged → AreJudgedRows test May [] j
-judged_none test May j e = rw e (record { count = capped_zero; all = none_counted _; none = none_counted _; some = none_counted _ })
+pub judged_none : (test : ℕ → Bool) (May : ℕ → State → Type 0) (sees : Row → Bool) (j : Judged) → j ≡ no_judged → AreJudgedRows test May sees [] j
+judged_none test May sees j e = rw e (record { count = capped_zero; all = none_counted _; none = none_counted _; some = none_counted _; unseen = capped_zero })
+
+-- of no row nothing is judged
+pub none_of : (test : ℕ → Bool) (May : ℕ → State → Type 0) (sees : Row → Bool) (j : Judged) → AreJudgedRows test May sees [] j → j ≡ no_judged
+unfolding CountOf
+none_of test May sees j h =
+    let a : j.rows ≡ 0 = h.count ∙ sym capped_zero in
+    let b : j.all ≡ 0 = h.all in
+    let d : j.none ≡ 0 = h.none in
+    let e : j.some ≡ 0 = h.some in
+    let f : j.unseen ≡ 0 = h.unseen ∙ sym capped_zero in
+    same_judged j.rows j.all j.none j.some j.unseen a b d e f
+  where
+    same_judged : (a b d e f : ℕ) → a ≡ 0 → b ≡ 0 → d ≡ 0 → e ≡ 0 → f ≡ 0 → let x : Judged = record { rows = a; all = b; none = d; some = e; unseen = f } in x ≡ no_judged
+    same_judged a b d e f p q r s t = cc

@@ -1,6 +1,6 @@
 -- The cycles of an hour, and what had begun of them before it.
-use Rattle.std.proofs.Common.{◌≡◌, ◌≢◌, ℕ, zero, suc, ◌+◌, ◌*◌, ◌<◌, ◌≤◌, Bool, true, false, cond, leb, eqb, List, [], ◌∷◌, ◌++◌, Option, Some, None, map, refl, ap, sym, subst, ◌∙◌, append_assoc, arith, inl, inr}
-use Rattle.std.specs.Prelude.{All, find, filter_map, min}
+use Rattle.std.proofs.Common.{◌≡◌, ◌≢◌, ℕ, zero, suc, ◌+◌, ◌<◌, ◌≤◌, Bool, true, false, cond, eqb, List, [], ◌∷◌, ◌++◌, Option, Some, None, map, refl, ap, sym, subst, ◌∙◌, append_assoc, arith, inl, inr}
+use Rattle.std.specs.Prelude.{All, IfSome, find, filter_map}
 use Rattle.std.specs.List.{cons_option, range_with_len}
 use Rattle.std.proofs.lemmas.Bool.{cases_Bool, cases_eq, le-leb, eq-eqb, ne_eqb}
 use Rattle.std.proofs.lemmas.List.{append-nil}
@@ -9,23 +9,24 @@ use Rattle.sig_base.specs.declared.values.Row.{Row}
 use Rattle.sig_base.specs.declared.values.PhaseItem.{PhaseItem}
 use Rattle.hour_sweep.specs.Rows.{kept_last, live, known_rows}
 use Rattle.hour_sweep.specs.Hours.{AreOrdered, point}
-use Rattle.hour_sweep.specs.Numbers.{numbered, given, outs_from, table}
+use Rattle.hour_sweep.specs.Numbers.{numbered, given, outs_from}
 use Rattle.hour_sweep.proofs.Known.{since_le, since_known, live_lost}
 use Rattle.hour_sweep.proofs.Orders.{filter_ordered, below_end}
 use Rattle.hour_sweep.proofs.Places.{AllLast, kept_all}
 use Rattle.service_cut.specs.declared.cycles.CycleBegun.{CycleBegun}
 use Rattle.service_cut.specs.declared.items.Cycle.{Cycle}
 use Rattle.service_cut.specs.declared.items.OpenCycle.{OpenCycle}
-use Rattle.service_cut.specs.declared.parts.Part.{Part}
 use Rattle.service_cut.specs.Cycles.{is_yellow_end, last_end_from, cycle_begun, cycle_begun_in, cycle_begun_of, cycle_of, cycle_at}
-use Rattle.service_cut.specs.Parts.{has_phase, room, part_of, parts_of, open_cycle_of, open_cycle}
-use Rattle.service_cut.specs.Cut.{cycles_from, CutLists}
+use Rattle.service_cut.specs.Parts.{has_phase, room, part_of, open_cycle_of, open_cycle}
+use Rattle.service_cut.specs.Cut.{cycles_from, CutLists, IsCut}
 use Rattle.service_cut.proofs.Rooms.{has_room}
 use Rattle.ring_config.specs.Settings.{Settings}
 use Rattle.cycle_arrivals.specs.declared.open.Open.{Open}
 use Rattle.cycle_arrivals.specs.Opens.{open_at}
 use Rattle.arrival_measures.specs.Crossing.{open_since, open_with}
-use Rattle.arrival_measures.specs.Steps.{IsUnderWay, AreUnderWay, IsCutHour}
+use Rattle.ring_config.specs.declared.items.Approach.{Approach}
+use Rattle.arrival_measures.specs.Travel.{told}
+use Rattle.arrival_measures.specs.Steps.{IsCycleOf}
 use Rattle.arrival_measures.proofs.Filters.{clash}
 use Rattle.arrival_measures.proofs.Between.{ordered_low}
 
@@ -175,22 +176,20 @@ cycles_of_hour known phases before seen first end early or = outs_all (IsOfHour 
 
 -- what had begun is at hand
 
-begun_open : (known : ℕ → Bool) (p d first : ℕ) (before : List Row) (begun : Option Open) (u : CycleBegun) (a : ℕ) → begun ≡ open_with known first before p (Some d) → cycle_begun_of known first p before ≡ Some u → u.from.at ≡ a → begun ≡ Some (open_at p d a first before)
-begun_open known p d first before begun u a e is at = e ∙ ap (λ o. open_since p d first before (open_cycle_of p o)) is ∙ ap (λ n. Some (open_at p d n first before)) at
+begun_open : (known : ℕ → Bool) (a : Approach) (d first : ℕ) (before : List Row) (begun : Option Open) (u : CycleBegun) (from : ℕ) → begun ≡ open_with known first before a (Some d) → cycle_begun_of known first a.phase before ≡ Some u → u.from.at ≡ from → begun ≡ Some (open_at a.phase d from first (told known a.phase d a.travel before))
+begun_open known a d first before begun u from e is at = e ∙ ap (λ o. open_since a.phase d first (told known a.phase d a.travel before) (open_cycle_of a.phase o)) is ∙ ap (λ n. Some (open_at a.phase d n first (told known a.phase d a.travel before))) at
 
-pub are_under_way : (known : ℕ → Bool) (c : Settings) (p d : ℕ) (before : List Row) (hour : ℕ) (rows : List Row) (first : ℕ) (cuts : CutLists) (begun : Option Open) → IsCutHour known c before hour rows first cuts → begun ≡ open_with known (point hour) before p (Some d) → AreUnderWay known p d before rows first (point hour + 36000) begun cuts.cycles
-are_under_way known c p d before hour rows first cuts begun h e =
+pub are_cycles_of : (known : ℕ → Bool) (c : Settings) (a : Approach) (d : ℕ) (before : List Row) (hour : ℕ) (rows : List Row) (cuts : CutLists) (begun : Option Open) → All (λ x. x.at < point hour) before → AreOrdered (point hour) (point hour + 36000) rows → IsCut known c.phases before hour rows cuts → begun ≡ open_with known (point hour) before a (Some d) → All (λ z. z.phase ≡ a.phase → IsCycleOf known a.phase d (point hour) (told known a.phase d a.travel before) begun z.from z.to) cuts.cycles
+are_cycles_of known c a d before hour rows cuts begun early ordered cut e =
     let seen = known_rows known rows in
-    let or = filter_ordered known (point hour) (point hour + 36000) (point hour) rows (omega arith) h.ordered in
-    let all = cycles_of_hour known c.phases before seen (point hour) (point hour + 36000) h.earlier or in
-    rw (h.cut.cycles_are, h.is_first) (All-weaker (IsOfHour known before (point hour)) (λ z. z.phase ≡ p → IsUnderWay known p d before rows (point hour) (point hour + 36000) begun z.from z.to)
+    let or = filter_ordered known (point hour) (point hour + 36000) (point hour) rows (omega arith) ordered in
+    let all = cycles_of_hour known c.phases before seen (point hour) (point hour + 36000) early or in
+    rw cut.cycles_are (All-weaker (IsOfHour known before (point hour)) (λ z. z.phase ≡ a.phase → IsCycleOf known a.phase d (point hour) (told known a.phase d a.travel before) begun z.from z.to)
     (λ z f same. record {
-      ordered = h.ordered;
-      earlier = h.earlier;
       order = f.order;
       later = f.later;
       all_known = f.all_known;
-      is_begun = λ lt. let (u, is, at) = f.earlier lt in begun_open known p d (point hour) before begun u z.from e (ap (λ n. cycle_begun_of known (point hour) n before) (sym same) ∙ is) at;
+      is_begun = λ lt. let (u, is, at) = f.earlier lt in begun_open known a d (point hour) before begun u z.from e (ap (λ n. cycle_begun_of known (point hour) n before) (sym same) ∙ is) at;
     })
     (cycles_from known c.phases before seen) all)
 
@@ -247,41 +246,31 @@ module _ (has : ℕ → Bool) (known : ℕ → Bool) (t : ℕ) (all : List Row) 
     | inr ne ↦ find_skip p (open_cycle (numbered has (part_of known t all) a)) _ (part_not (has a) a ne) ∙ find_in (a + 1) n (omega arith) (omega arith) h
   ]
 
-pub open_found : (known : ℕ → Bool) (c : Settings) (p : ℕ) (before : List Row) (hour : ℕ) (rows : List Row) (first : ℕ) (cuts : CutLists) → IsCutHour known c before hour rows first cuts → has_phase c.phases p ≡ true → cycle_with p cuts.open_cycles ≡ open_cycle_of p (cycle_begun_of known (point (hour + 1)) p (before ++ known_rows known rows))
-open_found known c p before hour rows first cuts h has =
+pub open_found : (known : ℕ → Bool) (c : Settings) (p : ℕ) (before : List Row) (hour : ℕ) (rows : List Row) (cuts : CutLists) → IsCut known c.phases before hour rows cuts → has_phase c.phases p ≡ true → cycle_with p cuts.open_cycles ≡ open_cycle_of p (cycle_begun_of known (point (hour + 1)) p (before ++ known_rows known rows))
+open_found known c p before hour rows cuts cut has =
     let lt = has_room c.phases p has in
-    ap (λ ys. cycle_with p ys) h.cut.open_cycles_are ∙ find_in (has_phase c.phases) known (point (hour + 1)) (before ++ known_rows known rows) p 0 (room c.phases) (omega arith) (omega arith) has
+    ap (λ ys. cycle_with p ys) cut.open_cycles_are ∙ find_in (has_phase c.phases) known (point (hour + 1)) (before ++ known_rows known rows) p 0 (room c.phases) (omega arith) (omega arith) has
 
 open_some : (p : ℕ) (o : Option CycleBegun) (y : OpenCycle) → open_cycle_of p o ≡ Some y → (s : CycleBegun) × (o ≡ Some s) × (y.from ≡ s.from.at)
 open_some p None y e = absurd (cc)
 open_some p (Some s) y e = (s, refl, cc)
 
-pub open_under_way : (known : ℕ → Bool) (c : Settings) (p d : ℕ) (before : List Row) (hour : ℕ) (rows : List Row) (first : ℕ) (cuts : CutLists) (begun : Option Open) (y : OpenCycle) → IsCutHour known c before hour rows first cuts → has_phase c.phases p ≡ true → begun ≡ open_with known (point hour) before p (Some d) → cycle_with p cuts.open_cycles ≡ Some y → IsUnderWay known p d before rows first (point hour + 36000) begun y.from (point (hour + 1))
-open_under_way known c p d before hour rows first cuts begun y h has e found =
+open_cycle_is : (known : ℕ → Bool) (c : Settings) (a : Approach) (d : ℕ) (before : List Row) (hour : ℕ) (rows : List Row) (cuts : CutLists) (begun : Option Open) (o : Option OpenCycle) → All (λ x. x.at < point hour) before → AreOrdered (point hour) (point hour + 36000) rows → open_cycle_of a.phase (cycle_begun_of known (point (hour + 1)) a.phase (before ++ known_rows known rows)) ≡ o → begun ≡ open_with known (point hour) before a (Some d) → IfSome o (λ y. IsCycleOf known a.phase d (point hour) (told known a.phase d a.travel before) begun y.from (point (hour + 1)))
+open_cycle_is known c a d before hour rows cuts begun None early ordered found e = tt
+open_cycle_is known c a d before hour rows cuts begun (Some y) early ordered found e =
     let seen = known_rows known rows in
-    let or = filter_ordered known (point hour) (point hour + 36000) (point hour) rows (omega arith) h.ordered in
-    let (s, is, from) = open_some p (cycle_begun_of known (point (hour + 1)) p (before ++ seen)) y (sym (open_found known c p before hour rows first cuts h has) ∙ found) in
+    let or = filter_ordered known (point hour) (point hour + 36000) (point hour) rows (omega arith) ordered in
+    let (s, is, from) = open_some a.phase (cycle_begun_of known (point (hour + 1)) a.phase (before ++ seen)) y found in
     let high = All-weaker (λ (x : Row). x.at < point hour + 36000) (λ x. x.at ≤ point (hour + 1)) (λ x l. omega arith) seen (below_end (point hour) (point hour + 36000) seen or) in
-    let b = begun_is known p before seen (point hour) (point (hour + 1)) s (omega arith) h.earlier (ordered_low (point hour) (point hour + 36000) (point hour) seen (omega arith) or) high is in
+    let b = begun_is known a.phase before seen (point hour) (point (hour + 1)) s (omega arith) early (ordered_low (point hour) (point hour + 36000) (point hour) seen (omega arith) or) high is in
     let order = b.order in
-    rw h.is_first (record {
-      ordered = h.ordered;
-      earlier = h.earlier;
+    record {
       order = omega arith;
       later = omega arith;
       all_known = λ k lo hi. b.all_known k (omega arith) hi;
-      is_begun = λ lt. let (u, was, at) = b.earlier (omega arith) in begun_open known p d (point hour) before begun u y.from e was (at ∙ sym from);
-    })
+      is_begun = λ lt. let (u, was, at) = b.earlier (omega arith) in begun_open known a d (point hour) before begun u y.from e was (at ∙ sym from);
+    }
 
--- nothing has begun
-pub open_none : (known : ℕ → Bool) (c : Settings) (p d : ℕ) (before : List Row) (hour : ℕ) (rows : List Row) (first : ℕ) (cuts : CutLists) → IsCutHour known c before hour rows first cuts → has_phase c.phases p ≡ true → cycle_with p cuts.open_cycles ≡ None → None ≡ open_with known (point (hour + 1)) (before ++ known_rows known rows) p (Some d)
-open_none known c p d before hour rows first cuts h has found = ap (λ o. open_since p d (point (hour + 1)) (before ++ known_rows known rows) o) (sym found ∙ open_found known c p before hour rows first cuts h has)
-
-pub open_has : (known : ℕ → Bool) (c : Settings) (p d : ℕ) (before : List Row) (hour : ℕ) (rows : List Row) (first : ℕ) (cuts : CutLists) (y : OpenCycle) (o : Open) → IsCutHour known c before hour rows first cuts → has_phase c.phases p ≡ true → cycle_with p cuts.open_cycles ≡ Some y → o ≡ open_at p d y.from (point (hour + 1)) (before ++ known_rows known rows) → Some o ≡ open_with known (point (hour + 1)) (before ++ known_rows known rows) p (Some d)
-open_has known c p d before hour rows first cuts y o h has found e = ap (λ z. Some z) e ∙ ap (λ o. open_since p d (point (hour + 1)) (before ++ known_rows known rows) o) (sym found ∙ open_found known c p before hour rows first cuts h has)
-
-pub end_is : (known : ℕ → Bool) (c : Settings) (before : List Row) (hour : ℕ) (rows : List Row) (first : ℕ) (cuts : CutLists) (end : ℕ) → IsCutHour known c before hour rows first cuts → end ≡ min (first + 36000) 4294967295 → end ≡ point (hour + 1)
-end_is known c before hour rows first cuts end h e = let f = h.is_first in let lt = h.in_range in omega arith
-
-pub given_end : (known : ℕ → Bool) (p d : ℕ) (before rows : List Row) (first high : ℕ) (begun : Option Open) (from end to : ℕ) (o : Open) → end ≡ to → (IsUnderWay known p d before rows first high begun from end → o ≡ open_at p d from end (before ++ known_rows known rows)) → IsUnderWay known p d before rows first high begun from to → o ≡ open_at p d from to (before ++ known_rows known rows)
-given_end known p d before rows first high begun from end to o e given under = rw (← e) (given (rw e under))
+-- the cycle that has begun at the hour's end
+pub open_is_cycle : (known : ℕ → Bool) (c : Settings) (a : Approach) (d : ℕ) (before : List Row) (hour : ℕ) (rows : List Row) (cuts : CutLists) (begun : Option Open) → All (λ x. x.at < point hour) before → AreOrdered (point hour) (point hour + 36000) rows → IsCut known c.phases before hour rows cuts → has_phase c.phases a.phase ≡ true → begun ≡ open_with known (point hour) before a (Some d) → IfSome (cycle_with a.phase cuts.open_cycles) (λ y. IsCycleOf known a.phase d (point hour) (told known a.phase d a.travel before) begun y.from (point (hour + 1)))
+open_is_cycle known c a d before hour rows cuts begun early ordered cut has e = open_cycle_is known c a d before hour rows cuts begun (cycle_with a.phase cuts.open_cycles) early ordered (sym (open_found known c a.phase before hour rows cuts cut has)) e

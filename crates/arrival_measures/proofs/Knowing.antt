@@ -1,22 +1,13 @@
 -- The stretches of an hour, and the tenths of its rows.
-use Rattle.std.proofs.Common.{◌≡◌, ℕ, zero, suc, ◌+◌, ◌<◌, ◌≤◌, Bool, true, false, ◌&&◌, leb, List, [], ◌∷◌, length, get_or, take, refl, ap, ◌∙◌, arith}
-use Rattle.std.specs.List.{filter}
+use Rattle.std.proofs.Common.{◌≡◌, ℕ, zero, suc, ◌+◌, ◌<◌, ◌≤◌, Bool, true, false, ◌&&◌, leb, ltb, List, [], ◌∷◌, length, get_or, ap, ◌∙◌, arith}
 use Rattle.std.specs.List.Sorted.{IsNonDecreasingBy, IsPartitionPoint}
-use Rattle.std.proofs.lemmas.Bool.{leb-true, leb-false}
+use Rattle.std.proofs.lemmas.Bool.{and_parts, leb-true, leb-false, ltb-true}
 use Rattle.sig_base.specs.declared.values.Row.{Row}
 use Rattle.gap_map.specs.declared.stretch.Stretch.{Stretch}
 use Rattle.gap_map.specs.Stretches.{AreStretches, known_at}
 use Rattle.gap_map.proofs.Following.{known_at_is}
-use Rattle.hour_sweep.specs.Rows.{known_rows}
 use Rattle.hour_sweep.specs.Hours.{IsHour, point}
-use Rattle.hour_sweep.proofs.Orders.{below_end}
-use Rattle.board.specs.Logs.{no_row}
-use Rattle.cycle_arrivals.specs.Arrivals.{is_on, ons_of}
-use Rattle.cycle_arrivals.proofs.Own.{filter_filter}
-use Rattle.arrival_measures.proofs.Between.{ordered_low}
-use Rattle.arrival_measures.specs.Chains.{IsNext}
-use Rattle.arrival_measures.proofs.Chaining.{passed_over}
-use Rattle.arrival_measures.proofs.Hours.{hour_ordered}
+use Rattle.hour_sweep.proofs.Orders.{stretches_end}
 
 -- stretches end one after another
 
@@ -52,48 +43,23 @@ has_tenth known a b t (s ∷ ss) (suc i) d h lo hi le cut =
     let more = has_tenth known s.to b t ss i d h.3 (omega arith) hi (omega arith) ((λ k e l r. cut.0 (suc k) e (omega arith) (omega arith)), (λ k e l r. cut.1 (suc k) e (omega arith) (omega arith))) in
     record { within = let w = more.within in omega arith; is_known = more.is_known }
 
--- a row of the hour
+-- none has a tenth after their end
 
-pub record IsWithin (hour t : ℕ) : Type 0 where
-  pub low : point hour ≤ t
-  pub high : t < point hour + 36000
+ends_in : (known : ℕ → Bool) (a b : ℕ) (ss : List Stretch) (j : ℕ) (d : Stretch) → AreStretches known a b ss → j < length ss → (get_or ss j d).to ≤ b
+ends_in known a b [] j d h lt = absurd (omega arith)
+ends_in known a b (s ∷ ss) zero d h lt = stretches_end known s.to b ss h.3
+ends_in known a b (s ∷ ss) (suc j) d h lt = ends_in known s.to b ss j d h.3 (omega arith)
 
-pub row_within : (known : ℕ → Bool) (hour : ℕ) (rows : List Row) (ss : List Stretch) (i : ℕ) (d : Row) → IsHour known hour rows ss → i < length rows → IsWithin hour (get_or rows i d).at
-row_within known hour rows ss i d h lt =
-    let or = hour_ordered known hour rows ss h in
-    let low = ordered_low (point hour) (point hour + 36000) (point hour) rows (omega arith) or in
-    let high = below_end (point hour) (point hour + 36000) rows or in
-    record { low = low i d lt; high = high i d lt }
+pub past_all : (known : ℕ → Bool) (a b t : ℕ) (ss : List Stretch) (i : ℕ) → AreStretches known a b ss → b ≤ t → IsPartitionPoint (λ (s : Stretch). leb s.to t ≡ true) (λ s. leb s.to t ≡ false) ss i → i < length ss → ⊥
+past_all known a b t ss i h le cut lt =
+    let end = ends_in known a b ss i no_stretch h lt in
+    let after = leb-false (get_or ss i no_stretch).to t (cut.1 i no_stretch (omega arith) lt) in
+    absurd (omega arith)
 
-pub row_known : (known : ℕ → Bool) (hour : ℕ) (rows : List Row) (ss own : List Stretch) (i : ℕ) (d : Row) → IsHour known hour rows ss → own ≡ ss → i < length rows → known (get_or rows i d).at ≡ true → known_at own (get_or rows i d).at ≡ true
-row_known known hour rows ss own i d h same lt e =
-    let in_hour = row_within known hour rows ss i d h lt in
-    ap (λ zs. known_at zs (get_or rows i d).at) same
-    ∙ known_at_is known (point hour) (point hour + 36000) (get_or rows i d).at ss h.are_stretches in_hour.low in_hour.high
-    ∙ e
-
--- two tests
-
-pub both_true : (a b : Bool) → a ≡ true → b ≡ true → (a && b) ≡ true
-both_true true b h k = k
-both_true false b h k = absurd (cc)
-
-pub first_false : (a b : Bool) → a ≡ false → (a && b) ≡ false
-first_false true b h = absurd (cc)
-first_false false b h = refl
-
-second_false : (a b : Bool) → b ≡ false → (a && b) ≡ false
-second_false true b h = h
-second_false false b h = refl
-
--- the known rows of a detector
-
-abbrev pub known_on : (ℕ → Bool) → ℕ → Row → Bool
-known_on known d x = known x.at && is_on d x
-
-pub known_ons : (known : ℕ → Bool) (d : ℕ) (rows : List Row) → ons_of d (known_rows known rows) ≡ filter (known_on known d) rows
-known_ons known d rows = filter_filter (is_on d) (λ x. known x.at) rows
-
--- those up to one place as up to another, with no row of the detector between them
-pub ons_over : (known : ℕ → Bool) (d : ℕ) (rows : List Row) (k m : ℕ) → IsNext (is_on d) rows k m → filter (known_on known d) (take m rows) ≡ filter (known_on known d) (take k rows)
-ons_over known d rows k m next = passed_over (known_on known d) rows k m next.from next.within (λ j lo hi. second_false (known (get_or rows j no_row).at) (is_on d (get_or rows j no_row)) (next.none j lo hi))
+-- a known tenth of an hour is known by its stretches
+pub tenth_known : (known : ℕ → Bool) (hour : ℕ) (rows : List Row) (ss own : List Stretch) (t : ℕ) → IsHour known hour rows ss → own ≡ ss → point hour ≤ t → (known t && ltb t (point hour + 36000)) ≡ true → known_at own t ≡ true
+tenth_known known hour rows ss own t h same low e =
+    let both = and_parts (known t) (ltb t (point hour + 36000)) e in
+    ap (λ zs. known_at zs t) same
+    ∙ known_at_is known (point hour) (point hour + 36000) t ss h.are_stretches low (ltb-true t (point hour + 36000) both.1)
+    ∙ both.0

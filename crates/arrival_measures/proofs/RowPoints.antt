@@ -1,26 +1,21 @@
--- Points of rows, and of the cycles that they are in.
-use Rattle.std.proofs.Common.{◌≡◌, ℕ, zero, suc, ◌+◌, ◌<◌, ◌≤◌, Bool, true, false, not, ◌&&◌, cond, eqb, leb, ltb, List, [], ◌∷◌, ◌++◌, Option, Some, None, length, get_or, take, drop, refl, ap, sym, ◌∙◌, append_assoc, arith, inl, inr}
-use Rattle.std.specs.Prelude.{flat_map}
-use Rattle.std.specs.List.{filter}
-use Rattle.std.specs.List.Sorted.{IsNonDecreasingBy}
-use Rattle.std.proofs.lemmas.Bool.{cases_Bool}
+-- Points of arrivals.
+use Rattle.std.proofs.Common.{◌≡◌, ℕ, zero, suc, ◌+◌, ◌<◌, Bool, true, false, ◌&&◌, ◌||◌, cond, eqb, ltb, List, [], ◌∷◌, ◌++◌, Option, Some, None, length, get_or, take, drop, refl, ap, sym, ◌∙◌, append_assoc, arith, inl, inr}
+use Rattle.std.specs.Prelude.{All, IfSome, flat_map}
+use Rattle.std.specs.List.{list_any}
+use Rattle.std.proofs.lemmas.Bool.{and_parts, cases_Bool, eq-eqb, eqb-true, lt-ltb}
 use Rattle.std.proofs.lemmas.List.{drop_more, take_more, append-nil}
-use Rattle.std.proofs.lemmas.List.Elements.{filter_agree}
+use Rattle.std.proofs.lemmas.List.Elements.{All-head, All-tail}
 use Rattle.std.proofs.lemmas.Grind.{flat_map-append}
 use Rattle.sig_base.specs.declared.values.Row.{Row}
-use Rattle.hour_sweep.specs.Hours.{AreOrdered}
-use Rattle.ring_config.specs.Settings.{Settings}
+use Rattle.sig_base.specs.declared.values.PhaseItem.{PhaseItem}
+use Rattle.ring_config.specs.Settings.{Settings, detectors, some_number}
+use Rattle.ring_config.specs.Sound.{IsApproach, IsBetween}
+use Rattle.ring_config.specs.Values.{has_number}
 use Rattle.ring_config.specs.declared.items.Approach.{Approach}
 use Rattle.arrival_measures.specs.declared.points.Point.{Point}
-use Rattle.arrival_measures.specs.Points.{is_on_at, points_at, points_of, AreByTenth}
-use Rattle.arrival_measures.specs.Steps.{is_detector}
-use Rattle.cycle_arrivals.proofs.Own.{filter_filter}
-use Rattle.arrival_measures.proofs.Between.{not_before}
-
--- the points of joined lists of rows
-
-pub points-append : (c : Settings) (p : ℕ) (xs ys : List Row) → points_of c p (xs ++ ys) ≡ points_of c p xs ++ points_of c p ys
-points-append c p xs ys = flat_map-append (points_at p 0 c.approaches) xs ys
+use Rattle.arrival_measures.specs.Crossing.{has_detector}
+use Rattle.arrival_measures.specs.Points.{is_on_at, points_at}
+use Rattle.arrival_measures.specs.Steps.{IsOwnOf, of_approaches}
 
 pub points_next : (p : ℕ) (all : List Approach) (rows : List Row) (i : ℕ) (d : Row) (old new : List Point) → i < length rows → old ≡ flat_map (points_at p 0 all) (take i rows) → new ≡ old ++ points_at p 0 all (get_or rows i d) → new ≡ flat_map (points_at p 0 all) (take (i + 1) rows)
 points_next p all rows i d old new lt h e =
@@ -32,79 +27,110 @@ points_next p all rows i d old new lt h e =
 
 -- the points of one row, approach by approach
 
-abbrev pub point_of : ℕ → Row → Point
-point_of i x = record { approach = i; offset = x.at }
+abbrev pub point_of : ℕ → ℕ → Row → Point
+point_of i v x = record { approach = i; offset = x.at + v }
 
 cond_more : (b : Bool) (old more : List Point) (x : Point) → cond b (old ++ x ∷ []) old ++ more ≡ old ++ cond b (x ∷ more) more
 cond_more true old more x = append_assoc old (x ∷ []) more
 cond_more false old more x = refl
 
-pub point_next : (p i : ℕ) (all : List Approach) (x : Row) (d : Approach) (b : Bool) (old new whole : List Point) → i < length all → b ≡ (eqb (get_or all i d).phase p && is_on_at (get_or all i d).advance x) → new ≡ cond b (old ++ point_of i x ∷ []) old → old ++ points_at p i (drop i all) x ≡ whole → new ++ points_at p (i + 1) (drop (i + 1) all) x ≡ whole
+pub point_next : (p i : ℕ) (all : List Approach) (x : Row) (d : Approach) (b : Bool) (old new whole : List Point) → i < length all → b ≡ (eqb (get_or all i d).phase p && is_on_at (get_or all i d).advance x) → new ≡ cond b (old ++ point_of i (get_or all i d).travel x ∷ []) old → old ++ points_at p i (drop i all) x ≡ whole → new ++ points_at p (i + 1) (drop (i + 1) all) x ≡ whole
 point_next p i all x d b old new whole lt e n h =
     let more = points_at p (i + 1) (drop (i + 1) all) x in
-    ap (λ zs. zs ++ more) n ∙ cond_more b old more (point_of i x)
-    ∙ ap (λ v. old ++ cond v (point_of i x ∷ more) more) e
+    ap (λ zs. zs ++ more) n ∙ cond_more b old more (point_of i (get_or all i d).travel x)
+    ∙ ap (λ v. old ++ cond v (point_of i (get_or all i d).travel x ∷ more) more) e
     ∙ ap (λ zs. old ++ points_at p i zs x) (sym (drop_more all i d lt)) ∙ h
 
--- only rows of detectors have any
+-- a row of a detector that no approach has gives none
 
-and_false : (a b : Bool) → b ≡ false → (a && b) ≡ false
-and_false true b h = h
-and_false false b h = refl
+or_left : (a b : Bool) → a ≡ true → (a || b) ≡ true
+or_left true b h = refl
+or_left false b h = absurd (cc)
 
-on_none : (o : Option ℕ) (x : Row) → eqb x.code 82 ≡ false → is_on_at o x ≡ false
-on_none None x e = refl
-on_none (Some d) x e = rw e refl
+or_right : (a b : Bool) → b ≡ true → (a || b) ≡ true
+or_right true b h = refl
+or_right false b h = h
 
-row_none : (p i : ℕ) (all : List Approach) (x : Row) → eqb x.code 82 ≡ false → points_at p i all x ≡ []
-row_none p i [] x e = refl
-row_none p i (a ∷ more) x e = rw (and_false (eqb a.phase p) (is_on_at a.advance x) (on_none a.advance x e)) (row_none p (i + 1) more x e)
+abbrev has_of : ℕ → Approach → Bool
+has_of n a = has_number (detectors a) n
 
-pub points_kept : (c : Settings) (p : ℕ) (xs : List Row) → points_of c p (filter is_detector xs) ≡ points_of c p xs
-points_kept c p [] = refl
-points_kept c p (x ∷ xs) = elim (cases_Bool (eqb x.code 82)) [
-  | inl e ↦ rw e (ap (λ zs. points_at p 0 c.approaches x ++ zs) (points_kept c p xs))
-  | inr e ↦ rw (e, row_none p 0 c.approaches x e) (points_kept c p xs)
+on_has : (a : Approach) (o : Option ℕ) (x : Row) → a.advance ≡ o → is_on_at o x ≡ true → has_of x.param a ≡ true
+on_has a None x is e = absurd (cc)
+on_has a (Some d) x is e =
+    let at : eqb d x.param ≡ true = eq-eqb d x.param (sym (eqb-true x.param d (and_parts (eqb x.code 82) (eqb x.param d) e).1)) in
+    ap (λ o. has_number (some_number o ++ some_number a.stop_bar) x.param) is ∙ or_left (eqb d x.param) _ at
+
+on_small : (o : Option ℕ) (x : Row) → IfSome o (IsBetween 1 128) → is_on_at o x ≡ true → x.param < 129
+on_small None x h e = absurd (cc)
+on_small (Some d) x h e =
+    let at = eqb-true x.param d (and_parts (eqb x.code 82) (eqb x.param d) e).1 in
+    let hi = h.1 in
+    omega arith
+
+not_on : (a : Approach) (x : Row) (rest : Bool) → IfSome a.advance (IsBetween 1 128) → (ltb x.param 129 && (has_of x.param a || rest)) ≡ false → is_on_at a.advance x ≡ false
+not_on a x rest small none = elim (cases_Bool (is_on_at a.advance x)) [
+  | inr e ↦ e
+  | inl e ↦
+      let one : (has_of x.param a || rest) ≡ true = or_left (has_of x.param a) rest (on_has a a.advance x refl e) in
+      let lt : ltb x.param 129 ≡ true = lt-ltb x.param 129 (on_small a.advance x small e) in
+      absurd (let bad : true ≡ false = sym (ap (λ v. v && (has_of x.param a || rest)) lt ∙ one) ∙ none in cc)
 ]
 
--- points of ordered rows stand by tenth
+rest_none : (l h r : Bool) → (l && (h || r)) ≡ false → (l && r) ≡ false
+rest_none false h r e = refl
+rest_none true true r e = absurd (cc)
+rest_none true false r e = e
 
-by_tenth_from : (t u : ℕ) (xs : List Point) → t ≤ u → AreByTenth u xs → AreByTenth t xs
-by_tenth_from t u [] le h = tt
-by_tenth_from t u (x ∷ xs) le h = let l = h.0 in (omega arith, h.1)
+and_no : (a b : Bool) → b ≡ false → (a && b) ≡ false
+and_no true b h = h
+and_no false b h = refl
 
-row_by_tenth : (p i : ℕ) (all : List Approach) (x : Row) (t : ℕ) (rest : List Point) → t ≤ x.at → AreByTenth x.at rest → AreByTenth t (points_at p i all x ++ rest)
-row_by_tenth p i [] x t rest le h = by_tenth_from t x.at rest le h
-row_by_tenth p i (a ∷ more) x t rest le h = elim (cases_Bool (eqb a.phase p && is_on_at a.advance x)) [
-  | inl e ↦ rw e (le, row_by_tenth p (i + 1) more x x.at rest (omega arith) h)
-  | inr e ↦ rw e (row_by_tenth p (i + 1) more x t rest le h)
+no_points : (phases : List PhaseItem) (p i : ℕ) (all : List Approach) (x : Row) → All (IsApproach phases) all → (ltb x.param 129 && list_any (has_of x.param) all) ≡ false → points_at p i all x ≡ []
+no_points phases p i [] x sound none = refl
+no_points phases p i (a ∷ more) x sound none =
+    let here = All-head (IsApproach phases) a more sound in
+    rw (and_no (eqb a.phase p) (is_on_at a.advance x) (not_on a x (list_any (has_of x.param) more) here.advance none))
+    (no_points phases p (i + 1) more x (All-tail (IsApproach phases) a more sound) (rest_none (ltb x.param 129) (has_of x.param a) (list_any (has_of x.param) more) none))
+
+pub points_kept : (c : Settings) (p : ℕ) (rows : List Row) → All (IsApproach c.phases) c.approaches → flat_map (points_at p 0 c.approaches) (of_approaches c rows) ≡ flat_map (points_at p 0 c.approaches) rows
+points_kept c p [] sound = refl
+points_kept c p (x ∷ xs) sound = elim (cases_Bool (has_detector c x.param)) [
+  | inl e ↦ rw e (ap (λ zs. points_at p 0 c.approaches x ++ zs) (points_kept c p xs sound))
+  | inr e ↦ rw (e, no_points c.phases p 0 c.approaches x sound e) (points_kept c p xs sound)
 ]
 
-pub points_by_tenth : (c : Settings) (p a b : ℕ) (rows : List Row) → AreOrdered a b rows → AreByTenth a (points_of c p rows)
-points_by_tenth c p a b [] h = tt
-points_by_tenth c p a b (x ∷ xs) h = row_by_tenth p 0 c.approaches x a (points_of c p xs) h.0 (points_by_tenth c p x.at b xs h.2)
+-- the detectors of an approach are detectors of the configuration
 
--- points that stand by tenth don't fall
+any_at : (P : Approach → Bool) (xs : List Approach) (i : ℕ) (d : Approach) → i < length xs → P (get_or xs i d) ≡ true → list_any P xs ≡ true
+any_at P [] i d lt e = absurd (omega arith)
+any_at P (x ∷ xs) zero d lt e = or_left (P x) (list_any P xs) e
+any_at P (x ∷ xs) (suc i) d lt e = or_right (P x) (list_any P xs) (any_at P xs i d (omega arith) e)
 
-at_least : (a : ℕ) (xs : List Point) (j : ℕ) (d : Point) → AreByTenth a xs → j < length xs → a ≤ (get_or xs j d).offset
-at_least a [] j d h lt = absurd (omega arith)
-at_least a (x ∷ xs) zero d h lt = h.0
-at_least a (x ∷ xs) (suc j) d h lt = let l = h.0 in let r = at_least x.offset xs j d h.1 (omega arith) in omega arith
+first_has : (o : Option ℕ) (rest : List ℕ) → IfSome o (λ d. has_number (some_number o ++ rest) d ≡ true)
+first_has None rest = tt
+first_has (Some d) rest = or_left (eqb d d) _ (eq-eqb d d refl)
 
-pub never_falls : (a : ℕ) (xs : List Point) → AreByTenth a xs → IsNonDecreasingBy (λ (z : Point). z.offset) xs
-never_falls a [] h i j d le lt = absurd (omega arith)
-never_falls a (x ∷ xs) h zero zero d le lt = omega arith
-never_falls a (x ∷ xs) h zero (suc j) d le lt = at_least x.offset xs j d h.1 (omega arith)
-never_falls a (x ∷ xs) h (suc i) zero d le lt = absurd (omega arith)
-never_falls a (x ∷ xs) h (suc i) (suc j) d le lt = never_falls x.offset xs h.1 i j d (omega arith) (omega arith)
+second_has : (o q : Option ℕ) → IfSome q (λ d. has_number (some_number o ++ some_number q) d ≡ true)
+second_has o None = tt
+second_has None (Some d) = or_left (eqb d d) _ (eq-eqb d d refl)
+second_has (Some c) (Some d) = or_right (eqb c d) _ (or_left (eqb d d) _ (eq-eqb d d refl))
 
-pub drop_by_tenth : (a : ℕ) (xs : List Point) (i : ℕ) → AreByTenth a xs → AreByTenth a (drop i xs)
-drop_by_tenth a xs zero h = h
-drop_by_tenth a [] (suc i) h = h
-drop_by_tenth a (x ∷ xs) (suc i) h = let l = h.0 in by_tenth_from a x.offset (drop i xs) l (drop_by_tenth x.offset xs i h.1)
+both_on : (a b : Bool) → a ≡ true → b ≡ true → (a && b) ≡ true
+both_on true b e h = h
+both_on false b e h = absurd (cc)
 
-pub points_between : (f t i j : ℕ) (points later within : List Point) → later ≡ drop i points → drop i points ≡ filter (λ x. not (ltb x.offset f)) points → within ≡ take j later → take j later ≡ filter (λ x. ltb x.offset t) later → within ≡ filter (λ x. leb f x.offset && ltb x.offset t) points
-points_between f t i j points later within el ed eb et =
-    eb ∙ et ∙ ap (λ zs. filter (λ x. ltb x.offset t) zs) (el ∙ ed)
-    ∙ filter_filter (λ x. ltb x.offset t) (λ x. not (ltb x.offset f)) points
-    ∙ filter_agree (λ x. not (ltb x.offset f) && ltb x.offset t) (λ x. leb f x.offset && ltb x.offset t) (λ x. ap (λ v. v && ltb x.offset t) (not_before x.offset f)) points
+some_has : (c : Settings) (i : ℕ) (d : Approach) (o : Option ℕ) → i < length c.approaches → IfSome o (IsBetween 1 128) → IfSome o (λ n. has_of n (get_or c.approaches i d) ≡ true) → IfSome o (λ n. has_detector c n ≡ true)
+some_has c i d None lt small has = tt
+some_has c i d (Some n) lt small has =
+    let hi = small.1 in
+    both_on (ltb n 129) (list_any (has_of n) c.approaches) (lt-ltb n 129 (omega arith)) (any_at (has_of n) c.approaches i d lt has)
+
+pub is_own_of : (c : Settings) (i : ℕ) (d : Approach) → i < length c.approaches → IsApproach c.phases (get_or c.approaches i d) → IsOwnOf c (get_or c.approaches i d)
+is_own_of c i d lt is =
+    let a = get_or c.approaches i d in
+    record {
+      phase = is.phase;
+      advance = some_has c i d a.advance lt is.advance (first_has a.advance (some_number a.stop_bar));
+      stop_bar = some_has c i d a.stop_bar lt is.stop_bar (second_has a.advance a.stop_bar);
+      travel = is.travel;
+    }

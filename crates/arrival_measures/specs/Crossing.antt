@@ -1,28 +1,57 @@
 -- What crosses a point between two hours.
-use Rattle.std.specs.Prelude.{ℕ, ◌≡◌, ◌<◌, Bool, List, Option, Some, None, All, map}
+use Rattle.std.specs.Prelude.{ℕ, ◌≡◌, ◌<◌, nat_lt, ◌&&◌, Bool, List, [], Option, Some, None, All, map}
 use Rattle.sig_base.specs.declared.values.Row.{Row}
-use Rattle.hour_sweep.specs.Hours.{point}
+use Rattle.event_codes.specs.declared.channels.Kind.TheVariants.{Detector}
+use Rattle.hour_sweep.specs.Hours.{AreOrdered, point}
+use Rattle.hour_sweep.specs.Numbers.{table}
 use Rattle.service_cut.specs.declared.items.OpenCycle.{OpenCycle}
 use Rattle.service_cut.specs.Cycles.{cycle_begun_of}
 use Rattle.service_cut.specs.Parts.{open_cycle_of}
-use Rattle.ring_config.specs.Settings.{Settings}
+use Rattle.ring_config.specs.Settings.{Settings, is_tracked_as}
 use Rattle.ring_config.specs.declared.items.Approach.{Approach}
 use Rattle.cycle_arrivals.specs.declared.open.Open.{Open}
 use Rattle.cycle_arrivals.specs.Opens.{open_at}
+use Rattle.arrival_measures.specs.declared.carry.Crossing.{Crossing}
+use Rattle.arrival_measures.specs.declared.faults.Flag.{Flag}
+use Rattle.arrival_measures.specs.Faults.{faulty}
+use Rattle.arrival_measures.specs.Travel.{arrivals_at, from_tenth, told}
 
 abbrev pub open_since : ℕ → ℕ → ℕ → List Row → Option OpenCycle → Option Open
-open_since p d t before None = None
-open_since p d t before (Some s) = Some (open_at p d s.from t before)
+open_since p d t told None = None
+open_since p d t told (Some s) = Some (open_at p d s.from t told)
 
-abbrev pub open_with : (ℕ → Bool) → ℕ → List Row → ℕ → Option ℕ → Option Open
-open_with known t before p None = None
-open_with known t before p (Some d) = open_since p d t before (open_cycle_of p (cycle_begun_of known t p before))
+abbrev pub open_with : (ℕ → Bool) → ℕ → List Row → Approach → Option ℕ → Option Open
+open_with known t before a None = None
+open_with known t before a (Some d) =
+    open_since a.phase d t (told known a.phase d a.travel before) (open_cycle_of a.phase (cycle_begun_of known t a.phase before))
 
--- of an approach with an advance detector the cycle that its phase has begun, where every tenth since is known
-abbrev pub open_of : (ℕ → Bool) → ℕ → List Row → Approach → Option Open
-open_of known t before a = open_with known t before a.phase a.advance
+abbrev pub pending_with : (ℕ → Bool) → ℕ → List Row → Approach → Option ℕ → List ℕ
+pending_with known t before a None = []
+pending_with known t before a (Some d) = map (λ x. x.at) (from_tenth t (arrivals_at known d a.travel before))
+
+-- of an approach with an advance detector the cycle that its phase has begun, where every tenth since is known, and the arrival tenths at t or later of the arrivals before it
+abbrev pub crossing_of : (ℕ → Bool) → ℕ → List Row → Approach → Crossing
+crossing_of known t before a = record { begun = open_with known t before a a.advance; pending = pending_with known t before a a.advance }
+
+-- it is a detector of an approach
+abbrev pub has_detector : Settings → ℕ → Bool
+has_detector c d = nat_lt d 129 && is_tracked_as c Detector d
+
+-- of each detector of an approach, at its number, whether it is sure to have a fault
+abbrev pub flag_of : (ℕ → Bool) → ℕ → List Row → ℕ → Flag
+flag_of known t before d = record { fault = faulty known t before d }
+
+abbrev pub flags_of : (ℕ → Bool) → Settings → ℕ → List Row → List (Option Flag)
+flags_of known c t before = table (has_detector c) 129 (flag_of known t before)
+
+-- what is seen of what crosses a point
+pub record CarryParts : Type 0 where
+  pub crossings : List Crossing
+  pub flags : List (Option Flag)
 
 -- this crosses point k, where these are the known rows before it
-pub record IsCarry (known : ℕ → Bool) (c : Settings) (before : List Row) (k : ℕ) (carry : List (Option Open)) : Type 0 where
+pub record IsCarry (known : ℕ → Bool) (c : Settings) (before : List Row) (k : ℕ) (carry : CarryParts) : Type 0 where
   pub earlier : All (λ x. x.at < point k) before
-  pub opens_are : carry ≡ map (open_of known (point k) before) c.approaches
+  pub ordered : AreOrdered 0 (point k) before
+  pub crossings_are : carry.crossings ≡ map (crossing_of known (point k) before) c.approaches
+  pub flags_are : carry.flags ≡ flags_of known c (point k) before

@@ -1,3 +1,5 @@
+pub mod Faults
+pub mod Travel
 pub mod Judged
 pub mod Cycles
 pub mod Crossing

@@ -1,32 +1,135 @@
 -- What the steps of an hour owe one another.
-use Rattle.std.specs.Prelude.{ℕ, ◌≡◌, ◌↔◌, ◌≤◌, ◌<◌, ◌+◌, ◌-◌, ◌==◌, ◌&&◌, ◌++◌, not, nat_le, Bool, true, if◌then◌else◌, IsTrue, List, [], ◌∷◌, Option, Some, None, All, filter, length}
+use Rattle.std.specs.Prelude.{ℕ, ◌≡◌, ◌↔◌, ◌≤◌, ◌<◌, ◌+◌, ◌-◌, ◌^◌, ◌==◌, ◌&&◌, ◌||◌, ◌++◌, min, not, nat_lt, Bool, true, false, if◌then◌else◌, IsTrue, IfSome, List, [], ◌∷◌, Option, Some, None, All, filter, length, map}
+use Rattle.std.specs.List.{range_with_len}
 use Rattle.sig_base.specs.declared.values.Row.{Row}
+use Rattle.event_codes.specs.declared.channels.Kind.TheVariants.{Detector}
 use Rattle.colour_machine.specs.Mask.{Has}
 use Rattle.reach.specs.Runs.{State}
 use Rattle.reach.specs.declared.seen.Seen.{Seen}
 use Rattle.hour_sums.specs.Numbers.{capped}
-use Rattle.hour_sweep.specs.Hours.{AreOrdered, point}
+use Rattle.hour_sweep.specs.Rows.{known_rows}
+use Rattle.hour_sweep.specs.Hours.{AreOrdered, IsHour, point}
+use Rattle.hour_sweep.specs.Passes.{front, back}
 use Rattle.service_cut.specs.declared.items.Cycle.{Cycle}
 use Rattle.service_cut.specs.declared.items.OpenCycle.{OpenCycle}
 use Rattle.service_cut.specs.Cut.{CutLists, IsCut}
-use Rattle.ring_config.specs.Settings.{Settings}
+use Rattle.ring_config.specs.Settings.{Settings, is_tracked_as}
+use Rattle.ring_config.specs.Values.{has_phase}
+use Rattle.ring_config.specs.declared.items.Approach.{Approach}
 use Rattle.cycle_arrivals.specs.declared.open.Open.{Open}
 use Rattle.cycle_arrivals.specs.Arrivals.{ons_of}
 use Rattle.cycle_arrivals.specs.Opens.{open_at}
-use Rattle.cycle_arrivals.specs.Own.{own_rows}
+use Rattle.arrival_measures.specs.declared.carry.Crossing.{Crossing}
+use Rattle.arrival_measures.specs.declared.faults.Flag.{Flag}
+use Rattle.arrival_measures.specs.declared.faults.Detection.{Detection}
+use Rattle.arrival_measures.specs.declared.faults.Detections.{Detections}
+use Rattle.arrival_measures.specs.declared.sources.Sources.{Sources}
+use Rattle.arrival_measures.specs.declared.ahead.ApproachHour.{ApproachHour}
 use Rattle.arrival_measures.specs.declared.judged.Judged.{Judged}
 use Rattle.arrival_measures.specs.declared.cycles.CycleSum.{CycleSum}
 use Rattle.arrival_measures.specs.declared.sums.ArrivalSum.{ArrivalSum}
-use Rattle.arrival_measures.specs.Judged.{AllPass, NonePass, OnlySomePass, CountOf, AreJudged}
+use Rattle.arrival_measures.specs.Faults.{arrivals_from, begins_fault, faults_from, faulty, is_own}
+use Rattle.arrival_measures.specs.Travel.{arrivals_at, from_tenth}
+use Rattle.arrival_measures.specs.Crossing.{crossing_of, flags_of, has_detector}
+use Rattle.arrival_measures.specs.Judged.{AllPass, NonePass, OnlySomePass, CountOf}
 use Rattle.arrival_measures.specs.Cycles.{CycleNumbers}
+use Rattle.arrival_measures.specs.Hours.{cycle_numbers, is_last}
 
--- ---- rows of detectors
+-- ---- detections
 
-abbrev pub is_detector : Row → Bool
-is_detector x = x.code == 82
+-- the flag of a detector after a row of its number, and after an unknown tenth
+abbrev pub flag_after : Row → Flag → Flag
+flag_after x f = record { fault = if is_own x.code then begins_fault x.code else f.fault }
 
-abbrev pub with_detector : List Row → Row → List Row
-with_detector s x = if is_detector x then s ++ x ∷ [] else s
+abbrev pub flag_cleared : Flag → Flag
+flag_cleared f = record { fault = false }
+
+-- what a row of its number gives, by the flag before it and by the rows before it
+abbrev pub detected_by : Row → Flag → Option Detection
+detected_by x f = if x.code == 82 then Some (record { row = x; fault = f.fault }) else None
+
+abbrev pub detected_at : (ℕ → Bool) → ℕ → List Row → Row → List Row → Option Detection
+detected_at known d before x rest = if x.code == 82 then Some (record { row = x; fault = faulty known x.at before d }) else None
+
+abbrev pub arrival_in : Detection → Option Row
+arrival_in one = if one.fault then None else Some one.row
+
+abbrev pub fault_in : Detection → Option Row
+fault_in one = if one.fault then Some one.row else None
+
+-- those of the rows whose detector is one of an approach
+abbrev pub of_approaches : Settings → List Row → List Row
+of_approaches c rows = filter (λ x. has_detector c x.param) rows
+
+-- these are the detections of an hour with these known rows, where the first rows stand before them
+pub record AreDetections (known : ℕ → Bool) (c : Settings) (before rows : List Row) (hour : ℕ) (d : Detections) : Type 0 where
+  pub arrivals : d.arrivals.items ≡ of_approaches c (arrivals_from known before rows)
+  pub faults : d.faults.items ≡ of_approaches c (faults_from known before rows)
+  pub flags : d.flags.items ≡ flags_of known c (point (hour + 1)) (before ++ rows)
+
+-- ---- the hour of an approach
+
+-- what is told of an approach: its phase and its detectors are configured
+pub record IsOwnOf (c : Settings) (a : Approach) : Type 0 where
+  pub phase : has_phase c.phases a.phase ≡ true
+  pub advance : IfSome a.advance (λ d. has_detector c d ≡ true)
+  pub stop_bar : IfSome a.stop_bar (λ d. has_detector c d ≡ true)
+  pub travel : a.travel ≤ 300
+
+-- from these the numbers of an hour with these rows are, where these are the known rows before it
+pub record AreSources (known : ℕ → Bool) (c : Settings) (before rows : List Row) (hour : ℕ) (s : Sources) : Type 0 where
+  pub is_hour : IsHour known hour rows s.stretches.now
+  pub ordered : AreOrdered 0 (point hour) before
+  pub earlier : All (λ x. x.at < point hour) before
+  pub turns : s.turns ≡ rows
+  pub arrivals : s.arrivals ≡ of_approaches c (arrivals_from known before (known_rows known rows))
+  pub faults : s.faults ≡ of_approaches c (faults_from known before (known_rows known rows))
+  pub first : s.first ≡ point hour
+  pub last : s.last ≡ is_last c hour
+
+-- what crosses the point before the hour is this, and its cuts are these
+pub record AreGiven (known : ℕ → Bool) (c : Settings) (before rows : List Row) (hour : ℕ) (s : Sources) (crossings : List Crossing) (cuts : CutLists) : Type 0 where
+  pub sources : AreSources known c before rows hour s
+  pub cut : IsCut known c.phases before hour rows cuts
+  pub crossings_are : crossings ≡ map (crossing_of known (point hour) before) c.approaches
+
+-- those of the rows at which the detector goes on, where there is one
+abbrev pub rows_with : List Row → Option ℕ → List Row
+rows_with rows None = []
+rows_with rows (Some d) = ons_of d rows
+
+-- nothing crosses
+abbrev pub no_crossing : Crossing
+no_crossing = record { begun = None; pending = [] }
+
+-- at the window's start no detector of an approach has a fault
+abbrev pub no_flag : Settings → ℕ → Option Flag
+no_flag c d = if is_tracked_as c Detector d then Some (record { fault = false }) else None
+
+abbrev pub no_flags : Settings → List (Option Flag)
+no_flags c = map (no_flag c) (range_with_len 0 129)
+
+-- an arrival at detector d, at its arrival tenth
+abbrev pub row_on : ℕ → ℕ → Row
+row_on d t = record { at = t; code = 82; param = d }
+
+-- so many tenths later, but not past the last number
+abbrev pub moved : ℕ → Row → Row
+moved v x = record { at = min (x.at + v) (2 ^ 32 - 1); code = x.code; param = x.param }
+
+-- the rows of two lists by tenth, at one tenth those of the first list first
+abbrev pub merged : List Row → List Row → List Row
+merged [] ys = ys
+merged (x ∷ xs) ys = front x.at ys ++ x ∷ merged xs (back x.at ys)
+
+-- the arrivals of an approach at tenth t or later, at its advance detector
+abbrev pub arriving_with : (ℕ → Bool) → ℕ → List Row → Approach → Option ℕ → List Row
+arriving_with known t rows a None = []
+arriving_with known t rows a (Some d) = from_tenth t (arrivals_at known d a.travel rows)
+
+-- those of rows by tenth that count, in the hour that ends at this tenth
+abbrev pub due_of : Bool → ℕ → List Row → List Row
+due_of last end rows = filter (λ x. last || nat_lt x.at end) rows
 
 -- ---- judged rows
 
@@ -43,45 +146,31 @@ pub record Says (test : ℕ → Bool) (May : State → Type 0) (seen : Seen) : T
 abbrev pub one_if : Bool → ℕ
 one_if b = if b then 1 else 0
 
+-- one row more, of which this is seen, and one of which nothing is
 abbrev pub judged_with : Judged → Seen → Judged
 judged_with j seen = record {
   rows = capped (j.rows + 1);
   all = capped (j.all + one_if (not seen.some_false));
   none = capped (j.none + one_if (not seen.some_true));
   some = capped (j.some + one_if (seen.some_true && seen.some_false));
+  unseen = j.unseen;
 }
 
+abbrev pub judged_unseen : Judged → Judged
+judged_unseen j = record { rows = capped (j.rows + 1); all = j.all; none = j.none; some = j.some; unseen = capped (j.unseen + 1) }
+
 abbrev pub no_judged : Judged
-no_judged = record { rows = 0; all = 0; none = 0; some = 0 }
+no_judged = record { rows = 0; all = 0; none = 0; some = 0; unseen = 0 }
 
--- these rows are judged; May says which states may be at the end of a tenth
-pub record AreJudgedRows (test : ℕ → Bool) (May : ℕ → State → Type 0) (rows : List Row) (j : Judged) : Type 0 where
+-- these rows are judged, as far as they pass the test `sees`; May says which states may be at the end of a tenth
+pub record AreJudgedRows (test : ℕ → Bool) (May : ℕ → State → Type 0) (sees : Row → Bool) (rows : List Row) (j : Judged) : Type 0 where
   pub count : j.rows ≡ capped (length rows)
-  pub all : CountOf (λ x. AllPass test (May x.at)) rows j.all
-  pub none : CountOf (λ x. NonePass test (May x.at)) rows j.none
-  pub some : CountOf (λ x. OnlySomePass test (May x.at)) rows j.some
-
--- those of a detector among the rows are
-pub record IsJudgedAt (May : ℕ → ℕ → State → Type 0) (c : Settings) (p : ℕ) (test : ℕ → Bool) (d : ℕ) (rows : List Row) (j : Judged) : Type 0 where
-  pub count : j.rows ≡ capped (length (ons_of d rows))
-  pub judged : AreJudged May c p test (ons_of d rows) j.all j.none j.some
-
-abbrev pub IsJudged : (ℕ → ℕ → State → Type 0) → Settings → ℕ → (ℕ → Bool) → List Row → Judged → Option ℕ → Type 0
-IsJudged May c p test rows j None = j ≡ no_judged
-IsJudged May c p test rows j (Some d) = IsJudgedAt May c p test d rows j
+  pub all : CountOf (λ x. AllPass test (May x.at)) (filter sees rows) j.all
+  pub none : CountOf (λ x. NonePass test (May x.at)) (filter sees rows) j.none
+  pub some : CountOf (λ x. OnlySomePass test (May x.at)) (filter sees rows) j.some
+  pub unseen : j.unseen ≡ capped (length (filter (λ x. not (sees x)) rows))
 
 -- ---- whole cycles
-
--- the rows on which cycles of phase p depend, by the advance detector
-abbrev pub rows_with : ℕ → Option ℕ → List Row → List Row
-rows_with p None rows = []
-rows_with p (Some d) rows = own_rows p d rows
-
--- those of the rows from some tenth on, where none of these cycles begins before it
-pub record AreSince (cycles : List OpenCycle) (rows later : List Row) : Type 0 where
-  pub low : ℕ
-  pub are_later : later ≡ filter (λ x. nat_le low x.at) rows
-  pub begin_later : All (λ y. low ≤ y.from) cycles
 
 abbrev pub numbers_in : CycleSum → CycleNumbers
 numbers_in s = record { arrivals = s.arrivals; green = s.green; green_tenths = s.green_tenths; tenths = s.tenths }
@@ -97,12 +186,14 @@ sum_with s c o = record {
 abbrev pub no_cycle : CycleSum
 no_cycle = record { arrivals = 0; green = 0; green_tenths = 0; tenths = 0 }
 
-abbrev pub sum_of : Judged → Judged → CycleSum → ArrivalSum
-sum_of g r s = record {
+abbrev pub sum_of : Judged → ℕ → Judged → ℕ → CycleSum → ArrivalSum
+sum_of g fault r red_fault s = record {
   arrivals = g.rows;
   green = g.all;
   not_green = g.none;
   undecided = g.some;
+  unseen = g.unseen;
+  fault = fault;
   cycle_arrivals = s.arrivals;
   cycle_green = s.green;
   green_tenths = s.green_tenths;
@@ -111,6 +202,7 @@ sum_of g r s = record {
   red = r.all;
   not_red = r.none;
   red_undecided = r.some;
+  red_fault = red_fault;
 }
 
 -- a cycle of phase p runs from tenth a up to tenth b, of an hour from tenth `first` on with these rows and these known rows before it, and what had begun of it before the hour is this
@@ -125,6 +217,21 @@ pub record IsUnderWay (known : ℕ → Bool) (p d : ℕ) (before rows : List Row
 abbrev pub AreUnderWay : (ℕ → Bool) → ℕ → ℕ → List Row → List Row → ℕ → ℕ → Option Open → List Cycle → Type 0
 AreUnderWay known p d before rows first end begun cycles = All (λ c. c.phase ≡ p → IsUnderWay known p d before rows first end begun c.from c.to) cycles
 
+-- the rows of both lists give the same of these cycles of phase p
+abbrev pub GiveSame : ℕ → ℕ → List Row → List Row → List Cycle → Type 0
+GiveSame p d xs ys cycles = All (λ c. c.phase ≡ p → open_at p d c.from c.to xs ≡ open_at p d c.from c.to ys) cycles
+
+-- the cycle that has begun at tenth t, where there is one, runs up to it
+abbrev pub IsOpenUnderWay : (ℕ → Bool) → ℕ → ℕ → List Row → List Row → ℕ → ℕ → Option Open → ℕ → Option OpenCycle → Type 0
+IsOpenUnderWay known p d before rows first end begun t o = IfSome o (λ y. IsUnderWay known p d before rows first end begun y.from t)
+
+-- a cycle of phase p runs from tenth a up to tenth b, each of them known, and what had begun of it before tenth `first` is this, by what was told before
+pub record IsCycleOf (known : ℕ → Bool) (p d first : ℕ) (told : List Row) (begun : Option Open) (a b : ℕ) : Type 0 where
+  pub order : a ≤ b
+  pub later : first ≤ b
+  pub all_known : (t : ℕ) → a ≤ t → t < b → known t ≡ true
+  pub is_begun : a < first → begun ≡ Some (open_at p d a first told)
+
 -- an hour from tenth `first` on with these rows, these known rows before it and these cuts
 pub record IsCutHour (known : ℕ → Bool) (c : Settings) (before : List Row) (hour : ℕ) (rows : List Row) (first : ℕ) (cuts : CutLists) : Type 0 where
   pub in_range : hour < 744
@@ -132,3 +239,9 @@ pub record IsCutHour (known : ℕ → Bool) (c : Settings) (before : List Row) (
   pub earlier : All (λ x. x.at < point hour) before
   pub cut : IsCut known c.phases before hour rows cuts
   pub is_first : first ≡ point hour
+
+-- what an hour gives of an approach
+pub record IsHourOf (known : ℕ → Bool) (c : Settings) (before seen : List Row) (hour : ℕ) (a : Approach) (h : ApproachHour) : Type 0 where
+  pub arriving : h.arriving.items ≡ arriving_with known (point hour) (before ++ seen) a a.advance
+  pub cycles : numbers_in h.cycles ≡ cycle_numbers known c before seen a a.advance
+  pub crossing : h.crossing ≡ crossing_of known (point (hour + 1)) (before ++ seen) a

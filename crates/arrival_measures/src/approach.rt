@@ -4,6 +4,7 @@ ghost use Rattle.ring_config.specs.Settings.{spec_place};
 ghost use Rattle.ring_config.specs.Values.{has_phase};
 ghost use Rattle.ring_config.specs.declared.items.Approach.{Approach};
 ghost use Rattle.arrival_measures.specs.Judged.{phase_channel};
+ghost use Rattle.arrival_measures.specs.Steps.{IsOwnOf};
 
 use event_codes::{Channel, Kind};
 use ring_config::{Approach, Config};
@@ -12,7 +13,7 @@ use ring_config::{Approach, Config};
 pub(crate) fn approach_of(config: &Config, place: u32) -> &Approach
     requires { place < length config.now.approaches }
     ensures approach { (d : Approach) → result.now ≡ slice_index_or config.now.approaches place d }
-    ensures phase { has_phase config.now.phases result.now.phase ≡ true }
+    ensures own { IsOwnOf config.now result.now }
 {
     match config.approach_at(place) {
         Some(approach) => approach,

@@ -1,5 +1,5 @@
 // The rows of an hour in chains: those of a phase or of a detector, one after another.
-ghost use Rattle.std.specs.Prelude.{◌≡◌, ◌+◌, ◌<◌, ℕ, true, false, length, slice_index_or, MatchOption, IfOk};
+ghost use Rattle.std.specs.Prelude.{◌≡◌, ◌+◌, ◌<◌, ℕ, true, false, filter, length, slice_index_or, MatchOption, IfOk};
 ghost use Rattle.board.specs.Logs.{no_row};
 ghost use Rattle.arrival_measures.specs.declared.chains.Chain.{Chain};
 ghost use Rattle.arrival_measures.specs.Chains.{IsNext, IsOnlyIn, cell_of, is_in, number_of};
@@ -111,7 +111,8 @@ impl<'a> Chains<'a> {
 
     /// The chain's first place, or the number of rows where it has none.
     pub(crate) fn first(&self, chain: Chain) -> usize
-        ensures { IsNext (is_in chain) self.now 0 result }
+        ensures next { IsNext (is_in chain) self.now 0 result }
+        ensures number { number_of chain < 256 }
     {
         self.heads[chain.cell()] as usize
     }
@@ -124,4 +125,21 @@ impl<'a> Chains<'a> {
     {
         self.next[place] as usize
     }
+}
+
+/// The rows that the chain has, in their order.
+pub(crate) fn chain_rows(
+    alloc: Global,
+    chains: &Chains<'_>,
+    chain: Chain,
+) -> Result<Vec<Row>, NoMemory>
+    ensures { IfOk result (λ v. v.items ≡ filter (is_in chain) chains.now) }
+{
+    let mut own = Vec::new(alloc);
+    let mut place = chains.first(chain);
+    while place < chains.len() {
+        own.push(chains.row(place))?;
+        place = chains.next(place);
+    }
+    Ok(own)
 }

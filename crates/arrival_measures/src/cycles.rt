@@ -1,20 +1,15 @@
 // The numbers of whole cycles, and the cycles that cross the next point.
-ghost use Rattle.std.specs.Prelude.{◌≡◌, ◌==◌, find, ◌+◌, ◌++◌, ◌<◌, ℕ, Bool, true, List, All, Option, None, slice_index_or};
+ghost use Rattle.std.specs.Prelude.{◌≡◌, ◌==◌, find, min, ◌+◌, ◌-◌, ◌^◌, ◌++◌, ℕ, Bool, List};
 ghost use Rattle.sig_base.specs.declared.values.Row.{Row};
 ghost use Rattle.hour_sums.specs.Numbers.{own};
 ghost use Rattle.hour_sweep.specs.Rows.{known_rows};
-ghost use Rattle.hour_sweep.specs.Hours.{point};
-ghost use Rattle.ring_config.specs.Settings.{Settings};
-ghost use Rattle.ring_config.specs.Values.{has_phase};
-ghost use Rattle.arrival_measures.specs.Crossing.{open_of};
+ghost use Rattle.arrival_measures.specs.Crossing.{open_since};
 ghost use Rattle.arrival_measures.specs.Cycles.{numbers_of};
-ghost use Rattle.arrival_measures.specs.Hours.{cycle_numbers};
-ghost use Rattle.arrival_measures.specs.Steps.{AreSince, AreUnderWay, IsCutHour, no_cycle, numbers_in, rows_with, sum_with};
+ghost use Rattle.arrival_measures.specs.Steps.{AreUnderWay, GiveSame, IsOpenUnderWay, no_cycle, numbers_in, sum_with};
 
 use crate::under_way::cycle_given;
 use cycle_arrivals::Open;
 use hour_sums::total;
-use ring_config::Approach;
 use service_cut::{Cuts, Cycle, OpenCycle};
 use sig_base::Row;
 
@@ -54,8 +49,9 @@ impl CycleSum {
     }
 }
 
-// Those of the cycles that are of the phase.
-fn cycle_sum(
+/// Of the cycles those of the phase, in the hour that has its first tenth here. The rows are the
+/// approach's own.
+pub(crate) fn cycle_sum(
     phase: u8,
     detector: u8,
     begun: Option<Open>,
@@ -63,8 +59,10 @@ fn cycle_sum(
     rows: &[Row],
     first: u32,
 ) -> CycleSum
-    ensures { (known : ℕ → Bool) (before : List Row) (end : ℕ) → AreUnderWay known phase detector before rows.now first end begun cycles.now
-        → numbers_in result ≡ numbers_of phase detector (before ++ known_rows known rows.now) (own (λ x. x.phase) phase cycles.now) }
+    ensures { (known : ℕ → Bool) (before told : List Row) (end : ℕ)
+        → AreUnderWay known phase detector before rows.now first end begun cycles.now
+        → GiveSame phase detector (before ++ known_rows known rows.now) told cycles.now
+        → numbers_in result ≡ numbers_of phase detector told (own (λ x. x.phase) phase cycles.now) }
 {
     let mut sum = no_cycles();
     for cycle in cycles {
@@ -76,24 +74,6 @@ fn cycle_sum(
     sum
 }
 
-/// Of the approach's phase those that end in the hour, which has its first tenth here. The rows are
-/// the approach's own.
-pub(crate) fn approach_cycles(
-    approach: &Approach,
-    begun: Option<Open>,
-    cuts: &Cuts,
-    rows: &[Row],
-    first: u32,
-) -> CycleSum
-    ensures { (known : ℕ → Bool) (c : Settings) (before all : List Row) (hour : ℕ) → IsCutHour known c before hour all first cuts.now → rows.now ≡ rows_with approach.now.phase approach.now.advance all → begun ≡ open_of known (point hour) before approach.now
-        → numbers_in result ≡ cycle_numbers known c before (known_rows known all) approach.now approach.now.advance }
-{
-    match approach.advance {
-        Some(detector) => { cycle_sum(approach.phase, detector, begun, cuts.cycles(), rows, first) }
-        None => no_cycles(),
-    }
-}
-
 // The cycle of the phase among these.
 fn open_cycle_of(cycles: &[OpenCycle], phase: u8) -> Option<OpenCycle>
     ensures { result ≡ find (λ y. y.phase == phase) cycles.now }
@@ -101,33 +81,24 @@ fn open_cycle_of(cycles: &[OpenCycle], phase: u8) -> Option<OpenCycle>
     cycles.iter().copied().find(|one| one.phase == phase)
 }
 
-/// The cycle of the approach's phase that has begun at the hour's end. The rows are the approach's
-/// own; those before all cycles that have begun may be left out.
+/// The cycle of the phase that has begun at the end of the hour, which has its first tenth here. The
+/// rows are the approach's own.
 pub(crate) fn open_after(
-    approach: &Approach,
+    phase: u8,
+    detector: u8,
     begun: Option<Open>,
     cuts: &Cuts,
     rows: &[Row],
     first: u32,
 ) -> Option<Open>
-    ensures { (known : ℕ → Bool) (c : Settings) (before all later : List Row) (hour : ℕ) → IsCutHour known c before hour all first cuts.now → AreSince cuts.now.open_cycles all later → rows.now ≡ rows_with approach.now.phase approach.now.advance later → has_phase c.phases approach.now.phase ≡ true → begun ≡ open_of known (point hour) before approach.now
-        → result ≡ open_of known (point (hour + 1)) (before ++ known_rows known all) approach.now }
+    ensures { (known : ℕ → Bool) (before : List Row) (end to : ℕ)
+        → to ≡ min (first + 36000) (2 ^ 32 - 1)
+        → IsOpenUnderWay known phase detector before rows.now first end begun to
+        (find (λ y. y.phase == phase) cuts.now.open_cycles)
+        → result ≡ open_since phase detector to (before ++ known_rows known rows.now)
+        (find (λ y. y.phase == phase) cuts.now.open_cycles) }
 {
-    let detector = approach.advance?;
-    let phase = approach.phase;
     let cycle = open_cycle_of(cuts.open_cycles(), phase)?;
     let end = first.saturating_add(36_000);
     Some(cycle_given(phase, detector, begun, rows, first, cycle.from, end))
-}
-
-/// What has begun of the approach at this place.
-pub(crate) fn begun_at(opens: &[Option<Open>], place: u32) -> Option<Open>
-    ensures { result ≡ slice_index_or opens.now place None }
-{
-    let place = place as usize;
-    if place < opens.len() {
-        opens[place]
-    } else {
-        None
-    }
 }

@@ -1,28 +1,28 @@
 // The numbers of an hour.
-ghost use Rattle.std.specs.Prelude.{◌≡◌, true, map, ◌+◌, ◌++◌, ℕ, Bool, List, length, IfOk, OnOk, OnErr, []};
+ghost use Rattle.std.specs.Prelude.{◌≡◌, map, ◌+◌, ◌++◌, ℕ, Bool, List, length, slice_index_or, IfOk, OnOk, OnErr, []};
 ghost use Rattle.sig_base.specs.declared.values.Row.{Row};
-ghost use Rattle.hour_sums.specs.Numbers.{merged};
+ghost use Rattle.hour_sums.specs.Numbers.{capped, merged};
 ghost use Rattle.hour_sweep.specs.Rows.{known_rows};
-ghost use Rattle.hour_sweep.specs.Hours.{IsHour, point};
+ghost use Rattle.hour_sweep.specs.Hours.{AreOrdered, IsHour, point};
 ghost use Rattle.service_cut.specs.Cut.{IsCut};
 ghost use Rattle.board.specs.Logs.{HourLog};
 ghost use Rattle.board.specs.Verdicts.{MayPass};
-ghost use Rattle.ring_config.specs.Values.{has_phase};
-ghost use Rattle.arrival_measures.specs.Crossing.{IsCarry, open_of};
-ghost use Rattle.arrival_measures.specs.Hours.{AreAllJudged, HasJudged, HaveCycles, added, are_cycle_numbers, cycle_part, no_sum};
-ghost use Rattle.arrival_measures.specs.Steps.{AreSince, IsCutHour, numbers_in};
+ghost use Rattle.arrival_measures.specs.Crossing.{IsCarry, crossing_of};
+ghost use Rattle.arrival_measures.specs.Hours.{AreAllJudged, HasJudged, HaveCycles, IsUnheld, added, cycle_part, is_last};
+ghost use Rattle.arrival_measures.specs.Steps.{AreDetections, AreGiven, AreSources, IsHourOf, IsOwnOf, numbers_in, rows_with, sum_of};
 ghost use Rattle.arrival_measures.specs.Views.{IsSeen};
 
+use crate::ahead::{ApproachHour, approach_hour, due_of};
 use crate::approach::{approach_of, phase_spec};
-use crate::carry::ArrivalCarry;
-use crate::chains::Chains;
-use crate::cycles::{CycleSum, approach_cycles, begun_at, open_after};
-use crate::judged::{green, judged_of, red};
-use crate::own_rows::{own_rows, rows_since};
+use crate::carry::{ArrivalCarry, Crossing};
+use crate::chains::{Chain, Chains, chain_rows};
+use crate::cycles::CycleSum;
+use crate::faults::{Detections, detect};
+use crate::judged::{Judged, green, judged_rows, nothing, red, unseen_rows};
+use crate::sources::Sources;
 use crate::sums::ArrivalSum;
 use crate::under_way::first_of;
 use board::HourView;
-use cycle_arrivals::Open;
 use gap_map::Stretch;
 use hour_sums::add_each;
 use ring_config::{Approach, Config};
@@ -30,29 +30,6 @@ use service_cut::Cuts;
 use sig_base::{NoMemory, Row};
 use std::alloc::Global;
 use std::marker::Model;
-
-// The numbers of an approach without a row.
-fn no_sum(config: &Config, approach: &Approach) -> ArrivalSum
-    requires { has_phase config.now.phases approach.now.phase ≡ true }
-    ensures zero { result ≡ no_sum }
-    ensures judged { HasJudged (λ _ _ _. ⊥) config.now [] approach.now result }
-{
-    let _spec = phase_spec(config, approach.phase);
-    ArrivalSum {
-        arrivals: 0,
-        green: 0,
-        not_green: 0,
-        undecided: 0,
-        cycle_arrivals: 0,
-        cycle_green: 0,
-        green_tenths: 0,
-        cycle_tenths: 0,
-        actuations: 0,
-        red: 0,
-        not_red: 0,
-        red_undecided: 0,
-    }
-}
 
 /// The numbers of each approach in an hour.
 #[derive(Drop)]
@@ -79,18 +56,6 @@ impl ArrivalSums {
         }
     }
 
-    /// The numbers of an hour of which no tenth is known.
-    pub fn none(alloc: Global, config: &Config) -> Result<ArrivalSums, NoMemory>
-        ensures judged { IfOk result (AreAllJudged (λ _ _ _. ⊥) config.now []) }
-        ensures cycles { IfOk result (λ sums. (known : ℕ → Bool) (before : List Row) → HaveCycles known config.now before [] sums) }
-    {
-        let mut approaches = Vec::new(alloc);
-        for place in 0..config.approach_count() {
-            approaches.push(no_sum(config, approach_of(config, place)))?;
-        }
-        Ok(ArrivalSums { approaches })
-    }
-
     /// Adds the numbers of each approach to its own. After want of memory some of them may have
     /// been added.
     pub fn add(&mut self, more: &ArrivalSums) -> Result<(), NoMemory>
@@ -107,45 +72,32 @@ impl ArrivalSums {
     }
 }
 
-// The numbers of an approach.
-fn approach_sum(
-    config: &Config,
-    view: &HourView,
-    approach: &Approach,
-    chains: &Chains<'_>,
-    stretches: &[Stretch],
-    cycles: CycleSum,
-) -> ArrivalSum
-    requires view { length view.now.specs ≡ length config.now.specs }
-    requires phase { has_phase config.now.phases approach.now.phase ≡ true }
-    ensures judged { (known : ℕ → Bool) (hour : ℕ) (log : HourLog) → IsHour known hour chains.now stretches.now → IsSeen config.now view.now chains.now stretches.now log
-        → HasJudged (λ i t v. MayPass log t i v) config.now (known_rows known chains.now) approach.now result }
-    ensures cycles { cycle_part result ≡ numbers_in cycles }
+// The rows of the detector, where there is one.
+fn rows_of(alloc: Global, chains: &Chains<'_>, detector: Option<u8>) -> Result<Vec<Row>, NoMemory>
+    ensures { IfOk result (λ v. v.items ≡ rows_with chains.now detector) }
 {
-    let phase = approach.phase;
-    let greens = judged_of(
-        config,
-        view,
-        phase,
-        approach.advance,
-        green(),
-        chains,
-        stretches,
-    );
-    let reds = judged_of(
-        config,
-        view,
-        phase,
-        approach.stop_bar,
-        red(),
-        chains,
-        stretches,
-    );
+    match detector {
+        Some(detector) => chain_rows(alloc, chains, Chain::On(detector)),
+        None => Ok(Vec::new(alloc)),
+    }
+}
+
+fn count(rows: &[Row]) -> u64
+    ensures { result ≡ capped (length rows.now) }
+{
+    rows.len() as u64
+}
+
+fn sum_of(greens: Judged, fault: u64, reds: Judged, red_fault: u64, cycles: CycleSum) -> ArrivalSum
+    ensures { result ≡ sum_of greens fault reds red_fault cycles }
+{
     ArrivalSum {
         arrivals: greens.rows,
         green: greens.all,
         not_green: greens.none,
         undecided: greens.some,
+        unseen: greens.unseen,
+        fault,
         cycle_arrivals: cycles.arrivals,
         cycle_green: cycles.green,
         green_tenths: cycles.green_tenths,
@@ -154,90 +106,194 @@ fn approach_sum(
         red: reds.all,
         not_red: reds.none,
         red_undecided: reds.some,
+        red_fault,
     }
 }
 
-// The numbers of each approach, from those of its cycles.
-fn sums_of(
+// The numbers of an approach.
+fn seen_sum(
     alloc: Global,
     config: &Config,
     view: &HourView,
-    chains: &Chains<'_>,
-    stretches: &[Stretch],
-    cycles: &[CycleSum],
-) -> Result<Vec<ArrivalSum>, NoMemory>
+    approach: &Approach,
+    sources: &Sources<'_>,
+    given: &ApproachHour,
+) -> Result<ArrivalSum, NoMemory>
     requires view { length view.now.specs ≡ length config.now.specs }
-    requires cycles { length cycles.now ≡ length config.now.approaches }
-    ensures judged { IfOk result (λ v. (known : ℕ → Bool) (hour : ℕ) (log : HourLog) → IsHour known hour chains.now stretches.now → IsSeen config.now view.now chains.now stretches.now log
-        → AreAllJudged (λ i t v. MayPass log t i v) config.now (known_rows known chains.now) v.items) }
-    ensures cycles { IfOk result (λ v. map cycle_part v.items ≡ map numbers_in cycles.now) }
+    requires own { IsOwnOf config.now approach.now }
+    ensures judged { IfOk result (λ s. (known : ℕ → Bool) (before rows : List Row) (hour : ℕ)
+        (log : HourLog)
+        → AreSources known config.now before rows hour sources.now
+        → IsSeen config.now view.now rows sources.now.stretches.now log
+        → IsHourOf known config.now before (known_rows known rows) hour approach.now given.now
+        → HasJudged (λ i t v. MayPass log t i v) known config.now before
+        (known_rows known rows) hour approach.now s) }
+    ensures cycles { IfOk result (λ s. cycle_part s ≡ numbers_in given.now.cycles) }
 {
-    let mut sums = Vec::new(alloc);
-    for place in 0..config.approach_count() {
-        let approach = approach_of(config, place);
-        let given = cycles[place as usize];
-        sums.push(approach_sum(config, view, approach, chains, stretches, given))?;
-    }
-    Ok(sums)
+    let spec = phase_spec(config, approach.phase);
+    let end = sources.first.saturating_add(36_000);
+    let due = due_of(&given.arriving, end, sources.last);
+    let at_bar = rows_of(alloc, &sources.arrivals, approach.stop_bar)?;
+    let greens = judged_rows(view, spec, green(), due, sources.stretches);
+    let reds = judged_rows(view, spec, red(), &at_bar, sources.stretches);
+    let faults = rows_of(alloc, &sources.faults, approach.advance)?;
+    let bar_faults = rows_of(alloc, &sources.faults, approach.stop_bar)?;
+    Ok(sum_of(
+        greens,
+        count(&faults),
+        reds,
+        count(&bar_faults),
+        given.cycles,
+    ))
 }
 
-// What the cycles of each approach give in an hour.
+// The numbers of an approach in an hour without rows of which no tenth is known.
+fn unseen_sum(
+    config: &Config,
+    approach: &Approach,
+    sources: &Sources<'_>,
+    given: &ApproachHour,
+) -> ArrivalSum
+    requires own { IsOwnOf config.now approach.now }
+    ensures judged { (known : ℕ → Bool) (before : List Row) (hour : ℕ)
+        → AreSources known config.now before [] hour sources.now → IsUnheld known hour
+        → IsHourOf known config.now before [] hour approach.now given.now
+        → HasJudged (λ _ _ _. ⊥) known config.now before [] hour approach.now result }
+    ensures cycles { cycle_part result ≡ numbers_in given.now.cycles }
+{
+    let _spec = phase_spec(config, approach.phase);
+    let end = sources.first.saturating_add(36_000);
+    let greens = unseen_rows(due_of(&given.arriving, end, sources.last));
+    sum_of(greens, 0, nothing(), 0, given.cycles)
+}
+
+// What an hour gives.
 #[derive(Drop)]
-struct HourCycles {
-    // The numbers of the whole cycles.
-    sums: Vec<CycleSum>,
+struct HourNumbers {
+    // One for each approach, in file order.
+    sums: Vec<ArrivalSum>,
     // What crosses the point after the hour.
-    opens: Vec<Option<Open>>,
+    crossings: Vec<Crossing>,
 }
 
-// The cycles of each approach, by its own rows alone.
-fn cycles_of(
+// What crosses the point of the approach with this place.
+fn crossing_at<'a>(crossings: &'a [Crossing], place: u32, none: &'a Crossing) -> &'a Crossing
+    ensures { result.now ≡ slice_index_or crossings.now place none.now }
+{
+    let place = place as usize;
+    if place < crossings.len() {
+        &crossings[place]
+    } else {
+        none
+    }
+}
+
+// The numbers of each approach, by its own rows alone.
+fn seen_numbers(
     alloc: Global,
     config: &Config,
-    opens: &[Option<Open>],
+    crossings: &[Crossing],
     cuts: &Cuts,
-    chains: &Chains<'_>,
-    first: u32,
-) -> Result<HourCycles, NoMemory>
-    ensures size { IfOk result (λ v. length v.sums.items ≡ length config.now.approaches) }
-    ensures cycles { IfOk result (λ v. (known : ℕ → Bool) (before : List Row) (hour : ℕ) → IsCutHour known config.now before hour chains.now first cuts.now → opens.now ≡ map (open_of known (point hour) before) config.now.approaches
-        → map numbers_in v.sums.items ≡ are_cycle_numbers known config.now before (known_rows known chains.now)) }
-    ensures opens { IfOk result (λ v. (known : ℕ → Bool) (before : List Row) (hour : ℕ) → IsCutHour known config.now before hour chains.now first cuts.now → opens.now ≡ map (open_of known (point hour) before) config.now.approaches
-        → v.opens.items ≡ map (open_of known (point (hour + 1)) (before ++ known_rows known chains.now)) config.now.approaches) }
+    view: &HourView,
+    sources: &Sources<'_>,
+) -> Result<HourNumbers, NoMemory>
+    requires view { length view.now.specs ≡ length config.now.specs }
+    ensures judged { IfOk result (λ n. (known : ℕ → Bool) (before rows : List Row) (hour : ℕ)
+        (log : HourLog)
+        → AreGiven known config.now before rows hour sources.now crossings.now cuts.now
+        → IsSeen config.now view.now rows sources.now.stretches.now log
+        → AreAllJudged (λ i t v. MayPass log t i v) known config.now before
+        (known_rows known rows) hour n.sums.items) }
+    ensures cycles { IfOk result (λ n. (known : ℕ → Bool) (before rows : List Row) (hour : ℕ)
+        → AreGiven known config.now before rows hour sources.now crossings.now cuts.now
+        → HaveCycles known config.now before (known_rows known rows) n.sums.items) }
+    ensures crossings { IfOk result (λ n. (known : ℕ → Bool) (before rows : List Row) (hour : ℕ)
+        → AreGiven known config.now before rows hour sources.now crossings.now cuts.now
+        → n.crossings.items ≡ map (crossing_of known (point (hour + 1))
+        (before ++ known_rows known rows)) config.now.approaches) }
 {
+    let none = Crossing::none(alloc);
     let mut sums = Vec::new(alloc);
     let mut after = Vec::new(alloc);
     for place in 0..config.approach_count() {
         let approach = approach_of(config, place);
-        let begun = begun_at(opens, place);
-        let own = own_rows(alloc, approach, chains)?;
-        sums.push(approach_cycles(approach, begun, cuts, &own, first))?;
-        after.push(open_after(approach, begun, cuts, &own, first))?;
+        let crossing = crossing_at(crossings, place, &none);
+        let given = approach_hour(alloc, approach, crossing, cuts, sources)?;
+        sums.push(seen_sum(alloc, config, view, approach, sources, &given)?)?;
+        after.push(given.crossing)?;
     }
-    Ok(HourCycles { sums, opens: after })
+    Ok(HourNumbers {
+        sums,
+        crossings: after,
+    })
 }
 
-// What crosses the point after the hour, of each approach, by its own rows alone. Those before all
-// cycles that have begun may be left out.
-fn opens_after(
+// The same without a view: what the arrivals show isn't seen, and no actuation is judged.
+fn unseen_numbers(
     alloc: Global,
     config: &Config,
-    opens: &[Option<Open>],
+    crossings: &[Crossing],
     cuts: &Cuts,
-    chains: &Chains<'_>,
-    first: u32,
-) -> Result<Vec<Option<Open>>, NoMemory>
-    ensures { IfOk result (λ v. (known : ℕ → Bool) (before all : List Row) (hour : ℕ) → IsCutHour known config.now before hour all first cuts.now → AreSince cuts.now.open_cycles all chains.now → opens.now ≡ map (open_of known (point hour) before) config.now.approaches
-        → v.items ≡ map (open_of known (point (hour + 1)) (before ++ known_rows known all)) config.now.approaches) }
+    sources: &Sources<'_>,
+) -> Result<HourNumbers, NoMemory>
+    ensures judged { IfOk result (λ n. (known : ℕ → Bool) (before : List Row) (hour : ℕ)
+        → AreGiven known config.now before [] hour sources.now crossings.now cuts.now
+        → IsUnheld known hour
+        → AreAllJudged (λ _ _ _. ⊥) known config.now before [] hour n.sums.items) }
+    ensures cycles { IfOk result (λ n. (known : ℕ → Bool) (before rows : List Row) (hour : ℕ)
+        → AreGiven known config.now before rows hour sources.now crossings.now cuts.now
+        → HaveCycles known config.now before (known_rows known rows) n.sums.items) }
+    ensures crossings { IfOk result (λ n. (known : ℕ → Bool) (before rows : List Row) (hour : ℕ)
+        → AreGiven known config.now before rows hour sources.now crossings.now cuts.now
+        → n.crossings.items ≡ map (crossing_of known (point (hour + 1))
+        (before ++ known_rows known rows)) config.now.approaches) }
 {
+    let none = Crossing::none(alloc);
+    let mut sums = Vec::new(alloc);
     let mut after = Vec::new(alloc);
     for place in 0..config.approach_count() {
         let approach = approach_of(config, place);
-        let begun = begun_at(opens, place);
-        let own = own_rows(alloc, approach, chains)?;
-        after.push(open_after(approach, begun, cuts, &own, first))?;
+        let crossing = crossing_at(crossings, place, &none);
+        let given = approach_hour(alloc, approach, crossing, cuts, sources)?;
+        sums.push(unseen_sum(config, approach, sources, &given))?;
+        after.push(given.crossing)?;
     }
-    Ok(after)
+    Ok(HourNumbers {
+        sums,
+        crossings: after,
+    })
+}
+
+// Whether an hour with this first tenth is the window's last.
+fn is_last(config: &Config, first: u32) -> bool
+    ensures { (hour : ℕ) → first ≡ point hour → result ≡ is_last config.now hour }
+{
+    first / 36_000 + 1 == config.hours()
+}
+
+// The hour's rows in chains, with its tenths.
+fn sources_of<'a>(
+    alloc: Global,
+    config: &Config,
+    found: &'a Detections,
+    rows: &'a [Row],
+    stretches: &'a [Stretch],
+) -> Result<Sources<'a>, NoMemory>
+    ensures stretches { IfOk result (λ s. s.stretches.now ≡ stretches.now) }
+    ensures sources { IfOk result (λ s. (known : ℕ → Bool) (before : List Row) (hour : ℕ)
+        → IsHour known hour rows.now stretches.now → AreOrdered 0 (point hour) before
+        → AreDetections known config.now before (known_rows known rows.now) hour found.now
+        → AreSources known config.now before rows.now hour s) }
+{
+    let first = first_of(stretches);
+    Ok(Sources {
+        turns: Chains::new(alloc, rows)?,
+        arrivals: Chains::new(alloc, &found.arrivals)?,
+        faults: Chains::new(alloc, &found.faults)?,
+        stretches,
+        first,
+        last: is_last(config, first),
+    })
 }
 
 /// What crosses the point after an hour, in `carry`, in place of what crosses the point before it,
@@ -251,17 +307,19 @@ pub fn arrivals_carried(
     stretches: &[Stretch],
 ) -> Result<(), NoMemory>
     ensures carry { OnOk result ((known : ℕ → Bool) (before : List Row) (hour : ℕ)
-        → IsHour known hour rows.now stretches.now → IsCarry known config.now before hour carry.old → IsCut known config.now.phases before hour rows.now cuts.now
+        → IsHour known hour rows.now stretches.now
+        → IsCarry known config.now before hour carry.old
+        → IsCut known config.now.phases before hour rows.now cuts.now
         → IsCarry known config.now (before ++ known_rows known rows.now) (hour + 1) carry.new) }
     ensures err { OnErr result (carry.new ≡ carry.old) }
 {
-    if config.approach_count() == 0 {
-        return Ok(());
-    }
-    let later = rows_since(rows, cuts.open_cycles());
-    let chains = Chains::new(alloc, later)?;
-    let first = first_of(stretches);
-    carry.opens = opens_after(alloc, config, &carry.opens, cuts, &chains, first)?;
+    let found = detect(alloc, &carry.flags, rows, stretches)?;
+    let numbers = {
+        let sources = sources_of(alloc, config, &found, rows, stretches)?;
+        unseen_numbers(alloc, config, &carry.crossings, cuts, &sources)?
+    };
+    carry.crossings = numbers.crossings;
+    carry.flags = found.flags;
     Ok(())
 }
 
@@ -278,24 +336,72 @@ pub fn arrivals_hour(
     stretches: &[Stretch],
 ) -> Result<ArrivalSums, NoMemory>
     requires view { length view.now.specs ≡ length config.now.specs }
-    ensures judged { IfOk result (λ sums. (known : ℕ → Bool) (hour : ℕ) (log : HourLog)
-        → IsHour known hour rows.now stretches.now → IsSeen config.now view.now rows.now stretches.now log
-        → AreAllJudged (λ i t v. MayPass log t i v) config.now (known_rows known rows.now) sums) }
+    ensures judged { IfOk result (λ sums. (known : ℕ → Bool) (before : List Row) (hour : ℕ)
+        (log : HourLog)
+        → IsHour known hour rows.now stretches.now
+        → IsCarry known config.now before hour carry.old
+        → IsCut known config.now.phases before hour rows.now cuts.now
+        → IsSeen config.now view.now rows.now stretches.now log
+        → AreAllJudged (λ i t v. MayPass log t i v) known config.now before
+        (known_rows known rows.now) hour sums) }
     ensures cycles { IfOk result (λ sums. (known : ℕ → Bool) (before : List Row) (hour : ℕ)
-        → IsHour known hour rows.now stretches.now → IsCarry known config.now before hour carry.old → IsCut known config.now.phases before hour rows.now cuts.now
+        → IsHour known hour rows.now stretches.now
+        → IsCarry known config.now before hour carry.old
+        → IsCut known config.now.phases before hour rows.now cuts.now
         → HaveCycles known config.now before (known_rows known rows.now) sums) }
     ensures carry { IfOk result (λ _. (known : ℕ → Bool) (before : List Row) (hour : ℕ)
-        → IsHour known hour rows.now stretches.now → IsCarry known config.now before hour carry.old → IsCut known config.now.phases before hour rows.now cuts.now
+        → IsHour known hour rows.now stretches.now
+        → IsCarry known config.now before hour carry.old
+        → IsCut known config.now.phases before hour rows.now cuts.now
         → IsCarry known config.now (before ++ known_rows known rows.now) (hour + 1) carry.new) }
     ensures err { OnErr result (carry.new ≡ carry.old) }
 {
-    if config.approach_count() == 0 {
-        return Ok(ArrivalSums::new(alloc));
-    }
-    let chains = Chains::new(alloc, rows)?;
-    let first = first_of(stretches);
-    let cycles = cycles_of(alloc, config, &carry.opens, cuts, &chains, first)?;
-    let approaches = sums_of(alloc, config, view, &chains, stretches, &cycles.sums)?;
-    carry.opens = cycles.opens;
-    Ok(ArrivalSums { approaches })
+    let found = detect(alloc, &carry.flags, rows, stretches)?;
+    let numbers = {
+        let sources = sources_of(alloc, config, &found, rows, stretches)?;
+        seen_numbers(alloc, config, &carry.crossings, cuts, view, &sources)?
+    };
+    carry.crossings = numbers.crossings;
+    carry.flags = found.flags;
+    Ok(ArrivalSums {
+        approaches: numbers.sums,
+    })
+}
+
+/// The same for an hour without rows of which no tenth is known: no view is needed, since of the
+/// arrivals whose tenth is one of the hour nothing is seen.
+pub fn arrivals_unheld(
+    alloc: Global,
+    config: &Config,
+    carry: &mut ArrivalCarry,
+    cuts: &Cuts,
+    stretches: &[Stretch],
+) -> Result<ArrivalSums, NoMemory>
+    ensures judged { IfOk result (λ sums. (known : ℕ → Bool) (before : List Row) (hour : ℕ)
+        → IsHour known hour [] stretches.now → IsUnheld known hour
+        → IsCarry known config.now before hour carry.old
+        → IsCut known config.now.phases before hour [] cuts.now
+        → AreAllJudged (λ _ _ _. ⊥) known config.now before [] hour sums) }
+    ensures cycles { IfOk result (λ sums. (known : ℕ → Bool) (before : List Row) (hour : ℕ)
+        → IsHour known hour [] stretches.now
+        → IsCarry known config.now before hour carry.old
+        → IsCut known config.now.phases before hour [] cuts.now
+        → HaveCycles known config.now before [] sums) }
+    ensures carry { IfOk result (λ _. (known : ℕ → Bool) (before : List Row) (hour : ℕ)
+        → IsHour known hour [] stretches.now
+        → IsCarry known config.now before hour carry.old
+        → IsCut known config.now.phases before hour [] cuts.now
+        → IsCarry known config.now before (hour + 1) carry.new) }
+    ensures err { OnErr result (carry.new ≡ carry.old) }
+{
+    let found = detect(alloc, &carry.flags, &[], stretches)?;
+    let numbers = {
+        let sources = sources_of(alloc, config, &found, &[], stretches)?;
+        unseen_numbers(alloc, config, &carry.crossings, cuts, &sources)?
+    };
+    carry.crossings = numbers.crossings;
+    carry.flags = found.flags;
+    Ok(ArrivalSums {
+        approaches: numbers.sums,
+    })
 }

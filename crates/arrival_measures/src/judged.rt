@@ -1,27 +1,24 @@
 // Rows of detectors, judged by what their phase shows.
-ghost use Rattle.std.specs.Prelude.{◌≡◌, ◌≤◌, ◌<◌, ◌+◌, ℕ, Bool, true, length};
+ghost use Rattle.std.specs.Prelude.{◌≡◌, ◌≤◌, ◌<◌, ◌+◌, ◌&&◌, nat_lt, ℕ, Bool, true, false, List, All, length};
+ghost use Rattle.sig_base.specs.declared.values.Row.{Row};
 ghost use Rattle.gap_map.specs.Stretches.{AreStretches, known_at};
 ghost use Rattle.hour_sums.specs.Numbers.{capped};
-ghost use Rattle.hour_sweep.specs.Rows.{known_rows};
-ghost use Rattle.hour_sweep.specs.Hours.{IsHour};
+ghost use Rattle.hour_sweep.specs.Hours.{IsHour, point};
 ghost use Rattle.board.specs.Logs.{HourLog};
 ghost use Rattle.board.specs.Places.{IsViewOf};
 ghost use Rattle.board.specs.Verdicts.{MayPass};
 ghost use Rattle.ring_config.specs.Settings.{Settings};
-ghost use Rattle.ring_config.specs.Values.{has_phase};
-ghost use Rattle.cycle_arrivals.specs.Arrivals.{ons_of};
+ghost use Rattle.arrival_measures.specs.Hours.{is_seen};
 ghost use Rattle.arrival_measures.specs.Judged.{is_green, is_red};
-ghost use Rattle.arrival_measures.specs.Steps.{AreJudgedRows, IsJudged, IsMaskOf, Says, judged_with, no_judged, one_if};
+ghost use Rattle.arrival_measures.specs.Steps.{AreJudgedRows, IsMaskOf, Says, judged_unseen, judged_with, no_judged, one_if};
 ghost use Rattle.arrival_measures.specs.Views.{IsSeen};
 
-use crate::approach::phase_spec;
-use crate::chains::{Chain, Chains};
 use board::HourView;
 use colour_machine::Mask;
 use gap_map::Stretch;
 use hour_sums::total;
 use reach::{AgeBound, Seen, Test};
-use ring_config::Config;
+use sig_base::Row;
 
 /// Rows of a detector: all of them, those at whose tenth's end the phase passes in all histories, in
 /// none and only in some.
@@ -31,6 +28,8 @@ pub(crate) struct Judged {
     pub(crate) all: u64,
     pub(crate) none: u64,
     pub(crate) some: u64,
+    /// Those of which nothing is seen, since their tenth isn't known.
+    pub(crate) unseen: u64,
 }
 
 /// The colour Green.
@@ -47,7 +46,8 @@ pub(crate) fn red() -> Mask
     Mask::none().with(0).with(5).with(6).with(7)
 }
 
-fn nothing() -> Judged
+/// No row.
+pub(crate) fn nothing() -> Judged
     ensures { result ≡ no_judged }
 {
     Judged {
@@ -55,6 +55,7 @@ fn nothing() -> Judged
         all: 0,
         none: 0,
         some: 0,
+        unseen: 0,
     }
 }
 
@@ -75,6 +76,18 @@ impl Judged {
             all: more(self.all, !seen.some_false),
             none: more(self.none, !seen.some_true),
             some: more(self.some, seen.some_true && seen.some_false),
+            unseen: self.unseen,
+        }
+    }
+
+    // One row more, of which nothing is seen.
+    fn with_unseen(self) -> Judged
+        ensures { result ≡ judged_unseen self }
+    {
+        Judged {
+            rows: more(self.rows, true),
+            unseen: more(self.unseen, true),
+            ..self
         }
     }
 }
@@ -82,7 +95,9 @@ impl Judged {
 // What is seen of the channel's colour at the end of the known tenth.
 fn seen(view: &HourView, spec: u16, at: u32, colours: Mask) -> Seen
     requires { spec < length view.now.specs }
-    ensures { (log : HourLog) (test : ℕ → Bool) → IsViewOf log view.now → known_at log.stretches at ≡ true → IsMaskOf test colours → Says test (MayPass log at spec) result }
+    ensures { (log : HourLog) (test : ℕ → Bool) → IsViewOf log view.now
+        → known_at log.stretches at ≡ true → IsMaskOf test colours
+        → Says test (MayPass log at spec) result }
 {
     let test = Test {
         colours,
@@ -92,58 +107,52 @@ fn seen(view: &HourView, spec: u16, at: u32, colours: Mask) -> Seen
     view.seen_at_end(spec, at, &test)
 }
 
-// Whether the tenth is known, by the stretches of its hour.
+// Whether the tenth is known, by the stretches of an hour that isn't past it; one after the hour
+// isn't.
 fn is_known(stretches: &[Stretch], at: u32) -> bool
-    ensures { (known : ℕ → Bool) (a b : ℕ) → AreStretches known a b stretches.now → a ≤ at → at < b → result ≡ known at }
+    ensures { (known : ℕ → Bool) (a b : ℕ) → AreStretches known a b stretches.now → a ≤ at
+        → result ≡ (known at && nat_lt at b) }
 {
     let place = stretches.partition_point(|stretch| stretch.to <= at);
     place < stretches.len() && stretches[place].known
 }
 
-// The detector's known rows.
-fn judged_rows(
+/// Arrivals at the hour's first tenth or later, each that is seen judged by whether the phase is in
+/// one of the colours.
+pub(crate) fn judged_rows(
     view: &HourView,
     spec: u16,
     colours: Mask,
-    detector: u8,
-    chains: &Chains<'_>,
+    rows: &[Row],
     stretches: &[Stretch],
 ) -> Judged
     requires { spec < length view.now.specs }
-    ensures { (known : ℕ → Bool) (hour : ℕ) (c : Settings) (log : HourLog) (test : ℕ → Bool) → IsHour known hour chains.now stretches.now → IsSeen c view.now chains.now stretches.now log → IsMaskOf test colours
-        → AreJudgedRows test (λ t v. MayPass log t spec v) (ons_of detector (known_rows known chains.now)) result }
+    ensures { (known : ℕ → Bool) (hour : ℕ) (c : Settings) (all : List Row) (log : HourLog)
+        (test : ℕ → Bool)
+        → IsHour known hour all stretches.now → IsSeen c view.now all stretches.now log
+        → IsMaskOf test colours
+        → All (λ x. point hour ≤ x.at) rows.now
+        → AreJudgedRows test (λ t v. MayPass log t spec v) (is_seen known hour) rows.now result }
 {
     let mut judged = nothing();
-    let mut place = chains.first(Chain::On(detector));
-    while place < chains.len() {
-        let at = chains.row(place).at;
-        if is_known(stretches, at) {
-            judged = judged.with(seen(view, spec, at, colours));
-        }
-        place = chains.next(place);
+    for row in rows {
+        judged = if is_known(stretches, row.at) {
+            judged.with(seen(view, spec, row.at, colours))
+        } else {
+            judged.with_unseen()
+        };
     }
     judged
 }
 
-/// The known rows of the detector, each judged by whether the phase is in one of the colours;
-/// nothing where there is no detector.
-pub(crate) fn judged_of(
-    config: &Config,
-    view: &HourView,
-    phase: u8,
-    detector: Option<u8>,
-    colours: Mask,
-    chains: &Chains<'_>,
-    stretches: &[Stretch],
-) -> Judged
-    requires view { length view.now.specs ≡ length config.now.specs }
-    requires phase { has_phase config.now.phases phase ≡ true }
-    ensures { (known : ℕ → Bool) (hour : ℕ) (log : HourLog) (test : ℕ → Bool) → IsHour known hour chains.now stretches.now → IsSeen config.now view.now chains.now stretches.now log → IsMaskOf test colours
-        → IsJudged (λ i t v. MayPass log t i v) config.now phase test (known_rows known chains.now) result detector }
+/// The same where no tenth is known.
+pub(crate) fn unseen_rows(rows: &[Row]) -> Judged
+    ensures { (test : ℕ → Bool) (sees : Row → Bool) → All (λ x. sees x ≡ false) rows.now
+        → AreJudgedRows test (λ _ _. ⊥) sees rows.now result }
 {
-    let Some(detector) = detector else {
-        return nothing();
-    };
-    let spec = phase_spec(config, phase);
-    judged_rows(view, spec, colours, detector, chains, stretches)
+    let mut judged = nothing();
+    for _row in rows {
+        judged = judged.with_unseen();
+    }
+    judged
 }

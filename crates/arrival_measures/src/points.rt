@@ -1,12 +1,16 @@
 // The points of diagrams.
-ghost use Rattle.std.specs.Prelude.{◌≡◌, ◌++◌, ◌∷◌, ◌==◌, ◌&&◌, [], ℕ, Bool, nat_le, nat_lt, map, filter, IfOk, OnOk, OnErr};
+ghost use Rattle.std.specs.Prelude.{◌≡◌, ◌++◌, ◌∷◌, ◌==◌, ◌&&◌, ◌<◌, ◌-◌, [], ℕ, Bool, List, All, flat_map, map, IfOk, OnOk, OnErr};
+ghost use Rattle.sig_base.specs.declared.values.Row.{Row};
 ghost use Rattle.hour_sweep.specs.Rows.{known_rows};
 ghost use Rattle.hour_sweep.specs.Hours.{IsHour};
-ghost use Rattle.arrival_measures.specs.Points.{AreByTenth, diagram_of, is_on_at, points_at, points_of};
+ghost use Rattle.cycle_arrivals.specs.Arrivals.{is_on};
+ghost use Rattle.arrival_measures.specs.declared.points.Point.{Point};
+ghost use Rattle.arrival_measures.specs.Crossing.{IsCarry};
+ghost use Rattle.arrival_measures.specs.Points.{IsByTenth, by_tenth, diagram_of, is_on_at, points_at, points_from};
 
 use crate::approach::approach_of;
-use crate::detector_rows::{detector_rows, is_on};
-use board::HourView;
+use crate::carry::ArrivalCarry;
+use crate::faults::detect;
 use gap_map::Stretch;
 use ring_config::{Approach, Config};
 use service_cut::Cycle;
@@ -71,7 +75,17 @@ pub struct Diagram {
     pub points: Points,
 }
 
-// Whether the row is an arrival at the advance detector of an approach of the phase.
+/// A vehicle detector goes on.
+const DETECTOR_ON: u8 = 82;
+
+// Whether it is this detector that goes on.
+fn is_on(detector: u8, row: &Row) -> bool
+    ensures { result ≡ is_on detector row.now }
+{
+    row.code == DETECTOR_ON && row.param == u16::from(detector)
+}
+
+// Whether the row is one of the advance detector of an approach of the phase.
 fn arrives(approach: &Approach, phase: u8, row: &Row) -> bool
     ensures { result ≡ (approach.now.phase == phase && is_on_at approach.now.advance row.now) }
 {
@@ -83,69 +97,87 @@ fn arrives(approach: &Approach, phase: u8, row: &Row) -> bool
 
 // Adds the points of a row, one for each approach at which it is an arrival.
 fn add_points(config: &Config, phase: u8, row: &Row, points: &mut Points) -> Result<(), NoMemory>
-    ensures { OnOk result (points.new ≡ points.old ++ points_at phase 0 config.now.approaches row.now) }
+    ensures { OnOk result (row.now.at < 26820000
+        → points.new ≡ points.old ++ points_at phase 0 config.now.approaches row.now) }
 {
     for place in 0..config.approach_count() {
-        if arrives(approach_of(config, place), phase, row) {
+        let approach = approach_of(config, place);
+        if arrives(approach, phase, row) {
             points.push(Point {
                 approach: place,
-                offset: row.at,
+                offset: row.at.saturating_add(approach.travel),
             })?;
         }
     }
     Ok(())
 }
 
-/// The arrivals of an hour at the advance detectors of a phase's approaches, in row order, and for
-/// one row in the approaches' file order. An offset is here the row's tenth of the window.
-pub fn row_points(
-    alloc: Global,
-    config: &Config,
-    phase: u8,
-    rows: &[Row],
-    stretches: &[Stretch],
-) -> Result<Points, NoMemory>
-    ensures { IfOk result (λ points. (known : ℕ → Bool) (hour : ℕ) → IsHour known hour rows.now stretches.now → points ≡ points_of config.now phase (known_rows known rows.now)) }
+// The points of arrivals.
+fn points_among(alloc: Global, config: &Config, phase: u8, rows: &[Row]) -> Result<Points, NoMemory>
+    ensures { IfOk result (λ points. All (λ x. x.at < 26820000) rows.now
+        → points ≡ flat_map (points_at phase 0 config.now.approaches) rows.now) }
 {
-    let detectors = detector_rows(alloc, rows, stretches)?;
     let mut points = Points::new(alloc);
-    for row in &detectors {
+    for row in rows {
         add_points(config, phase, row, &mut points)?;
     }
     Ok(points)
 }
 
-/// The same, where a view of the hour is at hand: no arrival depends on it.
-pub fn arrival_points(
+/// The arrivals of an hour at the advance detectors of a phase's approaches, in row order, and for
+/// one row in the approaches' file order. An offset is here the arrival tenth, of the window. The
+/// carry is of the point before the hour.
+pub fn row_points(
     alloc: Global,
     config: &Config,
     phase: u8,
-    view: &HourView,
+    carry: &ArrivalCarry,
     rows: &[Row],
     stretches: &[Stretch],
 ) -> Result<Points, NoMemory>
-    ensures { IfOk result (λ points. (known : ℕ → Bool) (hour : ℕ) → IsHour known hour rows.now stretches.now → points ≡ points_of config.now phase (known_rows known rows.now)) }
+    ensures { IfOk result (λ points. (known : ℕ → Bool) (before : List Row) (hour : ℕ)
+        → IsHour known hour rows.now stretches.now → IsCarry known config.now before hour carry.now
+        → points ≡ points_from known config.now phase before (known_rows known rows.now)) }
 {
-    row_points(alloc, config, phase, rows, stretches)
+    let _hours = config.hours();
+    let found = detect(alloc, &carry.flags, rows, stretches)?;
+    let points = points_among(alloc, config, phase, &found.arrivals)?;
+    Ok(points)
 }
 
-// Those of the points at the tenths from one up to another.
+fn copied(alloc: Global, points: &[Point]) -> Result<Vec<Point>, NoMemory>
+    ensures { IfOk result (λ v. v.items ≡ points.now) }
+{
+    let all = points.iter().copied().collect(alloc)?;
+    Ok(all)
+}
+
+// The points by tenth, those of one tenth in their order.
+fn sorted(alloc: Global, points: &[Point]) -> Result<Vec<Point>, NoMemory>
+    ensures { IfOk result (λ v. IsByTenth points.now v.items) }
+{
+    let mut all = copied(alloc, points)?;
+    all.sort_by_key(|point| point.offset)?;
+    Ok(all)
+}
+
+// Those of the points at the tenths from one up to another; they stand by tenth.
 fn points_within(points: &[Point], from: u32, to: u32) -> &[Point]
-    requires { AreByTenth 0 points.now }
-    ensures { result.now ≡ filter (λ x. nat_le from x.offset && nat_lt x.offset to) points.now }
+    ensures { (all : List Point) → IsByTenth all points.now
+        → result.now ≡ by_tenth (to - from) from all }
 {
     let (_, later) = points.split_at(points.partition_point(|point| point.offset < from));
     let (within, _) = later.split_at(later.partition_point(|point| point.offset < to));
     within
 }
 
-// The cycle with those of the points that are in it.
-fn with_points(alloc: Global, cycle: &Cycle, points: &Points) -> Result<Diagram, NoMemory>
-    requires { AreByTenth 0 points.now }
-    ensures { IfOk result (λ d. d ≡ diagram_of points.now cycle.now) }
+// The cycle with those of the points that are in it; they stand by tenth.
+fn with_points(alloc: Global, cycle: &Cycle, points: &[Point]) -> Result<Diagram, NoMemory>
+    ensures { IfOk result (λ d. (all : List Point) → IsByTenth all points.now
+        → d ≡ diagram_of all cycle.now) }
 {
     let mut own = Points::new(alloc);
-    let within = points_within(points.list(), cycle.from, cycle.to);
+    let within = points_within(points, cycle.from, cycle.to);
     for point in within {
         own.push(Point {
             approach: point.approach,
@@ -158,15 +190,15 @@ fn with_points(alloc: Global, cycle: &Cycle, points: &Points) -> Result<Diagram,
     })
 }
 
-/// The cycles of a phase, each with those of the points that are in it. The points stand in their
-/// order.
+/// The cycles of a phase, each with those of the points that are in it, by tenth; points of one
+/// tenth stand in their order. The points of the hours follow one another.
 pub fn diagrams(alloc: Global, cycles: &[Cycle], points: &Points) -> Result<Vec<Diagram>, NoMemory>
-    requires { AreByTenth 0 points.now }
     ensures { IfOk result (λ v. v.items ≡ map (diagram_of points.now) cycles.now) }
 {
+    let ordered = sorted(alloc, points.list())?;
     let mut all = Vec::new(alloc);
     for cycle in cycles {
-        all.push(with_points(alloc, cycle, points)?)?;
+        all.push(with_points(alloc, cycle, &ordered)?)?;
     }
     Ok(all)
 }

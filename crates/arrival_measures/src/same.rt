@@ -1,6 +1,8 @@
-// Whether two lists of cycles that have begun are equal.
+// Whether what crosses two points is equal.
 ghost use Rattle.std.specs.Prelude.{◌≡◌, ◌↔◌, IsTrue};
 
+use crate::carry::Crossing;
+use crate::faults::Flag;
 use cycle_arrivals::Open;
 
 fn same_open(a: Open, b: Open) -> bool
@@ -25,15 +27,54 @@ fn same_place(a: Option<Open>, b: Option<Open>) -> bool
     }
 }
 
+fn same_tenths(a: &[u32], b: &[u32]) -> bool
+    ensures { IsTrue result ↔ (a.now ≡ b.now) }
+{
+    a == b
+}
+
+fn same_crossing(a: &Crossing, b: &Crossing) -> bool
+    ensures { IsTrue result ↔ (a.now ≡ b.now) }
+{
+    same_place(a.begun, b.begun) && same_tenths(a.pending.list(), b.pending.list())
+}
+
 /// Whether both lists are equal.
-pub(crate) fn same_opens(a: &[Option<Open>], b: &[Option<Open>]) -> bool
+pub(crate) fn same_crossings(a: &[Crossing], b: &[Crossing]) -> bool
     ensures { IsTrue result ↔ (a.now ≡ b.now) }
 {
     if a.len() != b.len() {
         return false;
     }
-    for (i, open) in a.iter().enumerate() {
-        if !same_place(*open, b[i]) {
+    for (i, crossing) in a.iter().enumerate() {
+        if !same_crossing(crossing, &b[i]) {
+            return false;
+        }
+    }
+    true
+}
+
+fn same_flag(a: Option<Flag>, b: Option<Flag>) -> bool
+    ensures { IsTrue result ↔ (a ≡ b) }
+{
+    match a {
+        None => b.is_none(),
+        Some(x) => match b {
+            None => false,
+            Some(y) => x.fault == y.fault,
+        },
+    }
+}
+
+/// Whether both lists are equal.
+pub(crate) fn same_flags(a: &[Option<Flag>], b: &[Option<Flag>]) -> bool
+    ensures { IsTrue result ↔ (a.now ≡ b.now) }
+{
+    if a.len() != b.len() {
+        return false;
+    }
+    for (i, flag) in a.iter().enumerate() {
+        if !same_flag(*flag, b[i]) {
             return false;
         }
     }

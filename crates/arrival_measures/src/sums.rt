@@ -9,16 +9,22 @@ use hour_sums::{Sum, total};
 /// u64; times are in tenths of a second.
 #[derive(Clone, Copy, Debug, PartialEq, Eq)]
 pub struct ArrivalSum {
+    /// The arrivals whose arrival tenth is one of the hour; in the window's last hour also those at a
+    /// later one.
     pub arrivals: u64,
-    /// The arrivals at whose tenth's end the phase is green in all histories.
+    /// The arrivals at whose arrival tenth's end the phase is green in all histories.
     pub green: u64,
     /// Those at whose tenth's end it is green in none.
     pub not_green: u64,
     /// Those at whose tenth's end it is green only in some.
     pub undecided: u64,
+    /// Those whose arrival tenth isn't known, or is past the window.
+    pub unseen: u64,
+    /// The rows at which the advance detector goes on while it is sure to have a fault.
+    pub fault: u64,
     /// The arrivals in whole cycles.
     pub cycle_arrivals: u64,
-    /// Those of them at whose tenth's end the phase is green.
+    /// Those of them at whose arrival tenth's end the phase is green.
     pub cycle_green: u64,
     /// The tenths of whole cycles at whose end the phase is green.
     pub green_tenths: u64,
@@ -32,6 +38,8 @@ pub struct ArrivalSum {
     pub not_red: u64,
     /// Those at whose tenth's end it is so only in some.
     pub red_undecided: u64,
+    /// The rows at which the stop bar detector goes on while it is sure to have a fault.
+    pub red_fault: u64,
 }
 
 impl Sum for ArrivalSum {
@@ -44,6 +52,8 @@ impl Sum for ArrivalSum {
             green: total(self.green, other.green),
             not_green: total(self.not_green, other.not_green),
             undecided: total(self.undecided, other.undecided),
+            unseen: total(self.unseen, other.unseen),
+            fault: total(self.fault, other.fault),
             cycle_arrivals: total(self.cycle_arrivals, other.cycle_arrivals),
             cycle_green: total(self.cycle_green, other.cycle_green),
             green_tenths: total(self.green_tenths, other.green_tenths),
@@ -52,6 +62,7 @@ impl Sum for ArrivalSum {
             red: total(self.red, other.red),
             not_red: total(self.not_red, other.not_red),
             red_undecided: total(self.red_undecided, other.red_undecided),
+            red_fault: total(self.red_fault, other.red_fault),
         }
     }
 }

@@ -4,9 +4,7 @@ ghost use Rattle.channel_tables.specs.Spec.{IsSpec};
 ghost use Rattle.gap_map.specs.Stretches.{FollowOn};
 ghost use Rattle.sig_base.specs.HourRows.{AreRowsOf};
 
-use crate::{
-    ArrivalCarry, ArrivalSum, ArrivalSums, Point, arrivals_carried, arrivals_hour, row_points,
-};
+use crate::{ArrivalCarry, ArrivalSum, ArrivalSums, arrivals_hour};
 use board::{Aheads, HourView, Pasts};
 use channel_tables::Spec;
 use event_codes::{Channel, Kind};
@@ -17,14 +15,35 @@ use sig_base::Row;
 use std::alloc::Global;
 use std::test::Fail;
 
-const TEXT: &[u8] =
-    b"signal = \"7\"\nstart = \"2024-03-04T06\"\nhours = 1\n[[phase]]\nnumber = 2\nring = 1\nside = 1\n[[approach]]\nname = \"NB\"\nphase = 2\nadvance = 21\nstop_bar = 22\n";
+const BOTH: &[u8] =
+    b"signal = \"7\"\nstart = \"2024-03-04T06\"\nhours = 1\n[[phase]]\nnumber = 2\nring = 1\nside = 1\n[[approach]]\nname = \"NB\"\nphase = 2\nadvance = 5\nstop_bar = 5\n";
+
+const FAR: &[u8] =
+    b"signal = \"7\"\nstart = \"2024-03-04T06\"\nhours = 1\n[[phase]]\nnumber = 2\nring = 1\nside = 1\n[[approach]]\nname = \"NB\"\nphase = 2\nadvance = 5\ntravel = 300\n";
 
 const WHOLE: [Stretch; 1] = [Stretch {
     from: 0,
     to: 36_000,
     known: true,
 }];
+
+const NONE: ArrivalSum = ArrivalSum {
+    arrivals: 0,
+    green: 0,
+    not_green: 0,
+    undecided: 0,
+    unseen: 0,
+    fault: 0,
+    cycle_arrivals: 0,
+    cycle_green: 0,
+    green_tenths: 0,
+    cycle_tenths: 0,
+    actuations: 0,
+    red: 0,
+    not_red: 0,
+    red_undecided: 0,
+    red_fault: 0,
+};
 
 // A channel without floors.
 fn free(kind: Kind, number: u8) -> Spec
@@ -43,35 +62,67 @@ fn row(at: u32, code: u8, param: u16) -> Row
     Row { at, code, param }
 }
 
-// A cycle of phase 2 from 130 to 330, green from 200 to 300. At each detector one vehicle comes in
-// the green and one after the cycle.
-fn cycle() -> [Row; 9]
+// A cycle of phase 2 from 130 to 330, green from 200 to 300. A vehicle comes in the green and one
+// after the cycle.
+fn cycle() -> [Row; 7]
     ensures { AreRowsOf 0 result }
 {
     [
         row(100, 8, 2),
         row(130, 9, 2),
         row(200, 1, 2),
-        row(210, 82, 21),
-        row(220, 82, 22),
+        row(210, 82, 5),
         row(300, 8, 2),
         row(330, 9, 2),
-        row(340, 82, 21),
-        row(350, 82, 22),
+        row(340, 82, 5),
     ]
 }
 
-// A view of the hour with the three channels of the configuration.
+// The detector has a fault when it goes on.
+fn faulty() -> [Row; 7]
+    ensures { AreRowsOf 0 result }
+{
+    [
+        row(900, 81, 5),
+        row(950, 85, 5),
+        row(1000, 1, 2),
+        row(1040, 82, 5),
+        row(1200, 8, 2),
+        row(1235, 9, 2),
+        row(1275, 81, 5),
+    ]
+}
+
+// It is restored before.
+fn restored() -> [Row; 8]
+    ensures { AreRowsOf 0 result }
+{
+    [
+        row(900, 81, 5),
+        row(950, 85, 5),
+        row(960, 83, 5),
+        row(1000, 1, 2),
+        row(1040, 82, 5),
+        row(1200, 8, 2),
+        row(1235, 9, 2),
+        row(1275, 81, 5),
+    ]
+}
+
+// A vehicle that comes to the stop bar after the window.
+fn late() -> [Row; 1]
+    ensures { AreRowsOf 0 result }
+{
+    [row(35_800, 82, 5)]
+}
+
+// A view of the hour with the two channels of the configuration.
 fn seen(alloc: Global, rows: &[Row], stretches: &[Stretch]) -> Result<HourView, Fail>
     requires rows { AreRowsOf 0 rows.now }
     requires stretches { FollowOn 0 36000 stretches.now }
-    ensures { IfOk result (λ v. length v.specs ≡ 3) }
+    ensures { IfOk result (λ v. length v.specs ≡ 2) }
 {
-    let specs = [
-        free(Kind::Phase, 2),
-        free(Kind::Detector, 21),
-        free(Kind::Detector, 22),
-    ];
+    let specs = [free(Kind::Phase, 2), free(Kind::Detector, 5)];
     let before = Pasts::start(alloc, &specs)?;
     let after = Aheads::end(alloc, &specs, 36_000)?;
     let view = HourView::new(alloc, &specs, &before, rows, stretches, &after)?;
@@ -86,29 +137,30 @@ fn cut(alloc: Global, config: &Config, rows: &[Row]) -> Result<Cuts, Fail> {
 }
 
 // The numbers of the hour.
-fn summed(alloc: Global, config: &Config) -> Result<ArrivalSums, Fail>
-    requires { length config.now.specs ≡ 3 }
+fn summed(alloc: Global, config: &Config, rows: &[Row]) -> Result<ArrivalSums, Fail>
+    requires specs { length config.now.specs ≡ 2 }
+    requires rows { AreRowsOf 0 rows.now }
 {
-    let rows = cycle();
-    let view = seen(alloc, &rows, &WHOLE)?;
-    let cuts = cut(alloc, config, &rows)?;
+    let view = seen(alloc, rows, &WHOLE)?;
+    let cuts = cut(alloc, config, rows)?;
     let mut carry = ArrivalCarry::start(alloc, config)?;
-    let sums = arrivals_hour(alloc, config, &mut carry, &cuts, &view, &rows, &WHOLE)?;
+    let sums = arrivals_hour(alloc, config, &mut carry, &cuts, &view, rows, &WHOLE)?;
     Ok(sums)
 }
 
-// Judged rows are counted whether or not they are in a cycle; the cycle counts its own.
+// Judged rows are counted whether or not they are in a cycle; the cycle counts its own. A fault row
+// is none of them.
 #[test]
 fn counts_an_hour(rt: HostRuntime) -> Result<(), Fail> {
-    let config: Config = read_config(rt.alloc(), TEXT)?;
-    assert_eq!(rt; config.specs().len(), 3);
-    let mut total = ArrivalSums::none(rt.alloc(), &config)?;
-    total.add(&summed(rt.alloc(), &config)?)?;
+    let alloc = rt.alloc();
+    let config: Config = read_config(alloc, BOTH)?;
+    assert_eq!(rt; config.specs().len(), 2);
+    let mut total = ArrivalSums::new(alloc);
+    total.add(&summed(alloc, &config, &cycle())?)?;
     let expected = [ArrivalSum {
         arrivals: 2,
         green: 1,
         not_green: 1,
-        undecided: 0,
         cycle_arrivals: 1,
         cycle_green: 1,
         green_tenths: 100,
@@ -116,8 +168,44 @@ fn counts_an_hour(rt: HostRuntime) -> Result<(), Fail> {
         actuations: 2,
         red: 1,
         not_red: 1,
-        red_undecided: 0,
+        ..NONE
     }];
     assert_eq!(rt; total.approaches(), expected.as_slice());
+    let faults = [ArrivalSum {
+        fault: 1,
+        red_fault: 1,
+        ..NONE
+    }];
+    assert_eq!(rt;
+        summed(alloc, &config, &faulty())?.approaches(),
+        faults.as_slice()
+    );
+    let restores = [ArrivalSum {
+        arrivals: 1,
+        green: 1,
+        actuations: 1,
+        not_red: 1,
+        ..NONE
+    }];
+    assert_eq!(rt;
+        summed(alloc, &config, &restored())?.approaches(),
+        restores.as_slice()
+    );
+    Ok(())
+}
+
+// An arrival tenth past the window is unseen, in the last hour.
+#[test]
+fn counts_what_comes_after_the_window(rt: HostRuntime) -> Result<(), Fail> {
+    let alloc = rt.alloc();
+    let config: Config = read_config(alloc, FAR)?;
+    assert_eq!(rt; config.specs().len(), 2);
+    let sums = summed(alloc, &config, &late())?;
+    let expected = [ArrivalSum {
+        arrivals: 1,
+        unseen: 1,
+        ..NONE
+    }];
+    assert_eq!(rt; sums.approaches(), expected.as_slice());
     Ok(())
 }

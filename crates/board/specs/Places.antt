@@ -102,6 +102,14 @@ pub record IsView (log : HourLog) (lines : List (LineLog AnyMachine)) : Type 0 w
   pub count : length lines ≡ length log.specs
   pub are_lines : AreLines log (length log.specs) lines
 
+-- a channel has equally many colours and the same states in both
+abbrev pub HaveSameStates : List (List Span) → List (List Span) → Type 0
+HaveSameStates a b = (length a ≡ length b) × ((s : State) → Holds a s ↔ Holds b s)
+
+-- both have equally many channels, and each the same states in both
+abbrev pub AreSamePasts : List (List (List Span)) → List (List (List Span)) → Type 0
+AreSamePasts a b = (length a ≡ length b) × ((i : ℕ) → i < length a → HaveSameStates (slice_index_or a i []) (slice_index_or b i []))
+
 -- each channel has as many colours as its machine
 abbrev pub AreAheadsOf : List Spec → List (List (Option ℤ)) → Type 0
 AreAheadsOf specs after = (length after ≡ length specs) × ((i : ℕ) (d : Spec) → i < length specs → length (slice_index_or after i []) ≡ (rules_at specs i d).colours)

@@ -10,7 +10,7 @@ ghost use Rattle.board.specs.declared.pasts.PastsError.TheVariants.{Memory};
 ghost use Rattle.board.specs.Channels.{AreSpecs};
 ghost use Rattle.board.specs.Logs.{IsHour, first_tenth, end_tenth};
 ghost use Rattle.board.specs.Stops.{number, StopRow, IsEarlier, Survives, IsFirstStop, AreAfter, AreBefore, rules_at};
-ghost use Rattle.board.specs.Places.{AllEarly};
+ghost use Rattle.board.specs.Places.{AllEarly, AreSamePasts};
 ghost use Rattle.board.specs.Hours.{IsStart, AreStarts, AllClamped, ArePastsOf, NamesStop};
 
 use crate::courses::courses_of;
@@ -72,7 +72,8 @@ impl Pasts {
 
     /// Whether both have equally many channels, and each the same states in both.
     pub fn same(&self, other: &Pasts) -> bool
-        ensures { IsTrue result ↔ (self.now ≡ other.now) }
+        ensures value { IsTrue result ↔ (self.now ≡ other.now) }
+        ensures states { IsTrue result ↔ AreSamePasts self.now other.now }
     {
         same_pasts(&self.pasts, &other.pasts)
     }
@@ -103,7 +104,8 @@ fn past_start(alloc: Global, spec: &Spec) -> Result<Past, NoMemory>
 }
 
 fn same_pasts(a: &[Past], b: &[Past]) -> bool
-    ensures { IsTrue result ↔ (a.now ≡ b.now) }
+    ensures value { IsTrue result ↔ (a.now ≡ b.now) }
+    ensures states { IsTrue result ↔ AreSamePasts a.now b.now }
 {
     if a.len() != b.len() {
         return false;

@@ -1,7 +1,7 @@
 -- Words that are written out.
-use Rattle.std.proofs.Common.{◌≡◌, List, [], ◌∷◌, Some, None, codes, refl}
+use Rattle.std.proofs.Common.{◌≡◌, [], ◌∷◌, Some, None, codes, refl}
 use Rattle.clap.proofs.OnLiterals.{clap_on_literals}
-use Rattle.command_line.specs.Words.{request_of, faults, rows, asked_for, for_run}
+use Rattle.command_line.specs.Words.{request_of, faults, rows, asked_for, for_demo, for_run}
 
 help_none : request_of (codes "sigaudit" ∷ codes "--help" ∷ []) ≡ None
 unfolding clap_on_literals request_of faults rows asked_for
@@ -14,3 +14,11 @@ twice_none = refl
 both : request_of (codes "sigaudit" ∷ codes "--script=s" ∷ codes "--config" ∷ codes "c" ∷ []) ≡ Some (for_run (codes "c") (codes "s"))
 unfolding clap_on_literals request_of faults rows asked_for
 both = refl
+
+a_week : request_of (codes "sigaudit" ∷ codes "--demo" ∷ codes "168" ∷ []) ≡ Some (for_demo 168)
+unfolding clap_on_literals request_of faults rows asked_for
+a_week = refl
+
+longer_none : request_of (codes "sigaudit" ∷ codes "--demo=169" ∷ []) ≡ None
+unfolding clap_on_literals request_of faults rows asked_for
+longer_none = refl

@@ -1,5 +1,5 @@
 -- What the words of the command line ask for.
-use Rattle.std.specs.Prelude.{◌≡◌, ℕ, ℤ, ◌<◌, Bool, true, List, [], ◌∷◌, length, codes, Option, Some, None, Result, Ok, Err, option_map, if◌then◌else◌}
+use Rattle.std.specs.Prelude.{◌≡◌, ℕ, ℤ, ◌<◌, ◌≤◌, ◌==◌, true, List, [], codes, Option, Some, None, Result, Ok, Err, option_map, if◌then◌else◌}
 use Rattle.std.specs.Borrow.{Bor}
 use Rattle.clap.specs.Walk.{Text, Rule, Row, first_of, is_empty, rows_of}
 use Rattle.clap.specs.Matches.{found_of}
@@ -9,6 +9,7 @@ use Rattle.clap.specs.Faults.{fault_of}
 use Rattle.clap.specs.Kinds.{Kinds}
 use Rattle.clap.specs.declared.builder.action.ArgAction.TheVariants.{Set}
 use Rattle.sig_base.specs.Window.{IsDay}
+use Rattle.row_reader.specs.Number.{number_of}
 use Rattle.row_reader.specs.Signal.{is_signal}
 use Rattle.row_reader.specs.Stamp.{hour_stamp_of}
 use Rattle.command_line.specs.declared.Request.{Request}
@@ -27,11 +28,12 @@ sigaudit =
     (option_rule (codes "config"))) (option_rule (codes "script"))) (option_rule (codes "count")))
     (option_rule (codes "signal"))) (option_rule (codes "hour"))) (option_rule (codes "pack"))) (option_rule (codes "demo"))
 
--- a run of a script over a configuration; of one file of this signal and this hour of a day, a count of the codes or its packed bytes
+-- a run of a script over a configuration; of one file of this signal and this hour of a day, a count of the codes or its packed bytes; the demonstration of so many hours
 pub data Asked : Type 0 where
   for_run : Text → Text → Asked
   for_count : Text → Text → ℤ → ℕ → Asked
   for_pack : Text → Text → ℤ → ℕ → Asked
+  for_demo : ℕ → Asked
 
 -- the values of the seven options
 pub record Given : Type 0 where
@@ -65,11 +67,21 @@ count_asked file signal hour = option_map (λ at. for_count file signal at.0 at.
 abbrev pub pack_asked : Text → Text → Text → Option Asked
 pack_asked file signal hour = option_map (λ at. for_pack file signal at.0 at.1) (hour_asked signal hour)
 
+-- a number of hours, at least one
+abbrev pub some_hours : Option ℕ → Option ℕ
+some_hours None = None
+some_hours (Some n) = if n == 0 then None else Some n
+
+-- the demonstration of so many hours, where the text is one to three digits that say 1 to 168
+abbrev pub demo_asked : Text → Option Asked
+demo_asked hours = option_map for_demo (some_hours (number_of 1 3 168 hours))
+
 -- the request of exactly these options
 abbrev pub asked_by : Option Text → Option Text → Option Text → Option Text → Option Text → Option Text → Option Text → Option Asked
 asked_by (Some c) (Some s) None None None None None = Some (for_run c s)
 asked_by None None (Some f) (Some i) (Some h) None None = count_asked f i h
 asked_by None None None (Some i) (Some h) (Some f) None = pack_asked f i h
+asked_by None None None None None None (Some n) = demo_asked n
 asked_by _ _ _ _ _ _ _ = None
 
 unfoldable pub asked_for : Given → Option Asked
@@ -90,6 +102,7 @@ abbrev pub seen : Request → Asked
 seen (code.Run config script) = for_run config.now script.now
 seen (code.Count file signal day hour) = for_count file.now signal.now day hour
 seen (code.Pack file signal day hour) = for_pack file.now signal.now day hour
+seen (code.Demo hours) = for_demo hours
 
 -- the answer is the request of the words, or Usage where there is none, unless memory ran out
 abbrev pub Answers : Result Request Refused → Option Asked → Type 0
@@ -111,8 +124,9 @@ Parses (Ok m) words = (faults words ≡ []) × (rows_of (found_of m) ≡ rows wo
 Parses (Err Usage) words = request_of words ≡ None
 Parses (Err Memory) words = Unit {0}
 
--- a signal, a day and an hour that are named are ones that there can be
+-- a signal, a day, an hour and a number of hours that are named are ones that there can be
 abbrev pub IsReadable : Request → Type 0
 IsReadable (code.Run config script) = Unit {0}
 IsReadable (code.Count file signal day hour) = IsDay day × (hour < 24) × (is_signal signal.now ≡ true)
 IsReadable (code.Pack file signal day hour) = IsDay day × (hour < 24) × (is_signal signal.now ≡ true)
+IsReadable (code.Demo hours) = (1 ≤ hours) × (hours ≤ 168)

@@ -1,18 +1,18 @@
 //! What the words of a command line ask for: one simple command of seven options, each taking one
-//! value, and the four sets of them that the program has. The rules are those of
+//! value, and the sets of them that the program has. The rules are those of
 //! `docs/FORMATS.md`.
 #![tactic(auto)]
 
-ghost use Rattle.std.specs.Prelude.{◌≡◌, ◌<◌, true, false, map, IfOk, IfSome, List, Option, option_map, Some, None};
+ghost use Rattle.std.specs.Prelude.{◌≡◌, ◌<◌, ◌≤◌, true, false, map, IfOk, IfSome, List, Option, option_map, Some, None};
 ghost use Rattle.sig_base.specs.Window.{IsDay};
 ghost use Rattle.row_reader.specs.Signal.{is_signal};
 ghost use Rattle.clap.specs.Words.{app_of, rule_of, found_of, rows_of};
-ghost use Rattle.command_line.specs.Words.{count_asked, hour_asked, pack_asked, option_rule, sigaudit, request_of, Answers, IsReadable, Parses, asked_for, given_by, seen, AsksFor};
+ghost use Rattle.command_line.specs.Words.{count_asked, demo_asked, hour_asked, pack_asked, option_rule, sigaudit, request_of, Answers, IsReadable, Parses, asked_for, given_by, seen, AsksFor};
 ghost use Rattle.command_line.specs.declared.Refused.TheVariants.{Memory};
 
 use clap::error::ErrorKind;
 use clap::{Arg, ArgAction, ArgMatches, Command};
-use row_reader::{is_signal, read_hour_stamp};
+use row_reader::{is_signal, read_hour_stamp, read_number};
 use std::alloc::{AllocError, Global};
 
 /// What the words ask for.
@@ -25,6 +25,8 @@ pub enum Request<'a> {
     Count(&'a str, &'a str, i64, u8),
     /// The same of a file whose rows are to be packed.
     Pack(&'a str, &'a str, i64, u8),
+    /// The demonstration of so many hours, 1 to 168.
+    Demo(u32),
 }
 
 /// Why there is no request.
@@ -96,6 +98,16 @@ fn pack_asked<'a>(file: &'a str, signal: &'a str, hour: &str) -> Option<Request<
     }
 }
 
+fn demo_asked<'a>(hours: &str) -> Option<Request<'a>>
+    ensures value { option_map seen result ≡ demo_asked hours.now }
+    ensures readable { IfSome result IsReadable }
+{
+    match read_number(hours.as_bytes(), 1, 3, 168) {
+        Some(0) | None => None,
+        Some(hours) => Some(Request::Demo(hours)),
+    }
+}
+
 fn choose<'a>(
     config: Option<&'a str>,
     script: Option<&'a str>,
@@ -119,6 +131,7 @@ fn choose<'a>(
         (None, None, None, Some(signal), Some(hour), Some(file), None) => {
             pack_asked(file, signal, hour)
         }
+        (None, None, None, None, None, None, Some(hours)) => demo_asked(hours),
         _ => None,
     }
 }
@@ -155,7 +168,7 @@ fn asked<'a>(matches: &ArgMatches<'a>) -> Option<Request<'a>>
 
 /// What the words ask for, the program's own name first. `Usage` comes exactly where the command
 /// refuses them for another cause than memory, where the options are none of the sets that the
-/// program has, or where the signal or the hour isn't readable.
+/// program has, or where the signal, the hour or the number of hours isn't readable.
 pub fn parse_words<'a>(alloc: Global, words: &'a [&'a str]) -> Result<Request<'a>, Refused>
     ensures value { Answers result (request_of (map (λ w. w.now) words.entry.now)) }
     ensures readable { IfOk result IsReadable }
@@ -210,7 +223,13 @@ mod tests {
                 ["--count=f", "--signal=7", "--hour=2024-03-04T24"].as_slice(),
                 Err(Refused::Usage),
             ),
-            (["--demo", "3"].as_slice(), Err(Refused::Usage)),
+            (["--demo", "007"].as_slice(), Ok(Request::Demo(7))),
+            (["--demo=168", "--"].as_slice(), Ok(Request::Demo(168))),
+            (["--demo=169"].as_slice(), Err(Refused::Usage)),
+            (["--demo=0"].as_slice(), Err(Refused::Usage)),
+            (["--demo=0001"].as_slice(), Err(Refused::Usage)),
+            (["--demo=+1"].as_slice(), Err(Refused::Usage)),
+            (["--demo=1", "--signal=7"].as_slice(), Err(Refused::Usage)),
         ] {
             let mut all = Vec::new(rt.alloc());
             assert!(rt; all.push("sigaudit").is_ok());

@@ -3,3 +3,4 @@ pub mod Counts
 pub mod Tenths
 pub mod Over
 pub mod Own
+pub mod Parts

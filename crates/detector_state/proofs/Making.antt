@@ -105,7 +105,7 @@ module _ (ch : Channel) (hour : ℕ) (rows : List Row) (ss : List Stretch) (b : 
 pub cover : (channel : Channel) (rows : List Row) (ss : List Stretch) (b : ℕ) (parts : List Part) → parts ≡ all_parts channel b rows ss → (hour : ℕ) → IsHour hour rows ss → FollowOn (first_tenth hour) (end_tenth hour) parts
 cover channel rows ss b parts e hour is = rw e (own_cover channel hour rows ss b is)
 
-module _ (log : Log) (i hour : ℕ) (rows : List Row) (ss : List Stretch) (before : List (List Span)) (b : ℕ) (s_fits : IsChannelOf log i (get_or log.specs i no_spec).channel) (switch : IsSwitch (get_or log.specs i no_spec).channel.kind) (is : IsHourIn log hour rows ss) (past : IsPastAt log i hour before) (starts : HasStates before b) where
+module _ (log : Log) (i hour : ℕ) (rows : List Row) (ss : List Stretch) (before : List (List Span)) (b : ℕ) (s_fits : IsChannelOf log i (get_or log.specs i no_spec).channel) (switch : IsSwitch (get_or log.specs i no_spec).channel.kind) (is : IsHourIn log (switch_track (get_or log.specs i no_spec).channel) hour rows ss) (past : IsPastAt log i hour before) (starts : HasStates before b) where
   abbrev s : Spec
   s = get_or log.specs i no_spec
 
@@ -134,7 +134,7 @@ module _ (log : Log) (i hour : ℕ) (rows : List Row) (ss : List Stretch) (befor
       elim (cases_Bool (log.known x)) [
         | inl held ↦
             let there : known_at ss x ≡ true = kn ∙ held in
-            rw (there, held) (ap (λ es. after_letters ch mask (letters (switch_track ch) es)) (is.events x l u held) ∙ (ap (λ ls. after_letters ch mask ls) (sym (letters_same s (events_at log.rows x))) ∙ sym (after_same s (letters k (events_at log.rows x)) mask)))
+            rw (there, held) (ap (λ ls. after_letters ch mask ls) (is.events x l u held) ∙ (ap (λ ls. after_letters ch mask ls) (sym (letters_same s (events_at log.rows x))) ∙ sym (after_same s (letters k (events_at log.rows x)) mask)))
         | inr gap ↦ let there : known_at ss x ≡ false = kn ∙ gap in rw (there, gap) refl
       ]
 
@@ -168,10 +168,10 @@ module _ (log : Log) (i hour : ℕ) (rows : List Row) (ss : List Stretch) (befor
   own_made : IsSwitched log i hour (all_parts ch b rows ss)
   own_made = tells_each f (all_parts ch b rows ss) (omega arith) (are_parts ch hour rows ss b is.is_hour)
 
-pub made : (channel : Channel) (rows : List Row) (ss : List Stretch) (before : List (List Span)) (b : ℕ) (parts : List Part) → IsSwitch channel.kind → ((f : ℕ) → f < 4294967296 → EnteredBefore before f → HasStates before b) → parts ≡ all_parts channel b rows ss → (log : Log) (i hour : ℕ) → IsChannelOf log i channel → IsHourIn log hour rows ss → IsPastAt log i hour before → IsSwitched log i hour parts
+pub made : (channel : Channel) (rows : List Row) (ss : List Stretch) (before : List (List Span)) (b : ℕ) (parts : List Part) → IsSwitch channel.kind → ((f : ℕ) → f < 4294967296 → EnteredBefore before f → HasStates before b) → parts ≡ all_parts channel b rows ss → (log : Log) (i hour : ℕ) → IsChannelOf log i channel → IsHourIn log (switch_track channel) hour rows ss → IsPastAt log i hour before → IsSwitched log i hour parts
 made channel rows ss before b parts switch starts e log i hour of is past =
     let s = get_or log.specs i no_spec in
     let low = is.is_hour.are_rows.in_range in
     let own : IsChannelOf log i s.channel = record { within = of.within; fits = of.fits; same = refl } in
-    let here : IsSwitched log i hour (all_parts s.channel b rows ss) = own_made log i hour rows ss before b own (subst (λ (c : Channel). IsSwitch c.kind) (sym of.same) switch) is past (starts (first_tenth hour) (omega arith) (past_early log i hour before past)) in
+    let here : IsSwitched log i hour (all_parts s.channel b rows ss) = own_made log i hour rows ss before b own (subst (λ (c : Channel). IsSwitch c.kind) (sym of.same) switch) (subst (λ (c : Channel). IsHourIn log (switch_track c) hour rows ss) (sym of.same) is) past (starts (first_tenth hour) (omega arith) (past_early log i hour before past)) in
     rw e (subst (λ (c : Channel). IsSwitched log i hour (all_parts c b rows ss)) of.same here)

@@ -7,7 +7,7 @@ use Rattle.gap_map.specs.Stretches.{IsCut, known_at, known_in}
 use Rattle.colour_machine.specs.Mask.{Has}
 use Rattle.reach.specs.Runs.{State}
 use Rattle.reach.specs.Past.{Holds}
-use Rattle.board.specs.History.{events_at}
+use Rattle.board.specs.History.{Track, events_at, letters}
 use Rattle.board.specs.Hours.{Clamped}
 use Rattle.board.specs.Logs.{IsHour, first_tenth, end_tenth, no_spec}
 use Rattle.board.specs.Channels.{AreSpecs}
@@ -22,15 +22,15 @@ use Rattle.signal_log.specs.States.{IsReached}
 use Rattle.free_channels.specs.Tells.{IsColourReached, IsSure}
 use Rattle.detector_state.specs.declared.part.Part.{Part}
 use Rattle.detector_state.specs.declared.tenths.OnTenths.{OnTenths}
-use Rattle.detector_state.specs.Switches.{IsChannelOf}
+use Rattle.detector_state.specs.Switches.{IsChannelOf, switch_track}
 use Rattle.detector_state.specs.declared.asked.Asked.{Asked}
 use Rattle.detector_state.specs.declared.asked.Asked.TheVariants.{Only, May}
 
--- these rows and stretches are those of an hour of the log
-pub record IsHourIn (log : Log) (hour : ℕ) (rows : List Row) (ss : List Stretch) : Type 0 where
+-- these stretches are those of an hour of the log, and these rows have the letters of the channel that the hour's rows have
+pub record IsHourIn (log : Log) (k : Track) (hour : ℕ) (rows : List Row) (ss : List Stretch) : Type 0 where
   pub is_hour : IsHour hour rows ss
   pub known : (x : ℕ) → first_tenth hour ≤ x → x < end_tenth hour → known_at ss x ≡ log.known x
-  pub events : (x : ℕ) → first_tenth hour ≤ x → x < end_tenth hour → log.known x ≡ true → events_at rows x ≡ events_at log.rows x
+  pub events : (x : ℕ) → first_tenth hour ≤ x → x < end_tenth hour → log.known x ≡ true → letters k (events_at rows x) ≡ letters k (events_at log.rows x)
 
 -- these are the states of channel i of the log at the point before the hour, with the entries that are older than an hour made one
 abbrev pub IsPastAt : Log → ℕ → ℕ → List (List Span) → Type 0
@@ -86,7 +86,7 @@ CoversHour rows ss parts = (hour : ℕ) → IsHour hour rows ss → FollowOn (fi
 
 -- they tell of the hour of each log that has the channel, these rows and stretches, and these states before the hour
 abbrev pub TellsColours : Channel → List (List Span) → List Row → List Stretch → List Part → Type 0
-TellsColours channel before rows ss parts = (log : Log) (i hour : ℕ) → IsChannelOf log i channel → IsHourIn log hour rows ss → IsPastAt log i hour before → IsSwitched log i hour parts
+TellsColours channel before rows ss parts = (log : Log) (i hour : ℕ) → IsChannelOf log i channel → IsHourIn log (switch_track channel) hour rows ss → IsPastAt log i hour before → IsSwitched log i hour parts
 
 -- of the tenths from `from` up to `to` of each log of whose tenths about them the parts tell: at how many the channel is sure to be on
 abbrev pub IsLeastOn : List Part → ℕ → ℕ → ℕ → Type 0
@@ -106,4 +106,4 @@ GoesOn parts from to before after = (log : Log) (i a b x : ℕ) → TellsEach lo
 
 -- an hour of a store is one of its log, and each Past at the point before it is of its channel
 abbrev pub HoursFit : Type 0
-HoursFit = (specs : List Spec) (s : Store) (i hour : ℕ) (rows : Option (List Row)) (blanks : List Span) (ss : List Stretch) (pasts : List (List (List Span))) → AreSpecs specs → i < length specs → AreRowsOf hour (rows_or_none rows) → HasHour s hour rows blanks → IsCut (known_in (is_some rows) blanks) (first_tenth hour) (end_tenth hour) ss → ArePastsAt (log_of specs s) hour pasts → IsHourIn (log_of specs s) hour (rows_or_none rows) ss × IsPastAt (log_of specs s) i hour (slice_index_or pasts i []) × IsChannelOf (log_of specs s) i (slice_index_or specs i no_spec).channel
+HoursFit = (specs : List Spec) (s : Store) (i hour : ℕ) (rows : Option (List Row)) (blanks : List Span) (ss : List Stretch) (pasts : List (List (List Span))) → AreSpecs specs → i < length specs → AreRowsOf hour (rows_or_none rows) → HasHour s hour rows blanks → IsCut (known_in (is_some rows) blanks) (first_tenth hour) (end_tenth hour) ss → ArePastsAt (log_of specs s) hour pasts → ((k : Track) → IsHourIn (log_of specs s) k hour (rows_or_none rows) ss) × IsPastAt (log_of specs s) i hour (slice_index_or pasts i []) × IsChannelOf (log_of specs s) i (slice_index_or specs i no_spec).channel

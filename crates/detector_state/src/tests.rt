@@ -7,6 +7,14 @@ use sig_base::{NoMemory, Row};
 use std::alloc::Global;
 use std::test::Fail;
 
+fn row(at: u32, code: u8) -> Row {
+    Row { at, code, param: 5 }
+}
+
+fn stretch(from: u32, to: u32, known: bool) -> Stretch {
+    Stretch { from, to, known }
+}
+
 fn told(alloc: Global, rows: &[Row], stretches: &[Stretch]) -> Result<Switched, NoMemory> {
     let channel = Channel {
         kind: Kind::Detector,
@@ -20,16 +28,8 @@ fn told(alloc: Global, rows: &[Row], stretches: &[Stretch]) -> Result<Switched, 
 // It comes on at tenth 100.
 #[test]
 fn a_detector_that_comes_on(rt: HostRuntime) -> Result<(), Fail> {
-    let rows = [Row {
-        at: 100,
-        code: 82,
-        param: 5,
-    }];
-    let stretches = [Stretch {
-        from: 0,
-        to: 36_000,
-        known: true,
-    }];
+    let rows = [row(100, 82)];
+    let stretches = [stretch(0, 36_000, true)];
     let told = told(rt.alloc(), &rows, &stretches)?;
     assert_eq!(rt; least_on(&told, 0, 200), 100);
     assert_eq!(rt; greatest_on(&told, 0, 200), 200);
@@ -40,44 +40,11 @@ fn a_detector_that_comes_on(rt: HostRuntime) -> Result<(), Fail> {
 // leaves it off or on.
 #[test]
 fn a_detector_with_a_fault(rt: HostRuntime) -> Result<(), Fail> {
-    let rows = [
-        Row {
-            at: 100,
-            code: 85,
-            param: 5,
-        },
-        Row {
-            at: 200,
-            code: 83,
-            param: 5,
-        },
-        Row {
-            at: 300,
-            code: 82,
-            param: 5,
-        },
-        Row {
-            at: 1_000,
-            code: 83,
-            param: 5,
-        },
-    ];
+    let rows = [row(100, 85), row(200, 83), row(300, 82), row(1_000, 83)];
     let stretches = [
-        Stretch {
-            from: 0,
-            to: 400,
-            known: true,
-        },
-        Stretch {
-            from: 400,
-            to: 1_000,
-            known: false,
-        },
-        Stretch {
-            from: 1_000,
-            to: 36_000,
-            known: true,
-        },
+        stretch(0, 400, true),
+        stretch(400, 1_000, false),
+        stretch(1_000, 36_000, true),
     ];
     let told = told(rt.alloc(), &rows, &stretches)?;
     assert!(rt; !sure_fault(&told, 0, 100));

@@ -11,7 +11,9 @@ use Rattle.hour_sums.specs.Numbers.{capped, merged}
 use Rattle.hour_sums.proofs.Adding.{capped_assoc, capped_none, greater_assoc, lesser_assoc}
 use Rattle.hour_sums.proofs.Merging.{merged_assoc, sum_nil}
 use Rattle.split_measures.specs.declared.sums.PhaseSum.{PhaseSum}
+use Rattle.split_measures.specs.declared.failures.SplitSum.{SplitSum}
 use Rattle.split_measures.specs.Phases.{added}
+use Rattle.split_measures.specs.Failures.{both_sums}
 use Rattle.other_measures.specs.declared.sums.CoordSum.{CoordSum}
 use Rattle.other_measures.specs.declared.sums.PedSum.{PedSum}
 use Rattle.other_measures.specs.declared.sums.PreemptSum.{PreemptSum}
@@ -40,12 +42,23 @@ phases_assoc a b c = rw (
   capped_assoc a.cycle_sum b.cycle_sum c.cycle_sum,
 ) refl
 
+failures_assoc : (a b c : SplitSum) → both_sums (both_sums a b) c ≡ both_sums a (both_sums b c)
+failures_assoc a b c = rw (
+  capped_assoc a.fail b.fail c.fail,
+  capped_assoc a.pass b.pass c.pass,
+  capped_assoc a.undecided b.undecided c.undecided,
+  capped_assoc a.left_open b.left_open c.left_open,
+  capped_assoc a.fault b.fault c.fault,
+) refl
+
 arrivals_assoc : (a b c : ArrivalSum) → arrivals_added (arrivals_added a b) c ≡ arrivals_added a (arrivals_added b c)
 arrivals_assoc a b c = rw (
   capped_assoc a.arrivals b.arrivals c.arrivals,
   capped_assoc a.green b.green c.green,
   capped_assoc a.not_green b.not_green c.not_green,
   capped_assoc a.undecided b.undecided c.undecided,
+  capped_assoc a.unseen b.unseen c.unseen,
+  capped_assoc a.fault b.fault c.fault,
   capped_assoc a.cycle_arrivals b.cycle_arrivals c.cycle_arrivals,
   capped_assoc a.cycle_green b.cycle_green c.cycle_green,
   capped_assoc a.green_tenths b.green_tenths c.green_tenths,
@@ -54,6 +67,7 @@ arrivals_assoc a b c = rw (
   capped_assoc a.red b.red c.red,
   capped_assoc a.not_red b.not_red c.not_red,
   capped_assoc a.red_undecided b.red_undecided c.red_undecided,
+  capped_assoc a.red_fault b.red_fault c.red_fault,
 ) refl
 
 peds_assoc : (a b c : PedSum) → ped_added (ped_added a b) c ≡ ped_added a (ped_added b c)
@@ -174,9 +188,10 @@ total_join xs ys =
     let k = sum_by-append (λ (n : Numbers). n.known_tenths) xs ys in
     let c = mapped_join (merged count_sum) [] (λ (n : Numbers). n.rules) (merged_assoc count_sum counts_assoc) (λ a b. sum_nil count_sum (merged count_sum a b)) refl xs ys in
     let p = mapped_join (merged added) [] (λ (n : Numbers). n.splits) (merged_assoc added phases_assoc) (λ a b. sum_nil added (merged added a b)) refl xs ys in
+    let f = mapped_join (merged both_sums) [] (λ (n : Numbers). n.failures) (merged_assoc both_sums failures_assoc) (λ a b. sum_nil both_sums (merged both_sums a b)) refl xs ys in
     let o = mapped_join others_added no_numbers (λ (n : Numbers). n.others) others_assoc others_right others_none xs ys in
     let a = mapped_join (merged arrivals_added) [] (λ (n : Numbers). n.arrivals) (merged_assoc arrivals_added arrivals_assoc) (λ a b. sum_nil arrivals_added (merged arrivals_added a b)) refl xs ys in
-    rw (h, r, k, c, p, o, a) refl
+    rw (h, r, k, c, p, f, o, a) refl
 
 -- ---- blocks
 

@@ -16,9 +16,12 @@ use Rattle.service_cut.specs.declared.items.Cycle.{Cycle}
 use Rattle.service_cut.specs.Cut.{cycle_is_in, cycles_from}
 use Rattle.service_cut.proofs.HourLists.{cycles_add, cycles_count}
 use Rattle.cycle_arrivals.specs.Arrivals.{is_on, ons_of, rows_within}
+use Rattle.cycle_arrivals.specs.Own.{turns_green}
 use Rattle.cycle_arrivals.specs.Green.{arrivals_in, green_arrivals_in, green_tenths_in, greens, shows_green, tenths_with}
 use Rattle.arrival_measures.specs.declared.sums.ArrivalSum.{ArrivalSum}
 use Rattle.arrival_measures.specs.Cycles.{CycleNumbers, cycle_tenths, numbers_of}
+use Rattle.arrival_measures.specs.Travel.{arrivals_at, told}
+use Rattle.arrival_measures.proofs.Travels.{arrivals_in as arrivals_in_hour, arrivals_more, in_ordered, kept_ordered}
 use Rattle.arrival_measures.specs.Hours.{HaveCycles, added, cycle_numbers, cycle_part, cycles_of, no_cycles}
 use Rattle.hour_work.proofs.PlacedLaws.{Each, each_weaker}
 use Rattle.hour_work.proofs.ArrivalLaws.{each_filter, each_kept}
@@ -34,21 +37,18 @@ map_same : {X : Type 0} (f g : X → ℕ) (xs : List X) → Each (λ x. f x ≡ 
 map_same f g [] h = refl
 map_same f g (x ∷ xs) h = ap₂ (λ y ys. y ∷ ys) h.0 (map_same f g xs h.1)
 
--- ---- up to tenth t the rows before it tell
+-- ---- up to tenth t the same rows tell the same
 
 within_below : (a b : ℕ) (rows : List Row) → Each (λ x. x.at < b) (rows_within a b rows)
 within_below a b [] = tt
 within_below a b (x ∷ xs) = each_kept (λ (z : Row). z.at < b) (nat_le a x.at && nat_lt x.at b) x (rows_within a b xs) (λ e. ltb-true x.at b (and_parts (nat_le a x.at) (nat_lt x.at b) e).1) (within_below a b xs)
 
-module _ (t end : ℕ) (before rows : List Row) (order : AreOrdered t end rows) where
-  rows_cut : (a b : ℕ) → b ≤ t → rows_within a b (before ++ rows) ≡ rows_within a b before
-  rows_cut a b le = within_both a b before rows ∙ (ap (λ zs. rows_within a b before ++ zs) (none_within a b t end rows le order) ∙ append-nil (rows_within a b before))
-
-  shows_cut : (p a u : ℕ) → u < t → shows_green p a (before ++ rows) u ≡ shows_green p a before u
+module _ (t : ℕ) (xs ys : List Row) (same : (a b : ℕ) → b ≤ t → rows_within a b xs ≡ rows_within a b ys) where
+  shows_cut : (p a u : ℕ) → u < t → shows_green p a xs u ≡ shows_green p a ys u
   unfolding shows_green
-  shows_cut p a u lt = ap (λ zs. greens p false zs) (rows_cut a (u + 1) (omega arith))
+  shows_cut p a u lt = ap (λ zs. greens p false zs) (same a (u + 1) (omega arith))
 
-  tenths_cut : (p a u n : ℕ) → ((k : ℕ) → k < n → u + k < t) → tenths_with (shows_green p a (before ++ rows)) u n ≡ tenths_with (shows_green p a before) u n
+  tenths_cut : (p a u n : ℕ) → ((k : ℕ) → k < n → u + k < t) → tenths_with (shows_green p a xs) u n ≡ tenths_with (shows_green p a ys) u n
   unfolding tenths_with
   tenths_cut p a u zero low = refl
   tenths_cut p a u (suc n) low =
@@ -57,34 +57,54 @@ module _ (t end : ℕ) (before rows : List Row) (order : AreOrdered t end rows) 
       let rest = tenths_cut p a (u + 1) n (λ k lt. let l = low (k + 1) (omega arith) in omega arith) in
       ap₂ (λ (v : Bool) (m : ℕ). cond v 1 0 + m) here rest
 
-  arrivals_cut : (d a b : ℕ) → b ≤ t → arrivals_in d a b (before ++ rows) ≡ arrivals_in d a b before
-  arrivals_cut d a b le = ap (λ zs. length (ons_of d zs)) (rows_cut a b le)
+  arrivals_cut : (d a b : ℕ) → b ≤ t → arrivals_in d a b xs ≡ arrivals_in d a b ys
+  arrivals_cut d a b le = ap (λ zs. length (ons_of d zs)) (same a b le)
 
-  green_cut : (p d a b : ℕ) → b ≤ t → green_arrivals_in p d a b (before ++ rows) ≡ green_arrivals_in p d a b before
+  green_cut : (p d a b : ℕ) → b ≤ t → green_arrivals_in p d a b xs ≡ green_arrivals_in p d a b ys
   green_cut p d a b le =
-      let f = λ (x : Row). is_on d x && shows_green p a (before ++ rows) x.at in
-      let g = λ (x : Row). is_on d x && shows_green p a before x.at in
-      ap (λ zs. count_by f zs) (rows_cut a b le)
-      ∙ count_same f g (rows_within a b before) (each_weaker (λ (x : Row). x.at < b) (λ x. f x ≡ g x) (rows_within a b before) (λ x lt. ap (λ v. is_on d x && v) (shows_cut p a x.at (omega arith))) (within_below a b before))
+      let f = λ (x : Row). is_on d x && shows_green p a xs x.at in
+      let g = λ (x : Row). is_on d x && shows_green p a ys x.at in
+      ap (λ zs. count_by f zs) (same a b le)
+      ∙ count_same f g (rows_within a b ys) (each_weaker (λ (x : Row). x.at < b) (λ x. f x ≡ g x) (rows_within a b ys) (λ x lt. ap (λ v. is_on d x && v) (shows_cut p a x.at (omega arith))) (within_below a b ys))
 
-  green_tenths_cut : (p a b : ℕ) → b ≤ t → green_tenths_in p a b (before ++ rows) ≡ green_tenths_in p a b before
+  green_tenths_cut : (p a b : ℕ) → b ≤ t → green_tenths_in p a b xs ≡ green_tenths_in p a b ys
   green_tenths_cut p a b le = tenths_cut p a a (b - a) (λ k lt. omega arith)
 
   -- so do the numbers of the cycles that are over by then
-  numbers_cut : (p d : ℕ) (cs : List Cycle) → Each (λ c. c.to ≤ t) cs → numbers_of p d (before ++ rows) cs ≡ numbers_of p d before cs
+  numbers_cut : (p d : ℕ) (cs : List Cycle) → Each (λ c. c.to ≤ t) cs → numbers_of p d xs cs ≡ numbers_of p d ys cs
   unfolding numbers_of
   numbers_cut p d cs over =
       let make : List ℕ → List ℕ → List ℕ → CycleNumbers = λ us vs ws. record { arrivals = capped (sum us); green = capped (sum vs); green_tenths = capped (sum ws); tenths = capped (sum (map cycle_tenths cs)) } in
-      let all = before ++ rows in
       let arrivals = λ (rs : List Row) (c : Cycle). arrivals_in d c.from c.to rs in
       let green = λ (rs : List Row) (c : Cycle). green_arrivals_in p d c.from c.to rs in
       let tenths = λ (rs : List Row) (c : Cycle). green_tenths_in p c.from c.to rs in
-      let one = map_same (arrivals all) (arrivals before) cs (each_weaker (λ (c : Cycle). c.to ≤ t) (λ c. arrivals all c ≡ arrivals before c) cs (λ c le. arrivals_cut d c.from c.to le) over) in
-      let two = map_same (green all) (green before) cs (each_weaker (λ (c : Cycle). c.to ≤ t) (λ c. green all c ≡ green before c) cs (λ c le. green_cut p d c.from c.to le) over) in
-      let three = map_same (tenths all) (tenths before) cs (each_weaker (λ (c : Cycle). c.to ≤ t) (λ c. tenths all c ≡ tenths before c) cs (λ c le. green_tenths_cut p c.from c.to le) over) in
-      ap (λ us. make us (map (green all) cs) (map (tenths all) cs)) one
-      ∙ (ap (λ vs. make (map (arrivals before) cs) vs (map (tenths all) cs)) two
-      ∙ ap (λ ws. make (map (arrivals before) cs) (map (green before) cs) ws) three)
+      let one = map_same (arrivals xs) (arrivals ys) cs (each_weaker (λ (c : Cycle). c.to ≤ t) (λ c. arrivals xs c ≡ arrivals ys c) cs (λ c le. arrivals_cut d c.from c.to le) over) in
+      let two = map_same (green xs) (green ys) cs (each_weaker (λ (c : Cycle). c.to ≤ t) (λ c. green xs c ≡ green ys c) cs (λ c le. green_cut p d c.from c.to le) over) in
+      let three = map_same (tenths xs) (tenths ys) cs (each_weaker (λ (c : Cycle). c.to ≤ t) (λ c. tenths xs c ≡ tenths ys c) cs (λ c le. green_tenths_cut p c.from c.to le) over) in
+      ap (λ us. make us (map (green xs) cs) (map (tenths xs) cs)) one
+      ∙ (ap (λ vs. make (map (arrivals ys) cs) vs (map (tenths xs) cs)) two
+      ∙ ap (λ ws. make (map (arrivals ys) cs) (map (green ys) cs) ws) three)
+
+-- later rows tell nothing of the tenths before t, nor do their arrivals, which come no earlier
+told_cut : (known : ℕ → Bool) (p d v t end : ℕ) (before rows : List Row) → AreOrdered t end rows → (a b : ℕ) → b ≤ t → rows_within a b (told known p d v (before ++ rows)) ≡ rows_within a b (told known p d v before)
+unfolding told
+told_cut known p d v t end before rows order a b le =
+    let F = turns_green p in
+    let old = arrivals_at known d v before in
+    let new = arrivals_in_hour known d v before rows in
+    let turns : rows_within a b (filter F (before ++ rows)) ≡ rows_within a b (filter F before) =
+    ap (λ zs. rows_within a b zs) (filter-append F before rows)
+    ∙ (within_both a b (filter F before) (filter F rows)
+    ∙ (ap (λ zs. rows_within a b (filter F before) ++ zs) (none_within a b t end (filter F rows) le (kept_ordered F t end t rows (omega arith) order))
+    ∙ append-nil (rows_within a b (filter F before)))) in
+    let ons : rows_within a b (arrivals_at known d v (before ++ rows)) ≡ rows_within a b old =
+    ap (λ zs. rows_within a b zs) (arrivals_more known d v before rows)
+    ∙ (within_both a b old new
+    ∙ (ap (λ zs. rows_within a b old ++ zs) (none_within a b (t + v) (end + v) new (omega arith) (in_ordered known d v before t end rows order))
+    ∙ append-nil (rows_within a b old))) in
+    within_both a b (filter F (before ++ rows)) (arrivals_at known d v (before ++ rows))
+    ∙ (ap₂ (λ us vs. us ++ vs) turns ons
+    ∙ sym (within_both a b (filter F before) old))
 
 -- ---- both parts
 
@@ -141,10 +161,12 @@ module _ (known : ℕ → Bool) (c : Settings) (t end : ℕ) (before rows : List
   approach_join a None = none_twice
   approach_join a (Some d) =
       let p = a.phase in
-      let all = before ++ rows in
+      let v = a.travel in
+      let first_told = told known p d v before in
+      let all = told known p d v (before ++ rows) in
       let cs = cycles_of known c p [] before in
       let ds = cycles_of known c p before rows in
-      ap (λ (n : CycleNumbers). both n (numbers_of p d all ds)) (sym (numbers_cut t end before rows order p d cs (cycles_over p)))
+      ap (λ (n : CycleNumbers). both n (numbers_of p d all ds)) (sym (numbers_cut t all first_told (told_cut known p d v t end before rows order) p d cs (cycles_over p)))
       ∙ (sym (numbers_join p d all cs ds)
       ∙ ap (λ zs. numbers_of p d all zs) (sym (cycles_join p)))
 

@@ -19,3 +19,4 @@ pub mod BlockLaws
 pub mod PhaseLaws
 pub mod GreenLaws
 pub mod OrderLaws
+pub mod BarLaws

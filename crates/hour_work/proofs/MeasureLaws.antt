@@ -20,8 +20,7 @@ use Rattle.service_cut.specs.Cut.{CutLists, IsCut as IsCutOf}
 use Rattle.service_cut.specs.Parts.{IsCarry as IsCutCarry}
 use Rattle.service_cut.specs.declared.parts.Part.{Part}
 use Rattle.ring_config.specs.Settings.{Settings}
-use Rattle.cycle_arrivals.specs.declared.open.Open.{Open}
-use Rattle.arrival_measures.specs.Crossing.{IsCarry as AreOpen}
+use Rattle.arrival_measures.specs.Crossing.{CarryParts, IsCarry as AreOpen}
 use Rattle.state_tenths.specs.declared.asked.Asked.{Asked}
 use Rattle.state_tenths.specs.declared.asked.Asked.TheVariants.{Colour, NoneOf}
 use Rattle.state_tenths.specs.States.{AllHave, Meets}
@@ -80,7 +79,7 @@ over_hour Is s hour rows blanks ss old first new e has are cut law is =
     subst (λ rs. Is (is_known s) rs (hour + 1) new) same step
 
 -- the same of the cycles of approaches, which are told by what is cut of the hour
-pub opens_over : (c : Settings) (s : Store) (hour : ℕ) (rows : Option (List Row)) (blanks : List Span) (ss : List Stretch) (old cuts : List (Option Part)) (lists : CutLists) (past first new : List (Option Open)) → old ≡ cuts → past ≡ first → HasHour s hour rows blanks → AreRowsOf hour (rows_or_none rows) → IsCut (known_in (is_some rows) blanks) (36000 * hour) (36000 * hour + 36000) ss
+pub opens_over : (c : Settings) (s : Store) (hour : ℕ) (rows : Option (List Row)) (blanks : List Span) (ss : List Stretch) (old cuts : List (Option Part)) (lists : CutLists) (past first new : CarryParts) → old ≡ cuts → past ≡ first → HasHour s hour rows blanks → AreRowsOf hour (rows_or_none rows) → IsCut (known_in (is_some rows) blanks) (36000 * hour) (36000 * hour + 36000) ss
     → ((known : ℕ → Bool) (before : List Row) (h : ℕ) → IsHour known h (rows_or_none rows) ss → IsCutCarry known c.phases before h old → IsCutOf known c.phases before h (rows_or_none rows) lists)
     → ((known : ℕ → Bool) (before : List Row) (h : ℕ) → IsHour known h (rows_or_none rows) ss → AreOpen known c before h past → IsCutOf known c.phases before h (rows_or_none rows) lists → AreOpen known c (before ++ known_rows known (rows_or_none rows)) (h + 1) new)
     → IsCutCarry (is_known s) c.phases (earlier_rows s hour) hour cuts → AreOpen (is_known s) c (earlier_rows s hour) hour first → AreOpen (is_known s) c (earlier_rows s (hour + 1)) (hour + 1) new

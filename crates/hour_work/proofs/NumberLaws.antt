@@ -5,6 +5,7 @@ use Rattle.std.proofs.lemmas.List.Sums.{fold_push, sum_by_push}
 use Rattle.std.proofs.lemmas.List.{map-append}
 use Rattle.hour_sums.specs.Numbers.{merged}
 use Rattle.split_measures.specs.Phases.{added}
+use Rattle.split_measures.specs.Failures.{both_sums}
 use Rattle.other_measures.specs.Hours.{no_numbers, others_added}
 use Rattle.arrival_measures.specs.Hours.{added as arrivals_added}
 use Rattle.hour_work.specs.declared.counts.RuleCount.{RuleCount}
@@ -38,9 +39,10 @@ total_push xs y =
     let k = sum_by_push (λ (n : Numbers). n.known_tenths) xs y in
     let c = mapped_push (merged count_sum) [] (λ (n : Numbers). n.rules) xs y in
     let p = mapped_push (merged added) [] (λ (n : Numbers). n.splits) xs y in
+    let f = mapped_push (merged both_sums) [] (λ (n : Numbers). n.failures) xs y in
     let o = mapped_push others_added no_numbers (λ (n : Numbers). n.others) xs y in
     let a = mapped_push (merged arrivals_added) [] (λ (n : Numbers). n.arrivals) xs y in
-    rw (h, r, k, c, p, o, a) refl
+    rw (h, r, k, c, p, f, o, a) refl
 
 fits_more : (m n : ℕ) (xs : List RuleCount) → m ≤ n → All (FitsCount m) xs → All (FitsCount n) xs
 fits_more m n xs le p k d lt = one_more m n (get_or xs k d) le (p k d lt)

@@ -30,6 +30,7 @@ use Rattle.hour_work.specs.Verdicts.{AreAuditLines, HasStoreVerdict, obligations
 use Rattle.hour_work.specs.Rows.{earlier_rows, hour_rows, own_rows}
 use Rattle.hour_work.specs.Measures.{MayBeIn, MeetsIn}
 use Rattle.hour_work.specs.Reports.{IsHourPart, IsReport}
+use Rattle.split_measures.proofs.Single.{sums_are_one}
 use Rattle.arrival_measures.proofs.OneSum.{one_sums}
 
 one_interval : (P C K : State → Type 0) → ((v : State) → (C v → ⊥) → K v) → (x y : Verdict) → IsIntervalVerdict x P C K → IsIntervalVerdict y P C K → x ≡ y
@@ -102,19 +103,20 @@ same_lines Has (o ∷ os) a b one (x, hx, (ra, are_a, ea)) (y, hy, (rb, are_b, e
 pub one_lines : (c : Settings) (s : Store) (hour : ℕ) (a b : List AuditLine) → HasHistory (log_of c.specs s) → AreAuditLines c s hour a → AreAuditLines c s hour b → a ≡ b
 one_lines c s hour a b has = same_lines (HasStoreVerdict c s hour) (obligations_in c s hour) a b (λ o x y. one_verdict c s (hour_rows s hour) o.at o.place o.rule x y has)
 
-one_numbers : (p q : Numbers) → p.held_hours ≡ q.held_hours → p.held_rows ≡ q.held_rows → p.known_tenths ≡ q.known_tenths → p.rules ≡ q.rules → p.splits ≡ q.splits → p.others ≡ q.others → p.arrivals ≡ q.arrivals → p ≡ q
-one_numbers p q a b e r m o v =
-    let one : Numbers = record { held_hours = p.held_hours; held_rows = p.held_rows; known_tenths = p.known_tenths; rules = p.rules; splits = p.splits; others = p.others; arrivals = p.arrivals } in
-    let other : Numbers = record { held_hours = q.held_hours; held_rows = q.held_rows; known_tenths = q.known_tenths; rules = q.rules; splits = q.splits; others = q.others; arrivals = q.arrivals } in
-    let same : one ≡ other = rw (a, b, e, r, m, o, v) refl in
+one_numbers : (p q : Numbers) → p.held_hours ≡ q.held_hours → p.held_rows ≡ q.held_rows → p.known_tenths ≡ q.known_tenths → p.rules ≡ q.rules → p.splits ≡ q.splits → p.failures ≡ q.failures → p.others ≡ q.others → p.arrivals ≡ q.arrivals → p ≡ q
+one_numbers p q a b e r m f o v =
+    let one : Numbers = record { held_hours = p.held_hours; held_rows = p.held_rows; known_tenths = p.known_tenths; rules = p.rules; splits = p.splits; failures = p.failures; others = p.others; arrivals = p.arrivals } in
+    let other : Numbers = record { held_hours = q.held_hours; held_rows = q.held_rows; known_tenths = q.known_tenths; rules = q.rules; splits = q.splits; failures = q.failures; others = q.others; arrivals = q.arrivals } in
+    let same : one ≡ other = rw (a, b, e, r, m, f, o, v) refl in
     same
 
 one_part : (c : Settings) (s : Store) (hour : ℕ) (p q : Numbers) → HasHistory (log_of c.specs s) → IsHourPart c s hour p → IsHourPart c s hour q → p ≡ q
 one_part c s hour p q has a b = one_numbers p q (a.held_hours ∙ sym b.held_hours) (a.held_rows ∙ sym b.held_rows) (a.known_tenths ∙ sym b.known_tenths)
     (a.rules ∙ (ap (λ ls. counts_of (length (rules_for c)) ls) (one_lines c s hour a.lines b.lines has a.are_lines b.are_lines) ∙ sym b.rules))
     (a.measures.phases ∙ sym b.measures.phases)
+    (sums_are_one (log_of c.specs s) c hour (earlier_rows s hour ++ own_rows s hour) p.failures q.failures has a.measures.verdicts b.measures.verdicts)
     (numbers_are_one (is_known s) (MeetsIn c s) (first_tenth hour) c (earlier_rows s hour) (own_rows s hour) p.others q.others a.measures.numbers a.measures.states b.measures.numbers b.measures.states)
-    (one_sums (MayBeIn c s) (is_known s) c (earlier_rows s hour) (own_rows s hour) (own_rows s hour) p.arrivals q.arrivals a.measures.judged b.measures.judged a.measures.whole_cycles b.measures.whole_cycles)
+    (one_sums (MayBeIn c s) (is_known s) c (earlier_rows s hour) (own_rows s hour) hour (earlier_rows s hour) (own_rows s hour) p.arrivals q.arrivals a.measures.judged b.measures.judged a.measures.whole_cycles b.measures.whole_cycles)
 
 pub one_report : (c : Settings) (s : Store) (a b : List Numbers) → HasHistory (log_of c.specs s) → IsReport c s a → IsReport c s b → a ≡ b
 one_report c s a b has p q = same_lists a b (p.size ∙ sym q.size) (λ hour d lt.

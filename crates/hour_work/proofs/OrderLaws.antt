@@ -31,7 +31,7 @@ use Rattle.service_cut.proofs.WholeCycles.{cycle_is_whole}
 use Rattle.cycle_arrivals.specs.Arrivals.{rows_within}
 use Rattle.arrival_measures.specs.declared.points.Diagram.{Diagram}
 use Rattle.arrival_measures.specs.Judged.{phase_channel}
-use Rattle.arrival_measures.specs.Points.{diagram_of, diagrams_of, points_of}
+use Rattle.arrival_measures.specs.Points.{diagram_of, diagrams_of, points_from}
 use Rattle.hour_work.proofs.PlacedLaws.{Each, each_all}
 use Rattle.hour_work.proofs.ArrivalLaws.{each_known}
 use Rattle.hour_work.proofs.WholeLog.{all_rows, earlier_ordered}
@@ -324,4 +324,4 @@ pub diagrams_in_order : (c : Settings) (s : Store) (p : ℕ) → IsSound c → I
 diagrams_in_order c s p sound store has =
     let cycles = cycles_from (is_known s) c.phases [] (known_rows s) in
     let own = All-filter (λ (x : Cycle). x.phase == p) (λ (x : Cycle). x.green ≤ x.yellow) cycles (green_before_yellow c s sound store has) in
-    All-map (λ (d : Diagram). d.cycle.green ≤ d.cycle.yellow) (diagram_of (points_of c p (known_rows s))) (filter (λ x. x.phase == p) cycles) own
+    All-map (λ (d : Diagram). d.cycle.green ≤ d.cycle.yellow) (diagram_of (points_from (is_known s) c p [] (known_rows s))) (filter (λ x. x.phase == p) cycles) own

@@ -14,8 +14,9 @@ use Rattle.hour_sweep.specs.Rows.{known_rows}
 use Rattle.service_cut.specs.declared.parts.Part.{Part}
 use Rattle.service_cut.specs.Parts.{IsCarry as IsCut}
 use Rattle.other_measures.specs.Crossing.{Crossing, IsCarry as IsCrossing}
-use Rattle.cycle_arrivals.specs.declared.open.Open.{Open}
-use Rattle.arrival_measures.specs.Crossing.{IsCarry as AreOpen}
+use Rattle.stop_bar.specs.Crossing.{Crossing as AtBar}
+use Rattle.stop_bar.specs.All.{AreAtBars}
+use Rattle.arrival_measures.specs.Crossing.{CarryParts, IsCarry as AreOpen}
 use Rattle.arrival_measures.specs.declared.sums.ArrivalSum.{ArrivalSum}
 use Rattle.board.specs.Hours.{AreEnds, AreStarts}
 use Rattle.board.specs.Logs.{HourLog, IsHour, first_tenth, hour_log}
@@ -23,7 +24,7 @@ use Rattle.board.specs.Places.{AreAheadsOf, IsViewOf}
 use Rattle.board.specs.Stops.{AreBefore}
 use Rattle.ring_config.specs.Settings.{Settings}
 use Rattle.ring_config.specs.Sound.{IsSound}
-use Rattle.signal_log.specs.Log.{log_of}
+use Rattle.signal_log.specs.Log.{Log, log_of}
 use Rattle.signal_log.specs.Points.{HasHour, rows_or_none}
 use Rattle.signal_log.specs.Views.{IsHourOf}
 use Rattle.signal_log.proofs.Lawful.{ends, starts}
@@ -39,6 +40,7 @@ use Rattle.hour_work.specs.Verdicts.{AreAuditLines, HasStoreVerdict, obligations
 use Rattle.hour_work.specs.Rows.{earlier_rows, hour_rows}
 use Rattle.hour_work.specs.declared.counts.RuleCount.{RuleCount}
 use Rattle.split_measures.specs.declared.sums.PhaseSum.{PhaseSum}
+use Rattle.split_measures.specs.declared.failures.SplitSum.{SplitSum}
 use Rattle.other_measures.specs.Hours.{OtherNumbers}
 use Rattle.hour_work.specs.Measures.{AreMeasures}
 use Rattle.hour_work.specs.Reports.{IsHourBetween, IsHourPart}
@@ -57,12 +59,13 @@ no_rows (o ∷ hours) = refl
 pub none_earlier : (s : Store) → earlier_rows s 0 ≡ []
 none_earlier s = ap (λ rs. known_rows (is_known s) rs) (no_rows s.hours)
 
-pub first_carry : (c : Settings) (pasts : List (List (List Span))) (cuts : List (Option Part)) (others : Crossing) (arrivals : List (Option Open)) → AreBefore c.specs pasts → AreStarts c.specs (length c.specs) pasts → ((known : ℕ → Bool) → IsCut known c.phases [] 0 cuts) → ((known : ℕ → Bool) → IsCrossing known c [] 0 others) → ((known : ℕ → Bool) → AreOpen known c [] 0 arrivals)
-    → (s : Store) → IsCarryAt c s 0 (record { pasts = pasts; known = false; cuts = cuts; others = others; arrivals = arrivals })
-first_carry c pasts cuts others arrivals shape are cut crossing opens s = record {
+pub first_carry : (c : Settings) (pasts : List (List (List Span))) (cuts : List (Option Part)) (splits : List AtBar) (others : Crossing) (arrivals : CarryParts) → AreBefore c.specs pasts → AreStarts c.specs (length c.specs) pasts → ((known : ℕ → Bool) → IsCut known c.phases [] 0 cuts) → ((log : Log) → AreAtBars log c [] 0 splits) → ((known : ℕ → Bool) → IsCrossing known c [] 0 others) → ((known : ℕ → Bool) → AreOpen known c [] 0 arrivals)
+    → (s : Store) → IsCarryAt c s 0 (record { pasts = pasts; known = false; cuts = cuts; splits = splits; others = others; arrivals = arrivals })
+first_carry c pasts cuts splits others arrivals shape are cut bars crossing opens s = record {
   pasts = starts (log_of c.specs s) pasts shape are;
   known = refl;
   cuts = rw (none_earlier s) (cut (is_known s));
+  splits = rw (none_earlier s) (bars (log_of c.specs s));
   others = rw (none_earlier s) (crossing (is_known s));
   arrivals = rw (none_earlier s) (opens (is_known s));
 }
@@ -150,8 +153,8 @@ lines_fit c s hour n rows lines held few are =
     counts_fit (HasStoreVerdict c s hour) (is_known s) c.specs (rules_for c) (hour_rows s hour) (is_known_before (is_known s) (first_tenth hour)) (first_tenth hour) n lines (omega arith) are
 
 -- the numbers of an hour that isn't held
-pub unheld_part : (c : Settings) (s : Store) (hour n : ℕ) (rules : List RuleCount) (splits : List PhaseSum) (others : OtherNumbers) (arrivals : List ArrivalSum) → rules ≡ counts_of n [] → AreMeasures c s hour splits others arrivals → rows_at s hour ≡ None → n ≡ length (rules_for c) → IsHourPart c s hour (record { held_hours = 0; held_rows = 0; known_tenths = 0; rules = rules; splits = splits; others = others; arrivals = arrivals })
-unheld_part c s hour n rules splits others arrivals e measures none m = record {
+pub unheld_part : (c : Settings) (s : Store) (hour n : ℕ) (rules : List RuleCount) (splits : List PhaseSum) (failures : List SplitSum) (others : OtherNumbers) (arrivals : List ArrivalSum) → rules ≡ counts_of n [] → AreMeasures c s hour splits failures others arrivals → rows_at s hour ≡ None → n ≡ length (rules_for c) → IsHourPart c s hour (record { held_hours = 0; held_rows = 0; known_tenths = 0; rules = rules; splits = splits; failures = failures; others = others; arrivals = arrivals })
+unheld_part c s hour n rules splits failures others arrivals e measures none m = record {
   held_hours = held_one s hour None none;
   held_rows = held_count s hour None none;
   known_tenths = sym (count_all (is_known s) (36000 * hour) 36000 false (λ t low high. known_hour s hour t None none low (omega arith)));

@@ -11,6 +11,8 @@ use Rattle.service_cut.specs.declared.items.Service.{Service}
 use Rattle.service_cut.specs.declared.items.Cycle.{Cycle}
 use Rattle.service_cut.specs.Cut.{services_from, cycles_from}
 use Rattle.split_measures.specs.declared.sums.PhaseSum.{PhaseSum}
+use Rattle.split_measures.specs.declared.failures.SplitSum.{SplitSum}
+use Rattle.split_measures.specs.Hours.{AreSplitSums}
 use Rattle.split_measures.specs.Phases.{phase_sums}
 use Rattle.other_measures.specs.Hours.{AreNumbers, AreStates, OtherNumbers}
 use Rattle.reach.specs.Runs.{State}
@@ -38,10 +40,11 @@ MeetsIn c s i asked t = (is_known s t ≡ true) × Meets asked (MayBeAtEndOf (lo
 abbrev pub MayBeIn : Settings → Store → ℕ → ℕ → State → Type 0
 MayBeIn c s i t v = MayBeAtEndOf (log_of c.specs s) i t v
 
--- the measures of an hour: of its phases, of its pedestrian signals, preempts and coordination, and of its approaches
-pub record AreMeasures (c : Settings) (s : Store) (hour : ℕ) (splits : List PhaseSum) (others : OtherNumbers) (arrivals : List ArrivalSum) : Type 0 where
+-- the measures of an hour: of its phases, at stop bars, of its pedestrian signals, preempts and coordination, and of its approaches
+pub record AreMeasures (c : Settings) (s : Store) (hour : ℕ) (splits : List PhaseSum) (failures : List SplitSum) (others : OtherNumbers) (arrivals : List ArrivalSum) : Type 0 where
   pub phases : splits ≡ phase_sums c.phases (services_in c s hour) (cycles_in c s hour)
+  pub verdicts : AreSplitSums (log_of c.specs s) c hour (earlier_rows s hour ++ own_rows s hour) failures
   pub numbers : AreNumbers (is_known s) c (earlier_rows s hour) (own_rows s hour) others
   pub states : AreStates (MeetsIn c s) (first_tenth hour) c others
-  pub judged : AreAllJudged (MayBeIn c s) c (own_rows s hour) arrivals
+  pub judged : AreAllJudged (MayBeIn c s) (is_known s) c (earlier_rows s hour) (own_rows s hour) hour arrivals
   pub whole_cycles : HaveCycles (is_known s) c (earlier_rows s hour) (own_rows s hour) arrivals

@@ -3,7 +3,9 @@ use Rattle.std.specs.Prelude.{◌≡◌, ◌≤◌, ◌<◌, ◌⊎◌, ◌+◌,
 use Rattle.std.specs.List.{fold}
 use Rattle.hour_sums.specs.Numbers.{merged}
 use Rattle.split_measures.specs.declared.sums.PhaseSum.{PhaseSum}
+use Rattle.split_measures.specs.declared.failures.SplitSum.{SplitSum}
 use Rattle.split_measures.specs.Phases.{added}
+use Rattle.split_measures.specs.Failures.{both_sums}
 use Rattle.other_measures.specs.Hours.{OtherNumbers, no_numbers, others_added}
 use Rattle.arrival_measures.specs.declared.sums.ArrivalSum.{ArrivalSum}
 use Rattle.arrival_measures.specs.Hours.{added as arrivals_added}
@@ -16,6 +18,7 @@ pub record Numbers : Type 0 where
   pub known_tenths : ℕ
   pub rules : List RuleCount
   pub splits : List PhaseSum
+  pub failures : List SplitSum
   pub others : OtherNumbers
   pub arrivals : List ArrivalSum
 
@@ -44,6 +47,7 @@ numbers_sum a b = record {
   known_tenths = a.known_tenths + b.known_tenths;
   rules = merged count_sum a.rules b.rules;
   splits = merged added a.splits b.splits;
+  failures = merged both_sums a.failures b.failures;
   others = others_added a.others b.others;
   arrivals = merged arrivals_added a.arrivals b.arrivals;
 }
@@ -56,6 +60,7 @@ total_of all = record {
   known_tenths = sum_by (λ n. n.known_tenths) all;
   rules = fold (merged count_sum) [] (map (λ n. n.rules) all);
   splits = fold (merged added) [] (map (λ n. n.splits) all);
+  failures = fold (merged both_sums) [] (map (λ n. n.failures) all);
   others = fold others_added no_numbers (map (λ n. n.others) all);
   arrivals = fold (merged arrivals_added) [] (map (λ n. n.arrivals) all);
 }

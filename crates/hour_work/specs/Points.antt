@@ -11,19 +11,21 @@ use Rattle.signal_log.specs.Points.{ArePastsAt, AreAheadsAt, AreAheadsFor}
 use Rattle.service_cut.specs.declared.parts.Part.{Part}
 use Rattle.service_cut.specs.Parts.{IsCarry as IsCut}
 use Rattle.other_measures.specs.Crossing.{Crossing, IsCarry as IsCrossing}
-use Rattle.cycle_arrivals.specs.declared.open.Open.{Open}
-use Rattle.arrival_measures.specs.Crossing.{IsCarry as AreOpen}
+use Rattle.stop_bar.specs.Crossing.{Crossing as AtBar}
+use Rattle.stop_bar.specs.All.{AreAtBars}
+use Rattle.arrival_measures.specs.Crossing.{CarryParts, IsCarry as AreOpen}
 use Rattle.hour_work.specs.Rows.{earlier_rows}
 use Rattle.hour_work.specs.declared.steps.ForwardError.{ForwardError}
 use Rattle.hour_work.specs.declared.steps.ForwardError.TheVariants.{Contradiction, Memory}
 
--- the states of each channel, whether the tenth before the point is known, and what is under way of phases, of pedestrian signals and preempts, and of the arrivals of approaches
+-- the states of each channel, whether the tenth before the point is known, and what is under way of phases, at stop bars, of pedestrian signals and preempts, and of the arrivals of approaches
 pub record Carried : Type 0 where
   pub pasts : List (List (List Span))
   pub known : Bool
   pub cuts : List (Option Part)
+  pub splits : List AtBar
   pub others : Crossing
-  pub arrivals : List (Option Open)
+  pub arrivals : CarryParts
 
 -- the tenth before this one is known; before tenth 0 there is none
 abbrev pub is_known_before : (ℕ → Bool) → ℕ → Bool
@@ -39,6 +41,7 @@ pub record IsCarryAt (c : Settings) (s : Store) (k : ℕ) (carry : Carried) : Ty
   pub pasts : ArePastsAt (log_of c.specs s) k carry.pasts
   pub known : carry.known ≡ is_known_before (is_known s) (first_tenth k)
   pub cuts : IsCut (is_known s) c.phases (earlier_rows s k) k carry.cuts
+  pub splits : AreAtBars (log_of c.specs s) c (earlier_rows s k) k carry.splits
   pub others : IsCrossing (is_known s) c (earlier_rows s k) k carry.others
   pub arrivals : AreOpen (is_known s) c (earlier_rows s k) k carry.arrivals
 

@@ -7,10 +7,12 @@ use Rattle.gap_map.specs.Stretches.{IsCut, known_in}
 use Rattle.board.specs.Logs.{HourLog, hour_log}
 use Rattle.board.specs.Places.{IsViewOf}
 use Rattle.hour_store.specs.Store.{Store, count_in, held_at, is_known}
+use Rattle.sig_base.specs.HourRows.{AreRowsOf}
 use Rattle.ring_config.specs.Settings.{Settings}
 use Rattle.ring_config.specs.Sound.{IsSound}
 use Rattle.signal_log.specs.Log.{HasHistory, log_of}
-use Rattle.signal_log.specs.Points.{HasHour}
+use Rattle.signal_log.specs.Points.{HasHour, rows_or_none}
+use Rattle.service_cut.specs.Cut.{CutLists, IsCut as IsCutOf}
 use Rattle.rule_audit.specs.declared.lines.AuditLine.{AuditLine}
 use Rattle.rule_audit.specs.Rules.{rules_for}
 use Rattle.hour_work.specs.Numbers.{Numbers, count_in_hour, one_if}
@@ -18,6 +20,7 @@ use Rattle.hour_work.specs.Counts.{counts_of}
 use Rattle.hour_work.specs.Points.{Carried, IsCarryAt, IsFutureFor}
 use Rattle.hour_work.specs.Verdicts.{AreAuditLines}
 use Rattle.hour_work.specs.Measures.{AreMeasures}
+use Rattle.hour_work.specs.Rows.{earlier_rows}
 
 -- the numbers of an hour of a store: its rows count at blanked tenths too, each of its tenths counts where it is known, each rule has the counts of the hour's audit lines, and the measures are those of the hour
 pub record IsHourPart (c : Settings) (s : Store) (hour : ℕ) (p : Numbers) : Type 0 where
@@ -27,7 +30,7 @@ pub record IsHourPart (c : Settings) (s : Store) (hour : ℕ) (p : Numbers) : Ty
   pub lines : List AuditLine
   pub are_lines : AreAuditLines c s hour lines
   pub rules : p.rules ≡ counts_of (length (rules_for c)) lines
-  pub measures : AreMeasures c s hour p.splits p.others p.arrivals
+  pub measures : AreMeasures c s hour p.splits p.failures p.others p.arrivals
 
 -- the report of a store: the numbers of each hour; `total_of` them are those of the store
 pub record IsReport (c : Settings) (s : Store) (all : List Numbers) : Type 0 where
@@ -49,3 +52,15 @@ pub record IsHourSeen (c : Settings) (s : Store) (hour : ℕ) (before : Carried)
   pub between : IsHourBetween c s hour before (Some rows) blanks after
   pub cut : IsCut (known_in true blanks) (36000 * hour) (36000 * hour + 36000) ss
   pub is_view : IsViewOf (hour_log hour c.specs rows ss before.pasts after) view
+
+-- an hour of the store with these rows, none where it isn't held, and these stretches, what the store says at the point before it, and what service_cut lists of it
+pub record IsHourCut (c : Settings) (s : Store) (hour : ℕ) (before : Carried) (rows : List Row) (ss : List Stretch) (cuts : CutLists) : Type 0 where
+  pub sound : IsSound c
+  pub held : Option (List Row)
+  pub blanks : List Span
+  pub is_rows : rows ≡ rows_or_none held
+  pub are_rows : AreRowsOf hour rows
+  pub has_hour : HasHour s hour held blanks
+  pub cut : IsCut (known_in (is_some held) blanks) (36000 * hour) (36000 * hour + 36000) ss
+  pub is_before : IsCarryAt c s hour before
+  pub lists : IsCutOf (is_known s) c.phases (earlier_rows s hour) hour rows cuts

@@ -33,7 +33,7 @@ impl Model for Carry {
 
     ghost Value = { Carried };
 
-    ghost view = { λ c. record { pasts = c.pasts; known = c.known; cuts = c.cuts; others = c.others; arrivals = c.arrivals } };
+    ghost view = { λ c. record { pasts = c.pasts; known = c.known; cuts = c.cuts; splits = c.splits; others = c.others; arrivals = c.arrivals } };
 }
 
 impl Carry {
@@ -72,6 +72,7 @@ impl Carry {
         self.known == other.known
             && self.pasts.same(&other.pasts)
             && self.cuts.same(&other.cuts)
+            && self.splits.same(&other.splits)
             && self.others.same(&other.others)
             && self.arrivals.same(&other.arrivals)
     }

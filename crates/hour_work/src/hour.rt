@@ -1,17 +1,26 @@
 // The numbers of one hour, and the lines of its audit.
-ghost use Rattle.std.specs.Prelude.{◌≡◌, ◌<◌, Some, option_copied, IfOk, IfSome};
+ghost use Rattle.std.specs.Prelude.{◌≡◌, ◌<◌, Some, None, length, option_copied, IfOk, IfSome};
 ghost use Rattle.sig_base.specs.HourRows.{AreRowsOf};
 ghost use Rattle.hour_store.specs.Store.{Store};
+ghost use Rattle.board.specs.Stops.{AreBefore};
+ghost use Rattle.signal_log.specs.Log.{HasHistory, log_of};
+ghost use Rattle.signal_log.specs.Points.{HasHour};
 ghost use Rattle.rule_audit.specs.Rules.{rules_for};
 ghost use Rattle.hour_work.specs.Numbers.{FitHours};
+ghost use Rattle.hour_work.specs.Points.{IsCarryAt};
 ghost use Rattle.hour_work.specs.Verdicts.{AreAuditLines};
 ghost use Rattle.hour_work.specs.Reports.{IsHourBetween, IsHourPart};
 
 use crate::counts::counts_of;
 use crate::seen::{audit_seen, cut_seen, known_in, others_seen, seen_hour};
+use crate::stop_bars::splits_seen;
 use crate::{Carry, Future, Partial};
+use arrival_measures::arrivals_unheld;
+use gap_map::stretches;
+use other_measures::OtherSums;
 use ring_config::Config;
 use rule_audit::{AuditLine, Rule};
+use service_cut::cut_hour;
 use sig_base::{Hour, NoMemory, Row};
 use span_set::SpanSet;
 use std::alloc::Global;
@@ -37,7 +46,7 @@ pub fn partial(
 {
     match rows {
         Some(rows) => held_part(alloc, config, rules, hour, before, rows, blanked, after),
-        None => Partial::not_held(alloc, config, rules.len()),
+        None => unheld_part(alloc, config, rules.len(), hour, before, blanked),
     }
 }
 
@@ -63,6 +72,39 @@ pub fn audit_lines(
         Some(rows) => held_lines(alloc, config, rules, hour, before, rows, blanked, after),
         None => Ok(Vec::new(alloc)),
     }
+}
+
+// The numbers of an hour that isn't held, where there are so many rules: the services whose red
+// window ends in it have verdicts, the arrivals that come up in it aren't seen, and all else is
+// nothing.
+fn unheld_part(
+    alloc: Global,
+    config: &Config,
+    rules: usize,
+    hour: Hour,
+    before: &Carry,
+    blanked: &SpanSet,
+) -> Result<Partial, NoMemory>
+    requires in_range { hour < 744 }
+    requires shape { AreBefore config.now.specs before.now.pasts }
+    ensures value { IfOk result (λ p. (s : Store) → rules ≡ length (rules_for config.now)
+        → HasHistory (log_of config.now.specs s) → HasHour s hour None blanked.now
+        → IsCarryAt config.now s hour before.now → IsHourPart config.now s hour p) }
+    ensures small { IfOk result (FitHours 1) }
+{
+    let parts = stretches(alloc, hour, false, blanked)?;
+    let mut carry = before.cuts.copy()?;
+    let cuts = cut_hour(alloc, config.phases(), &mut carry, &[], &parts)?;
+    let mut arrival_carry = before.arrivals.copy()?;
+    Ok(Partial {
+        held_hours: 0,
+        held_rows: 0,
+        known_tenths: 0,
+        rules: counts_of(alloc, rules, &[])?,
+        splits: splits_seen(alloc, config, hour, before, &cuts, &[], &parts)?,
+        others: OtherSums::none(alloc, config)?,
+        arrivals: arrivals_unheld(alloc, config, &mut arrival_carry, &cuts, &parts)?,
+    })
 }
 
 // The numbers of an hour of which these rows are held.

@@ -14,7 +14,7 @@ ghost use Rattle.service_cut.specs.declared.items.Cycle.{Cycle};
 ghost use Rattle.cycle_arrivals.specs.Green.{shows_green};
 ghost use Rattle.arrival_measures.specs.Judged.{AllPass, NonePass, is_green, phase_channel};
 ghost use Rattle.arrival_measures.specs.Hours.{HaveCycles};
-ghost use Rattle.arrival_measures.specs.Points.{diagrams_of, points_of};
+ghost use Rattle.arrival_measures.specs.Points.{diagrams_of, points_from};
 ghost use Rattle.service_cut.specs.Cut.{cycle_is_in, cycles_from, service_is_in, services_from};
 ghost use Rattle.split_measures.specs.Phases.{phase_sums};
 ghost use Rattle.other_measures.specs.Hours.{AreNumbers, delays_from, events_from};
@@ -38,7 +38,9 @@ pub fn hours_make_up_the_log()
     ensures cycles { (c : Settings) (s : Store) → IsStore s → over_hours (cycles_in c s) (length s.hours) ≡ cycles_from (is_known s) c.phases [] (known_rows s) }
     ensures delays { (c : Settings) (s : Store) → IsStore s → over_hours (λ hour. delays_from (is_known s) c (earlier_rows s hour) (own_rows s hour)) (length s.hours) ≡ delays_from (is_known s) c [] (known_rows s) }
     ensures events { (c : Settings) (s : Store) → IsStore s → over_hours (λ hour. events_from (is_known s) c (earlier_rows s hour) (own_rows s hour)) (length s.hours) ≡ events_from (is_known s) c [] (known_rows s) }
-    ensures points { (c : Settings) (s : Store) (p : ℕ) → IsStore s → over_hours (λ hour. points_of c p (own_rows s hour)) (length s.hours) ≡ points_of c p (known_rows s) }
+    ensures points { (c : Settings) (s : Store) (p : ℕ) → IsStore s
+        → over_hours (λ hour. points_from (is_known s) c p (earlier_rows s hour) (own_rows s hour))
+        (length s.hours) ≡ points_from (is_known s) c p [] (known_rows s) }
     ensures ordered { (s : Store) → IsStore s → AreOrdered 0 (first_tenth (length s.hours)) (known_rows s) }
     ensures own_services { (c : Settings) (s : Store) (hour : ℕ) → IsStore s → hour < length s.hours
         → filter (service_is_in (first_tenth hour) (first_tenth (hour + 1))) (services_from (is_known s) c.phases [] (known_rows s)) ≡ services_in c s hour }

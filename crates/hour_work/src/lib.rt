@@ -2,7 +2,7 @@
 //!
 //! Going over the hours from the window's start, `forward` carries what the hours so far say to the
 //! next hour point, or names the row at which the log contradicts itself; with the states of each
-//! channel go the services, cycles, walks, preempts and arrivals that are under way. Going back
+//! channel go the services, cycles, stop bars' windows, walks, preempts and arrivals that are under way. Going back
 //! from the window's end, `backward` carries which states can still be completed. Between the two
 //! stand the numbers of an hour (`partial`) and the lines of its audit (`audit_lines`), both over
 //! all histories of the whole window that agree with the log. A `Report` has the numbers of all
@@ -22,6 +22,7 @@ mod points;
 mod reported;
 mod seen;
 mod steps;
+mod stop_bars;
 #[cfg(test)]
 mod tests;
 

@@ -1,17 +1,12 @@
 // The numbers of one hour, or of several together.
-ghost use Rattle.std.specs.Prelude.{◌≡◌, ◌↔◌, ◌≤◌, ◌+◌, ℕ, None, [], All, IsTrue, length, IfOk, OnOk};
-ghost use Rattle.hour_store.specs.Store.{Store, rows_at};
+ghost use Rattle.std.specs.Prelude.{◌≡◌, ◌↔◌, ◌≤◌, ◌+◌, ℕ, [], All, IsTrue, OnOk};
 ghost use Rattle.hour_sums.specs.Numbers.{merged};
-ghost use Rattle.rule_audit.specs.Rules.{rules_for};
 ghost use Rattle.hour_work.specs.Numbers.{FitHours, FitsCount, IsTotal, count_sum, numbers_sum};
 ghost use Rattle.hour_work.specs.Counts.{HasKeptAlone};
-ghost use Rattle.hour_work.specs.Reports.{IsHourPart};
 
 use crate::RuleCount;
-use crate::counts::counts_of;
 use arrival_measures::ArrivalSums;
 use other_measures::OtherSums;
-use ring_config::Config;
 use sig_base::NoMemory;
 use split_measures::SplitSums;
 use std::alloc::Global;
@@ -34,28 +29,24 @@ impl Model for Partial {
 
     ghost Value = { Numbers };
 
-    ghost view = { λ p. record { held_hours = p.held_hours; held_rows = p.held_rows; known_tenths = p.known_tenths; rules = p.rules.items; splits = p.splits; others = p.others; arrivals = p.arrivals } };
+    ghost view = { λ p. record { held_hours = p.held_hours; held_rows = p.held_rows; known_tenths = p.known_tenths; rules = p.rules.items; splits = p.splits.phases; failures = p.splits.approaches; others = p.others; arrivals = p.arrivals } };
 }
 
 impl Partial {
-    /// The numbers of an hour that isn't held, where there are so many rules.
-    pub fn not_held(alloc: Global, config: &Config, rules: usize) -> Result<Partial, NoMemory>
-        ensures value { IfOk result (λ p. (s : Store) (hour : ℕ) → rows_at s hour ≡ None → rules ≡ length (rules_for config.now) → IsHourPart config.now s hour p) }
-        ensures small { IfOk result (FitHours 1) }
+    /// The sums over no hours. Takes no memory.
+    pub fn nothing(alloc: Global) -> Partial
+        ensures sums { IsTotal [] result }
+        ensures small { FitHours 1 result }
     {
-        let rules = counts_of(alloc, rules, &[])?;
-        let splits = SplitSums::none(alloc, config)?;
-        let others = OtherSums::none(alloc, config)?;
-        let arrivals = ArrivalSums::none(alloc, config)?;
-        Ok(Partial {
+        Partial {
             held_hours: 0,
             held_rows: 0,
             known_tenths: 0,
-            rules,
-            splits,
-            others,
-            arrivals,
-        })
+            rules: Vec::new(alloc),
+            splits: SplitSums::new(alloc),
+            others: OtherSums::new(alloc),
+            arrivals: ArrivalSums::new(alloc),
+        }
     }
 
     /// How many hours are held, those without rows among them.
@@ -86,9 +77,11 @@ impl Partial {
         self.rules.as_slice()
     }
 
-    /// The numbers of the phases' services and cycles.
+    /// The numbers of the phases' services and cycles, and of the services at the approaches' stop
+    /// bars.
     pub fn splits(&self) -> &SplitSums
-        ensures { result.now ≡ self.now.splits }
+        ensures phases { result.now.phases ≡ self.now.splits }
+        ensures approaches { result.now.approaches ≡ self.now.failures }
     {
         &self.splits
     }
@@ -117,21 +110,6 @@ impl Partial {
         ensures { result.now ≡ self.now.arrivals }
     {
         &self.arrivals
-    }
-}
-
-// The sums over no hours.
-pub(crate) fn no_total(alloc: Global) -> Partial
-    ensures { IsTotal [] result }
-{
-    Partial {
-        held_hours: 0,
-        held_rows: 0,
-        known_tenths: 0,
-        rules: Vec::new(alloc),
-        splits: SplitSums::new(alloc),
-        others: OtherSums::new(alloc),
-        arrivals: ArrivalSums::new(alloc),
     }
 }
 

@@ -1,11 +1,11 @@
 // The cycles of a phase in one hour, and its arrivals.
 ghost use Rattle.std.specs.Prelude.{◌≡◌, ◌<◌, option_copied, IfOk, IfSome};
 ghost use Rattle.sig_base.specs.HourRows.{AreRowsOf};
-ghost use Rattle.hour_store.specs.Store.{Store};
+ghost use Rattle.hour_store.specs.Store.{Store, is_known};
 ghost use Rattle.hour_sums.specs.Numbers.{own};
 ghost use Rattle.signal_log.specs.Points.{HasHour};
-ghost use Rattle.arrival_measures.specs.Points.{points_of};
-ghost use Rattle.hour_work.specs.Rows.{own_rows};
+ghost use Rattle.arrival_measures.specs.Points.{points_from};
+ghost use Rattle.hour_work.specs.Rows.{earlier_rows, own_rows};
 ghost use Rattle.hour_work.specs.Measures.{cycles_in};
 ghost use Rattle.hour_work.specs.Points.{IsCarryAt};
 
@@ -21,7 +21,8 @@ use std::alloc::Global;
 
 /// The arrivals of an hour, 0 to 743, at the advance detectors of a phase's approaches, in row
 /// order, where these rows are held of the hour (`None`: it isn't held) and these tenths are
-/// blanked. An offset is here the row's tenth of the window.
+/// blanked, from what is kept at the point before it. An offset is here the arrival tenth, of the
+/// window.
 pub fn phase_points(
     alloc: Global,
     config: &Config,
@@ -34,10 +35,19 @@ pub fn phase_points(
 ) -> Result<Points, NoMemory>
     requires in_range { hour < 744 }
     requires of_hour { IfSome rows (λ r. AreRowsOf hour r.now) }
-    ensures { IfOk result (λ p. (s : Store) → HasHour s hour (option_copied rows.entry) blanked.now → p ≡ points_of config.now phase (own_rows s hour)) }
+    ensures { IfOk result (λ p. (s : Store) → HasHour s hour (option_copied rows.entry) blanked.now
+        → IsCarryAt config.now s hour before.now
+        → p ≡ points_from (is_known s) config.now phase (earlier_rows s hour) (own_rows s hour)) }
 {
     let parts = stretches(alloc, hour, rows.is_some(), blanked)?;
-    row_points(alloc, config, phase, held_rows(rows), &parts)
+    row_points(
+        alloc,
+        config,
+        phase,
+        &before.arrivals,
+        held_rows(rows),
+        &parts,
+    )
 }
 
 /// The whole cycles of a phase that end in an hour, 0 to 743, in their order, from what is kept at

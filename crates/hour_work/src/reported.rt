@@ -4,7 +4,7 @@ ghost use Rattle.hour_work.specs.Numbers.{AreBlocks, AreNewSums, FitHours, IsTot
 
 use crate::Partial;
 use crate::lists::{pick, put_in};
-use crate::numbers::{add, no_total};
+use crate::numbers::add;
 use sig_base::{Hour, NoMemory};
 use std::alloc::Global;
 use std::marker::Model;
@@ -139,7 +139,7 @@ fn block_with(
     requires place { 27 * place ≤ length hours.now }
     ensures { IfOk result (IsTotal (block place (patched hours.now from parts.now))) }
 {
-    let mut total = no_total(alloc);
+    let mut total = Partial::nothing(alloc);
     for hour in 27 * place..hours.len().min(27 * place + 27) {
         add(&mut total, pick(hours, from, parts, hour))?;
     }
@@ -182,7 +182,7 @@ fn total_over(
     requires blocks { (hours : List Numbers) × (length hours ≤ 744) × All (FitHours 1) hours × AreBlocks hours (patched kept.now first fresh.now) }
     ensures { IfOk result (λ t. (hours : List Numbers) → length hours ≤ 744 → All (FitHours 1) hours → AreBlocks hours (patched kept.now first fresh.now) → t ≡ total_of hours) }
 {
-    let mut total = no_total(alloc);
+    let mut total = Partial::nothing(alloc);
     for place in 0..kept.len() {
         add(&mut total, pick(kept, first, fresh, place))?;
     }

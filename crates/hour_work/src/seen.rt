@@ -1,11 +1,13 @@
 // What is seen of an hour of which rows are held: its stretches and its view, and what they give.
-ghost use Rattle.std.specs.Prelude.{◌≡◌, ◌+◌, ◌*◌, ◌≤◌, ◌<◌, ◌^◌, All, List, Some, sum_by, true, IfOk};
+ghost use Rattle.std.specs.Prelude.{◌≡◌, ◌+◌, ◌*◌, ◌≤◌, ◌<◌, ◌^◌, ◌++◌, All, List, Some, sum_by, true, IfOk};
 ghost use Rattle.sig_base.specs.HourRows.{AreRowsOf};
 ghost use Rattle.gap_map.specs.Stretches.{IsCut, known_in};
 ghost use Rattle.hour_store.specs.Store.{Store, is_known};
 ghost use Rattle.board.specs.Logs.{first_tenth};
 ghost use Rattle.rule_audit.specs.Rules.{rules_for};
+ghost use Rattle.signal_log.specs.Log.{log_of};
 ghost use Rattle.split_measures.specs.Phases.{phase_sums};
+ghost use Rattle.split_measures.specs.Hours.{AreSplitSums};
 ghost use Rattle.other_measures.specs.Hours.{AreNumbers, AreStates};
 ghost use Rattle.hour_work.specs.Known.{known_len};
 ghost use Rattle.hour_work.specs.Rows.{earlier_rows, own_rows};
@@ -14,6 +16,7 @@ ghost use Rattle.arrival_measures.specs.Hours.{AreAllJudged, HaveCycles};
 ghost use Rattle.hour_work.specs.Measures.{MayBeIn, MeetsIn, cycles_in, services_in};
 ghost use Rattle.hour_work.specs.Reports.{IsHourBetween, IsHourSeen};
 
+use crate::stop_bars::splits_seen;
 use crate::{Carry, Future};
 use arrival_measures::{ArrivalSums, arrivals_hour};
 use board::HourView;
@@ -24,7 +27,7 @@ use rule_audit::{AuditLine, Rule, audit_rows};
 use service_cut::cut_hour;
 use sig_base::{Hour, NoMemory, Row};
 use span_set::SpanSet;
-use split_measures::{SplitSums, splits_hour};
+use split_measures::SplitSums;
 use std::alloc::Global;
 
 /// The hour's stretches, and its view between the points before and after it.
@@ -82,15 +85,22 @@ pub(crate) fn cut_seen(
     parts: &[Stretch],
     view: &HourView,
 ) -> Result<(SplitSums, ArrivalSums), NoMemory>
+    requires in_range { hour < 744 }
     requires seen { (s : Store) × IsHourSeen config.now s hour before.now rows.now parts.now view.now }
-    ensures splits { IfOk result (λ v. (s : Store) → IsHourSeen config.now s hour before.now rows.now parts.now view.now → v.0 ≡ phase_sums config.now.phases (services_in config.now s hour) (cycles_in config.now s hour)) }
-    ensures judged { IfOk result (λ v. (s : Store) → IsHourSeen config.now s hour before.now rows.now parts.now view.now → AreAllJudged (MayBeIn config.now s) config.now (own_rows s hour) v.1) }
+    ensures splits { IfOk result (λ v. (s : Store) → IsHourSeen config.now s hour before.now rows.now parts.now view.now → v.0.phases ≡ phase_sums config.now.phases (services_in config.now s hour) (cycles_in config.now s hour)) }
+    ensures verdicts { IfOk result (λ v. (s : Store)
+        → IsHourSeen config.now s hour before.now rows.now parts.now view.now
+        → AreSplitSums (log_of config.now.specs s) config.now hour
+        (earlier_rows s hour ++ own_rows s hour) v.0.approaches) }
+    ensures judged { IfOk result (λ v. (s : Store)
+        → IsHourSeen config.now s hour before.now rows.now parts.now view.now
+        → AreAllJudged (MayBeIn config.now s) (is_known s) config.now (earlier_rows s hour)
+        (own_rows s hour) hour v.1) }
     ensures cycles { IfOk result (λ v. (s : Store) → IsHourSeen config.now s hour before.now rows.now parts.now view.now → HaveCycles (is_known s) config.now (earlier_rows s hour) (own_rows s hour) v.1) }
 {
     let mut cut_carry = before.cuts.copy()?;
     let cuts = cut_hour(alloc, config.phases(), &mut cut_carry, rows, parts)?;
-    let mut split_carry = before.splits.copy()?;
-    let splits = splits_hour(alloc, config, &mut split_carry, &cuts, hour)?;
+    let splits = splits_seen(alloc, config, hour, before, &cuts, rows, parts)?;
     let mut arrival_carry = before.arrivals.copy()?;
     let arrivals = arrivals_hour(alloc, config, &mut arrival_carry, &cuts, view, rows, parts)?;
     Ok((splits, arrivals))

@@ -9,12 +9,14 @@ ghost use Rattle.gap_map.specs.Stretches.{known_in};
 ghost use Rattle.signal_log.specs.Log.{Log, log_of};
 ghost use Rattle.signal_log.specs.Points.{ArePastsAt, HasHour, NamesContradiction, rows_or_none};
 ghost use Rattle.service_cut.specs.Parts.{IsCarry as IsCut};
+ghost use Rattle.stop_bar.specs.All.{AreAtBars};
 ghost use Rattle.other_measures.specs.Crossing.{IsCarry as IsCrossing};
 ghost use Rattle.arrival_measures.specs.Crossing.{IsCarry as AreOpen};
 ghost use Rattle.hour_work.specs.Rows.{earlier_rows};
 ghost use Rattle.hour_work.specs.declared.steps.ForwardError.TheVariants.{Memory};
 ghost use Rattle.hour_work.specs.Points.{FitPoint, IsCarryAt, IsFutureAt, NamesRow};
 
+use crate::stop_bars::splits_over;
 use crate::{Carry, Future};
 use arrival_measures::{ArrivalCarry, arrivals_carried};
 use board::{Pasts, PastsError};
@@ -25,6 +27,7 @@ use service_cut::{CutCarry, cut_hour};
 use sig_base::{Hour, NoMemory, Row};
 use signal_log::{aheads_before, pasts_after};
 use span_set::SpanSet;
+use split_measures::SplitCarry;
 use std::alloc::{AllocFailed, Global};
 
 /// Why nothing is carried over an hour.
@@ -70,12 +73,17 @@ pub fn forward(
     ensures stop { IfErr result (λ e. (s : Store) → HasHour s hour (option_copied rows.entry) blanked.now → IsCarryAt config.now s hour before.now → NamesRow (log_of config.now.specs s) e) }
 {
     let pasts = pasts_over(alloc, config, hour, before, rows, blanked)?;
-    let (cuts, others, arrivals) = under_way(alloc, config, hour, before, rows, blanked)?;
+    let UnderWay {
+        cuts,
+        splits,
+        others,
+        arrivals,
+    } = under_way(alloc, config, hour, before, rows, blanked)?;
     Ok(Carry {
         pasts,
         known: is_last_known(hour, rows.is_some(), blanked),
         cuts,
-        splits: before.splits.copy()?,
+        splits,
         others,
         arrivals,
     })
@@ -103,6 +111,15 @@ fn pasts_over(
     }
 }
 
+// What is under way of each measure at a point.
+#[derive(Drop)]
+struct UnderWay {
+    cuts: CutCarry,
+    splits: SplitCarry,
+    others: OtherCarry,
+    arrivals: ArrivalCarry,
+}
+
 // What is under way of each measure at the point after an hour.
 fn under_way(
     alloc: Global,
@@ -111,22 +128,33 @@ fn under_way(
     before: &Carry,
     rows: Option<&[Row]>,
     blanked: &SpanSet,
-) -> Result<(CutCarry, OtherCarry, ArrivalCarry), NoMemory>
+) -> Result<UnderWay, NoMemory>
     requires in_range { hour < 744 }
     requires of_hour { IfSome rows (λ r. AreRowsOf hour r.now) }
-    ensures cuts { IfOk result (λ u. (s : Store) → HasHour s hour (option_copied rows.entry) blanked.now → IsCut (is_known s) config.now.phases (earlier_rows s hour) hour before.now.cuts → IsCut (is_known s) config.now.phases (earlier_rows s (hour + 1)) (hour + 1) u.0) }
-    ensures others { IfOk result (λ u. (s : Store) → HasHour s hour (option_copied rows.entry) blanked.now → IsCrossing (is_known s) config.now (earlier_rows s hour) hour before.now.others → IsCrossing (is_known s) config.now (earlier_rows s (hour + 1)) (hour + 1) u.1) }
-    ensures arrivals { IfOk result (λ u. (s : Store) → HasHour s hour (option_copied rows.entry) blanked.now → IsCut (is_known s) config.now.phases (earlier_rows s hour) hour before.now.cuts → AreOpen (is_known s) config.now (earlier_rows s hour) hour before.now.arrivals → AreOpen (is_known s) config.now (earlier_rows s (hour + 1)) (hour + 1) u.2) }
+    requires shape { AreBefore config.now.specs before.now.pasts }
+    ensures cuts { IfOk result (λ u. (s : Store) → HasHour s hour (option_copied rows.entry) blanked.now → IsCut (is_known s) config.now.phases (earlier_rows s hour) hour before.now.cuts → IsCut (is_known s) config.now.phases (earlier_rows s (hour + 1)) (hour + 1) u.cuts) }
+    ensures splits { IfOk result (λ u. (s : Store) → HasHour s hour (option_copied rows.entry) blanked.now
+        → IsCarryAt config.now s hour before.now
+        → AreAtBars (log_of config.now.specs s) config.now (earlier_rows s (hour + 1)) (hour + 1)
+        u.splits) }
+    ensures others { IfOk result (λ u. (s : Store) → HasHour s hour (option_copied rows.entry) blanked.now → IsCrossing (is_known s) config.now (earlier_rows s hour) hour before.now.others → IsCrossing (is_known s) config.now (earlier_rows s (hour + 1)) (hour + 1) u.others) }
+    ensures arrivals { IfOk result (λ u. (s : Store) → HasHour s hour (option_copied rows.entry) blanked.now → IsCut (is_known s) config.now.phases (earlier_rows s hour) hour before.now.cuts → AreOpen (is_known s) config.now (earlier_rows s hour) hour before.now.arrivals → AreOpen (is_known s) config.now (earlier_rows s (hour + 1)) (hour + 1) u.arrivals) }
 {
     let held = held_rows(rows);
     let parts = stretches(alloc, hour, rows.is_some(), blanked)?;
     let mut cuts = before.cuts.copy()?;
     let cut = cut_hour(alloc, config.phases(), &mut cuts, held, &parts)?;
+    let splits = splits_over(alloc, config, hour, before, &cut, held, &parts)?;
     let mut arrivals = before.arrivals.copy()?;
     arrivals_carried(alloc, config, &mut arrivals, &cut, held, &parts)?;
     let mut others = before.others.copy()?;
     others_carried(alloc, config, &mut others, held, &parts)?;
-    Ok((cuts, others, arrivals))
+    Ok(UnderWay {
+        cuts,
+        splits,
+        others,
+        arrivals,
+    })
 }
 
 // The rows of the hour, none where it isn't held.

@@ -72,6 +72,24 @@ fn count(kept: u64, broken: u64) -> RuleCount {
     }
 }
 
+// The numbers of an hour that isn't held.
+fn not_held(alloc: Global) -> Result<Partial, Fail>
+    ensures { IfOk result (FitHours 1) }
+{
+    let config = configured(alloc)?;
+    if config.hours() != 1 {
+        return Err(Fail::from("hours"));
+    }
+    let rules = rules_of(alloc, &config)?;
+    let blanked = SpanSet::new(alloc);
+    let before = Carry::start(alloc, &config)?;
+    let _later = forward(alloc, &config, 0, &before, None, &blanked)?;
+    let after = Future::end(alloc, &config)?;
+    let rules = rules.as_slice();
+    let part = partial(alloc, &config, rules, 0, &before, None, &blanked, &after)?;
+    Ok(part)
+}
+
 // 14.9 seconds are too short, 15 are long enough.
 #[test]
 fn a_green_of_at_least_15_seconds(rt: HostRuntime) -> Result<(), Fail> {
@@ -88,7 +106,7 @@ fn a_green_of_at_least_15_seconds(rt: HostRuntime) -> Result<(), Fail> {
 fn sums_hours(rt: HostRuntime) -> Result<(), Fail> {
     let alloc = rt.alloc();
     let short = green_until(alloc, 1149)?;
-    let absent = Partial::not_held(alloc, &configured(alloc)?, 1)?;
+    let absent = not_held(alloc)?;
     let long = green_until(alloc, 1150)?;
     let report = Report::new(alloc, vec![in alloc; short, absent, long]?)?;
     let total = report.total();

@@ -6,6 +6,7 @@ use Rattle.std.proofs.lemmas.List.{drop_all}
 use Rattle.std.proofs.lemmas.List.Concat.{flat_map-cons}
 use Rattle.std.proofs.lemmas.Option.{slice_get_within, slice_get_read, get_or_from_slice_get}
 use Rattle.ring_config.specs.declared.items.Approach.{Approach}
+use Rattle.split_measures.specs.declared.failures.SplitSum.{SplitSum}
 use Rattle.arrival_measures.specs.declared.sums.ArrivalSum.{ArrivalSum}
 use Rattle.report_text.specs.Approaches.{approach_text, approaches_text}
 
@@ -24,25 +25,33 @@ drop_none (x ∷ xs) zero e = cc
 drop_none (x ∷ xs) (suc i) e = drop_none xs i e
 
 -- the lines of this approach, and those of the approaches after it
-pub approaches_next : (all : List Approach) (sums : List ArrivalSum) (i : ℕ) (a : Approach) (s : ArrivalSum) → Some a ≡ slice_get all i → i < length sums → s ≡ get_or sums i s
-    → approaches_text (drop i all) (drop i sums) ≡ approach_text a s ++ approaches_text (drop (i + 1) all) (drop (i + 1) sums)
-approaches_next all sums i a s e within h =
-    rw (drop_next all i a (sym e), drop_next sums i s (slice_get_read sums (length sums) i s refl within h)) refl
+pub approaches_next : (all : List Approach) (sums : List ArrivalSum) (splits : List SplitSum) (i : ℕ) (a : Approach) (s : ArrivalSum) (f : SplitSum) → Some a ≡ slice_get all i → i < length sums → s ≡ get_or sums i s → i < length splits → f ≡ get_or splits i f
+    → approaches_text (drop i all) (drop i sums) (drop i splits) ≡ approach_text a s f ++ approaches_text (drop (i + 1) all) (drop (i + 1) sums) (drop (i + 1) splits)
+approaches_next all sums splits i a s f e within h within_f hf =
+    rw (drop_next all i a (sym e), drop_next sums i s (slice_get_read sums (length sums) i s refl within h), drop_next splits i f (slice_get_read splits (length splits) i f refl within_f hf)) refl
 
-no_sums : (all : List Approach) → approaches_text all [] ≡ []
-no_sums [] = refl
-no_sums (a ∷ more) = refl
+no_sums : (all : List Approach) (splits : List SplitSum) → approaches_text all [] splits ≡ []
+no_sums [] splits = refl
+no_sums (a ∷ more) splits = refl
+
+no_splits : (all : List Approach) (sums : List ArrivalSum) → approaches_text all sums [] ≡ []
+no_splits [] sums = refl
+no_splits (a ∷ more) [] = refl
+no_splits (a ∷ more) (s ∷ ss) = refl
 
 -- no sums are left
-pub approaches_out : (all : List Approach) (sums : List ArrivalSum) (i : ℕ) → length sums ≤ i → approaches_text (drop i all) (drop i sums) ≡ []
-approaches_out all sums i h = rw (drop_all i sums h) (no_sums (drop i all))
+pub approaches_out : (all : List Approach) (sums : List ArrivalSum) (splits : List SplitSum) (i : ℕ) → length sums ≤ i → approaches_text (drop i all) (drop i sums) (drop i splits) ≡ []
+approaches_out all sums splits i h = rw (drop_all i sums h) (no_sums (drop i all) (drop i splits))
+
+pub splits_out : (all : List Approach) (sums : List ArrivalSum) (splits : List SplitSum) (i : ℕ) → length splits ≤ i → approaches_text (drop i all) (drop i sums) (drop i splits) ≡ []
+splits_out all sums splits i h = rw (drop_all i splits h) (no_splits (drop i all) (drop i sums))
 
 -- no approaches are left
-pub approaches_past : (all : List Approach) (sums : List ArrivalSum) (i : ℕ) → None ≡ slice_get all i → approaches_text (drop i all) (drop i sums) ≡ []
-approaches_past all sums i e = rw (drop_none all i (sym e)) refl
+pub approaches_past : (all : List Approach) (sums : List ArrivalSum) (splits : List SplitSum) (i : ℕ) → None ≡ slice_get all i → approaches_text (drop i all) (drop i sums) (drop i splits) ≡ []
+approaches_past all sums splits i e = rw (drop_none all i (sym e)) refl
 
-pub approaches_end : (all : List Approach) (sums : List ArrivalSum) (i : ℕ) → length all ≤ i → approaches_text (drop i all) (drop i sums) ≡ []
-approaches_end all sums i h = rw (drop_all i all h) refl
+pub approaches_end : (all : List Approach) (sums : List ArrivalSum) (splits : List SplitSum) (i : ℕ) → length all ≤ i → approaches_text (drop i all) (drop i sums) (drop i splits) ≡ []
+approaches_end all sums splits i h = rw (drop_all i all h) refl
 
 -- the line of this point, and those of the points after it
 pub points_next : {A : Type 0} (line : A → List ℕ) (points : List A) (i : ℕ) (d : A) → i < length points

@@ -114,4 +114,4 @@ others_text c n = peds_text c n ++ (preempts_text c n ++ coordination_text c.coo
 
 -- the measures of an hour or of the window: what is held and known, a line for each phase, each pedestrian signal and each preempt, and for the coordination, and those of the approaches
 abbrev pub measures_text : Settings → Numbers → List ℕ
-measures_text c n = held_line n ++ (phases_text c n ++ (others_text c n ++ approaches_text c.approaches n.arrivals))
+measures_text c n = held_line n ++ (phases_text c n ++ (others_text c n ++ approaches_text c.approaches n.arrivals n.failures))

@@ -1,12 +1,13 @@
 // The lines of approaches.
-ghost use Rattle.std.specs.Prelude.{◌++◌, ◌*◌, is_some, codes};
+ghost use Rattle.std.specs.Prelude.{◌≡◌, ◌++◌, ◌*◌, ◌-◌, is_some, codes};
 ghost use Rattle.outside.specs.Sink.{Puts};
-ghost use Rattle.report_text.specs.Approaches.{actuations_line, approach_text, approaches_text, arrival_counts, arrival_shares, arrivals_line, fraction, line_if};
+ghost use Rattle.report_text.specs.Approaches.{actuations_line, all_splits, approach_text, approaches_text, arrival_counts, arrival_shares, arrivals_line, fraction, line_if, splits_line, stop_bar_text};
 
 use arrival_measures::ArrivalSum;
 use itoa::Buffer;
 use outside::{PutFailed, Sink, put_parts};
 use ring_config::{Approach, Config};
+use split_measures::SplitSum;
 
 fn put_counts<K: Sink>(name: &[u8], sums: &ArrivalSum, sink: &mut K) -> Result<(), PutFailed>
     ensures { Puts (K.written sink.old) (K.written sink.new) (K.faults sink.old) (K.faults sink.new) (arrival_counts name.now sums.now) result }
@@ -15,6 +16,8 @@ fn put_counts<K: Sink>(name: &[u8], sums: &ArrivalSum, sink: &mut K) -> Result<(
     let mut green = Buffer::new();
     let mut not_green = Buffer::new();
     let mut undecided = Buffer::new();
+    let mut unseen = Buffer::new();
+    let mut fault = Buffer::new();
     put_parts(
         sink,
         &[
@@ -28,6 +31,10 @@ fn put_counts<K: Sink>(name: &[u8], sums: &ArrivalSum, sink: &mut K) -> Result<(
             not_green.format(sums.not_green).as_bytes(),
             b" undecided ",
             undecided.format(sums.undecided).as_bytes(),
+            b" unseen ",
+            unseen.format(sums.unseen).as_bytes(),
+            b" fault ",
+            fault.format(sums.fault).as_bytes(),
         ],
     )
 }
@@ -57,13 +64,14 @@ fn put_fraction<K: Sink>(
     )
 }
 
+// Of the arrivals of which something is seen.
 fn put_share<K: Sink>(sums: &ArrivalSum, sink: &mut K) -> Result<(), PutFailed>
     ensures { Puts (K.written sink.old) (K.written sink.new) (K.faults sink.old) (K.faults sink.new)
-        (codes " share " ++ fraction sums.now.green sums.now.arrivals) result }
+        (codes " share " ++ fraction sums.now.green (sums.now.arrivals - sums.now.unseen)) result }
 {
     let green = u128::from(sums.green);
-    let arrivals = u128::from(sums.arrivals);
-    put_fraction(b" share ", green, arrivals, sink)
+    let seen = u128::from(sums.arrivals.saturating_sub(sums.unseen));
+    put_fraction(b" share ", green, seen, sink)
 }
 
 // The counts of a u64 are multiplied in a u128, which has room for each product.
@@ -107,6 +115,7 @@ fn put_actuations<K: Sink>(name: &[u8], sums: &ArrivalSum, sink: &mut K) -> Resu
     let mut red = Buffer::new();
     let mut not_red = Buffer::new();
     let mut undecided = Buffer::new();
+    let mut fault = Buffer::new();
     put_parts(
         sink,
         &[
@@ -120,6 +129,8 @@ fn put_actuations<K: Sink>(name: &[u8], sums: &ArrivalSum, sink: &mut K) -> Resu
             not_red.format(sums.not_red).as_bytes(),
             b" undecided ",
             undecided.format(sums.red_undecided).as_bytes(),
+            b" fault ",
+            fault.format(sums.red_fault).as_bytes(),
             b"\n",
         ],
     )
@@ -140,16 +151,78 @@ fn put_advance<K: Sink>(
     }
 }
 
-// Writes the line of a stop bar detector, where there is one.
+// The numbers of a u64 are added in a u128, which has room for the sum.
+fn all_splits(sums: &SplitSum) -> u128
+    ensures { result ≡ all_splits sums.now }
+{
+    u128::from(sums.fail)
+        + u128::from(sums.pass)
+        + u128::from(sums.undecided)
+        + u128::from(sums.left_open)
+        + u128::from(sums.fault)
+}
+
+fn put_splits<K: Sink>(name: &[u8], sums: &SplitSum, sink: &mut K) -> Result<(), PutFailed>
+    ensures { Puts (K.written sink.old) (K.written sink.new) (K.faults sink.old) (K.faults sink.new)
+        (splits_line name.now sums.now) result }
+{
+    let all = all_splits(sums);
+    let mut splits = Buffer::new();
+    let mut fail = Buffer::new();
+    let mut pass = Buffer::new();
+    let mut undecided = Buffer::new();
+    let mut left_open = Buffer::new();
+    let mut fault = Buffer::new();
+    put_parts(
+        sink,
+        &[
+            b"approach ",
+            name,
+            b" splits ",
+            splits.format(all).as_bytes(),
+            b" fail ",
+            fail.format(sums.fail).as_bytes(),
+            b" pass ",
+            pass.format(sums.pass).as_bytes(),
+            b" undecided ",
+            undecided.format(sums.undecided).as_bytes(),
+            b" open ",
+            left_open.format(sums.left_open).as_bytes(),
+            b" fault ",
+            fault.format(sums.fault).as_bytes(),
+            b"\n",
+        ],
+    )
+}
+
+fn put_at_bar<K: Sink>(
+    name: &[u8],
+    sums: &ArrivalSum,
+    splits: &SplitSum,
+    sink: &mut K,
+) -> Result<(), PutFailed>
+    ensures { Puts (K.written sink.old) (K.written sink.new) (K.faults sink.old) (K.faults sink.new)
+        (actuations_line name.now sums.now ++ splits_line name.now splits.now) result }
+{
+    match put_actuations(name, sums, sink) {
+        Ok(()) => {}
+        Err(failed) => return Err(failed),
+    }
+    put_splits(name, splits, sink)
+}
+
+// Writes the lines of a stop bar detector, where there is one.
 fn put_stop_bar<K: Sink>(
     approach: &Approach,
     sums: &ArrivalSum,
+    splits: &SplitSum,
     sink: &mut K,
 ) -> Result<(), PutFailed>
-    ensures { Puts (K.written sink.old) (K.written sink.new) (K.faults sink.old) (K.faults sink.new) (line_if (is_some approach.now.stop_bar) (actuations_line approach.now.name sums.now)) result }
+    ensures { Puts (K.written sink.old) (K.written sink.new) (K.faults sink.old) (K.faults sink.new)
+        (stop_bar_text approach.now sums.now splits.now) result }
 {
     if approach.stop_bar.is_some() {
-        put_actuations(approach.name.bytes(), sums, sink)
+        put_at_bar(approach.name.bytes(), sums, splits, sink)
     } else {
         Ok(())
     }
@@ -158,25 +231,29 @@ fn put_stop_bar<K: Sink>(
 fn put_approach<K: Sink>(
     approach: &Approach,
     sums: &ArrivalSum,
+    splits: &SplitSum,
     sink: &mut K,
 ) -> Result<(), PutFailed>
-    ensures { Puts (K.written sink.old) (K.written sink.new) (K.faults sink.old) (K.faults sink.new) (approach_text approach.now sums.now) result }
+    ensures { Puts (K.written sink.old) (K.written sink.new) (K.faults sink.old) (K.faults sink.new)
+        (approach_text approach.now sums.now splits.now) result }
 {
     match put_advance(approach, sums, sink) {
         Ok(()) => {}
         Err(failed) => return Err(failed),
     }
-    put_stop_bar(approach, sums, sink)
+    put_stop_bar(approach, sums, splits, sink)
 }
 
-/// Writes for each approach, in file order, a line for its advance detector and one for its stop bar
+/// Writes for each approach, in file order, a line for its advance detector and two for its stop bar
 /// detector, where it has them. The sums stand in the same order.
 pub(crate) fn put_approaches<K: Sink>(
     config: &Config,
     sums: &[ArrivalSum],
+    splits: &[SplitSum],
     sink: &mut K,
 ) -> Result<(), PutFailed>
-    ensures { Puts (K.written sink.old) (K.written sink.new) (K.faults sink.old) (K.faults sink.new) (approaches_text config.now.approaches sums.now) result }
+    ensures { Puts (K.written sink.old) (K.written sink.new) (K.faults sink.old) (K.faults sink.new)
+        (approaches_text config.now.approaches sums.now splits.now) result }
 {
     for place in 0..config.approach_count() {
         let Some(approach) = config.approach_at(place) else {
@@ -185,7 +262,10 @@ pub(crate) fn put_approaches<K: Sink>(
         let Some(own) = sums.get(place as usize) else {
             return Ok(());
         };
-        match put_approach(approach, own, sink) {
+        let Some(split) = splits.get(place as usize) else {
+            return Ok(());
+        };
+        match put_approach(approach, own, split, sink) {
             Ok(()) => {}
             Err(failed) => return Err(failed),
         }

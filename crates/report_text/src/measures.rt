@@ -48,7 +48,7 @@ fn put_others<K: Sink>(config: &Config, part: &Partial, sink: &mut K) -> Result<
 /// Writes the measures of an hour, or those of the window: the held hours, their rows with those at
 /// blanked tenths, and the known tenths; then a line for each phase, each pedestrian signal and each
 /// preempt, by ascending number, and one for the coordination where it is on; then for each
-/// approach, in file order, a line for its advance detector and one for its stop bar detector.
+/// approach, in file order, a line for its advance detector and two for its stop bar detector.
 pub fn put_measures<K: Sink>(config: &Config, part: &Partial, sink: &mut K) -> Result<(), PutFailed>
     ensures { Puts (K.written sink.old) (K.written sink.new) (K.faults sink.old) (K.faults sink.new) (measures_text config.now part.now) result }
 {
@@ -64,5 +64,6 @@ pub fn put_measures<K: Sink>(config: &Config, part: &Partial, sink: &mut K) -> R
         Ok(()) => {}
         Err(failed) => return Err(failed),
     }
-    put_approaches(config, part.arrivals().approaches(), sink)
+    let splits = part.splits().approaches();
+    put_approaches(config, part.arrivals().approaches(), splits, sink)
 }

@@ -5,6 +5,7 @@ use offset_search::{Arrival, shift_counts};
 use outside::MemSink;
 use ring_config::read_config;
 use service_cut::Cycle;
+use split_measures::SplitSum;
 use std::test::Fail;
 
 // An approach with both detectors.
@@ -23,10 +24,12 @@ stop_bar = 9
 "#;
 
 const SUMS: ArrivalSum = ArrivalSum {
-    arrivals: 3,
+    arrivals: 5,
     green: 2,
     not_green: 1,
     undecided: 0,
+    unseen: 2,
+    fault: 6,
     cycle_arrivals: 2,
     cycle_green: 2,
     green_tenths: 350,
@@ -35,7 +38,19 @@ const SUMS: ArrivalSum = ArrivalSum {
     red: 1,
     not_red: 2,
     red_undecided: 1,
+    red_fault: 8,
 };
+
+const SPLITS: SplitSum = SplitSum {
+    fail: 1,
+    pass: 2,
+    undecided: 3,
+    left_open: 4,
+    fault: 5,
+};
+
+const AT_BAR: &str =
+    "approach NB actuations 4 red 1 not 2 undecided 1 fault 8\napproach NB splits 15 fail 1 pass 2 undecided 3 open 4 fault 5\n";
 
 #[test]
 fn lines_of_an_approach(rt: HostRuntime) -> Result<(), Fail> {
@@ -44,8 +59,8 @@ fn lines_of_an_approach(rt: HostRuntime) -> Result<(), Fail> {
         assert!(rt; false);
         return Ok(());
     };
-    let no_arrivals = ArrivalSum {
-        arrivals: 0,
+    let none_seen = ArrivalSum {
+        arrivals: 2,
         green: 0,
         not_green: 0,
         ..SUMS
@@ -58,22 +73,23 @@ fn lines_of_an_approach(rt: HostRuntime) -> Result<(), Fail> {
     for (sums, first) in [
         (
             SUMS,
-            "approach NB arrivals 3 green 2 not 1 undecided 0 share 2/3 platoon 2400/700\n",
+            "approach NB arrivals 5 green 2 not 1 undecided 0 unseen 2 fault 6 share 2/3 platoon 2400/700\n",
         ),
         (
-            no_arrivals,
-            "approach NB arrivals 0 green 0 not 0 undecided 0 share - platoon 2400/700\n",
+            none_seen,
+            "approach NB arrivals 2 green 0 not 0 undecided 0 unseen 2 fault 6 share - platoon 2400/700\n",
         ),
         (
             no_cycle,
-            "approach NB arrivals 3 green 2 not 1 undecided 0 share 2/3 platoon -\n",
+            "approach NB arrivals 5 green 2 not 1 undecided 0 unseen 2 fault 6 share 2/3 platoon -\n",
         ),
     ] {
         let mut sink = MemSink::new(alloc, 1000)?;
-        assert_eq!(rt; put_approaches(&config, &[sums], &mut sink), Ok(()));
-        let wanted = format!(in alloc;
-            "{first}approach NB actuations 4 red 1 not 2 undecided 1\n"
-        )?;
+        assert_eq!(rt;
+            put_approaches(&config, &[sums], &[SPLITS], &mut sink),
+            Ok(())
+        );
+        let wanted = format!(in alloc; "{first}{AT_BAR}")?;
         assert_eq!(rt; sink.bytes(), wanted.as_bytes());
     }
     Ok(())

@@ -14,7 +14,7 @@ use Rattle.ring_config.specs.Reading.{Read, ◌>>=◌, Gives, EntryData, place, 
 use Rattle.ring_config.specs.Values as values
 use Rattle.ring_config.specs.Values.{whole, configured}
 use Rattle.ring_config.specs.Walk.{Rules, entry_at, unrepeated, read_entry, entries_from, entries_of}
-use Rattle.ring_config.specs.Tables.{LayoutArrays, DetailArrays, top_keys, top_of, layout_arrays_of, detail_arrays_of, phase_values, overlap_values, pair_values, floor_values, bound_of, bound_at, interval_values, numerator, high_of, high_at, approach_values, phase_rules, ped_rules, overlap_rules, preempt_rules, conflict_rules, allow_rules, floor_rules, interval_rules, approach_rules}
+use Rattle.ring_config.specs.Tables.{LayoutArrays, DetailArrays, top_keys, top_of, layout_arrays_of, detail_arrays_of, phase_values, overlap_values, pair_values, floor_values, bound_of, bound_at, interval_values, numerator, high_of, high_at, approach_values, phase_rules, ped_rules, overlap_rules, preempt_rules, conflict_rules, allow_rules, floor_rules, interval_rules, approach_rules, travel_with}
 use Rattle.ring_config.specs.Settings.{Settings, Layout, signal_channels, layout_of, details_of, parts_of, config_at, config_in, config_of, document, document_of}
 
 abbrev HasPlace : ConfigError → Type 0
@@ -137,7 +137,8 @@ approach_placed phases e = then_placed (required values.name keys.Name e) _ (req
     then_placed (required (configured phases) keys.Phase e) _ (required_placed (configured phases) keys.Phase e) (λ p.
     then_placed (optional (whole 1 128) keys.Advance e) _ (defaulted_placed None _ keys.Advance e) (λ a.
     then_placed (optional (whole 1 128) keys.StopBar e) _ (defaulted_placed None _ keys.StopBar e) (λ s.
-    then_placed (high_at e) _ (high_placed e) (λ h. tt)))))
+    then_placed (defaulted 0 (travel_with a) keys.Travel e) _ (defaulted_placed 0 (travel_with a) keys.Travel e) (λ t.
+    then_placed (high_at e) _ (high_placed e) (λ h. tt))))))
 
 -- ---- the document
 

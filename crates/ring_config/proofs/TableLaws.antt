@@ -15,6 +15,7 @@ use Rattle.colour_machine.specs.Mask.{Has}
 use Rattle.channel_tables.specs.Tables.{table_of}
 use Rattle.reach.specs.declared.seen.AgeBound.{AgeBound}
 use Rattle.reach.specs.declared.seen.AgeBound.TheVariants.{AtLeast, AtMost}
+use Rattle.ring_config.specs.declared.error.KeyAt.{KeyAt}
 use Rattle.ring_config.specs.declared.error.KeyName.TheVariants as keys
 use Rattle.ring_config.specs.declared.error.ConfigError.TheVariants.{BadValue}
 use Rattle.ring_config.specs.declared.items.Pair.{Pair}
@@ -23,11 +24,11 @@ use Rattle.ring_config.specs.declared.items.OverlapItem.{OverlapItem}
 use Rattle.ring_config.specs.declared.items.FloorItem.{FloorItem}
 use Rattle.ring_config.specs.declared.items.IntervalItem.{IntervalItem}
 use Rattle.ring_config.specs.declared.items.Approach.{Approach}
-use Rattle.ring_config.specs.Reading.{◌>>=◌, EntryData, place, value_at, good, required, optional}
+use Rattle.ring_config.specs.Reading.{◌>>=◌, EntryData, place, value_at, good, or_default, required, defaulted, optional}
 use Rattle.ring_config.specs.Values as values
 use Rattle.ring_config.specs.Values.{whole, configured, has_phase, has_pair, has_number, next_phase, phases_from, few_parents, mask_of, passing, partner, kind_word, is_word_and, is_named, named_from, channel, colour, colour_of, name, is_short_text, is_name_byte}
 use Rattle.ring_config.specs.Parents.{ArePositive, IsMaskOf}
-use Rattle.ring_config.specs.Tables.{phase_values, overlap_values, pair_values, floor_values, bound_of, bound_at, interval_values, is_over, numerator, high_of, high_at, approach_values}
+use Rattle.ring_config.specs.Tables.{phase_values, overlap_values, pair_values, floor_values, bound_of, bound_at, interval_values, is_over, numerator, high_of, high_at, travel_with, approach_values}
 use Rattle.ring_config.specs.Sound.{IsBetween, IsConfigured, IsPhase, IsOverlap, IsPairOf, IsTimed, IsBound, IsApproach}
 use Rattle.ring_config.proofs.DoLaws.{ok_is, bound, good_is, required_means, required_value, required_between, optional_between, passing_is, and_then_is, map_is, whole_between, whole_integer}
 use Rattle.ring_config.proofs.ListLaws.{all_push}
@@ -271,22 +272,41 @@ high_is e (Some d) den f h =
     let t : not (is_over a.0 (Some (pos b.0))) ≡ true = subst (λ (v : Option ℤ). not (is_over a.0 v) ≡ true) z p.1 in
     ok_is IsShare (record { num = a.0; den = b.0 }) f b.2 (record { some = n.0; share = not_over a.0 b.0 t; few = m.1 })
 
+pub record IsTravel (advance : Option ℕ) (n : ℕ) : Type 0 where
+  pub most : n ≤ 300
+  pub none : advance ≡ None → n ≡ 0
+
+travel_at : (advance : Option ℕ) (at : KeyAt) (v : Option Data) (n : ℕ) → or_default 0 (travel_with advance) at v ≡ Ok n → IsTravel advance n
+travel_at advance at None n h = ok_is (IsTravel advance) 0 n h (record { most = omega arith; none = λ e. refl })
+travel_at None at (Some d) n h = absurd cc
+travel_at (Some v) at (Some d) n h =
+    let g = good_is at (whole 0 300 d) n h in
+    record { most = (whole_between 0 300 d n g).1; none = λ e. absurd cc }
+
+travel_is : (advance : Option ℕ) (e : EntryData) (n : ℕ) → defaulted 0 (travel_with advance) keys.Travel e ≡ Ok n → IsTravel advance n
+unfolding defaulted
+travel_is advance e n h = travel_at advance (place keys.Travel e) (value_at keys.Travel e) n h
+
 pub approach_is : (phases : List PhaseItem) (e : EntryData) (a : Approach) → approach_values phases e ≡ Ok a → IsApproach phases a
 unfolding approach_values high_at name
 approach_is phases e x h =
-    let a = bound (required name keys.Name e) (λ n. required (configured phases) keys.Phase e >>= λ p. optional (whole 1 128) keys.Advance e >>= λ v. optional (whole 1 128) keys.StopBar e >>= λ s. high_at e >>= λ f. Ok (record { name = n; phase = p; advance = v; stop_bar = s; high = f })) x h in
-    let b = bound (required (configured phases) keys.Phase e) (λ p. optional (whole 1 128) keys.Advance e >>= λ v. optional (whole 1 128) keys.StopBar e >>= λ s. high_at e >>= λ f. Ok (record { name = a.0; phase = p; advance = v; stop_bar = s; high = f })) x a.2 in
-    let c = bound (optional (whole 1 128) keys.Advance e) (λ v. optional (whole 1 128) keys.StopBar e >>= λ s. high_at e >>= λ f. Ok (record { name = a.0; phase = b.0; advance = v; stop_bar = s; high = f })) x b.2 in
-    let d = bound (optional (whole 1 128) keys.StopBar e) (λ s. high_at e >>= λ f. Ok (record { name = a.0; phase = b.0; advance = c.0; stop_bar = s; high = f })) x c.2 in
-    let f = bound (high_at e) (λ s. Ok (record { name = a.0; phase = b.0; advance = c.0; stop_bar = d.0; high = s })) x d.2 in
+    let a = bound (required name keys.Name e) (λ n. required (configured phases) keys.Phase e >>= λ p. optional (whole 1 128) keys.Advance e >>= λ v. optional (whole 1 128) keys.StopBar e >>= λ s. defaulted 0 (travel_with v) keys.Travel e >>= λ t. high_at e >>= λ f. Ok (record { name = n; phase = p; advance = v; stop_bar = s; travel = t; high = f })) x h in
+    let b = bound (required (configured phases) keys.Phase e) (λ p. optional (whole 1 128) keys.Advance e >>= λ v. optional (whole 1 128) keys.StopBar e >>= λ s. defaulted 0 (travel_with v) keys.Travel e >>= λ t. high_at e >>= λ f. Ok (record { name = a.0; phase = p; advance = v; stop_bar = s; travel = t; high = f })) x a.2 in
+    let c = bound (optional (whole 1 128) keys.Advance e) (λ v. optional (whole 1 128) keys.StopBar e >>= λ s. defaulted 0 (travel_with v) keys.Travel e >>= λ t. high_at e >>= λ f. Ok (record { name = a.0; phase = b.0; advance = v; stop_bar = s; travel = t; high = f })) x b.2 in
+    let d = bound (optional (whole 1 128) keys.StopBar e) (λ s. defaulted 0 (travel_with c.0) keys.Travel e >>= λ t. high_at e >>= λ f. Ok (record { name = a.0; phase = b.0; advance = c.0; stop_bar = s; travel = t; high = f })) x c.2 in
+    let g = bound (defaulted 0 (travel_with c.0) keys.Travel e) (λ t. high_at e >>= λ f. Ok (record { name = a.0; phase = b.0; advance = c.0; stop_bar = d.0; travel = t; high = f })) x d.2 in
+    let f = bound (high_at e) (λ s. Ok (record { name = a.0; phase = b.0; advance = c.0; stop_bar = d.0; travel = g.0; high = s })) x g.2 in
     let n = required_means name keys.Name e a.0 a.1 in
     let p = required_means (configured phases) keys.Phase e b.0 b.1 in
     let s = high_is e (value_at keys.HighNum e) (value_at keys.HighDen e) f.0 f.1 in
-    ok_is (IsApproach phases) (record { name = a.0; phase = b.0; advance = c.0; stop_bar = d.0; high = f.0 }) x f.2 (record {
+    let t = travel_is c.0 e g.0 g.1 in
+    ok_is (IsApproach phases) (record { name = a.0; phase = b.0; advance = c.0; stop_bar = d.0; travel = g.0; high = f.0 }) x f.2 (record {
       name = (passing_is (is_short_text is_name_byte) (as_str n.0) a.0 n.1).1;
       phase = (configured_is phases p.0 b.0 p.1).0;
       advance = optional_between 1 128 keys.Advance e c.0 c.1;
       stop_bar = optional_between 1 128 keys.StopBar e d.0 d.1;
+      travel = t.most;
+      no_travel = t.none;
       some = s.some;
       share = s.share;
       few = s.few;

@@ -1,5 +1,5 @@
 -- What holds of every accepted configuration, table by table.
-use Rattle.std.specs.Prelude.{is_some, ◌≡◌, ◌≢◌, ◌⊎◌, ℕ, ◌+◌, ◌<◌, ◌≤◌, true, false, IsTrue, IfSome, List, length, All, AllPairs, slice_get, Some}
+use Rattle.std.specs.Prelude.{is_some, ◌≡◌, ◌≢◌, ◌⊎◌, ℕ, ◌+◌, ◌<◌, ◌≤◌, true, false, IsTrue, IfSome, List, length, All, AllPairs, slice_get, Some, None}
 use Rattle.sig_base.specs.declared.values.PhaseItem.{PhaseItem}
 use Rattle.event_codes.specs.declared.channels.Kind.{Kind}
 use Rattle.event_codes.specs.declared.channels.Kind.TheVariants.{Phase, Ped, Overlap, PreemptService}
@@ -69,6 +69,8 @@ pub record IsApproach (phases : List PhaseItem) (a : Approach) : Type 0 where
   pub phase : IsConfigured phases a.phase
   pub advance : IfSome a.advance (IsBetween 1 128)
   pub stop_bar : IfSome a.stop_bar (IsBetween 1 128)
+  pub travel : a.travel ≤ 300
+  pub no_travel : a.advance ≡ None → a.travel ≡ 0
   pub some : 1 ≤ a.high.num
   pub share : a.high.num ≤ a.high.den
   pub few : a.high.den ≤ 1000

@@ -226,20 +226,26 @@ high_of e (Some num) den = do
 unfoldable pub high_at : EntryData → Read Frac
 high_at e = high_of e (value_at keys.HighNum e) (value_at keys.HighDen e)
 
+-- the travel time from the advance detector, which is there, to the stop bar
+abbrev pub travel_with : Option ℕ → Data → Option ℕ
+travel_with None d = None
+travel_with (Some v) d = whole 0 300 d
+
 unfoldable pub approach_values : List PhaseItem → EntryData → Read Approach
 approach_values phases e = do
   name ← required values.name keys.Name e
   phase ← required (configured phases) keys.Phase e
   advance ← optional (whole 1 128) keys.Advance e
   stop_bar ← optional (whole 1 128) keys.StopBar e
+  travel ← defaulted 0 (travel_with advance) keys.Travel e
   high ← high_at e
-  Ok (record { name = name; phase = phase; advance = advance; stop_bar = stop_bar; high = high })
+  Ok (record { name = name; phase = phase; advance = advance; stop_bar = stop_bar; travel = travel; high = high })
 
 abbrev pub approach_rules : List PhaseItem → Rules Approach
 approach_rules phases = record {
   table = tables.Approach;
   limit = 64;
-  listed = keys.Name ∷ keys.Phase ∷ keys.Advance ∷ keys.StopBar ∷ keys.HighNum ∷ keys.HighDen ∷ [];
+  listed = keys.Name ∷ keys.Phase ∷ keys.Advance ∷ keys.StopBar ∷ keys.Travel ∷ keys.HighNum ∷ keys.HighDen ∷ [];
   values = approach_values phases;
   repeats = λ p q. bytes_eq p.name q.name;
   repeated = keys.Name;

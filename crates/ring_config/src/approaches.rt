@@ -3,10 +3,10 @@ ghost use Rattle.std.specs.Prelude.{◌≡◌, ℤ, List, Ok, Option, option_and
 ghost use Rattle.std.specs.Str.{bytes_eq};
 ghost use Rattle.toml.specs.Data.{as_integer};
 ghost use Rattle.toml.specs.View.{view};
-ghost use Rattle.ring_config.specs.Reading.{Gives, required, value_at};
+ghost use Rattle.ring_config.specs.Reading.{Gives, defaulted, required, value_at};
 ghost use Rattle.ring_config.specs.Values.{name};
 ghost use Rattle.ring_config.specs.Seen.{entry_seen};
-ghost use Rattle.ring_config.specs.Tables.{approach_rules, high_at, is_over, numerator};
+ghost use Rattle.ring_config.specs.Tables.{approach_rules, high_at, is_over, numerator, travel_with};
 
 use crate::error::{ConfigError, KeyName, TableName};
 use crate::items::{Approach, Name};
@@ -80,6 +80,24 @@ fn high(entry: &Entry<'_>) -> Result<Frac, ConfigError>
     }
 }
 
+fn travel_with(advance: Option<u8>, value: &Value) -> Option<u32>
+    ensures { result ≡ travel_with advance (view value.now) }
+{
+    let _detector = advance?;
+    whole(0, 300, value)
+}
+
+// The travel time to the stop bar, or 0 where it isn't there; it is bad without a detector ahead.
+#[tactic(auto, unfolding(crate::specs::Reading::defaulted))]
+fn travel(advance: Option<u8>, entry: &Entry<'_>) -> Result<u32, ConfigError>
+    ensures { Gives (λ n. n) result (defaulted 0 (travel_with advance) KeyName.Travel (entry_seen entry.now)) }
+{
+    match value_at(KeyName::Travel, entry) {
+        None => Ok(0),
+        Some(value) => good(place(KeyName::Travel, entry), travel_with(advance, value)),
+    }
+}
+
 /// The approaches.
 #[derive(Drop)]
 pub(crate) struct ApproachTable<'a> {
@@ -105,6 +123,7 @@ impl<'a> TableRules for ApproachTable<'a> {
             KeyName::Phase,
             KeyName::Advance,
             KeyName::StopBar,
+            KeyName::Travel,
             KeyName::HighNum,
             KeyName::HighDen,
         ]
@@ -116,12 +135,14 @@ impl<'a> TableRules for ApproachTable<'a> {
         let phase = required_phase(self.phases, KeyName::Phase, entry)?;
         let advance = optional_detector(KeyName::Advance, entry)?;
         let stop_bar = optional_detector(KeyName::StopBar, entry)?;
+        let travel = travel(advance, entry)?;
         let high = high(entry)?;
         Ok(Approach {
             name,
             phase,
             advance,
             stop_bar,
+            travel,
             high,
         })
     }

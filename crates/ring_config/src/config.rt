@@ -195,6 +195,7 @@ impl Config {
         ensures value { result.now ≡ self.now.phases }
         ensures phases { All IsPhase self.now.phases }
         ensures distinct { AllPairs (λ p q. p.number ≢ q.number) self.now.phases }
+        ensures sound { IsSound self.now }
     {
         self.phases.as_slice()
     }

@@ -51,6 +51,7 @@ pub enum KeyName {
     Name,
     Advance,
     StopBar,
+    Travel,
     HighNum,
     HighDen,
     Other,

@@ -98,4 +98,7 @@ pub struct Approach {
     pub stop_bar: Option<u8>,
     /// The share of a green or red time from which on a detector counts as occupied, at most 1.
     pub high: Frac,
+    /// The time from the advance detector to the stop bar, 0 to 300 tenths of a second; 0 where there
+    /// is no such detector.
+    pub travel: u32,
 }

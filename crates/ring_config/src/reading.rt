@@ -51,6 +51,7 @@ pub(crate) fn text_of(key: KeyName) -> &'static str
         KeyName::Name => "name",
         KeyName::Advance => "advance",
         KeyName::StopBar => "stop_bar",
+        KeyName::Travel => "travel",
         KeyName::HighNum => "high_num",
         KeyName::HighDen => "high_den",
         KeyName::Other => "?",

@@ -167,6 +167,7 @@ at_most = 600
 name = "north"
 phase = 2
 stop_bar = 9
+travel = 35
 advance = 5
 "#;
 
@@ -185,11 +186,12 @@ fn described_approaches(alloc: Global, config: &Config) -> Result<String, Fail> 
     )?;
     if let Some(approach) = config.approach_at(0) {
         let line = format!(in alloc;
-            "{:?} {} {:?} {:?} {:?}\n",
+            "{:?} {} {:?} {:?} {} {:?}\n",
             approach.name.bytes(),
             approach.phase,
             approach.advance,
             approach.stop_bar,
+            approach.travel,
             approach.high
         )?;
         text.push_str(line.as_str())?;
@@ -254,7 +256,7 @@ Detector 5 [0, 0, 0, 0, 0, 0, 0, 0, 0, 0, 0, 0, 0, 0, 0, 0]
 Detector 9 [0, 0, 0, 0, 0, 0, 0, 0, 0, 0, 0, 0, 0, 0, 0, 0]
 Coordination 0 [0, 0, 0, 0, 0, 0, 0, 0, 0, 0, 0, 0, 0, 0, 0, 0]
 1 Some(0) None Some(6)
-[110, 111, 114, 116, 104] 2 Some(5) Some(9) Frac { num: 4, den: 5 }
+[110, 111, 114, 116, 104] 2 Some(5) Some(9) 35 Frac { num: 4, den: 5 }
 "#;
 
 #[test]

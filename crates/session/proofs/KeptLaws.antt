@@ -58,7 +58,7 @@ future_is c s xs k x is are le e = subst (λ (v : Ahead). IsFutureAt c s k v) (s
 -- some history agrees, where the carries reach the window's end
 pub history_kept : (c : Settings) (s : Store) (xs : List Carried) → IsSound c → IsStore s → AreCarries c s xs → HasHistory (log_of c.specs s)
 history_kept c s xs sound is are =
-    let d : Carried = record { pasts = []; known = true; cuts = []; others = record { peds = []; preempts = [] }; arrivals = [] } in
+    let d : Carried = record { pasts = []; known = true; cuts = []; splits = []; others = record { peds = []; preempts = [] }; arrivals = record { crossings = []; flags = [] } } in
     some_history (log_of c.specs s) (get_or xs (length s.hours) d).pasts (channels_are c sound) (carry_kept c s xs is are (length s.hours) d (omega arith)).pasts
 
 pub between_kept : (c : Settings) (s : Store) (xs : List Carried) (ys : List Ahead) → IsStore s → AreCarries c s xs → AreFutures c s ys → HasHistory (log_of c.specs s) → (k : ℕ) (d : Carried) (e : Ahead) → k < length s.hours → IsHourBetween c s k (get_or xs k d) (rows_at s k) s.blanks (get_or ys (k + 1) e)
@@ -67,7 +67,7 @@ between_kept c s xs ys is forth back some k d e lt = record { has_hour = has s k
 -- the numbers that are kept are the store's report
 pub report_kept : (c : Settings) (s : Store) (xs : List Carried) (ys : List Ahead) (ps : List Numbers) → IsStore s → AreKept c s xs ys ps → HasHistory (log_of c.specs s) → IsReport c s ps
 report_kept c s xs ys ps is kept some =
-    let d : Carried = record { pasts = []; known = true; cuts = []; others = record { peds = []; preempts = [] }; arrivals = [] } in
+    let d : Carried = record { pasts = []; known = true; cuts = []; splits = []; others = record { peds = []; preempts = [] }; arrivals = record { crossings = []; flags = [] } } in
     record {
       size = kept.size;
       each = λ k f lt. kept.counts k lt d [] f s (between_kept c s xs ys is kept.forth kept.back some k d [] lt);

@@ -42,14 +42,14 @@ fn ends(alloc: Global, config: &Config, points: u32) -> Result<Vec<Future>, NoMe
     Ok(futures)
 }
 
-// The numbers of so many hours that aren't held.
-fn no_parts(alloc: Global, config: &Config, rules: &[Rule], hours: u32) -> Result<Report, NoMemory>
+// Room for the numbers of so many hours.
+fn no_parts(alloc: Global, hours: u32) -> Result<Report, NoMemory>
     requires { hours ≤ 744 }
     ensures { IfOk result (λ r. length r ≡ hours) }
 {
     let mut parts = Vec::new(alloc);
     for _ in 0..hours {
-        parts.push(Partial::not_held(alloc, config, rules.len())?)?;
+        parts.push(Partial::nothing(alloc))?;
     }
     Report::new(alloc, parts)
 }
@@ -66,7 +66,7 @@ pub fn begin(alloc: Global, config: &Config, rules: &[Rule], hours: u32) -> Resu
     let mut worked = Worked {
         carries: starts(alloc, config, hours + 1)?,
         futures: ends(alloc, config, hours + 1)?,
-        report: no_parts(alloc, config, rules, hours)?,
+        report: no_parts(alloc, hours)?,
     };
     let store = HourStore::new(alloc, hours)?;
     let mut reads = Reads::new(NoRows);

@@ -2,8 +2,8 @@
 ghost use Rattle.std.specs.Prelude.{◌≡◌, ◌++◌, ◌<◌, length, IfOk, OnOk};
 ghost use Rattle.hour_sums.specs.Numbers.{own};
 ghost use Rattle.hour_store.specs.Store.{is_known, known_rows};
-ghost use Rattle.arrival_measures.specs.Points.{diagrams_of, points_of};
-ghost use Rattle.hour_work.specs.Rows.{own_rows};
+ghost use Rattle.arrival_measures.specs.Points.{diagrams_of, points_from};
+ghost use Rattle.hour_work.specs.Rows.{earlier_rows, own_rows};
 ghost use Rattle.hour_work.specs.Measures.{cycles_in};
 ghost use Rattle.hour_work.specs.Points.{IsCarryAt};
 ghost use Rattle.session.specs.Links.{AreKept};
@@ -50,7 +50,9 @@ fn add_hour<L>(
     requires in_store { hour < length store.now.hours }
     requires before { IsCarryAt config.now store.now hour before.now }
     ensures cycles { OnOk result (found.new.cycles.items ≡ found.old.cycles.items ++ own (λ x. x.phase) phase (cycles_in config.now store.now hour)) }
-    ensures points { OnOk result (found.new.points ≡ found.old.points ++ points_of config.now phase (own_rows store.now hour)) }
+    ensures points { OnOk result (found.new.points ≡ found.old.points
+        ++ points_from (is_known store.now) config.now phase (earlier_rows store.now hour)
+        (own_rows store.now hour)) }
     ensures grow { Grow reads.old reads.new }
 {
     let rows = store.open_hour(hour, reads);

@@ -28,7 +28,8 @@ use Rattle.report_text.specs.declared.refusal.Refusal.TheVariants.{Edit}
 use Rattle.report_text.specs.Measures.{measures_text}
 use Rattle.session.specs.Edits.{Change, step_of}
 use Rattle.session.specs.Edits as change
-use Rattle.command_line.specs.Words.{Asked, for_run, for_count, for_pack}
+use Rattle.command_line.specs.Words.{Asked, for_run, for_count, for_pack, for_demo}
+use Rattle.demonstration.specs.Files.{config_name, demo_files, script_name}
 use Rattle.script_lines.specs.Words.{Said, said}
 use Rattle.script_lines.specs.Words as line
 use Rattle.script_lines.specs.Lines.{lines_of}
@@ -192,6 +193,7 @@ one_answer laws None files a b h k = h ∙ sym k
 one_answer laws (Some (for_run config script)) files a b h k = one_file laws files script (limited 1048576 (files config)) a b h k
 one_answer laws (Some (for_count file signal day hour)) files a b h k = h ∙ sym k
 one_answer laws (Some (for_pack file signal day hour)) files a b h k = h ∙ sym k
+one_answer laws (Some (for_demo hours)) files a b h k = one_file laws (demo_files hours) script_name (limited 1048576 (demo_files hours config_name)) a b h k
 
 pub one_transcript : Laws → HaveOneTranscript
 one_transcript laws words files bytes bytes' ended ended' h k =
@@ -225,6 +227,7 @@ first_answer laws None files k a b h q = same_begins a b _ h q
 first_answer laws (Some (for_run config script)) files k a b h q = first_file laws files script (limited 1048576 (files config)) k a b h q
 first_answer laws (Some (for_count file signal day hour)) files k a b h q = same_begins a b _ h q
 first_answer laws (Some (for_pack file signal day hour)) files k a b h q = same_begins a b _ h q
+first_answer laws (Some (for_demo hours)) files k a b h q = first_file laws (demo_files hours) script_name (limited 1048576 (demo_files hours config_name)) k a b h q
 
 pub begins_with_first : Laws → BeginsWithFirstLines
 begins_with_first laws words files bytes front ended k h q = first_answer laws (asked_of words) files k (outcome bytes ended) (outcome front q.0) h q.1

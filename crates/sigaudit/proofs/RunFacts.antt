@@ -13,7 +13,8 @@ use Rattle.ring_config.specs.Settings.{Settings, config_of}
 use Rattle.ring_config.specs.declared.error.ConfigError.{ConfigError}
 use Rattle.ring_config.specs.declared.error.ConfigError.TheVariants.{NotToml, Missing, BadValue, Unknown, Repeated, TooMany, Memory}
 use Rattle.session.specs.Sessions.{Kept}
-use Rattle.command_line.specs.Words.{Asked, for_run, for_count, for_pack, request_of}
+use Rattle.command_line.specs.Words.{Asked, for_run, for_count, for_pack, for_demo, request_of}
+use Rattle.demonstration.specs.Files.{config_name, demo_files, script_name}
 use Rattle.sigaudit.specs.declared.file.Task.{Task}
 use Rattle.sigaudit.specs.declared.file.Task.TheVariants.{Count, Pack}
 use Rattle.sigaudit.specs.Asked.{HourAsked, hour_asked, asked_of}
@@ -108,6 +109,7 @@ answer_begun None files = (outcome usage_text ended.Usage, refl)
 answer_begun (Some (for_run config script)) files = file_begun files script (limited (2 ^ 20) (files config))
 answer_begun (Some (for_count file signal day hour)) files = (file_outcome Count (hour_asked file signal day hour) (files file), refl)
 answer_begun (Some (for_pack file signal day hour)) files = (file_outcome Pack (hour_asked file signal day hour) (files file), refl)
+answer_begun (Some (for_demo hours)) files = file_begun (demo_files hours) script_name (limited (2 ^ 20) (demo_files hours config_name))
 
 -- a run that stopped before it wrote anything
 pub run-of_nothing : (Is : (List ℕ → List (List ℕ)) → Outcome → Type 0) (k : Counts) (w : Option (List ℕ)) (f : ℕ) → (o : Outcome) × Is (first_lines 0) o → RunsAs Is (world k w f) (world k w f) (status_of_run (Err stopped.Memory))

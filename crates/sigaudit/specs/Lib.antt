@@ -8,5 +8,6 @@ pub mod Audit
 pub mod Points
 pub mod Offsets
 pub mod Script
+pub mod DemoShelf
 pub mod Transcript
 pub mod Run

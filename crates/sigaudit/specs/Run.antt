@@ -8,7 +8,7 @@ use Rattle.hour_store.specs.Store.{Store}
 use Rattle.sig_base.specs.Window.{Span}
 use Rattle.report_text.specs.declared.refusal.Refusal.{Refusal}
 use Rattle.report_text.specs.Refusals.{IsOfWindow}
-use Rattle.command_line.specs.Words.{Asked, for_run, for_count, for_pack}
+use Rattle.command_line.specs.Words.{Asked, for_run, for_count, for_pack, for_demo}
 use Rattle.ring_config.specs.Settings.{Settings}
 use Rattle.script_lines.specs.Lines.{lines_of}
 use Rattle.sigaudit.specs.Turns.{Turn}
@@ -46,12 +46,13 @@ HasFault old new = Rose old.counts.failed new.counts.failed ⊎ Rose old.faults 
 abbrev pub WritesAll : List ℕ → World → World → Type 0
 WritesAll bytes old new = Appends old.written new.written bytes × NoFault old new
 
--- the words ask for a script over a configuration
+-- the words ask for a script over a configuration, their own or that of a demonstration
 abbrev pub AsksRun : Option Asked → Type 0
 AsksRun None = ⊥
 AsksRun (Some (for_run config script)) = ⊤
 AsksRun (Some (for_count file signal day hour)) = ⊥
 AsksRun (Some (for_pack file signal day hour)) = ⊥
+AsksRun (Some (for_demo hours)) = ⊤
 
 -- the run wrote all of what the words and the files give where the run ends so, and no fault came
 abbrev pub Ends : ((List ℕ → List (List ℕ)) → Outcome → Type 0) → Ended → World → World → Type 0
@@ -205,3 +206,18 @@ FileCause old new Memory = ⊤
 abbrev pub ScriptCause : World → World → Status → Type 0
 ScriptCause old new BadConfig = (new.counts ≡ old.counts) × NoFault old new
 ScriptCause old new status = FileCause old new status
+
+-- why a demonstration ended so, by the sink's counts of faults
+abbrev pub DemoCause : ℕ → ℕ → Status → Type 0
+DemoCause before now Done = now ≡ before
+DemoCause before now SomeRefused = now ≡ before
+DemoCause before now Usage = ⊥
+DemoCause before now BadConfig = now ≡ before
+DemoCause before now NoFile = ⊥
+DemoCause before now Fault = Rose before now
+DemoCause before now Memory = ⊤
+
+-- a demonstration leaves the shelf alone, misses no file of its own, and stops at a fault of the sink alone
+abbrev pub LeavesShelf : Option Asked → World → World → Status → Type 0
+LeavesShelf (Some (for_demo hours)) old new status = (new.counts ≡ old.counts) × DemoCause old.faults new.faults status
+LeavesShelf _ old new status = ⊤

@@ -12,7 +12,8 @@ use Rattle.hour_pack.specs.Grammar.{packed}
 use Rattle.ring_config.specs.Reading.{Read}
 use Rattle.ring_config.specs.Settings.{Settings, config_of}
 use Rattle.hour_store.specs.Store.{nothing_held}
-use Rattle.command_line.specs.Words.{Asked, for_run, for_count, for_pack}
+use Rattle.command_line.specs.Words.{Asked, for_run, for_count, for_pack, for_demo}
+use Rattle.demonstration.specs.Files.{config_name, demo_files, script_name}
 use Rattle.script_lines.specs.Lines.{lines_of}
 use Rattle.sigaudit.specs.Asked.{HourAsked, hour_asked, asked_of}
 use Rattle.sigaudit.specs.ConfigText.{config_text}
@@ -92,12 +93,18 @@ abbrev pub IsFileOutcome : Files → List ℕ → Option (List ℕ) → (List �
 IsFileOutcome files script None lines o = o ≡ outcome [] ended.NoFile
 IsFileOutcome files script (Some bytes) lines o = IsConfigOutcome files script (config_of bytes) lines o
 
+-- of a demonstration of so many hours: that of its script over its configuration, both among its own files
+abbrev pub IsDemoOutcome : ℕ → (List ℕ → List (List ℕ)) → Outcome → Type 0
+IsDemoOutcome hours lines o =
+    IsFileOutcome (demo_files hours) script_name (limited (2 ^ 20) (demo_files hours config_name)) lines o
+
 -- of what the words ask for, where these lines are taken of a script
 unfoldable pub IsAnswer : Option Asked → Files → (List ℕ → List (List ℕ)) → Outcome → Type 0
 IsAnswer None files lines o = o ≡ outcome usage_text ended.Usage
 IsAnswer (Some (for_run config script)) files lines o = IsFileOutcome files script (limited (2 ^ 20) (files config)) lines o
 IsAnswer (Some (for_count file signal day hour)) files lines o = o ≡ file_outcome Count (hour_asked file signal day hour) (files file)
 IsAnswer (Some (for_pack file signal day hour)) files lines o = o ≡ file_outcome Pack (hour_asked file signal day hour) (files file)
+IsAnswer (Some (for_demo hours)) files lines o = IsDemoOutcome hours lines o
 
 -- these bytes and this end are the transcript of the words and the files
 abbrev pub IsTranscript : List (List ℕ) → Files → List ℕ → Ended → Type 0

@@ -57,6 +57,7 @@ fn key_text(key: KeyName) -> &'static str
         KeyName::Name => "name",
         KeyName::Advance => "advance",
         KeyName::StopBar => "stop_bar",
+        KeyName::Travel => "travel",
         KeyName::HighNum => "high_num",
         KeyName::HighDen => "high_den",
         KeyName::Other => "?",

@@ -6,6 +6,7 @@
 
 mod audit;
 mod config_text;
+mod demo_shelf;
 mod file;
 mod hour_file;
 mod offsets;

@@ -1,6 +1,6 @@
 // The whole run.
 ghost use Rattle.std.specs.Prelude.{◌≡◌, ◌≤◌, ◌<◌, Some, [], length, IfSome};
-ghost use Rattle.outside.specs.Shelf.{Files};
+ghost use Rattle.outside.specs.Shelf.{Counts, Files};
 ghost use Rattle.sig_base.specs.Window.{IsDay};
 ghost use Rattle.session.specs.Sessions.{Grow};
 ghost use Rattle.ring_config.specs.Settings.{config_of};
@@ -8,10 +8,11 @@ ghost use Rattle.command_line.specs.Words.{IsReadable, seen};
 ghost use Rattle.sigaudit.specs.Asked.{asked_of};
 ghost use Rattle.sigaudit.specs.ConfigText.{config_text, is_config_memory};
 ghost use Rattle.sigaudit.specs.Status.{status_of_run};
-ghost use Rattle.sigaudit.specs.Transcript.{ended_by, limited, outcome, usage_text, BeginsWithFirstLines, HaveOneTranscript, IsAnswer, IsConfigOutcome, IsFileOutcome, IsScriptOutcome};
-ghost use Rattle.sigaudit.specs.Run.{world, CountsText, FetchesText, FewBytes, IsRun, RunsAs, HasCause, NeedsWords, NeverFall, PutsOutcome, ScriptCause};
+ghost use Rattle.sigaudit.specs.Transcript.{ended_by, limited, outcome, usage_text, BeginsWithFirstLines, HaveOneTranscript, IsAnswer, IsConfigOutcome, IsDemoOutcome, IsFileOutcome, IsScriptOutcome};
+ghost use Rattle.sigaudit.specs.Run.{world, CountsText, FetchesText, DemoCause, FewBytes, IsRun, LeavesShelf, RunsAs, HasCause, NeedsWords, NeverFall, PutsOutcome, ScriptCause};
 
 use crate::config_text::put_config_error;
+use crate::demo_shelf::DemoShelf;
 use crate::file::{FileAsked, Task, put_file};
 use crate::script::run_script;
 use crate::status::{Ended, Status, Stopped, status_of};
@@ -196,6 +197,30 @@ fn run_files<L, S: Shelf, K: Sink>(
     }
 }
 
+// Runs the demonstration of so many hours, which has a shelf of its own.
+#[tactic(auto, using(crate::proofs::GrowFacts::grow_same))]
+fn run_demo<L, K: Sink>(
+    alloc: Global,
+    hours: u32,
+    sink: &mut K,
+    reads: &mut Reads<L>,
+) -> Result<Ended, Stopped>
+    requires some { 1 ≤ hours }
+    requires few { hours ≤ 168 }
+    ensures told { (k : Counts) → RunsAs (IsDemoOutcome hours)
+        (world k (K.written sink.old) (K.faults sink.old))
+        (world k (K.written sink.new) (K.faults sink.new)) (status_of_run result) }
+    ensures cause { DemoCause (K.faults sink.old) (K.faults sink.new) (status_of_run result) }
+    ensures never_fall { K.faults sink.old ≤ K.faults sink.new }
+    ensures grow { Grow reads.old reads.new }
+{
+    let mut shelf = match DemoShelf::new(alloc, hours) {
+        Ok(shelf) => shelf,
+        Err(_) => return Err(Stopped::Memory),
+    };
+    run_files(alloc, "config", "script", &mut shelf, sink, reads)
+}
+
 // Does what the words ask for.
 #[tactic(auto, using(crate::proofs::GrowFacts::grow_same))]
 fn run_request<L, S: Shelf, K: Sink>(
@@ -208,6 +233,7 @@ fn run_request<L, S: Shelf, K: Sink>(
     requires { IsReadable request }
     ensures told { (files : Files) → S.files shelf.old ≡ Some files → RunsAs (IsAnswer (Some (seen request.entry)) files) (world (S.counts shelf.old) (K.written sink.old) (K.faults sink.old)) (world (S.counts shelf.new) (K.written sink.new) (K.faults sink.new)) (status_of_run result) }
     ensures cause { HasCause (Some (seen request.entry)) (world (S.counts shelf.old) (K.written sink.old) (K.faults sink.old)) (world (S.counts shelf.new) (K.written sink.new) (K.faults sink.new)) (status_of_run result) }
+    ensures alone { LeavesShelf (Some (seen request.entry)) (world (S.counts shelf.old) (K.written sink.old) (K.faults sink.old)) (world (S.counts shelf.new) (K.written sink.new) (K.faults sink.new)) (status_of_run result) }
     ensures never_fall { NeverFall (world (S.counts shelf.old) (K.written sink.old) (K.faults sink.old)) (world (S.counts shelf.new) (K.written sink.new) (K.faults sink.new)) }
     ensures grow { Grow reads.old reads.new }
 {
@@ -233,6 +259,7 @@ fn run_request<L, S: Shelf, K: Sink>(
             };
             put_file(alloc, &asked, shelf, sink, reads)
         }
+        Request::Demo(hours) => run_demo(alloc, hours, sink, reads),
     }
 }
 
@@ -248,6 +275,7 @@ fn run_to_end<L, S: Shelf, K: Sink>(
     ensures told { (files : Files) → S.files shelf.old ≡ Some files → RunsAs (IsAnswer (asked_of words.now) files) (world (S.counts shelf.old) (K.written sink.old) (K.faults sink.old)) (world (S.counts shelf.new) (K.written sink.new) (K.faults sink.new)) (status_of_run result) }
     ensures cause { HasCause (asked_of words.now) (world (S.counts shelf.old) (K.written sink.old) (K.faults sink.old)) (world (S.counts shelf.new) (K.written sink.new) (K.faults sink.new)) (status_of_run result) }
     ensures usage { NeedsWords (asked_of words.now) (world (S.counts shelf.old) (K.written sink.old) (K.faults sink.old)) (world (S.counts shelf.new) (K.written sink.new) (K.faults sink.new)) (status_of_run result) }
+    ensures alone { LeavesShelf (asked_of words.now) (world (S.counts shelf.old) (K.written sink.old) (K.faults sink.old)) (world (S.counts shelf.new) (K.written sink.new) (K.faults sink.new)) (status_of_run result) }
     ensures never_fall { NeverFall (world (S.counts shelf.old) (K.written sink.old) (K.faults sink.old)) (world (S.counts shelf.new) (K.written sink.new) (K.faults sink.new)) }
     ensures grow { Grow reads.old reads.new }
 {
@@ -278,6 +306,9 @@ pub fn run<L, S: Shelf, K: Sink>(
     // Each answer has its cause, whatever the shelf and the sink tell.
     ensures cause { HasCause (asked_of words.now) (world (S.counts shelf.old) (K.written sink.old) (K.faults sink.old)) (world (S.counts shelf.new) (K.written sink.new) (K.faults sink.new)) result }
     ensures usage { NeedsWords (asked_of words.now) (world (S.counts shelf.old) (K.written sink.old) (K.faults sink.old)) (world (S.counts shelf.new) (K.written sink.new) (K.faults sink.new)) result }
+
+    // A demonstration is made of its own files, and stops at a fault of the sink alone.
+    ensures alone { LeavesShelf (asked_of words.now) (world (S.counts shelf.old) (K.written sink.old) (K.faults sink.old)) (world (S.counts shelf.new) (K.written sink.new) (K.faults sink.new)) result }
     ensures never_fall { NeverFall (world (S.counts shelf.old) (K.written sink.old) (K.faults sink.old)) (world (S.counts shelf.new) (K.written sink.new) (K.faults sink.new)) }
 
     // No count of opened hours falls.

@@ -1,6 +1,7 @@
 mod audits;
 mod cases;
 mod cut_off;
+mod demo;
 mod limits;
 mod measures;
 mod offsets;

@@ -22,7 +22,7 @@ one_verdict v a b c d e ea eb ec ed ee =
       count_one (is_verdict Fault) v,
     ) refl)
 
-sums_append : (vs ws : List SplitVerdict) → split_sum_of (vs ++ ws) ≡ both_sums (split_sum_of vs) (split_sum_of ws)
+pub sums_append : (vs ws : List SplitVerdict) → split_sum_of (vs ++ ws) ≡ both_sums (split_sum_of vs) (split_sum_of ws)
 unfolding split_sum_of
 sums_append vs ws =
     rw (

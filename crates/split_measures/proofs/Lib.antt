@@ -4,3 +4,6 @@ pub mod Tables
 pub mod Numbers
 pub mod Telling
 pub mod Failing
+pub mod Approaches
+pub mod Single
+pub mod Opening

@@ -1,3 +1,4 @@
 pub mod Phases
 pub mod Verdicts
 pub mod Failures
+pub mod Hours

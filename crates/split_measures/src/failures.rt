@@ -37,7 +37,7 @@ impl Sum for SplitSum {
 
 // The numbers of no verdict.
 #[tactic(auto, unfolding(crate::specs::Failures::split_sum_of, hour_sums::specs::Numbers::capped))]
-fn no_verdict() -> SplitSum
+pub(crate) fn no_verdict() -> SplitSum
     ensures { result ≡ split_sum_of [] }
 {
     SplitSum {

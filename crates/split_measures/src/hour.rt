@@ -1,64 +1,70 @@
 // The numbers of an hour.
-ghost use Rattle.std.specs.Prelude.{◌≡◌, ◌<◌, ◌+◌, ◌++◌, [], IfOk, OnErr, OnOk, length, slice_set, slice_index_or, None};
+ghost use Rattle.std.specs.Prelude.{◌≡◌, ◌<◌, [], IfOk, OnErr, OnOk, length, slice_set, slice_index_or};
 ghost use Rattle.service_cut.specs.Parts.{has_phase};
-ghost use Rattle.hour_sums.specs.Numbers.{AreSums, by_number, merged};
-ghost use Rattle.split_measures.specs.Phases.{added, phase_sum, phase_sum_of, phase_sums, cycles_of, services_of, zero_sum};
+ghost use Rattle.hour_sums.specs.Numbers.{AreSums, by_number};
+ghost use Rattle.split_measures.specs.Hours.{AreHourSums, CrossesNext, no_splits, splits_added};
+ghost use Rattle.split_measures.specs.Phases.{added, phase_sum_of, phase_sums, services_of, zero_sum};
 
+use crate::bars::approach_sums;
 use crate::carry::SplitCarry;
+use crate::failures::SplitSum;
 use crate::sums::{PhaseSum, nothing, of_cycle, of_service};
+use detector_state::Switched;
 use hour_sums::{Sum, add_each};
 use ring_config::Config;
 use service_cut::{Cuts, Cycle, Service};
 use sig_base::{Hour, NoMemory, PhaseItem};
 use std::alloc::Global;
 use std::marker::Model;
+use stop_bar::bars_hour;
 
-/// The numbers of each phase in an hour.
+/// The numbers of each phase in an hour, and of each approach.
 #[derive(Drop)]
 pub struct SplitSums {
     phases: Vec<PhaseSum>,
+    approaches: Vec<SplitSum>,
 }
 
 impl Model for SplitSums {
-    ghost use Rattle.std.specs.Prelude.{List};
-    ghost use Rattle.split_measures.specs.declared.sums.PhaseSum.{PhaseSum};
+    ghost use Rattle.split_measures.specs.Hours.{Splits};
 
-    ghost Value = { List PhaseSum };
+    ghost Value = { Splits };
 
-    ghost view = { λ s. s.phases.items };
+    ghost view = { λ s. record { phases = s.phases.items; approaches = s.approaches.items } };
 }
 
 impl SplitSums {
-    /// The numbers of no phase. Takes no memory.
+    /// The numbers of no phase and no approach. Takes no memory.
     pub fn new(alloc: Global) -> SplitSums
-        ensures { result ≡ [] }
+        ensures { result ≡ no_splits }
     {
         SplitSums {
             phases: Vec::new(alloc),
+            approaches: Vec::new(alloc),
         }
     }
 
-    /// The numbers of an hour that has no service and no cycle.
-    pub fn none(alloc: Global, config: &Config) -> Result<SplitSums, NoMemory>
-        ensures { IfOk result (λ sums. sums ≡ phase_sums config.now.phases [] []) }
-    {
-        let phases = of_phases(alloc, config.phases(), &table_of(&[], &[]))?;
-        Ok(SplitSums { phases })
-    }
-
-    /// Adds the numbers of each phase to its own. After want of memory some of them may have been
-    /// added.
+    /// Adds the numbers of each phase and of each approach to its own. After want of memory some of
+    /// them may have been added.
     pub fn add(&mut self, more: &SplitSums) -> Result<(), NoMemory>
-        ensures { OnOk result (self.new ≡ merged added self.old more.now) }
+        ensures { OnOk result (self.new ≡ splits_added self.old more.now) }
     {
-        add_each(&mut self.phases, &more.phases)
+        add_each(&mut self.phases, &more.phases)?;
+        add_each(&mut self.approaches, &more.approaches)
     }
 
     /// One entry for each phase, by number.
     pub fn phases(&self) -> &[PhaseSum]
-        ensures { result.now ≡ self.now }
+        ensures { result.now ≡ self.now.phases }
     {
         self.phases.as_slice()
+    }
+
+    /// One entry for each approach, in file order; all 0 where it has no detector at its stop bar.
+    pub fn approaches(&self) -> &[SplitSum]
+        ensures { result.now ≡ self.now.approaches }
+    {
+        self.approaches.as_slice()
     }
 }
 
@@ -122,18 +128,52 @@ fn table_of(services: &[Service], cycles: &[Cycle]) -> [PhaseSum; 17]
     table
 }
 
-/// The numbers of the hour's whole services and whole cycles, phase by phase.
+/// The numbers of the hour's whole services and whole cycles, phase by phase, and the verdicts of
+/// the services whose red window ends in it, approach by approach; in the window's last hour those
+/// are open whose red window isn't over. In `carry` comes what crosses the point after the hour in
+/// place of what crosses the point before it. `detectors` has the tenths of the detector of each
+/// stop bar, in file order.
 pub fn splits_hour(
     alloc: Global,
     config: &Config,
     carry: &mut SplitCarry,
     cuts: &Cuts,
+    detectors: &[Switched],
     hour: Hour,
 ) -> Result<SplitSums, NoMemory>
-    ensures sums { IfOk result (λ sums. sums ≡ phase_sums config.now.phases cuts.now.services cuts.now.cycles) }
+    requires { hour < 744 }
+    ensures phases { IfOk result (λ s. s.phases
+        ≡ phase_sums config.now.phases cuts.now.services cuts.now.cycles) }
+    ensures approaches { IfOk result (λ s. AreHourSums config.now hour cuts.now detectors.now
+        carry.old s.approaches) }
+    ensures carry { IfOk result (λ s. CrossesNext config.now hour cuts.now detectors.now
+        carry.old carry.new) }
     ensures err { OnErr result (carry.new ≡ carry.old) }
 {
     let table = table_of(cuts.services(), cuts.cycles());
     let phases = of_phases(alloc, config.phases(), &table)?;
-    Ok(SplitSums { phases })
+    let mut next = carry.bars.copy()?;
+    let ended = bars_hour(alloc, config, &mut next, cuts, detectors, hour)?;
+    let approaches = approach_sums(alloc, config, &ended, next.bars(), hour)?;
+    carry.bars = next;
+    Ok(SplitSums { phases, approaches })
+}
+
+/// In `carry` what crosses the point after an hour in place of what crosses the point before it,
+/// without the hour's numbers.
+pub fn splits_carried(
+    alloc: Global,
+    config: &Config,
+    carry: &mut SplitCarry,
+    cuts: &Cuts,
+    detectors: &[Switched],
+    hour: Hour,
+) -> Result<(), NoMemory>
+    requires { hour < 744 }
+    ensures carry { OnOk result (CrossesNext config.now hour cuts.now detectors.now
+        carry.old carry.new) }
+    ensures err { OnErr result (carry.new ≡ carry.old) }
+{
+    bars_hour(alloc, config, &mut carry.bars, cuts, detectors, hour)?;
+    Ok(())
 }

@@ -2,6 +2,7 @@
 ghost use Rattle.std.specs.Prelude.{◌≡◌, ◌++◌, ℕ, List};
 ghost use Rattle.service_cut.specs.declared.items.Service.{Service};
 ghost use Rattle.service_cut.specs.declared.items.Cycle.{Cycle};
+ghost use Rattle.split_measures.specs.Hours.{SplitSumsAreOne};
 ghost use Rattle.split_measures.specs.Phases.{added, phase_sum};
 ghost use Rattle.split_measures.specs.Verdicts.{NumbersTell, VerdictsTell};
 
@@ -20,4 +21,9 @@ pub fn numbers_tell()
 /// Law: the verdicts of services by their windows are what all histories that agree tell.
 pub fn verdicts_tell()
     ensures { VerdictsTell }
+{}
+
+/// Law: the sums of the approaches in an hour are one list.
+pub fn split_sums_are_one()
+    ensures { SplitSumsAreOne }
 {}

@@ -42,11 +42,12 @@ fn phases_by_number(rt: HostRuntime) -> Result<(), Fail> {
         known: true,
     }];
     let cuts = cut_hour(rt.alloc(), config.phases(), &mut cut, &rows, &stretches)?;
-    let sums = splits_hour(rt.alloc(), &config, &mut carry, &cuts, 0)?;
+    let sums = splits_hour(rt.alloc(), &config, &mut carry, &cuts, &[], 0)?;
     assert_eq!(rt; sums.phases().len(), 2);
     assert_eq!(rt; sums.phases()[0].sum, 235);
     assert_eq!(rt; sums.phases()[0].unlogged, 1);
     assert_eq!(rt; sums.phases()[1].least, None);
+    assert!(rt; sums.approaches().is_empty());
     Ok(())
 }
 

@@ -17,6 +17,7 @@ use Rattle.hour_sweep.proofs.Orders.{below_end, filter_ordered, ordered-append}
 use Rattle.hour_sweep.proofs.Places.{AllLast, last_with_all}
 use Rattle.service_cut.specs.declared.items.Service.{Service}
 use Rattle.service_cut.specs.declared.services.ServiceBegun.{ServiceBegun}
+use Rattle.service_cut.specs.Cut.{services_from}
 use Rattle.service_cut.specs.Parts.{has_phase}
 use Rattle.service_cut.specs.Signs.{is_begin, is_change, sign}
 use Rattle.service_cut.specs.Services.{is_over, service_at, service_begun, service_begun_in, service_begun_of}
@@ -114,7 +115,7 @@ at_or_after : (a b c : ℕ) (xs : List Row) → c ≤ a → AreOrdered a b xs �
 at_or_after a b c [] le h = All-nil (λ z. c ≤ z.at)
 at_or_after a b c (x ∷ xs) le h = let l = h.0 in All-cons (λ z. c ≤ z.at) x xs (omega arith) (at_or_after x.at b c xs (omega arith) h.2)
 
-known_all : (known : ℕ → Bool) (xs : List Row) → All (λ z. known z.at ≡ true) (known_rows known xs)
+pub known_all : (known : ℕ → Bool) (xs : List Row) → All (λ z. known z.at ≡ true) (known_rows known xs)
 known_all known [] = All-nil (λ z. known z.at ≡ true)
 known_all known (x ∷ xs) = elim (cases_Bool (known x.at)) [
   | inl t ↦ rw t (All-cons (λ z. known z.at ≡ true) x (known_rows known xs) t (known_all known xs))
@@ -130,6 +131,16 @@ services_fit known phases p hour before rows begun (ordered, own) open_at =
     let all : AreOrdered 0 end ((before ++ []) ++ ks) = subst (λ (zs : List Row). AreOrdered 0 end (zs ++ ks)) (sym (append-nil before)) (ordered-append 0 first end before ks ordered kept) in
     let fit = all_fit p first end begun known phases before (below_end 0 first before ordered) open_at [] ks (All-nil (λ z. first ≤ z.at)) (at_or_after first end first ks (omega arith) kept) (known_all known rows) all in
     subst (λ (zs : List Row). AreServicesOf first end begun (of_phase p (outs_from (service_at known) (has_phase phases) zs ks)) × AreInOrder (of_phase p (outs_from (service_at known) (has_phase phases) zs ks))) (append-nil before) fit
+
+no_begin : (known : ℕ → Bool) (p : ℕ) → IsGreenAt 0 (service_begun_of known 0 p []) None
+unfolding service_begun_of
+no_begin known p = tt
+
+-- the services among known rows are in order
+pub services_in_order : (known : ℕ → Bool) (phases : List PhaseItem) (p end : ℕ) (rows : List Row) → AreOrdered 0 end rows → All (λ z. known z.at ≡ true) rows → AreInOrder (of_phase p (services_from known phases [] rows))
+services_in_order known phases p end rows order ks =
+    let low = at_or_after 0 end 0 rows (omega arith) order in
+    (all_fit p 0 end None known phases [] (All-nil (λ z. z.at < 0)) (no_begin known p) [] rows (All-nil (λ z. 0 ≤ z.at)) low ks order).1
 
 -- the end of a green at two tenths
 later_or : (t u : ℕ) (p : ℕ) (after front : List Row) → t ≤ u → All (λ z. z.at < t) after → All (λ z. t ≤ z.at) front → (o f : Option Row) → find (λ z. is_change (sign p z)) after ≡ o → find (λ z. is_change (sign p z)) front ≡ f → tenth_or t o ≡ min (tenth_or u (option_or o f)) t

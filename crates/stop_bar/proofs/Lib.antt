@@ -4,3 +4,4 @@ pub mod Hours
 pub mod Places
 pub mod AllBars
 pub mod ToldAt
+pub mod Owning

@@ -1,5 +1,6 @@
 -- The stop bars of a configuration, in an hour and at a point.
-use Rattle.std.specs.Prelude.{ℕ, ◌≡◌, ◌+◌, ◌++◌, Option, Some, None, List, filter_map, is_some}
+use Rattle.std.specs.Prelude.{ℕ, ◌≡◌, ◌+◌, ◌++◌, true, All, Option, Some, None, List, filter_map, is_some}
+use Rattle.sig_base.specs.declared.values.PhaseItem.{PhaseItem}
 use Rattle.sig_base.specs.HourRows.{AreRowsOf}
 use Rattle.sig_base.specs.declared.values.Row.{Row}
 use Rattle.span_set.specs.declared.set.Span.{Span}
@@ -15,6 +16,7 @@ use Rattle.signal_log.specs.Points.{ArePastsAt, HasHour, rows_or_none}
 use Rattle.hour_sweep.specs.Rows.{known_rows}
 use Rattle.service_cut.specs.Cut.{CutLists, IsCut}
 use Rattle.ring_config.specs.Settings.{Settings, spec_place}
+use Rattle.ring_config.specs.Values.{has_phase}
 use Rattle.ring_config.specs.declared.items.Approach.{Approach}
 use Rattle.detector_state.specs.declared.part.Part.{Part}
 use Rattle.detector_state.specs.Hours.{IsSwitched}
@@ -32,6 +34,10 @@ bar_with a (Some d) = Some (record { phase = a.phase; detector = d; high = a.hig
 -- of each approach with a detector at its stop bar, in file order
 abbrev pub bars_of : List Approach → List StopBar
 bars_of approaches = filter_map (λ a. bar_with a a.stop_bar) approaches
+
+-- each bar is of a configured phase
+abbrev pub AreServed : List PhaseItem → List StopBar → Type 0
+AreServed phases bars = All (λ b. has_phase phases b.phase ≡ true) bars
 
 -- the detector of the bar has this place among the channels
 abbrev pub IsPlaceOf : Settings → StopBar → ℕ → Type 0

@@ -2,3 +2,4 @@ pub mod Crossing
 pub mod Bars
 pub mod Lists
 pub mod All
+pub mod Own

@@ -30,7 +30,8 @@ impl Model for AtBar {
 impl AtBar {
     /// What crosses the window's start: nothing. Takes no memory.
     pub fn start(alloc: Global) -> AtBar
-        ensures { (log : Log) (i p : ℕ) (phases : List PhaseItem) → IsAtBar log i phases p [] 0 result }
+        ensures { (log : Log) (i p : ℕ) (phases : List PhaseItem)
+            → IsAtBar log i phases p [] 0 result }
     {
         AtBar {
             green: None,

@@ -1,8 +1,8 @@
 // The stop bars of a configuration.
-ghost use Rattle.std.specs.Prelude.{◌≡◌, ◌<◌, true, All, IfOk, length, slice_index_or};
+ghost use Rattle.std.specs.Prelude.{◌≡◌, ◌<◌, true, IfOk, length, slice_index_or};
 ghost use Rattle.ring_config.specs.Values.{has_phase};
 ghost use Rattle.ring_config.specs.declared.items.Approach.{Approach};
-ghost use Rattle.stop_bar.specs.All.{bar_with, bars_of};
+ghost use Rattle.stop_bar.specs.All.{AreServed, bar_with, bars_of};
 
 use ring_config::{Approach, Config};
 use sig_base::{Frac, NoMemory};
@@ -48,7 +48,7 @@ fn approach_of(config: &Config, place: u32) -> &Approach
 /// The stop bars of all approaches that have one, in file order.
 pub fn stop_bars(alloc: Global, config: &Config) -> Result<Vec<StopBar>, NoMemory>
     ensures bars { IfOk result (λ v. v.items ≡ bars_of config.now.approaches) }
-    ensures phases { IfOk result (λ v. All (λ b. has_phase config.now.phases b.phase ≡ true) v.items) }
+    ensures phases { IfOk result (λ v. AreServed config.now.phases v.items) }
 {
     let mut bars = Vec::new(alloc);
     for place in 0..config.approach_count() {

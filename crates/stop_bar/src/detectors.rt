@@ -9,6 +9,7 @@ ghost use Rattle.detector_state.specs.Hours.{TellsColours};
 ghost use Rattle.stop_bar.specs.All.{AreTold, IsHourHeld};
 
 use crate::bars::stop_bars;
+use crate::own::rows_by_detector;
 use board::Pasts;
 use detector_state::{Switched, switched};
 use event_codes::{Channel, Kind};
@@ -20,6 +21,7 @@ use std::alloc::Global;
 
 /// The tenths of the detector of each stop bar in an hour, in file order: by the hour's rows, none
 /// where it isn't held, its stretches, and the states in which each channel may be before it.
+/// Goes over the rows once, and over each detector's own rows.
 pub fn detectors_hour(
     alloc: Global,
     config: &Config,
@@ -34,14 +36,19 @@ pub fn detectors_hour(
 {
     let list = stop_bars(alloc, config)?;
     let mut told = Vec::new(alloc);
+    if list.is_empty() {
+        return Ok(told);
+    }
+    let table = rows_by_detector(alloc, rows)?;
     for bar in &list {
-        let own = detector_hour(alloc, config, bar.detector, pasts, rows, stretches)?;
-        told.push(own)?;
+        let own = table[usize::from(bar.detector)].list();
+        told.push(detector_hour(alloc, config, bar.detector, pasts, own, stretches)?)?;
     }
     Ok(told)
 }
 
-// One of them. A detector that isn't tracked has no place, so nothing is said of it.
+// One of them, by the detector's own rows. A detector that isn't tracked has no place, so nothing is
+// said of it.
 fn detector_hour(
     alloc: Global,
     config: &Config,

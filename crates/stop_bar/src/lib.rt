@@ -12,6 +12,7 @@ mod bars;
 mod detectors;
 mod hour;
 mod laws;
+mod own;
 mod same;
 #[cfg(test)]
 mod tests;

@@ -10,19 +10,39 @@ use sig_base::{PhaseItem, Row};
 use split_windows::OpenGreen;
 use std::test::Fail;
 
+const PHASES: [PhaseItem; 1] = [PhaseItem {
+    number: 2,
+    ring: 1,
+    side: 1,
+}];
+
+const KNOWN: [Stretch; 1] = [Stretch {
+    from: 0,
+    to: 36_000,
+    known: true,
+}];
+
+const DETECTOR: Channel = Channel {
+    kind: Kind::Detector,
+    number: 5,
+};
+
 fn row(at: u32, code: u8, param: u16) -> Row {
     Row { at, code, param }
+}
+
+fn on(least: u32, greatest: u32) -> OnTenths {
+    OnTenths {
+        least,
+        greatest,
+        fault: false,
+    }
 }
 
 // One green is over with its red window, one is on at the hour's end.
 #[test]
 fn an_hour_of_two_greens(rt: HostRuntime) -> Result<(), Fail> {
     let alloc = rt.alloc();
-    let phases = [PhaseItem {
-        number: 2,
-        ring: 1,
-        side: 1,
-    }];
     let rows = [
         row(35_800, 1, 2),
         row(35_850, 82, 5),
@@ -31,41 +51,18 @@ fn an_hour_of_two_greens(rt: HostRuntime) -> Result<(), Fail> {
         row(35_940, 9, 2),
         row(35_995, 1, 2),
     ];
-    let stretches = [Stretch {
-        from: 0,
-        to: 36_000,
-        known: true,
-    }];
-    let channel = Channel {
-        kind: Kind::Detector,
-        number: 5,
-    };
-    let told = switched(alloc, channel, &Past::start(alloc, 3)?, &rows, &stretches)?;
-    let mut carry = CutCarry::start(alloc, &phases)?;
-    let cuts = cut_hour(alloc, &phases, &mut carry, &rows, &stretches)?;
+    let told = switched(alloc, DETECTOR, &Past::start(alloc, 3)?, &rows, &KNOWN)?;
+    let mut carry = CutCarry::start(alloc, &PHASES)?;
+    let cuts = cut_hour(alloc, &PHASES, &mut carry, &rows, &KNOWN)?;
     let over = bar_hour(alloc, 2, &AtBar::start(alloc), &cuts, &told, 0)?;
-    let green = OnTenths {
-        least: 50,
-        greatest: 100,
-        fault: false,
-    };
-    let red = OnTenths {
-        least: 50,
-        greatest: 50,
-        fault: false,
-    };
     assert_eq!(rt; over.ended.len(), 1);
-    assert_eq!(rt; over.ended[0].green, green);
-    assert_eq!(rt; over.ended[0].red, red);
+    assert_eq!(rt; over.ended[0].green, on(50, 100));
+    assert_eq!(rt; over.ended[0].red, on(50, 50));
     assert!(rt; over.after.pending().is_empty());
     let later = OpenGreen {
         b: 35_995,
         to: 36_000,
-        tenths: OnTenths {
-            least: 5,
-            greatest: 5,
-            fault: false,
-        },
+        tenths: on(5, 5),
     };
     assert_eq!(rt; over.after.green, Some(later));
     assert!(rt; over.after.same(&over.after.copy()?));

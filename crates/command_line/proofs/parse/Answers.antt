@@ -1,4 +1,4 @@
-use Rattle.std.proofs.Common.{◌≡◌, ◌∙◌, map, rules, sym}
+use Rattle.std.proofs.Common.{◌∙◌, map}
 use Rattle.command_line.proofs.WordsLaws.{none_asked, is_parsed}
 use Rattle.clap.specs.Words.{app_of}
 use Rattle.command_line.proofs.parse.Goals as goal

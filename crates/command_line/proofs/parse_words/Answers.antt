@@ -1,4 +1,4 @@
-use Rattle.std.proofs.Common.{◌≡◌, ◌∙◌, map, sym, option_map}
+use Rattle.std.proofs.Common.{map}
 use Rattle.clap.specs.Words.{found_of, rows_of}
 use Rattle.command_line.proofs.WordsLaws.{some_asked}
 use Rattle.command_line.proofs.parse_words.Goals as goal

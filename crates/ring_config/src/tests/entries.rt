@@ -379,6 +379,28 @@ stop_bar = 0
 [[approach]]
 name = "A"
 phase = 2
+advance = 5
+travel = 300
+=> accepted
+==
+[[approach]]
+name = "A"
+phase = 2
+advance = 5
+travel = 301
+high_num = 0
+=> bad value Approach 0 Travel
+==
+[[approach]]
+name = "A"
+phase = 2
+stop_bar = 5
+travel = 0
+=> bad value Approach 0 Travel
+==
+[[approach]]
+name = "A"
+phase = 2
 high_den = 0
 => missing Approach 0 HighNum
 ==

@@ -1,20 +1,26 @@
-use Rattle.std.proofs.Common.{◌∙◌, ◌+◌, List, refl, sym, subst}
+use Rattle.std.proofs.Common.{◌∙◌, ◌+◌, ◌++◌, ℕ, Bool, List, ap, refl}
 use Rattle.sig_base.specs.declared.values.Row.{Row}
-use Rattle.hour_sweep.specs.Hours.{point}
-use Rattle.arrival_measures.specs.Steps.{AreSince}
-use Rattle.arrival_measures.proofs.Hours.{cut_hour, carry_is, hour_ordered, none_carried}
+use Rattle.hour_sweep.specs.Rows.{known_rows}
+use Rattle.hour_sweep.specs.Hours.{IsHour}
+use Rattle.service_cut.specs.Cut.{IsCut}
+use Rattle.arrival_measures.specs.Crossing.{CarryParts, IsCarry}
+use Rattle.arrival_measures.specs.Steps.{AreDetections, AreGiven}
+use Rattle.arrival_measures.proofs.Hours.{carry_is, given_of}
 use Rattle.arrival_measures.proofs.hour.arrivals_carried.Goals as goal
+use Rattle.arrival_measures.proofs.hour.arrivals_carried.Goals.{After-drop-found-3}
 
-pub returns-then-approach_count-eq0-clause-carry : goal.returns-then-approach_count-eq0-clause-carry
-returns-then-approach_count-eq0-clause-carry c = λ known before hour h is cut.
-    none_carried known c.args.config.now before hour c.args.rows.now c.args.stretches.now c.args.carry.now (sym c.approach_count.ensures.value ∙ c.if-approach_count-eq0.true) h is
+detections_of : (c : After-drop-found-3) (known : ℕ → Bool) (before : List Row) (hour : ℕ) → IsHour known hour c.args.rows.now c.args.stretches.now → IsCarry known c.args.config.now before hour c.args.carry.now → AreDetections known c.args.config.now before (known_rows known c.args.rows.now) hour c.in_ok-found.found
+detections_of c known before hour h is = c.in_ok-found.ensures known c.args.config.now before hour h is.earlier (c.deref.ensures.value ∙ ap (λ (z : CarryParts). z.flags) c.carry.view_is ∙ is.flags_are)
+
+given : (c : After-drop-found-3) (known : ℕ → Bool) (before : List Row) (hour : ℕ) → IsHour known hour c.args.rows.now c.args.stretches.now → IsCarry known c.args.config.now before hour c.args.carry.now → IsCut known c.args.config.now.phases before hour c.args.rows.now c.args.cuts.now → AreGiven known c.args.config.now before c.args.rows.now hour c.in_ok-sources.sources c.deref-2.result.now c.args.cuts.now
+given c known before hour h is cut =
+    let are = c.in_ok-sources.ensures.sources known before hour h is.ordered (detections_of c known before hour h is) in
+    given_of known c.args.config.now before c.args.rows.now hour c.in_ok-sources.sources c.args.carry.now c.deref-2.result.now c.args.cuts.now are is (c.deref-2.ensures.value ∙ ap (λ (z : CarryParts). z.crossings) c.carry.view_is) cut
+
+carried : (c : After-drop-found-3) (known : ℕ → Bool) (before : List Row) (hour : ℕ) → IsHour known hour c.args.rows.now c.args.stretches.now → IsCarry known c.args.config.now before hour c.args.carry.now → IsCut known c.args.config.now.phases before hour c.args.rows.now c.args.cuts.now → IsCarry known c.args.config.now (before ++ known_rows known c.args.rows.now) (hour + 1) (record { crossings = c.in_ok-numbers.numbers.crossings.items; flags = c.in_ok-found.found.flags.items })
+carried c known before hour h is cut =
+    carry_is known c.args.config.now before hour c.args.rows.now c.args.stretches.now c.args.carry.now (record { crossings = c.in_ok-numbers.numbers.crossings.items; flags = c.in_ok-found.found.flags.items }) c.in_ok-found.found.flags.items h is
+    (detections_of c known before hour h is).flags (c.in_ok-numbers.ensures.crossings known before c.args.rows.now hour (given c known before hour h is cut)) refl
 
 pub returns-clause-carry : goal.returns-clause-carry
-returns-clause-carry c = λ known before hour h is cut.
-    let rows = c.args.rows.now in
-    let cycles = c.args.cuts.now.open_cycles in
-    let at = cut_hour known c.args.config.now before hour rows c.args.stretches.now c.first_of-first.result c.args.cuts.now c.args.carry.now h is cut c.first_of-first.ensures in
-    let since = (rw c.open_cycles.ensures at c.rows_since-later.ensures) (point hour) (point hour + 36000) (hour_ordered known hour rows c.args.stretches.now h) in
-    let chained = subst (λ (zs : List Row). AreSince cycles rows zs) (sym c.in_ok-chains.ensures) since in
-    let after = c.in_ok-carry-inside.ensures known before rows hour at chained (c.deref.ensures.value ∙ c.carry.view_is ∙ is.opens_are) in
-    carry_is known c.args.config.now before hour rows c.args.stretches.now c.args.carry.now c.in_ok-carry-inside.field-0.items c.in_ok-carry-inside.field-0.items h is refl after
+returns-clause-carry c = λ known before hour h is cut. carried c known before hour h is cut

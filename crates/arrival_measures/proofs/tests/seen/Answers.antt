@@ -7,7 +7,7 @@ use Rattle.arrival_measures.proofs.tests.seen.Goals as goal
 
 pub new-requires-clause-log : goal.new-requires-clause-log
 new-requires-clause-log c =
-    let specs : List Spec = c.free.result ∷ c.free-2.result ∷ c.free-3.result ∷ [] in (
+    let specs : List Spec = c.free.result ∷ c.free-2.result ∷ [] in (
       0,
       record {
         are_specs = search rules;
@@ -18,7 +18,7 @@ new-requires-clause-log c =
 
 pub returns : goal.returns
 returns c =
-    let specs : List Spec = c.free.result ∷ c.free-2.result ∷ c.free-3.result ∷ [] in
+    let specs : List Spec = c.free.result ∷ c.free-2.result ∷ [] in
     let log : IsLog (hour_log 0 specs c.args.rows.now c.args.stretches.now c.in_ok-before.before c.in_ok-after.after) =
     record {
       are_specs = search rules;

@@ -1,4 +1,4 @@
-use Rattle.std.proofs.Common.{◌≡◌, Option, subst}
+use Rattle.std.proofs.Common.{Option, subst}
 use Rattle.cycle_arrivals.specs.declared.open.Open.{Open}
 use Rattle.arrival_measures.specs.Steps.{IsUnderWay}
 use Rattle.arrival_measures.proofs.Between.{given_before, given_within, not_begun}

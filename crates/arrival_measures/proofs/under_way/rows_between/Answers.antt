@@ -1,8 +1,7 @@
-use Rattle.std.proofs.Common.{◌≡◌, ℕ, List, ltb, drop, sym, subst, rules}
+use Rattle.std.proofs.Common.{List, ltb, sym, subst, rules}
 use Rattle.std.proofs.lemmas.List.Sorted.{IsPartitionPoint-from_clause, IsPartitionedBy-ltb}
 use Rattle.sig_base.specs.declared.values.Row.{Row}
 use Rattle.hour_sweep.specs.Hours.{AreOrdered}
-use Rattle.cycle_arrivals.specs.Arrivals.{rows_within}
 use Rattle.arrival_measures.proofs.Filters.{cut_at}
 use Rattle.arrival_measures.proofs.Between.{never_falls, drop_ordered, between_is}
 use Rattle.arrival_measures.proofs.under_way.rows_between.Goals as goal

@@ -18,6 +18,11 @@ counts_of-requires-clause-few c =
     let seen = c.in_ok-parts.ensures.seen s is in
     rw (c.deref-2.ensures.value, c.requires.rules) (lines_fit c.args.config.now s c.args.hour (length (rules_for c.args.config.now)) (Some c.args.rows.now) c.in_ok-lines.lines.items is.has_hour.held c.requires.of_hour.few (c.in_ok-lines.ensures s (rw c.deref.ensures.value seen)))
 
+pub others_seen-requires : goal.others_seen-requires
+others_seen-requires c =
+    let (s, is) = c.requires.agrees in
+    record { seen = (s, rw c.deref-4.ensures.value (c.in_ok-parts.ensures.seen s is)) }
+
 pub known_in-requires-clause-order : goal.known_in-requires-clause-order
 known_in-requires-clause-order c = rw c.deref-5.ensures.value (stretches_order _ _ _ _ c.in_ok-parts.ensures.cut.stretches)
 
@@ -40,6 +45,7 @@ returns-clause-value c = λ s is.
       rules = rw (c.deref-2.ensures.value, c.requires.rules) at c.in_ok-counts.ensures;
       measures = record {
         phases = c.in_ok-splits.ensures.splits s (rw c.deref-3.ensures.value seen);
+        verdicts = c.in_ok-splits.ensures.verdicts s (rw c.deref-3.ensures.value seen);
         numbers = c.in_ok-others.ensures.numbers s (rw c.deref-4.ensures.value seen);
         states = c.in_ok-others.ensures.states s (rw c.deref-4.ensures.value seen);
         judged = c.in_ok-splits.ensures.judged s (rw c.deref-3.ensures.value seen);

@@ -1,6 +1,5 @@
 use Rattle.std.proofs.Common.{◌∙◌, ◌+◌, [], length, refl, ap, subst, arith}
 use Rattle.std.specs.List.{filter}
-use Rattle.std.proofs.lemmas.Grind.{flat_map-append}
 use Rattle.board.specs.Logs.{first_tenth}
 use Rattle.hour_store.specs.Store.{is_known}
 use Rattle.hour_sweep.specs.Hours.{AreOrdered, point}
@@ -8,8 +7,9 @@ use Rattle.service_cut.specs.Cut.{cycle_is_in, cycles_from, service_is_in, servi
 use Rattle.service_cut.proofs.HourLists.{cycles_add, cycles_count, services_add, services_count}
 use Rattle.other_measures.specs.Hours.{delays_from, events_from}
 use Rattle.other_measures.proofs.Hours.{delays_add, events_add}
-use Rattle.arrival_measures.specs.Points.{points_at, points_of}
+use Rattle.arrival_measures.specs.Points.{points_from}
 use Rattle.hour_work.specs.Rows.{earlier_rows, own_rows}
+use Rattle.hour_work.proofs.ArrivalLaws.{points_add}
 use Rattle.hour_work.proofs.WholeLog.{all_rows, earlier_ordered, hour_within, over_log, own_ordered}
 use Rattle.hour_work.proofs.laws.hours_make_up_the_log.Goals as goal
 
@@ -26,7 +26,7 @@ pub returns-clause-events : goal.returns-clause-events
 returns-clause-events f c s is = over_log (events_from (is_known s) c) s is refl (events_add (is_known s) c)
 
 pub returns-clause-points : goal.returns-clause-points
-returns-clause-points f c s p is = over_log (λ before rows. points_of c p rows) s is refl (λ t b before rows first rest. flat_map-append (points_at p 0 c.approaches) before rows)
+returns-clause-points f c s p is = over_log (points_from (is_known s) c p) s is refl (λ t b before rows first rest. points_add (is_known s) c p before rows)
 
 pub returns-clause-ordered : goal.returns-clause-ordered
 returns-clause-ordered f s is = subst (λ rs. AreOrdered 0 (first_tenth (length s.hours)) rs) (all_rows s) (earlier_ordered s (length s.hours) is (omega arith))

@@ -7,7 +7,7 @@ use Rattle.hour_work.proofs.reported.block_with.Goals as goal
 pub loop-hour-init : goal.loop-hour-init
 loop-hour-init c =
     let xs = patched c.args.hours.now c.args.from c.args.parts.now in
-    record { from = omega arith; total = block_start xs (27 * c.args.place) c.no_total-total.result c.no_total-total.ensures }
+    record { from = omega arith; total = block_start xs (27 * c.args.place) c.nothing-total.result c.nothing-total.ensures.sums }
 
 pub add-requires : goal.add-requires
 add-requires c =

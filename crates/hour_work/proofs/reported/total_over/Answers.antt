@@ -6,7 +6,7 @@ use Rattle.hour_work.proofs.BlockLaws.{over_add, over_end, over_step}
 use Rattle.hour_work.proofs.reported.total_over.Goals as goal
 
 pub loop-place-init : goal.loop-place-init
-loop-place-init c = λ hours few small are. c.no_total-total.ensures
+loop-place-init c = λ hours few small are. c.nothing-total.ensures.sums
 
 pub add-requires : goal.add-requires
 add-requires c =

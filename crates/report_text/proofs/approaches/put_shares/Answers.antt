@@ -1,11 +1,11 @@
-use Rattle.std.proofs.Common.{◌++◌, ◌*◌, ◌∷◌, [], ℕ, List, codes, refl}
+use Rattle.std.proofs.Common.{◌++◌, ◌*◌, ◌-◌, ◌∷◌, [], ℕ, List, codes, refl}
 use Rattle.outside.proofs.PutsFacts.{puts-then, stops-front, stops-in}
 use Rattle.arrival_measures.specs.declared.sums.ArrivalSum.{ArrivalSum}
 use Rattle.report_text.specs.Approaches.{arrival_shares, fraction}
 use Rattle.report_text.proofs.approaches.put_shares.Goals as goal
 
 abbrev share : ArrivalSum → List ℕ
-share s = codes " share " ++ fraction s.green s.arrivals
+share s = codes " share " ++ fraction s.green (s.arrivals - s.unseen)
 
 abbrev platoon : ArrivalSum → List ℕ
 platoon s = codes " platoon " ++ fraction (s.cycle_green * s.cycle_tenths) (s.cycle_arrivals * s.green_tenths)

@@ -1,3 +1,6 @@
+use Rattle.std.proofs.Common.{◌++◌, ◌∙◌, ap}
+use Rattle.std.specs.Prelude.{option_copied}
+use Rattle.session.proofs.KeptLaws.{has_hour}
 use Rattle.session.proofs.GrowLaws.{grow_raised_to}
 use Rattle.session.proofs.points.add_hour.Goals as goal
 
@@ -15,3 +18,15 @@ returns-in_err-add_points-clause-grow g c = grow_raised_to _ _ c.args.hour c.ope
 
 pub returns-clause-grow : goal.returns-clause-grow
 returns-clause-grow g c = grow_raised_to _ _ c.args.hour c.open_hour-rows.ensures.raised
+
+pub returns-clause-cycles : goal.returns-clause-cycles
+returns-clause-cycles g c =
+    let s = c.args.store.now in
+    let has = has_hour s c.args.hour (option_copied c.open_hour-rows.result) c.blanked-blanked.result.now c.blanked-blanked.ensures.store c.requires.in_store c.open_hour-rows.ensures.rows c.blanked-blanked.ensures.value in
+    c.in_ok-append.ensures.items ∙ ap (λ zs. c.args.found.now.cycles.items ++ zs) (c.in_ok-cycles.ensures s has c.requires.before)
+
+pub returns-clause-points : goal.returns-clause-points
+returns-clause-points g c =
+    let s = c.args.store.now in
+    let has = has_hour s c.args.hour (option_copied c.open_hour-rows.result) c.blanked-blanked.result.now c.blanked-blanked.ensures.store c.requires.in_store c.open_hour-rows.ensures.rows c.blanked-blanked.ensures.value in
+    c.in_ok-add_points.ensures ∙ ap (λ zs. c.args.found.now.points ++ zs) (c.list.ensures ∙ c.in_ok-points.ensures s has c.requires.before)

@@ -1,11 +1,10 @@
 use Rattle.std.proofs.Common.{◌≡◌, ◌∙◌, ◌≤◌, arith, length, map}
 use Rattle.std.proofs.lemmas.Result.{IfOk-weaker}
-use Rattle.board.specs.Logs.{first_tenth}
 use Rattle.hour_store.specs.Store.{is_known, known_rows}
 use Rattle.arrival_measures.specs.Points.{diagram_of, diagrams_of}
 use Rattle.session.proofs.GrowLaws.{grow_on, grow_same}
 use Rattle.session.proofs.KeptLaws.{carry_is}
-use Rattle.session.proofs.DiagramLaws.{cycles_more, diagrams_whole, points_by_tenth, points_more}
+use Rattle.session.proofs.DiagramLaws.{cycles_more, diagrams_whole, points_more}
 use Rattle.session.proofs.points.phase_diagrams.Goals as goal
 
 pub loop-hour-init : goal.loop-hour-init
@@ -26,15 +25,6 @@ loop-hour-preserved g c = record {
   points = points_more c.args.config.now c.args.store.now c.args.phase c.loop-hour.hour c.loop-hour.found.points c.add_hour.new.found.points c.loop-hour.invariant.points c.in_ok-add_hour.ensures.points;
   grow = grow_on _ _ _ c.loop-hour.invariant.grow c.add_hour.ensures.grow;
 }
-
-pub diagrams-requires : goal.diagrams-requires
-diagrams-requires g c =
-    let cfg = c.args.config.now in
-    let s = c.args.store.now in
-    let is = c.hours-hour-end.ensures.store in
-    let n = c.hours-hour-end.ensures.value in
-    let end : c.loop-hour.hour ≡ length s.hours = omega arith in
-    points_by_tenth cfg s c.args.phase c.loop-hour.hour (first_tenth (length s.hours)) c.loop-hour.found.points end (c.hours_make_up_the_log.ensures.points cfg s c.args.phase is) (c.hours_make_up_the_log.ensures.ordered s is) c.loop-hour.invariant.points
 
 pub returns-clause-points : goal.returns-clause-points
 returns-clause-points g c =

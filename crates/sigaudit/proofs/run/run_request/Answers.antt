@@ -2,6 +2,7 @@ use Rattle.std.proofs.Common.{ap}
 use Rattle.command_line.specs.Words.{seen}
 use Rattle.sigaudit.specs.Run.{world}
 use Rattle.sigaudit.specs.Status.{status_of_run}
+use Rattle.sigaudit.proofs.DemoFacts.{request_demo}
 use Rattle.sigaudit.proofs.GrowFacts.{grow_once}
 use Rattle.sigaudit.proofs.RunFacts.{request_run, request_count, request_pack, day_back}
 use Rattle.sigaudit.proofs.LineFacts.{told_file}
@@ -28,3 +29,7 @@ returns-in-Pack-clause-told g c = λ files told.
 
 pub returns-in-Pack-clause-grow : goal.returns-in-Pack-clause-grow
 returns-in-Pack-clause-grow g c = grow_once _ _ 0 c.put_file-in-Pack.ensures.reads
+
+pub returns-in-Demo-clause-told : goal.returns-in-Demo-clause-told
+returns-in-Demo-clause-told g c = λ files told.
+    request_demo files (seen c.args.request) c.in-Demo.hours (world (g.S.Shelf.counts c.args.shelf.now) (g.K.Sink.written c.args.sink.now) (g.K.Sink.faults c.args.sink.now)) (world (g.S.Shelf.counts c.args.shelf.now) (g.K.Sink.written c.run_demo.new.sink) (g.K.Sink.faults c.run_demo.new.sink)) (status_of_run c.run_demo.result) (ap seen c.in-Demo.is) (c.run_demo.ensures.told (g.S.Shelf.counts c.args.shelf.now))

@@ -1,0 +1,22 @@
+-- Arrivals at the stop bar: those at a detector ahead of it, a travel time later.
+use Rattle.std.specs.Prelude.{ℕ, ◌+◌, nat_le, Bool, List, [], map, filter, ◌++◌}
+use Rattle.sig_base.specs.declared.values.Row.{Row}
+use Rattle.cycle_arrivals.specs.Arrivals.{ons_of}
+use Rattle.cycle_arrivals.specs.Own.{turns_green}
+use Rattle.arrival_measures.specs.Faults.{arrivals_from}
+
+-- an arrival as a row at its arrival tenth
+abbrev pub shifted : ℕ → Row → Row
+shifted v x = record { at = x.at + v; code = x.code; param = x.param }
+
+-- the arrivals at detector d among all these known rows, each at its arrival tenth
+unfoldable pub arrivals_at : (ℕ → Bool) → ℕ → ℕ → List Row → List Row
+arrivals_at known d v rows = map (shifted v) (ons_of d (arrivals_from known [] rows))
+
+-- those at tenth t or later
+abbrev pub from_tenth : ℕ → List Row → List Row
+from_tenth t rows = filter (λ x. nat_le t x.at) rows
+
+-- what the known rows tell of the cycles of phase p: its begins and ends of green, and the arrivals
+unfoldable pub told : (ℕ → Bool) → ℕ → ℕ → ℕ → List Row → List Row
+told known p d v rows = filter (turns_green p) rows ++ arrivals_at known d v rows

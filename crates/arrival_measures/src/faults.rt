@@ -1,0 +1,141 @@
+// Detectors that go on in an hour, and faults of detectors.
+ghost use Rattle.std.specs.Prelude.{◌≡◌, ◌<◌, ◌==◌, ℕ, Bool, List, All, IfOk};
+ghost use Rattle.std.specs.List.{filter_map};
+ghost use Rattle.sig_base.specs.declared.values.Row.{Row};
+ghost use Rattle.hour_sweep.specs.Rows.{known_rows};
+ghost use Rattle.hour_sweep.specs.Hours.{IsHour, point};
+ghost use Rattle.ring_config.specs.Settings.{Settings};
+ghost use Rattle.arrival_measures.specs.Crossing.{flags_of};
+ghost use Rattle.arrival_measures.specs.Faults.{begins_fault, is_own};
+ghost use Rattle.arrival_measures.specs.Steps.{AreDetections, arrival_in, detected_by, fault_in, flag_after, flag_cleared};
+
+use gap_map::Stretch;
+use hour_sweep::{Track, track_hour};
+use sig_base::{NoMemory, Row};
+use std::alloc::Global;
+
+/// A vehicle detector goes on.
+const DETECTOR_ON: u8 = 82;
+
+/// Whether a detector is sure to have a fault.
+#[derive(Clone, Copy, Debug, PartialEq, Eq)]
+pub(crate) struct Flag {
+    pub(crate) fault: bool,
+}
+
+/// A row at which a detector goes on, and whether it is sure to have a fault before it.
+#[derive(Clone, Copy)]
+pub(crate) struct Detection {
+    pub(crate) row: Row,
+    pub(crate) fault: bool,
+}
+
+fn is_own(code: u8) -> bool
+    ensures { result ≡ is_own code }
+{
+    81 <= code && code <= 88
+}
+
+fn begins_fault(code: u8) -> bool
+    ensures { result ≡ begins_fault code }
+{
+    84 <= code
+}
+
+impl Track for Flag {
+    type Out = Detection;
+
+    ghost step = { flag_after };
+
+    ghost clear = { flag_cleared };
+
+    ghost out_by = { detected_by };
+
+    fn after(self, row: &Row) -> Flag {
+        let fault = if is_own(row.code) {
+            begins_fault(row.code)
+        } else {
+            self.fault
+        };
+        Flag { fault }
+    }
+
+    fn cleared(self) -> Flag {
+        Flag { fault: false }
+    }
+
+    fn out(self, row: &Row) -> Option<Detection> {
+        if row.code == DETECTOR_ON {
+            Some(Detection {
+                row: *row,
+                fault: self.fault,
+            })
+        } else {
+            None
+        }
+    }
+}
+
+fn arrival_in(one: &Detection) -> Option<Row>
+    ensures { result ≡ arrival_in one.now }
+{
+    if one.fault { None } else { Some(one.row) }
+}
+
+fn fault_in(one: &Detection) -> Option<Row>
+    ensures { result ≡ fault_in one.now }
+{
+    if one.fault { Some(one.row) } else { None }
+}
+
+fn arrivals_among(alloc: Global, found: &[Detection]) -> Result<Vec<Row>, NoMemory>
+    ensures { IfOk result (λ v. v.items ≡ filter_map arrival_in found.now) }
+{
+    let rows = found
+        .iter()
+        .filter_map(|one| arrival_in(one))
+        .collect(alloc)?;
+    Ok(rows)
+}
+
+fn faults_among(alloc: Global, found: &[Detection]) -> Result<Vec<Row>, NoMemory>
+    ensures { IfOk result (λ v. v.items ≡ filter_map fault_in found.now) }
+{
+    let rows = found.iter().filter_map(|one| fault_in(one)).collect(alloc)?;
+    Ok(rows)
+}
+
+/// The rows of an hour at which detectors of approaches go on, and what crosses the point after it.
+#[derive(Drop)]
+pub(crate) struct Detections {
+    /// Those whose detector has no fault.
+    pub(crate) arrivals: Vec<Row>,
+    /// Those whose detector is sure to have one.
+    pub(crate) faults: Vec<Row>,
+    /// At the number of each detector of an approach whether it is sure to have a fault.
+    pub(crate) flags: Vec<Option<Flag>>,
+}
+
+/// The hour's known rows at which detectors of approaches go on, by the flags at the point before
+/// it.
+pub(crate) fn detect(
+    alloc: Global,
+    flags: &[Option<Flag>],
+    rows: &[Row],
+    stretches: &[Stretch],
+) -> Result<Detections, NoMemory>
+    ensures { IfOk result (λ d. (known : ℕ → Bool) (c : Settings) (before : List Row) (hour : ℕ)
+        → IsHour known hour rows.now stretches.now → All (λ x. x.at < point hour) before
+        → flags.now ≡ flags_of known c (point hour) before
+        → AreDetections known c before (known_rows known rows.now) hour d) }
+{
+    let tracked = track_hour(alloc, flags, rows, stretches)?;
+    let (flags, found) = tracked.into_parts();
+    let arrivals = arrivals_among(alloc, &found)?;
+    let faults = faults_among(alloc, &found)?;
+    Ok(Detections {
+        arrivals,
+        faults,
+        flags,
+    })
+}

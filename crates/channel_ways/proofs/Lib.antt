@@ -1,0 +1,4 @@
+pub mod Running
+pub mod Tracing
+pub mod Crossing
+pub mod Carrying

@@ -1,0 +1,3 @@
+pub mod Pasts
+pub mod Moves
+pub mod Laws

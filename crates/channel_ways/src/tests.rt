@@ -1,0 +1,122 @@
+ghost use Rattle.std.specs.Prelude.{◌≡◌, pos};
+ghost use Rattle.lane.specs.Ring.{ring, ring_laws};
+
+use crate::{Passage, passage_source};
+use colour_machine::{Machine, Mask};
+use gap_ways::{Entered, Fill};
+use lane::Move;
+use reach::{AgeBound, Ahead, Past, Test};
+use std::test::Fail;
+
+// Three colours in a ring: each is entered from the one before it, by the letter of its number,
+// five tenths or more after that one was entered.
+struct Ring;
+
+impl Machine for Ring {
+    ghost rules = { λ m. ring };
+
+    ghost laws = { λ m. ring_laws };
+
+    fn colours(&self) -> u8 {
+        3
+    }
+
+    fn letters(&self) -> u8 {
+        3
+    }
+
+    fn step(&self, colour: u8, letter: u8) -> Option<u8> {
+        let next = if colour < 2 { colour + 1 } else { 0 };
+        if letter == next { Some(letter) } else { None }
+    }
+
+    fn floor(&self, _colour: u8) -> u32 {
+        5
+    }
+}
+
+const RED: u8 = 0;
+
+const GREEN: u8 = 1;
+
+const YELLOW: u8 = 2;
+
+// Yellow, for at most so many tenths at 17.
+fn yellow_for(most: u32) -> Test
+    ensures { result.at ≡ pos 17 }
+{
+    Test {
+        colours: Mask::none().with(YELLOW),
+        bound: AgeBound::AtMost(most),
+        at: 17,
+    }
+}
+
+fn is_red(state: Option<Entered>) -> bool {
+    match state {
+        Some(state) => state.colour == RED,
+        None => false,
+    }
+}
+
+// Green is entered at 0 and at 30. So Yellow began in one of the first two gaps, at 14 at the
+// latest, and Red at 20 or 21.
+#[test]
+fn fills_the_gaps_around_a_place(rt: HostRuntime) -> Result<(), Fail> {
+    let left = [
+        Move::Letter {
+            at: 0,
+            letter: GREEN,
+            row: 0,
+        },
+        Move::Gap { from: 10, to: 12 },
+        Move::Gap { from: 14, to: 15 },
+    ];
+    let right = [
+        Move::Gap { from: 20, to: 22 },
+        Move::Letter {
+            at: 30,
+            letter: GREEN,
+            row: 1,
+        },
+    ];
+    let before = Past::start(rt.alloc(), 3)?;
+    let after = Ahead::end(3, 31);
+    let passage = Passage {
+        before: &before,
+        left: left.as_slice(),
+        right: right.as_slice(),
+        after: &after,
+    };
+    let mut fills = Vec::new(rt.alloc());
+    let none = passage_source(
+        rt.alloc(),
+        &Ring,
+        &passage,
+        &yellow_for(2),
+        true,
+        &mut fills,
+    )?;
+    assert_eq!(rt; none, None);
+    let source = passage_source(
+        rt.alloc(),
+        &Ring,
+        &passage,
+        &yellow_for(3),
+        true,
+        &mut fills,
+    )?;
+    assert!(rt; is_red(source));
+    let [red, yellow] = fills.as_slice() else {
+        return Err(Fail::from("fills"));
+    };
+    assert!(rt; red.letter == RED && (red.at == 20 || red.at == 21));
+    assert_eq!(rt;
+        *yellow,
+        Fill {
+            at: 14,
+            letter: YELLOW
+        }
+    );
+    Ok(())
+}

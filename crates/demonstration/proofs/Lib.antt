@@ -1,0 +1,5 @@
+pub mod RowFacts
+pub mod OrderFacts
+pub mod TextFacts
+pub mod SizeFacts
+mod Examples

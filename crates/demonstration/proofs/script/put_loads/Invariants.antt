@@ -1,0 +1,8 @@
+use Rattle.std.proofs.Common.{◌≡◌, ◌-◌, ◌++◌}
+use Rattle.demonstration.specs.Texts.{each_hour, load_line}
+use Rattle.demonstration.proofs.script.put_loads.Given as goal
+
+-- what is there, with what is to come, is all of it
+abbrev pub invariant-loop-hour : goal.invariant-loop-hour
+invariant-loop-hour l =
+    l.out.items ++ each_hour load_line 2 l.rest (l.hours - l.hour) l.hour ≡ l.fn.out.items ++ each_hour load_line 2 l.rest l.hours 0

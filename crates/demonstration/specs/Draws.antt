@@ -1,0 +1,30 @@
+-- The draws that the demonstration is made of.
+use Rattle.std.specs.Prelude.{◌+◌, ◌*◌, ◌/◌, ◌%◌, ◌^◌, ℕ, zero, suc}
+
+-- the number that follows in a sequence
+unfoldable pub next : ℕ → ℕ
+next x = (1103515245 * x + 12345) % 2 ^ 31
+
+-- the draw that a number of the sequence gives
+abbrev pub drawn : ℕ → ℕ
+drawn x = x / 65536
+
+-- the next draw of a sequence that stands at this number, and the one after it
+abbrev pub first_draw : ℕ → ℕ
+first_draw x = drawn (next x)
+
+abbrev pub second_draw : ℕ → ℕ
+second_draw x = drawn (next (next x))
+
+-- where the sequence stands after two draws
+abbrev pub after_two : ℕ → ℕ
+after_two x = next (next x)
+
+-- the number of this place in the sequence with this start, which has place 0
+unfoldable pub number_at : ℕ → ℕ → ℕ
+number_at start zero = start
+number_at start (suc i) = next (number_at start i)
+
+-- the draw of this place, from 1
+abbrev pub draw : ℕ → ℕ → ℕ
+draw start i = drawn (number_at start i)

@@ -1,0 +1,5 @@
+pub mod Draws
+pub mod Rows
+pub mod Order
+pub mod Texts
+pub mod Files

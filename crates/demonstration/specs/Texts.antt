@@ -1,0 +1,89 @@
+-- The texts of the demonstration: its hour files, its configuration and its script.
+use Rattle.std.specs.Prelude.{◌+◌, ◌*◌, ◌/◌, ◌%◌, ◌==◌, ◌&&◌, ◌++◌, nat_lt, nat_le, if◌then◌else◌, ℕ, zero, suc, pos, Bool, List, [], ◌∷◌, filter, slice_set, codes, decimal}
+use Rattle.sig_base.specs.declared.values.Row.{Row}
+use Rattle.sig_base.specs.Stamp.{stamp_at}
+use Rattle.sig_base.specs.Window.{Span}
+use Rattle.demonstration.specs.Rows.{all_rows}
+use Rattle.demonstration.specs.Order.{ordered}
+
+-- a window that begins with 2024 and has the end of the longest demonstration, 168 hours, within it
+abbrev pub calendar : Span
+calendar = record { day = pos 19723; hour = 0; hours = 169 }
+
+-- the stamp of a tenth with a space between date and time
+unfoldable pub spaced_stamp : ℕ → List ℕ
+spaced_stamp at = slice_set (stamp_at calendar at) 10 32
+
+-- a record of a file
+unfoldable pub record_of : Row → List ℕ
+record_of r =
+    codes "9000," ++ spaced_stamp r.at ++ codes "," ++ decimal r.code ++ codes "," ++ decimal r.param ++ codes "\n"
+
+unfoldable pub records_of : List Row → List ℕ
+records_of [] = []
+records_of (r ∷ rs) = record_of r ++ records_of rs
+
+abbrev pub header : List ℕ
+header = codes "SignalID,Timestamp,EventCode,EventParam\n"
+
+-- the row is of this hour
+abbrev pub is_of_hour : ℕ → Row → Bool
+is_of_hour hour r = nat_le (36000 * hour) r.at && nat_lt r.at (36000 * hour + 36000)
+
+-- all rows of so many hours in order
+unfoldable pub demo_rows : ℕ → List Row
+demo_rows hours = ordered (all_rows (36000 * hours))
+
+-- the file of this hour of a demonstration of so many hours
+unfoldable pub hour_text : ℕ → ℕ → List ℕ
+hour_text hours hour = header ++ records_of (filter (is_of_hour hour) (demo_rows hours))
+
+-- the configuration
+abbrev pub config_begin : List ℕ
+config_begin = codes "signal = \"9000\"\nstart = \"2024-01-01T00\"\nhours = "
+
+abbrev pub config_end : List ℕ
+config_end =
+    codes "\n\n[[phase]]\nnumber = 2\nring = 1\nside = 1\n\n[[phase]]\nnumber = 4\nring = 1\nside = 2\n\n[[interval]]\nchannel = \"phase 2\"\ncolour = \"Green\"\nat_least = 120\n\n[[approach]]\nname = \"A\"\nphase = 2\nadvance = 5\nstop_bar = 5\n"
+
+unfoldable pub config_text : ℕ → List ℕ
+config_text hours = config_begin ++ decimal hours ++ config_end
+
+-- lines of the script
+unfoldable pub load_line : ℕ → List ℕ
+load_line hour = codes "load " ++ decimal hour ++ codes " " ++ decimal hour ++ codes "\n"
+
+-- ten seconds are blanked from half past the hour on
+unfoldable pub blank_line : ℕ → List ℕ
+blank_line hour =
+    codes "blank " ++ stamp_at calendar (36000 * hour + 18000) ++ codes " " ++ stamp_at calendar (36000 * hour + 18100) ++ codes "\n"
+
+abbrev pub measures_line : List ℕ
+measures_line = codes "measures\n"
+
+abbrev pub withdraw_line : ℕ → List ℕ
+withdraw_line hour = codes "withdraw " ++ decimal hour ++ codes "\n"
+
+-- the whole window is known again
+abbrev pub unblank_line : ℕ → List ℕ
+unblank_line hours =
+    codes "unblank " ++ stamp_at calendar 0 ++ codes " " ++ stamp_at calendar (36000 * hours) ++ codes "\n"
+
+-- a line for each of so many hours from this one on that leaves this remainder when it is divided
+unfoldable pub each_hour : (ℕ → List ℕ) → ℕ → ℕ → ℕ → ℕ → List ℕ
+each_hour line by rest zero hour = []
+each_hour line by rest (suc n) hour =
+    (if hour % by == rest then line hour else []) ++ each_hour line by rest n (hour + 1)
+
+-- even hours are loaded, then odd ones; a part of each fourth hour is blanked
+abbrev pub edit_lines : ℕ → List ℕ
+edit_lines hours =
+    each_hour load_line 2 0 hours 0 ++ each_hour load_line 2 1 hours 0 ++ each_hour blank_line 4 0 hours 0
+
+-- one hour is withdrawn and measured without; then it is loaded again and all is known
+abbrev pub end_lines : ℕ → ℕ → List ℕ
+end_lines hours middle =
+    withdraw_line middle ++ measures_line ++ load_line middle ++ unblank_line hours ++ measures_line
+
+unfoldable pub script_text : ℕ → List ℕ
+script_text hours = edit_lines hours ++ end_lines hours (hours / 2)

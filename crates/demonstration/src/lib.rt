@@ -1,0 +1,13 @@
+//! The demonstration of so many hours: a configuration, an hour file for each hour and a script,
+//! made of two sequences of draws and of nothing else. `docs/FORMATS.md` has their form.
+#![tactic(auto)]
+
+mod demo;
+mod order;
+mod records;
+mod rows;
+mod script;
+#[cfg(test)]
+mod tests;
+
+pub use demo::Demo;

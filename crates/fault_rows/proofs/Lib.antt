@@ -1,0 +1,4 @@
+pub mod Masks
+pub mod Letters
+pub mod Tenths
+pub mod Before

@@ -1,0 +1,4 @@
+pub mod Layers
+pub mod Sources
+pub mod Finding
+pub mod Asking

@@ -1,0 +1,9 @@
+use Rattle.std.proofs.lemmas.Int.{to_z-of_z}
+use Rattle.gap_ways.proofs.rounds.rounds_of.Goals as goal
+
+pub returns-clause-rounds : goal.returns-clause-rounds
+returns-clause-rounds g c =
+    let rf = c.ranges.from in let rt = c.ranges.to in
+    let arr = simp to_z-of_z at c.arrivals-best.ensures in
+    let rounds = simp to_z-of_z at c.in_ok-tables.ensures.rounds in
+    (c.arrivals-best.result, arr, rounds)

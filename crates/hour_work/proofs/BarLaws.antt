@@ -1,0 +1,79 @@
+-- Stop bars over an hour of a store.
+use Rattle.std.proofs.Common.{◌≡◌, refl, ap, sym, ◌∙◌, subst, ℕ, ◌+◌, List, ◌++◌, arith}
+use Rattle.sig_base.specs.declared.values.Row.{Row}
+use Rattle.gap_map.specs.declared.stretch.Stretch.{Stretch}
+use Rattle.board.specs.Logs.{end_tenth}
+use Rattle.hour_store.specs.Store.{Store, is_known}
+use Rattle.hour_sweep.specs.Hours.{AreOrdered, point}
+use Rattle.hour_sweep.specs.Rows.{known_rows}
+use Rattle.hour_sweep.proofs.Orders.{rise_ordered}
+use Rattle.ring_config.specs.Settings.{Settings}
+use Rattle.signal_log.specs.Log.{HasHistory, log_of}
+use Rattle.rule_audit.proofs.Tracked.{channels_are}
+use Rattle.service_cut.specs.Cut.{CutLists}
+use Rattle.detector_state.specs.declared.part.Part.{Part}
+use Rattle.split_windows.proofs.Fitting.{known_all}
+use Rattle.stop_bar.specs.Crossing.{Crossing as AtBar}
+use Rattle.stop_bar.specs.All.{AreAtBars, AreTold, IsCutHour, IsHourHeld}
+use Rattle.split_measures.specs.declared.failures.SplitSum.{SplitSum}
+use Rattle.split_measures.specs.Hours.{AreHourSums, AreSplitSums, CrossesNext, IsLogUpto, IsSplitHour}
+use Rattle.hour_work.specs.Points.{Carried}
+use Rattle.hour_work.specs.Reports.{IsHourCut}
+use Rattle.hour_work.specs.Rows.{earlier_rows, own_rows}
+use Rattle.hour_work.proofs.MeasureLaws.{earlier_more, own_known}
+use Rattle.hour_work.proofs.WholeLog.{earlier_ordered}
+
+module _ (c : Settings) (s : Store) (hour : ℕ) (before : Carried) (rows : List Row) (ss : List Stretch) (lists : CutLists) (is : IsHourCut c s hour before rows ss lists) where
+  pub held : IsHourHeld c s hour rows ss before.pasts
+  held = record {
+    specs = channels_are c is.sound;
+    held = is.held;
+    blanks = is.blanks;
+    is_rows = is.is_rows;
+    are_rows = is.are_rows;
+    has = is.has_hour;
+    cut = is.cut;
+    states = is.is_before.pasts;
+  }
+
+  earlier : AreOrdered 0 (point hour) (earlier_rows s hour)
+  earlier = let lt = is.has_hour.within in earlier_ordered s hour is.has_hour.is_store (omega arith)
+
+  cut_hour : IsCutHour (log_of c.specs s) c hour (earlier_rows s hour) rows lists
+  cut_hour = record {
+    about = (earlier, rise_ordered (point hour) (point hour + 36000) rows (omega arith) is.are_rows.rise);
+    cut = is.lists;
+  }
+
+  pub split_hour : (told : List (List Part)) (ats : List AtBar) → AreTold (log_of c.specs s) c hour told → ats ≡ before.splits → IsSplitHour (log_of c.specs s) c hour (earlier_rows s hour) rows lists told ats
+  split_hour told ats tells e = record {
+    cut = cut_hour;
+    tells = tells;
+    here = subst (λ (x : List AtBar). AreAtBars (log_of c.specs s) c (earlier_rows s hour) hour x) (sym e) is.is_before.splits;
+  }
+
+  own_is : known_rows (is_known s) rows ≡ own_rows s hour
+  own_is = ap (λ (rs : List Row). known_rows (is_known s) rs) is.is_rows ∙ own_known s hour is.held is.has_hour.held
+
+  upto_is : earlier_rows s hour ++ known_rows (is_known s) rows ≡ earlier_rows s (hour + 1)
+  upto_is = ap (λ (rs : List Row). earlier_rows s hour ++ rs) own_is ∙ sym (earlier_more s hour is.has_hour.within)
+
+  log_upto : HasHistory (log_of c.specs s) → IsLogUpto (log_of c.specs s) c hour (earlier_rows s (hour + 1))
+  log_upto some = let lt = is.has_hour.within in record {
+    sound = is.sound;
+    specs = refl;
+    are_specs = channels_are c is.sound;
+    history = some;
+    within = omega arith;
+    ordered = let at : point (hour + 1) ≡ end_tenth hour = omega arith in subst (λ (t : ℕ). AreOrdered 0 t (earlier_rows s (hour + 1))) at (earlier_ordered s (hour + 1) is.has_hour.is_store (omega arith));
+    are_known = known_all (is_known s) _;
+  }
+
+  pub sums_told : (told : List (List Part)) (ats : List AtBar) (sums : List SplitSum) → AreTold (log_of c.specs s) c hour told → ats ≡ before.splits → HasHistory (log_of c.specs s) → AreHourSums c hour lists told ats sums → AreSplitSums (log_of c.specs s) c hour (earlier_rows s hour ++ own_rows s hour) sums
+  sums_told told ats sums tells e some law =
+      let one : IsLogUpto (log_of c.specs s) c hour (earlier_rows s hour ++ known_rows (is_known s) rows) = subst (λ (rs : List Row). IsLogUpto (log_of c.specs s) c hour rs) (sym upto_is) (log_upto some) in
+      subst (λ (rs : List Row). AreSplitSums (log_of c.specs s) c hour (earlier_rows s hour ++ rs) sums) own_is (law (log_of c.specs s) (earlier_rows s hour) rows (split_hour told ats tells e) one)
+
+  pub crosses_told : (told : List (List Part)) (ats after : List AtBar) → AreTold (log_of c.specs s) c hour told → ats ≡ before.splits → CrossesNext c hour lists told ats after → AreAtBars (log_of c.specs s) c (earlier_rows s (hour + 1)) (hour + 1) after
+  crosses_told told ats after tells e law =
+      subst (λ (rs : List Row). AreAtBars (log_of c.specs s) c rs (hour + 1) after) upto_is (law (log_of c.specs s) (earlier_rows s hour) rows (split_hour told ats tells e))

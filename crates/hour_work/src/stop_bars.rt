@@ -1,0 +1,66 @@
+// The services at stop bars in an hour of a store.
+ghost use Rattle.std.specs.Prelude.{◌≡◌, ◌<◌, ◌+◌, ◌++◌, IfOk};
+ghost use Rattle.hour_store.specs.Store.{Store};
+ghost use Rattle.board.specs.Stops.{AreBefore};
+ghost use Rattle.signal_log.specs.Log.{HasHistory, log_of};
+ghost use Rattle.stop_bar.specs.All.{AreAtBars};
+ghost use Rattle.split_measures.specs.Phases.{phase_sums};
+ghost use Rattle.split_measures.specs.Hours.{AreSplitSums};
+ghost use Rattle.hour_work.specs.Rows.{earlier_rows, own_rows};
+ghost use Rattle.hour_work.specs.Reports.{IsHourCut};
+
+use crate::Carry;
+use gap_map::Stretch;
+use ring_config::Config;
+use service_cut::Cuts;
+use sig_base::{Hour, NoMemory, Row};
+use split_measures::{SplitCarry, SplitSums, splits_carried, splits_hour};
+use std::alloc::Global;
+use stop_bar::detectors_hour;
+
+/// The numbers of the hour's phases, and of the services at the stop bars of approaches.
+pub(crate) fn splits_seen(
+    alloc: Global,
+    config: &Config,
+    hour: Hour,
+    before: &Carry,
+    cuts: &Cuts,
+    rows: &[Row],
+    parts: &[Stretch],
+) -> Result<SplitSums, NoMemory>
+    requires hour { hour < 744 }
+    requires shape { AreBefore config.now.specs before.now.pasts }
+    ensures phases { IfOk result (λ v. v.phases
+        ≡ phase_sums config.now.phases cuts.now.services cuts.now.cycles) }
+    ensures verdicts { IfOk result (λ v. (s : Store) → HasHistory (log_of config.now.specs s)
+        → IsHourCut config.now s hour before.now rows.now parts.now cuts.now
+        → AreSplitSums (log_of config.now.specs s) config.now hour
+        (earlier_rows s hour ++ own_rows s hour) v.approaches) }
+{
+    let detectors = detectors_hour(alloc, config, &before.pasts, rows, parts)?;
+    let mut carry = before.splits.copy()?;
+    splits_hour(alloc, config, &mut carry, cuts, &detectors, hour)
+}
+
+/// What crosses the point after the hour at stop bars.
+pub(crate) fn splits_over(
+    alloc: Global,
+    config: &Config,
+    hour: Hour,
+    before: &Carry,
+    cuts: &Cuts,
+    rows: &[Row],
+    parts: &[Stretch],
+) -> Result<SplitCarry, NoMemory>
+    requires hour { hour < 744 }
+    requires shape { AreBefore config.now.specs before.now.pasts }
+    ensures { IfOk result (λ v. (s : Store)
+        → IsHourCut config.now s hour before.now rows.now parts.now cuts.now
+        → AreAtBars (log_of config.now.specs s) config.now (earlier_rows s (hour + 1))
+        (hour + 1) v) }
+{
+    let detectors = detectors_hour(alloc, config, &before.pasts, rows, parts)?;
+    let mut carry = before.splits.copy()?;
+    splits_carried(alloc, config, &mut carry, cuts, &detectors, hour)?;
+    Ok(carry)
+}

@@ -1,0 +1,4 @@
+pub mod Adding
+pub mod Totals
+pub mod Splits
+pub mod Arrivals

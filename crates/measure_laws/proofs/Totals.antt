@@ -1,0 +1,89 @@
+-- The sums over the hours of a report, approach by approach.
+use Rattle.std.proofs.Common.{◌≡◌, ◌∙◌, refl, ap, sym, subst, ℕ, zero, suc, ◌+◌, ◌<◌, Bool, true, List, [], ◌∷◌, ◌++◌, length, take, get_or, length-append, arith}
+use Rattle.std.specs.Prelude.{All}
+use Rattle.std.specs.List.{filter}
+use Rattle.std.proofs.lemmas.List.{take_all, take_more}
+use Rattle.std.proofs.lemmas.List.Elements.{All-head, All-tail}
+use Rattle.sig_base.specs.declared.values.Row.{Row}
+use Rattle.hour_store.specs.Store.{IsStore, Store, known_rows}
+use Rattle.hour_sums.specs.Numbers.{merged}
+use Rattle.ring_config.specs.declared.items.Approach.{Approach}
+use Rattle.stop_bar.specs.Lists.{Each}
+use Rattle.hour_work.specs.Numbers.{Numbers, numbers_sum, total_of}
+use Rattle.hour_work.specs.Rows.{earlier_rows, own_rows}
+use Rattle.hour_work.proofs.NumberLaws.{total_push}
+use Rattle.hour_work.proofs.WholeLog.{hour_within}
+use Rattle.measure_laws.specs.Sums.{AreCountable}
+
+-- ---- place by place
+
+pub each_as : {A S : Type 0} (Q U : A → S → Type 0) (xs : List A) (ps : List S) → ((x : A) (p : S) → Q x p → U x p) → Each Q xs ps → Each U xs ps
+each_as Q U [] [] h q = tt
+each_as Q U [] (p ∷ ps) h q = absurd q
+each_as Q U (x ∷ xs) [] h q = absurd q
+each_as Q U (x ∷ xs) (p ∷ ps) h q = (h x p q.0, each_as Q U xs ps h q.1)
+
+each_put : {A S : Type 0} (put : S → S → S) (R Q U : A → S → Type 0) (xs : List A) (ts ps : List S) → ((x : A) (t p : S) → R x t → Q x p → U x (put t p)) → Each R xs ts → Each Q xs ps → Each U xs (merged put ts ps)
+each_put put R Q U [] [] [] h r q = tt
+each_put put R Q U [] [] (p ∷ ps) h r q = absurd q
+each_put put R Q U [] (t ∷ ts) ps h r q = absurd r
+each_put put R Q U (x ∷ xs) [] ps h r q = absurd r
+each_put put R Q U (x ∷ xs) (t ∷ ts) [] h r q = absurd q
+each_put put R Q U (x ∷ xs) (t ∷ ts) (p ∷ ps) h r q = (h x t p r.0 q.0, each_put put R Q U xs ts ps h r.1 q.1)
+
+pub each_of_places : {A S : Type 0} (P : A → S → Type 0) (xs : List A) (ss : List S) → length ss ≡ length xs → ((i : ℕ) (a : A) (x : S) → i < length xs → P (get_or xs i a) (get_or ss i x)) → Each P xs ss
+each_of_places P [] [] e h = tt
+each_of_places P [] (y ∷ ss) e h = absurd (omega arith)
+each_of_places P (x ∷ xs) [] e h = absurd (omega arith)
+each_of_places P (x ∷ xs) (y ∷ ss) e h = (h 0 x y (omega arith), each_of_places P xs ss (omega arith) (λ i a z lt. h (suc i) a z (omega arith)))
+
+-- a test that all pass leaves none out
+pub filter_all : {X : Type 0} (p : X → Bool) (xs : List X) → All (λ x. p x ≡ true) xs → filter p xs ≡ xs
+filter_all p [] h = refl
+filter_all p (x ∷ xs) h = rw (All-head (λ z. p z ≡ true) x xs h) (ap (λ zs. x ∷ zs) (filter_all p xs (All-tail (λ z. p z ≡ true) x xs h)))
+
+-- ---- hour by hour
+
+next_total : (all : List Numbers) (n : ℕ) (d : Numbers) → n < length all → total_of (take (suc n) all) ≡ numbers_sum (total_of (take n all)) (get_or all n d)
+next_total all n d lt =
+    let next : suc n ≡ n + 1 = omega arith in
+    ap (λ k. total_of (take k all)) next ∙ (ap total_of (take_more all n d lt) ∙ total_push (take n all) (get_or all n d))
+
+-- what the first hour's numbers are, and the sums with one hour more, the sums over the first n hours are
+module _ {S : Type 0} (put : S → S → S) (of : Numbers → List S) (none : of (total_of []) ≡ []) (sums : (a b : Numbers) → of (numbers_sum a b) ≡ merged put (of a) (of b)) (Part Total : ℕ → Approach → S → Type 0) (xs : List Approach) (all : List Numbers)
+    (parts : (n : ℕ) (d : Numbers) → n < length all → Each (Part n) xs (of (get_or all n d))) (first : (a : Approach) (p : S) → Part 0 a p → Total 1 a p)
+    (more : (n : ℕ) → n < length all → (a : Approach) (t p : S) → Total n a t → Part n a p → Total (suc n) a (put t p)) where
+  added_total : (n : ℕ) (d : Numbers) → n < length all → of (total_of (take (suc n) all)) ≡ merged put (of (total_of (take n all))) (of (get_or all n d))
+  added_total n d lt = ap of (next_total all n d lt) ∙ sums (total_of (take n all)) (get_or all n d)
+
+  totals : (n : ℕ) → n < length all → Each (Total (suc n)) xs (of (total_of (take (suc n) all)))
+  totals zero lt =
+      let d = total_of [] in
+      let e : of (total_of (take 1 all)) ≡ of (get_or all 0 d) = added_total 0 d lt ∙ ap (λ ts. merged put ts (of (get_or all 0 d))) none in
+      subst (λ ts. Each (Total 1) xs ts) (sym e) (each_as (Part 0) (Total 1) xs (of (get_or all 0 d)) first (parts 0 d lt))
+  totals (suc n) lt =
+      let d = total_of [] in
+      let hour = suc n in
+      let before = totals n (omega arith) in
+      subst (λ ts. Each (Total (suc hour)) xs ts) (sym (added_total hour d lt)) (each_put put (Total hour) (Part hour) (Total (suc hour)) xs (of (total_of (take hour all))) (of (get_or all hour d)) (more hour lt) before (parts hour d lt))
+
+  upto : (n : ℕ) → length all ≡ n → 0 < n → Each (Total n) xs (of (total_of (take n all)))
+  upto zero e some = absurd (omega arith)
+  upto (suc n) e some = totals n (omega arith)
+
+  -- the sums over all hours
+  pub all_total : 0 < length all → Each (Total (length all)) xs (of (total_of all))
+  all_total some =
+      let whole : take (length all) all ≡ all = take_all (length all) all (omega arith) in
+      subst (λ ns. Each (Total (length all)) xs (of (total_of ns))) whole (upto (length all) refl some)
+
+-- ---- the rows up to an hour's end are no more than all
+
+pub few_upto : (s : Store) (hour : ℕ) → IsStore s → hour < length s.hours → AreCountable (known_rows s) → AreCountable (earlier_rows s hour ++ own_rows s hour)
+few_upto s hour store lt few =
+    let w = hour_within s hour store lt in
+    let a = length-append (earlier_rows s hour) (own_rows s hour ++ w.later) in
+    let b = length-append (own_rows s hour) w.later in
+    let c = length-append (earlier_rows s hour) (own_rows s hour) in
+    let e = ap (λ (rs : List Row). length rs) w.parts in
+    omega (arith, a, b, c, e, few)

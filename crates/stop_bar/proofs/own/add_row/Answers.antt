@@ -1,0 +1,15 @@
+use Rattle.std.proofs.Common.{◌∙◌, ap, sym, eqb, ℕ, [], ◌∷◌, ◌++◌, List, set, arith}
+use Rattle.std.proofs.lemmas.List.{get_or_default}
+use Rattle.sig_base.specs.declared.values.Row.{Row}
+use Rattle.stop_bar.proofs.Owning.{none_added, one_added}
+use Rattle.stop_bar.proofs.own.add_row.Goals as goal
+
+pub returns-in_ok-push-in-Some-clause-rows : goal.returns-in_ok-push-in-Some-clause-rows
+returns-in_ok-push-in-Some-clause-rows c = λ n lt.
+    let table = c.args.table.now in
+    let k = c.from.result in
+    let row = c.args.row.now in
+    let size = c.requires in
+    let here = get_or_default table k c.index-table-from.result [] (omega arith) in
+    let added = c.in_ok-push-in-Some.ensures ∙ ap (λ (xs : List Row). xs ++ row ∷ []) here in
+    one_added table (set table k c.push.new.self) k row (omega arith) (λ d. c.number_of.ensures.own c.in-Some.number c.in-Some.is d ∙ ap (λ (m : ℕ). eqb d m) (sym c.from.ensures)) (ap (λ (xs : List Row). set table k xs) added) n

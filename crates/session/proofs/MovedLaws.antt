@@ -1,5 +1,5 @@
 -- The hours that an edit moves are those between the points at which nothing changes.
-use Rattle.std.proofs.Common.{◌≡◌, ◌∙◌, ◌⊎◌, inl, inr, ℕ, ◌+◌, ◌-◌, ◌<◌, ◌≤◌, List, [], true, length, get_or, refl, sym, ap, subst, arith, OnOk, IfOk, Result, Ok, Err}
+use Rattle.std.proofs.Common.{◌≡◌, ◌⊎◌, inl, inr, ℕ, ◌+◌, ◌-◌, ◌<◌, ◌≤◌, List, [], true, length, get_or, sym, subst, arith, OnOk, IfOk, Result, Ok, Err}
 use Rattle.std.proofs.lemmas.Bool.{cases_lt}
 use Rattle.sig_base.specs.declared.values.Applied.{Applied}
 use Rattle.sig_base.specs.declared.values.EditError.{EditError}

@@ -121,7 +121,10 @@ fn moves_no_other_hours(rt: HostRuntime) -> Result<(), Fail> {
     let mut reads = Reads::new(Mark);
     for (step, from, to) in MOVES {
         let edit = edit_of(alloc, step)?;
-        assert_eq!(rt; apply(&mut session, edit, &mut reads), Ok(Applied { from, to }));
+        assert_eq!(rt;
+            apply(&mut session, edit, &mut reads),
+            Ok(Applied { from, to })
+        );
     }
     Ok(())
 }

@@ -1,10 +1,10 @@
 use Rattle.std.proofs.Common.{◌≡◌, ◌∙◌, ◌+◌, ◌*◌, ◌≤ℤ◌, ◌<ℤ◌, ap, arith, length, pos, refl, ◌-ℤ◌, ℕ, rules, w64}
 use Rattle.std.proofs.lemmas.Int.{ints, to_z-of_z}
 use Rattle.std.specs.Prelude.{FitsSigned}
-use Rattle.hour_store.specs.Store.{LieWithin, with_blanks}
+use Rattle.hour_store.specs.Store.{with_blanks}
 use Rattle.session.specs.Moved.{IsIn}
 use Rattle.session.specs.Ranges.{SameApart}
-use Rattle.session.proofs.MaskLaws.{blanks_store, hours_in_order, hours_within, kept_but_blanks}
+use Rattle.session.proofs.MaskLaws.{hours_in_order, hours_within, kept_but_blanks}
 use Rattle.session.proofs.MovedLaws.{are_moved}
 use Rattle.session.proofs.session.Session.mask.Goals as goal
 

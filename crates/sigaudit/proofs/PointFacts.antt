@@ -18,7 +18,7 @@ use Rattle.ring_config.specs.Settings.{Settings}
 use Rattle.ring_config.specs.Values.{has_phase as is_configured}
 use Rattle.arrival_measures.specs.declared.points.Diagram.{Diagram}
 use Rattle.arrival_measures.specs.Hours.{cycles_of}
-use Rattle.arrival_measures.specs.Points.{diagram_of, diagrams_of, points_of}
+use Rattle.arrival_measures.specs.Points.{diagram_of, diagrams_of, points_from}
 use Rattle.report_text.specs.Approaches.{diagram_text}
 use Rattle.report_text.proofs.ApproachLines.{points_next, points_end}
 use Rattle.report_text.specs.declared.refusal.Refusal.TheVariants.{BadLine}
@@ -104,7 +104,7 @@ IsWithin t d = d.cycle.from < t
 diagrams_early : (c : Settings) (s : Store) (p : ℕ) → All (IsWithin (36000 * length s.hours)) (diagrams_of (is_known s) c p (known_rows s))
 diagrams_early c s p =
     let t = 36000 * length s.hours in
-    All-map (IsWithin t) (diagram_of (points_of c p (known_rows s))) (cycles_of (is_known s) c p [] (known_rows s))
+    All-map (IsWithin t) (diagram_of (points_from (is_known s) c p [] (known_rows s))) (cycles_of (is_known s) c p [] (known_rows s))
     (All-filter (λ x. x.phase == p) (BeginsEarly t) (cycles_from (is_known s) c.phases [] (known_rows s))
     (cycles_early (is_known s) c.phases t [] (known_rows s) (All-nil (IsEarly t)) (rows_early s)))
 

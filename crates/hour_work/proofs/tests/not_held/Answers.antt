@@ -26,7 +26,7 @@ has_hour blanks none = record {
   is_store = record { some = omega arith; few = omega arith; in_place = in_place; blanked = λ e m. absurd m };
   within = omega arith;
   held = refl;
-  known = λ t low high. rw none (sym (known_hour silent 0 t None refl low (omega arith)));
+  known = λ t low high. sym (known_hour silent 0 t None refl low (omega arith));
 }
 
 pub partial-requires-clause-agrees : goal.partial-requires-clause-agrees

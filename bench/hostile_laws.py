@@ -7,7 +7,7 @@ FILE_TEXT = r"(too many rows|row \d+ (fields|wrong signal|stamp|outside hour|cod
 STAMP = r"\d{4}-\d\d-\d\dT\d\d:[0-5]\d:[0-5]\d\.\d"
 REFUSAL = r"(bad line|out of window|missing file|file too long|already held|not held|empty range|too many held rows" \
           r"|too many blanks|contradiction " + STAMP + r" code \d+ param \d+|" + FILE_TEXT + ")"
-HEAD = re.compile(r"(\d+) (ok (rows \d+ repeats \d+ )?moved 0 \d+|refused " + REFUSAL
+HEAD = re.compile(r"(\d+) (ok (rows \d+ repeats \d+ )?moved \d+ \d+|refused " + REFUSAL
                   + r"|measures( \d+)?|audit|verdicts \d+|points \d+|offsets [A-Za-z0-9_-]+)")
 NUMBERS = r"( \w+ (\d+(/\d+)?|-))+"
 WINDOW = r" from " + STAMP + r" to " + STAMP
@@ -173,6 +173,22 @@ def report_faults(signal, blocks):
     for approach, block in zip([a for a in signal.approaches if a[2]], rest[len(points):]):
         faults += shifts_faults(approach[0], block[1:], points[approach[1]])
     return faults
+
+
+def hour_answers(signal, blocks, hour):
+    """The measures and the verdicts of an hour, these without their windows, in two such reports alike."""
+    verdicts = [" ".join(line.split(" ")[:3]) for line in blocks[signal.hours + 2 + hour][1:]]
+    return blocks[1 + hour][1:], verdicts
+
+
+def moved_faults(signal, touched, head, before, after):
+    """An edit moves the hours that it touches, a range of them, and leaves the answers of the hours that it doesn't move."""
+    first, end = (int(word) for word in head.split(" ")[-2:])
+    whole = first <= touched[0] and touched[1] <= end <= signal.hours
+    faults = [] if whole else ["it touches the hours %d to %d, and %d to %d move" % (touched + (first, end))]
+    others = [hour for hour in range(signal.hours) if not first <= hour < end]
+    changed = [hour for hour in others if hour_answers(signal, before, hour) != hour_answers(signal, after, hour)]
+    return faults + ["the answers of hour %d change, which doesn't move" % hour for hour in changed]
 
 
 def broken_intervals(signal, blocks):

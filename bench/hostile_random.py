@@ -118,7 +118,8 @@ def edits(bench, name, rng, signal):
         if refused:
             bench.check(one + ", refused", before == after, "the report changed;")
             continue
-        faults = laws.report_faults(signal, after)
+        touched = (where, where + 1) if isinstance(where, int) else (where[0] // data.HOUR, (where[1] - 1) // data.HOUR + 1)
+        faults = laws.report_faults(signal, after) + laws.moved_faults(signal, touched, story.head(number), before, after)
         less, more = laws.broken_intervals(signal, before), laws.broken_intervals(signal, after)
         if kind in ("blank", "withdraw"):
             faults += laws.lost(more, less)

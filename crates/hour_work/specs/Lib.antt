@@ -6,3 +6,4 @@ pub mod Verdicts
 pub mod Measures
 pub mod Reports
 pub mod Known
+pub mod Moved

@@ -5,6 +5,7 @@ ghost use Rattle.hour_store.specs.Store.{Store};
 ghost use Rattle.board.specs.Places.{AreAheadsOf, AreSameFor};
 ghost use Rattle.board.specs.Stops.{AreBefore};
 ghost use Rattle.hour_work.specs.Points.{FitPoint, IsCarryAt, IsFutureAt};
+ghost use Rattle.hour_work.specs.Moved.{SaySame};
 
 use arrival_measures::ArrivalCarry;
 use board::{Aheads, Pasts};
@@ -67,10 +68,20 @@ impl Carry {
 
     /// Whether both say the same.
     pub fn same(&self, other: &Carry) -> bool
-        ensures { IsTrue result ↔ (self.now ≡ other.now) }
+        ensures value { IsTrue result ↔ (self.now ≡ other.now) }
+        ensures says { IsTrue result ↔ SaySame self.now other.now }
+    {
+        if !self.pasts.same(&other.pasts) {
+            return false;
+        }
+        self.same_under_way(other)
+    }
+
+    // Whether both say the same of all but the states.
+    fn same_under_way(&self, other: &Carry) -> bool
+        ensures { IsTrue result ↔ ((self.now.known ≡ other.now.known) × (self.now.cuts ≡ other.now.cuts) × (self.now.splits ≡ other.now.splits) × (self.now.others ≡ other.now.others) × (self.now.arrivals ≡ other.now.arrivals)) }
     {
         self.known == other.known
-            && self.pasts.same(&other.pasts)
             && self.cuts.same(&other.cuts)
             && self.splits.same(&other.splits)
             && self.others.same(&other.others)

@@ -23,6 +23,7 @@ ghost use Rattle.hour_work.specs.Rows.{earlier_rows, own_rows};
 ghost use Rattle.hour_work.specs.Verdicts.{AreAuditLines};
 ghost use Rattle.hour_work.specs.Measures.{MayBeIn, cycles_in, over_hours, services_in};
 ghost use Rattle.hour_work.specs.Reports.{IsReport};
+ghost use Rattle.hour_work.specs.Moved.{CarriesAreOne, FuturesAreOne};
 
 /// Law: where some history agrees with a store, it has one report, and each hour has one list of
 /// audit lines.
@@ -82,4 +83,12 @@ pub fn green_before_yellow()
         → All (λ x. x.green ≤ x.yellow) (cycles_from (is_known s) c.phases [] (known_rows s)) }
     ensures diagrams { (c : Settings) (s : Store) (p : ℕ) → IsSound c → IsStore s → HasHistory (log_of c.specs s)
         → All (λ d. d.cycle.green ≤ d.cycle.yellow) (diagrams_of (is_known s) c p (known_rows s)) }
+{}
+
+/// Law: what a store says up to an hour point is one value but for the ranges in which its states
+/// are written, and what it can be completed from there is one value; so two stores have the same
+/// there exactly where all values of the one are the same as all values of the other.
+pub fn points_are_one()
+    ensures carries { CarriesAreOne }
+    ensures futures { FuturesAreOne }
 {}

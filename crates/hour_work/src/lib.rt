@@ -30,7 +30,7 @@ pub use carry::{Carry, Future};
 pub use counts::RuleCount;
 pub use hour::{audit_lines, partial};
 pub use laws::{
-    cycles_show_green, green_before_yellow, hours_make_up_the_log, reports_are_one,
+    cycles_show_green, green_before_yellow, hours_make_up_the_log, points_are_one, reports_are_one,
     totals_are_of_the_log,
 };
 pub use lists::{pick, put_in};

@@ -50,10 +50,42 @@ returning_on c s last kept fresh items hour from after next fe is size lt q at b
       ];
     })
 
+-- ---- where something changes
+
+-- at the points from `low` on, up to the one before the hour `first`, what is new from the point `from` on isn't what is kept
+abbrev pub AreOther : ℕ → List Ahead → ℕ → List Ahead → ℕ → Type 0
+AreOther first kept from fresh low = (k : ℕ) (d : Ahead) → low ≤ k → k ≤ first → get_or (patched kept from fresh) k d ≡ get_or kept k d → ⊥
+
+pub other_start : (first last : ℕ) (kept fresh : List Ahead) → first ≤ last → AreOther first kept (last + 1) fresh (last + 1)
+other_start first last kept fresh order k d low high same = omega arith
+
+-- one more is new, at the point before the hour
+pub other_on : (first : ℕ) (kept fresh items : List Ahead) (hour from : ℕ) (next : Ahead) → from ≡ hour + 1 → hour < length kept → items ≡ next ∷ fresh → AreOther first kept from fresh from → AreOther first kept hour items (hour + 1)
+other_on first kept fresh items hour from next fe lt e other k d low high same =
+    let before : AreOther first kept (hour + 1) fresh (hour + 1) = subst (λ (j : ℕ). AreOther first kept j fresh j) fe other in
+    let old : get_or (patched kept hour items) k d ≡ get_or (patched kept (hour + 1) fresh) k d = rw e (patched-front kept hour fresh next k d (omega arith) (omega arith)) in
+    before k d low high (sym old ∙ same)
+
+-- which isn't what is kept either, or the hour `first` isn't passed
+pub other_more : (first : ℕ) (kept fresh items : List Ahead) (hour from : ℕ) (next there : Ahead) → from ≡ hour + 1 → hour < length kept → items ≡ next ∷ fresh → ((d : Ahead) → there ≡ get_or kept hour d) → ((hour ≤ first) × (next ≡ there) → ⊥) → AreOther first kept from fresh from → AreOther first kept hour items hour
+other_more first kept fresh items hour from next there fe lt e at none other k d low high same = elim (cases_lt hour k) [
+  | inl above ↦ other_on first kept fresh items hour from next fe lt e other k d (omega arith) high same
+  | inr no_more ↦
+      let here : k ≡ hour = omega arith in
+      let new : get_or (patched kept hour items) hour d ≡ next = rw e (patched-first kept hour fresh next d (omega arith)) in
+      let both : get_or (patched kept hour items) hour d ≡ get_or kept hour d = subst (λ (j : ℕ). get_or (patched kept hour items) j d ≡ get_or kept j d) here same in
+      none (omega arith, sym new ∙ both ∙ sym (at d))
+]
+
+pub other_after : (first : ℕ) (kept : List Ahead) (from : ℕ) (fresh : List Ahead) (low after : ℕ) → low ≤ after → AreOther first kept from fresh low → AreOther first kept from fresh after
+other_after first kept from fresh low after le other k d above = other k d (omega arith)
+
+-- ---- all of it
+
 -- at the window's start, or where nothing changes
-pub returning_done : (c : Settings) (s : Store) (first last : ℕ) (kept items : List Ahead) (from at : ℕ) → at ≡ from → from ≤ first → first ≤ last → last < length s.hours → AreFuturesBut c s first last kept → IsReturning c s last kept items from
+pub returning_done : (c : Settings) (s : Store) (first last : ℕ) (kept items : List Ahead) (from at : ℕ) → at ≡ from → from ≤ first → first ≤ last → last < length s.hours → AreFuturesBut c s first last kept → IsReturning c s last kept items from → AreOther first kept from items (from + 1)
     → (from ≡ 0) ⊎ ((d : Ahead) → get_or (patched kept from items) from d ≡ get_or kept from d) → AreNewFutures c s first last kept at items
-returning_done c s first last kept items from at ae low order within but p stop =
+returning_done c s first last kept items from at ae low order within but p other stop =
     let n = p.size in
     let size = but.size in
     let room : from + length items ≤ length kept = omega arith in
@@ -76,6 +108,7 @@ returning_done c s first last kept items from at ae low order within but p stop 
         ];
       };
       same = same;
+      differ = λ k d above le. other k d (omega arith) le;
     })
 
 pub returning_same : (kept fresh items : List Ahead) (hour : ℕ) (next there : Ahead) → hour < length kept → items ≡ next ∷ fresh → next ≡ there → ((d : Ahead) → there ≡ get_or kept hour d) → (d : Ahead) → get_or (patched kept hour items) hour d ≡ get_or kept hour d

@@ -1,5 +1,5 @@
 -- The cycles and arrivals of a phase, hour by hour, make up its diagrams in the whole log.
-use Rattle.std.proofs.Common.{◌≡◌, ◌∙◌, ℕ, suc, ◌+◌, List, [], ◌++◌, map, length, sym, ap, subst, arith}
+use Rattle.std.proofs.Common.{◌≡◌, ◌∙◌, ℕ, suc, ◌+◌, List, [], ◌++◌, map, length, sym, ap, arith}
 use Rattle.hour_store.specs.Store.{Store, is_known, known_rows}
 use Rattle.ring_config.specs.Settings.{Settings}
 use Rattle.hour_sums.specs.Numbers.{own}

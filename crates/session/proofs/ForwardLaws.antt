@@ -3,6 +3,7 @@ use Rattle.std.proofs.Common.{◌≡◌, ◌∙◌, ◌⊎◌, inl, inr, ℕ, �
 use Rattle.std.proofs.lemmas.Bool.{cases_lt}
 use Rattle.hour_store.specs.Store.{IsStore, Store, rows_at}
 use Rattle.ring_config.specs.Settings.{Settings}
+use Rattle.hour_work.specs.Moved.{SaySame}
 use Rattle.hour_work.specs.Numbers.{patched}
 use Rattle.hour_work.specs.Points.{Carried, IsCarryAt}
 use Rattle.session.specs.Links.{AreCarriesBut, Leads, LeadsAt}
@@ -47,10 +48,43 @@ going_on c s first kept fresh items hour before next is size lt p at leads e =
       ];
     })
 
+-- ---- where something changes
+
+-- at the points after the hour `last` and before the point `to` what is new says something else than what is kept
+abbrev pub SayOther : ℕ → ℕ → List Carried → List Carried → ℕ → Type 0
+SayOther first last kept fresh to = (k : ℕ) (d : Carried) → last < k → k < to → SaySame (get_or (patched kept (first + 1) fresh) k d) (get_or kept k d) → ⊥
+
+pub other_start : (first last : ℕ) (kept fresh : List Carried) → first ≤ last → SayOther first last kept fresh (first + 1)
+other_start first last kept fresh order k d low high same = omega arith
+
+-- one more is new, at the point after the hour
+pub other_on : (first last : ℕ) (kept fresh items : List Carried) (hour : ℕ) (next : Carried) → first + length fresh ≡ hour → hour + 1 < length kept → items ≡ fresh ++ next ∷ [] → SayOther first last kept fresh (hour + 1) → SayOther first last kept items (hour + 1)
+other_on first last kept fresh items hour next n lt e other k d low high same =
+    let old : get_or (patched kept (first + 1) items) k d ≡ get_or (patched kept (first + 1) fresh) k d = rw e (patched-more kept (first + 1) fresh next k d (omega arith) (omega arith)) in
+    other k d low high (subst (λ (v : Carried). SaySame v (get_or kept k d)) old same)
+
+-- which says something else too, or the hour `last` isn't behind
+pub other_more : (first last : ℕ) (kept fresh items : List Carried) (hour : ℕ) (next there : Carried) → first + length fresh ≡ hour → hour + 1 < length kept → items ≡ fresh ++ next ∷ [] → ((d : Carried) → there ≡ get_or kept (hour + 1) d)
+    → ((last ≤ hour) × SaySame next there → ⊥) → SayOther first last kept fresh (hour + 1) → SayOther first last kept items (hour + 1 + 1)
+other_more first last kept fresh items hour next there n lt e at none other k d low high same = elim (cases_lt k (hour + 1)) [
+  | inl below ↦ other_on first last kept fresh items hour next n lt e other k d low below same
+  | inr above ↦
+      let here : k ≡ hour + 1 = omega arith in
+      let new : get_or (patched kept (first + 1) items) (hour + 1) d ≡ next = rw e (patched-last kept (first + 1) fresh next (hour + 1) d (omega arith) (omega arith)) in
+      let both : SaySame (get_or (patched kept (first + 1) items) (hour + 1) d) (get_or kept (hour + 1) d) = subst (λ (j : ℕ). SaySame (get_or (patched kept (first + 1) items) j d) (get_or kept j d)) here same in
+      let mine : SaySame next (get_or kept (hour + 1) d) = subst (λ (v : Carried). SaySame v (get_or kept (hour + 1) d)) new both in
+      none (omega arith, subst (λ (v : Carried). SaySame next v) (sym (at d)) mine)
+]
+
+pub other_before : (first last : ℕ) (kept fresh : List Carried) (to end : ℕ) → to ≤ end → SayOther first last kept fresh end → SayOther first last kept fresh to
+other_before first last kept fresh to end le other k d low high = other k d low (omega arith)
+
+-- ---- all of it
+
 -- at the window's end, or where nothing changes
-pub going_done : (c : Settings) (s : Store) (first last : ℕ) (kept items : List Carried) (to : ℕ) → last < to → to ≤ length s.hours → AreCarriesBut c s first last kept → IsGoing c s first kept items to
+pub going_done : (c : Settings) (s : Store) (first last : ℕ) (kept items : List Carried) (to : ℕ) → last < to → to ≤ length s.hours → AreCarriesBut c s first last kept → IsGoing c s first kept items to → SayOther first last kept items to
     → (to ≡ length s.hours) ⊎ ((d : Carried) → get_or (patched kept (first + 1) items) to d ≡ get_or kept to d) → AreNewCarries c s first last kept items
-going_done c s first last kept items to some within but p stop =
+going_done c s first last kept items to some within but p other stop =
     let n = p.size in
     let size = but.size in
     let room : first + 1 + length items ≤ length kept = omega arith in
@@ -73,6 +107,7 @@ going_done c s first last kept items to some within but p stop =
         ];
       };
       same = λ k d le lt. same k d (omega arith) lt;
+      differ = λ k d low high. other k d low (omega arith);
     }
 
 -- what is kept says the same as what is new at the point after the hour

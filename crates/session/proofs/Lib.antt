@@ -8,6 +8,7 @@ pub mod BackLaws
 pub mod RenewLaws
 pub mod BeginLaws
 pub mod MaskLaws
+pub mod MovedLaws
 pub mod LessLaws
 pub mod DiagramLaws
 pub mod WindowLaws

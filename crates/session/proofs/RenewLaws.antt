@@ -184,23 +184,6 @@ kept_but c s t first last xs ys ps order within size same is kept = record {
   counts = λ k lt out. counts_stay c s t k xs ys ps (same k out) (kept.counts k (omega arith));
 }
 
--- the same where it has all hours alike
-pub kept_same : (c : Settings) (s t : Store) (xs : List Carried) (ys : List Ahead) (ps : List Numbers) → length t.hours ≡ length s.hours → ((k : ℕ) → SameHour s t k) → AreKept c s xs ys ps → AreKept c t xs ys ps
-kept_same c s t xs ys ps size same kept = record {
-  forth = record {
-    size = rw size kept.forth.size;
-    start = kept.forth.start;
-    leads = λ k lt. leads_stay c s t k xs (same k) (kept.forth.leads k (omega arith));
-  };
-  back = record {
-    size = rw size kept.back.size;
-    end = λ d r e. subst (λ (n : ℕ). IsFutureAt c r n (get_or ys n d)) (sym size) (kept.back.end d r (e ∙ size));
-    backs = λ k lt. backs_stay c s t k ys (same k) (kept.back.backs k (omega arith));
-  };
-  size = kept.size ∙ sym size;
-  counts = λ k lt. counts_stay c s t k xs ys ps (same k) (kept.counts k (omega arith));
-}
-
 pub kept_but_hour : (c : Settings) (s : Store) (h : ℕ) (x : Option Shown) (xs : List Carried) (ys : List Ahead) (ps : List Numbers) → h < length s.hours → IsStore s → AreKept c s xs ys ps → AreKeptBut c (with_hour s h x) h h xs ys ps
 kept_but_hour c s h x xs ys ps lt = kept_but c s (with_hour s h x) h h xs ys ps (omega arith) lt (length-set s.hours h x) (λ k out r.
     let other : k ≢ h = elim out [ inl a ↦ λ e. omega arith | inr b ↦ λ e. omega arith ] in

@@ -1,5 +1,6 @@
 pub mod Ranges
 pub mod Edits
+pub mod Moved
 pub mod Links
 pub mod Windows
 pub mod Sessions

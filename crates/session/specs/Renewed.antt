@@ -1,30 +1,28 @@
 -- What an edit puts in the place of what is kept.
-use Rattle.std.specs.Prelude.{◌≡◌, ◌+◌, ◌≤◌, ◌<◌, ℕ, false, List, length, slice_index_or, Option, Some, None, is_some, All}
-use Rattle.hour_store.specs.Store.{Store, held_at, rows_at}
+use Rattle.std.specs.Prelude.{◌≡◌, ◌+◌, ◌≤◌, ◌<◌, ℕ, List, length, slice_index_or, All}
+use Rattle.hour_store.specs.Store.{Store, rows_at}
 use Rattle.board.specs.Places.{AreSameFor}
 use Rattle.ring_config.specs.Settings.{Settings}
+use Rattle.hour_work.specs.Moved.{SaySame}
 use Rattle.hour_work.specs.Numbers.{AreNewSums, FitHours, Numbers, Summed, patched}
 use Rattle.hour_work.specs.Points.{Carried}
-use Rattle.session.specs.Links.{Ahead, Apart, AreCarries, AreFutures, AreKept, Counts}
+use Rattle.session.specs.Links.{Ahead, AreCarries, AreFutures, AreKept, Counts}
 
--- of the hours from `first` up to `to` these are the first and the last that are held
-abbrev pub AreHeldEnds : Store → ℕ → ℕ → Option (ℕ × ℕ) → Type 0
-AreHeldEnds s first to None = (k : ℕ) → first ≤ k → k < to → is_some (held_at s k) ≡ false
-AreHeldEnds s first to (Some p) = (p.0 ≤ p.1) × (p.1 < to) × ((k : ℕ) → first ≤ k → k < to → Apart p.0 p.1 k → is_some (held_at s k) ≡ false)
-
--- what is kept at the points after the hour `first`, up to one after the hour `last` at which nothing changes, or up to the window's end
+-- what is kept at the points after the hour `first`, up to the first one after the hour `last` at which nothing changes, or up to the window's end
 pub record AreNewCarries (c : Settings) (s : Store) (first last : ℕ) (carries fresh : List Carried) : Type 0 where
   pub some : last < first + length fresh
   pub within : first + length fresh ≤ length s.hours
   pub forth : AreCarries c s (patched carries (first + 1) fresh)
   pub same : (k : ℕ) (d : Carried) → first + length fresh ≤ k → k < length s.hours → slice_index_or (patched carries (first + 1) fresh) k d ≡ slice_index_or carries k d
+  pub differ : (k : ℕ) (d : Carried) → last < k → k < first + length fresh → SaySame (slice_index_or (patched carries (first + 1) fresh) k d) (slice_index_or carries k d) → ⊥
 
--- what is kept at the points up to the hour `last`, from one before the hour `first` at which nothing changes, or from the window's start
+-- what is kept at the points up to the hour `last`, from the last one before the hour `first` at which nothing changes, or from the window's start
 pub record AreNewFutures (c : Settings) (s : Store) (first last : ℕ) (futures : List Ahead) (from : ℕ) (fresh : List Ahead) : Type 0 where
   pub size : from + length fresh ≡ last + 1
   pub low : from ≤ first
   pub back : AreFutures c s (patched futures from fresh)
   pub same : (k : ℕ) (d : Ahead) → k < from → slice_index_or (patched futures from fresh) (k + 1) d ≡ slice_index_or futures (k + 1) d
+  pub differ : (k : ℕ) (d : Ahead) → from < k → k ≤ first → slice_index_or (patched futures from fresh) k d ≡ slice_index_or futures k d → ⊥
 
 -- at the points after the hours from `from` up to `start`, what is new admits the same as what is kept of the states that come up there
 abbrev pub AreSameUpTo : List Carried → List Ahead → ℕ → List Ahead → ℕ → Type 0

@@ -19,8 +19,8 @@ fn is_passed(first: Hour, hour: Hour, next: &Future, kept: &Future) -> bool
     hour <= first && next.same(kept)
 }
 
-// What is kept going back at the points up to the last hour that is changed, from one before the
-// first at which nothing changes, or from the window's start.
+// What is kept going back at the points up to the last hour that is changed, from the last one
+// before the first hour at which nothing changes, or from the window's start.
 pub fn go_back<L>(
     alloc: Global,
     config: &Config,

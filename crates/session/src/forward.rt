@@ -2,6 +2,7 @@
 ghost use Rattle.std.specs.Prelude.{◌≡◌, ◌↔◌, ◌≤◌, ◌<◌, length, IfOk, IfErr, IsTrue};
 ghost use Rattle.hour_store.specs.Store.{IsStore};
 ghost use Rattle.signal_log.specs.Log.{log_of};
+ghost use Rattle.hour_work.specs.Moved.{SaySame};
 ghost use Rattle.hour_work.specs.Points.{NamesRow};
 ghost use Rattle.session.specs.Links.{AreCarriesBut};
 ghost use Rattle.session.specs.Renewed.{AreNewCarries};
@@ -16,13 +17,14 @@ use std::alloc::Global;
 
 // Whether the last hour that is changed is behind, and nothing changes at the point after this one.
 fn is_behind(last: Hour, hour: Hour, next: &Carry, kept: &Carry) -> bool
-    ensures { IsTrue result ↔ ((last ≤ hour) × (next.now ≡ kept.now)) }
+    ensures value { IsTrue result ↔ ((last ≤ hour) × (next.now ≡ kept.now)) }
+    ensures says { IsTrue result ↔ ((last ≤ hour) × SaySame next.now kept.now) }
 {
     last <= hour && next.same(kept)
 }
 
-// What is kept at the points after the first hour that is changed, up to one after the last at which
-// nothing changes, or up to the window's end.
+// What is kept at the points after the first hour that is changed, up to the first one after the
+// last hour at which nothing changes, or up to the window's end.
 pub fn go_forward<L>(
     alloc: Global,
     config: &Config,

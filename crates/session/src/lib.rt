@@ -1,7 +1,8 @@
 //! A session over the log of one signal: edits that load, replace and withdraw hours or blank and
 //! unblank tenths, and the report of what is held, which is exact at every moment.
 //!
-//! An edit is made whole, or it is refused and the session is as before.
+//! An edit is made whole, or it is refused and the session is as before. One that is made answers
+//! the hours that it moves: only their numbers and audits can be others than before.
 #![tactic(auto)]
 
 mod audit;

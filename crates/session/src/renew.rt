@@ -20,7 +20,7 @@ use hour_store::HourStore;
 use hour_work::{Carry, ForwardError, Future, Partial, Report, Sums, pick, put_in};
 use ring_config::Config;
 use rule_audit::Rule;
-use sig_base::{Hour, NoMemory, Reads};
+use sig_base::{Applied, Hour, NoMemory, Reads};
 use std::alloc::Global;
 
 // What is kept at each hour point of the hours before it and after it, and the numbers of each hour.
@@ -49,6 +49,18 @@ pub struct Fresh {
     pub start: Hour,
     pub parts: Vec<Partial>,
     pub sums: Sums,
+}
+
+// The hours between the points at which nothing changes.
+pub fn moved(points: &Points) -> Applied
+    requires { points.now.first + length points.now.carries.items ≤ 744 }
+    ensures from { result.from ≡ points.now.from }
+    ensures to { result.to ≡ points.now.first + length points.now.carries.items }
+{
+    Applied {
+        from: points.from,
+        to: points.first + points.carries.len() as u32,
+    }
 }
 
 // The first hour whose numbers may change: from the first one after which other states can be
@@ -172,6 +184,9 @@ pub fn renew<L>(
     requires sound { IsSound config.now }
     requires kept { AreKeptBut config.now store.now first last worked.now.carries.items worked.now.futures.items worked.now.report }
     ensures store { IsStore store.now }
+    ensures first { IfOk result (λ f. f.points.first ≡ first) }
+    ensures carries { IfOk result (λ f. AreNewCarries config.now store.now first last worked.now.carries.items f.points.carries.items) }
+    ensures futures { IfOk result (λ f. AreNewFutures config.now store.now first last worked.now.futures.items f.points.from f.points.futures.items) }
     ensures fresh { IfOk result (λ f. IsRenewed config.now store.now worked.now.carries.items f.points.first f.points.carries.items worked.now.futures.items f.points.from f.points.futures.items worked.now.report f.start f.parts.items f.sums) }
     ensures history { OnOk result (HasHistory (log_of config.now.specs store.now)) }
     ensures stop { IfErr result (NamesRow (log_of config.now.specs store.now)) }

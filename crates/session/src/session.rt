@@ -11,6 +11,7 @@ ghost use Rattle.rule_audit.specs.Rules.{rules_for};
 ghost use Rattle.hour_work.specs.Points.{NamesRow};
 ghost use Rattle.hour_work.specs.Reports.{IsReport};
 ghost use Rattle.session.specs.Edits.{blank, change_of, load, replace, step_of, unblank, withdraw};
+ghost use Rattle.session.specs.Moved.{AreMoved, Moves};
 ghost use Rattle.session.specs.Ranges.{SameApart};
 ghost use Rattle.session.specs.Sessions.{AreCounted, Grow, Kept, MayRefuse, OpensNone, Steps, StopsAt};
 ghost use Rattle.session.specs.Windows.{AreHourLines};
@@ -19,9 +20,9 @@ use crate::Edit;
 use crate::audit::{lines_of, with_windows};
 use crate::begin::begin;
 use crate::blanks::{reaches_out, with_range, without_range};
-use crate::hours::{end_of, exchange, held_ends, hour_at};
+use crate::hours::{exchange, hour_at};
 use crate::points::phase_diagrams;
-use crate::renew::{Worked, adopt, renew};
+use crate::renew::{Worked, adopt, moved, renew};
 use arrival_measures::Diagram;
 use hour_store::HourStore;
 use hour_work::{ForwardError, Report};
@@ -161,16 +162,6 @@ impl<L> Session<L> {
         )
     }
 
-    // All hours of the window.
-    fn whole_window(&self) -> Applied
-        ensures { result ≡ record { from = 0; to = self.now.config.window.hours } }
-    {
-        Applied {
-            from: 0,
-            to: self.config.hours(),
-        }
-    }
-
     // Holds this of an hour.
     fn hold(
         &mut self,
@@ -181,7 +172,7 @@ impl<L> Session<L> {
         requires in_store { hour < length self.old.store.hours }
         requires of_hour { IfSome entry (λ r. r.hour ≡ hour) }
         ensures done { OnOk result ((self.new.store ≡ with_hour self.old.store hour entry) × HasHistory (log_of self.old.config.specs (with_hour self.old.store hour entry))) }
-        ensures moved { IfOk result (λ x. x ≡ record { from = 0; to = self.old.config.window.hours }) }
+        ensures moved { IfOk result (AreMoved self.old.config self.old.store (with_hour self.old.store hour entry) hour hour) }
         ensures back { OnErr result (self.new.store ≡ self.old.store) }
         ensures stop { IfErr result (StopsAt self.old.config (with_hour self.old.store hour entry)) }
         ensures store { IsStore (with_hour self.old.store hour entry) }
@@ -201,8 +192,9 @@ impl<L> Session<L> {
         ) {
             Ok(fresh) => {
                 let_go(before);
+                let hours = moved(&fresh.points);
                 adopt(&mut self.worked, fresh);
-                Ok(self.whole_window())
+                Ok(hours)
             }
             Err(error) => {
                 let_go(exchange(&mut self.store, hour, before));
@@ -225,7 +217,7 @@ impl<L> Session<L> {
         requires high { to ≤ℤ pos (36000 * length self.old.store.hours) }
         requires same { SameApart self.old.store.blanks from to blanks }
         ensures done { OnOk result ((self.new.store ≡ with_blanks self.old.store blanks) × HasHistory (log_of self.old.config.specs (with_blanks self.old.store blanks))) }
-        ensures moved { IfOk result (λ x. x ≡ record { from = 0; to = self.old.config.window.hours }) }
+        ensures moved { IfOk result (Moves self.old.config self.old.store (with_blanks self.old.store blanks) (blank from to)) }
         ensures back { OnErr result (self.new.store ≡ self.old.store) }
         ensures stop { IfErr result (StopsAt self.old.config (with_blanks self.old.store blanks)) }
         ensures store { IsStore (with_blanks self.old.store blanks) }
@@ -233,34 +225,34 @@ impl<L> Session<L> {
         ensures grow { Grow reads.old reads.new }
     {
         let before = self.store.set_blanks(blanks);
-        match held_ends(&self.store, hour_at(from), end_of(to)) {
-            None => Ok(self.whole_window()),
-            Some((first, last)) => match renew(
-                self.alloc,
-                &self.config,
-                &self.rules,
-                &self.store,
-                &self.worked,
-                first,
-                last,
-                reads,
-            ) {
-                Ok(fresh) => {
-                    adopt(&mut self.worked, fresh);
-                    Ok(self.whole_window())
-                }
-                Err(error) => {
-                    self.store.set_blanks(before);
-                    Err(edit_error(error))
-                }
-            },
+        let first = hour_at(from);
+        let last = hour_at(to - 1);
+        match renew(
+            self.alloc,
+            &self.config,
+            &self.rules,
+            &self.store,
+            &self.worked,
+            first,
+            last,
+            reads,
+        ) {
+            Ok(fresh) => {
+                let hours = moved(&fresh.points);
+                adopt(&mut self.worked, fresh);
+                Ok(hours)
+            }
+            Err(error) => {
+                self.store.set_blanks(before);
+                Err(edit_error(error))
+            }
         }
     }
 
     #[tactic(auto, using(crate::proofs::EditLaws::steps_done, crate::proofs::EditLaws::opens_some, crate::proofs::GrowLaws::grow_same), unfolding(crate::specs::Edits::step_of))]
     fn load(&mut self, rows: HourRows<L>, reads: &mut Reads<L>) -> Result<Applied, EditError>
         ensures step { Steps self.old.config (step_of self.old.store (load rows)) self.old.store self.new.store result }
-        ensures moved { IfOk result (λ x. x ≡ record { from = 0; to = self.old.config.window.hours }) }
+        ensures moved { IfOk result (Moves self.old.config self.old.store self.new.store (load rows)) }
         ensures config { self.new.config ≡ self.old.config }
         ensures opens { IfErr result (OpensNone reads.old reads.new) }
         ensures grow { Grow reads.old reads.new }
@@ -281,7 +273,7 @@ impl<L> Session<L> {
     #[tactic(auto, using(crate::proofs::EditLaws::steps_done, crate::proofs::EditLaws::opens_some, crate::proofs::GrowLaws::grow_same), unfolding(crate::specs::Edits::step_of))]
     fn replace(&mut self, rows: HourRows<L>, reads: &mut Reads<L>) -> Result<Applied, EditError>
         ensures step { Steps self.old.config (step_of self.old.store (replace rows)) self.old.store self.new.store result }
-        ensures moved { IfOk result (λ x. x ≡ record { from = 0; to = self.old.config.window.hours }) }
+        ensures moved { IfOk result (Moves self.old.config self.old.store self.new.store (replace rows)) }
         ensures config { self.new.config ≡ self.old.config }
         ensures opens { IfErr result (OpensNone reads.old reads.new) }
         ensures grow { Grow reads.old reads.new }
@@ -303,7 +295,7 @@ impl<L> Session<L> {
     fn withdraw(&mut self, hour: Hour, reads: &mut Reads<L>) -> Result<Applied, EditError>
         ensures step { Steps self.old.config (step_of self.old.store (withdraw hour)) self.old.store self.new.store result }
         ensures never { IfErr result (MayRefuse (withdraw hour)) }
-        ensures moved { IfOk result (λ x. x ≡ record { from = 0; to = self.old.config.window.hours }) }
+        ensures moved { IfOk result (Moves self.old.config self.old.store self.new.store (withdraw hour)) }
         ensures config { self.new.config ≡ self.old.config }
         ensures opens { IfErr result (OpensNone reads.old reads.new) }
         ensures grow { Grow reads.old reads.new }
@@ -321,7 +313,7 @@ impl<L> Session<L> {
     fn blank(&mut self, from: Tenth, to: Tenth, reads: &mut Reads<L>) -> Result<Applied, EditError>
         ensures step { Steps self.old.config (step_of self.old.store (blank from to)) self.old.store self.new.store result }
         ensures never { IfErr result (MayRefuse (blank from to)) }
-        ensures moved { IfOk result (λ x. x ≡ record { from = 0; to = self.old.config.window.hours }) }
+        ensures moved { IfOk result (Moves self.old.config self.old.store self.new.store (blank from to)) }
         ensures config { self.new.config ≡ self.old.config }
         ensures opens { IfErr result (OpensNone reads.old reads.new) }
         ensures grow { Grow reads.old reads.new }
@@ -350,7 +342,7 @@ impl<L> Session<L> {
         reads: &mut Reads<L>,
     ) -> Result<Applied, EditError>
         ensures step { Steps self.old.config (step_of self.old.store (unblank from to)) self.old.store self.new.store result }
-        ensures moved { IfOk result (λ x. x ≡ record { from = 0; to = self.old.config.window.hours }) }
+        ensures moved { IfOk result (Moves self.old.config self.old.store self.new.store (unblank from to)) }
         ensures config { self.new.config ≡ self.old.config }
         ensures opens { IfErr result (OpensNone reads.old reads.new) }
         ensures grow { Grow reads.old reads.new }
@@ -374,12 +366,16 @@ impl<L> Session<L> {
     /// Makes the edit, or refuses it, with the session as before. The first refusal in the order of
     /// the variants of `EditError` is answered; those before `TooManyBlanks` take no memory and
     /// never give way to want of memory. `Contradiction` names the row at which the log would
-    /// contradict itself; a withdrawal and a blanking never do. `Applied` has all hours of the
-    /// window.
+    /// contradict itself; a withdrawal and a blanking never do. `Applied` has the hours whose
+    /// numbers and audits the edit can change. They begin at the last hour point before the hours
+    /// that it touches from which the log can be completed from the same states as before, or at the
+    /// window's start. They end at the first point after those hours up to which the log says the
+    /// same as before, or at the window's end. A range touches each hour of which it has a tenth,
+    /// held or not.
     pub fn apply(&mut self, edit: Edit<L>, reads: &mut Reads<L>) -> Result<Applied, EditError>
         ensures step { Steps self.old.config (step_of self.old.store (change_of edit)) self.old.store self.new.store result }
         ensures never { IfErr result (MayRefuse (change_of edit)) }
-        ensures moved { IfOk result (λ x. x ≡ record { from = 0; to = self.old.config.window.hours }) }
+        ensures moved { IfOk result (Moves self.old.config self.old.store self.new.store (change_of edit)) }
         ensures config { self.new.config ≡ self.old.config }
         ensures opens { IfErr result (OpensNone reads.old reads.new) }
         ensures grow { Grow reads.old reads.new }

@@ -2,7 +2,7 @@ mod configured;
 
 use crate::blanks::reaches_out;
 use crate::{Edit, Session};
-use configured::{one_interval, one_phase, two_hours};
+use configured::{one_interval, one_phase, three_hours, two_hours};
 use rule_audit::{AuditLine, Place};
 use sig_base::{Applied, EditError, Hour, HourRows, NoMemory, Reads, Row, Tenth, Verdict};
 use std::alloc::Global;
@@ -66,10 +66,14 @@ fn numbers(session: &Session<Mark>) -> [u64; 3] {
 
 const ALL: Result<Applied, EditError> = Ok(Applied { from: 0, to: 2 });
 
+const FIRST: Result<Applied, EditError> = Ok(Applied { from: 0, to: 1 });
+
+const SECOND: Result<Applied, EditError> = Ok(Applied { from: 1, to: 2 });
+
 // Edits of a window of two hours, what comes of each, and what is held and known after it.
 const STEPS: [(Step, Result<Applied, EditError>, [u64; 3]); 10] = [
     (Step::Withdraw(1), Err(EditError::NotHeld), [0, 0, 0]),
-    (Step::Load(1), ALL, [1, 2, 36_000]),
+    (Step::Load(1), SECOND, [1, 2, 36_000]),
     (Step::Load(1), Err(EditError::AlreadyHeld), [1, 2, 36_000]),
     (Step::Load(2), Err(EditError::OutOfWindow), [1, 2, 36_000]),
     (Step::Blank(35_990, 36_010), ALL, [1, 2, 35_990]),
@@ -78,10 +82,10 @@ const STEPS: [(Step, Result<Applied, EditError>, [u64; 3]); 10] = [
         Err(EditError::EmptyRange),
         [1, 2, 35_990],
     ),
-    (Step::Load(0), ALL, [2, 4, 71_980]),
-    (Step::Unblank(36_000, 36_001), ALL, [2, 4, 71_981]),
-    (Step::Replace(0), ALL, [2, 4, 71_981]),
-    (Step::Withdraw(1), ALL, [1, 2, 35_990]),
+    (Step::Load(0), FIRST, [2, 4, 71_980]),
+    (Step::Unblank(36_000, 36_001), SECOND, [2, 4, 71_981]),
+    (Step::Replace(0), FIRST, [2, 4, 71_981]),
+    (Step::Withdraw(1), SECOND, [1, 2, 35_990]),
 ];
 
 #[test]
@@ -93,6 +97,34 @@ fn edits_one_after_another(rt: HostRuntime) -> Result<(), Fail> {
         let edit = edit_of(alloc, step)?;
         assert_eq!(rt; apply(&mut session, edit, &mut reads), wanted);
         assert_eq!(rt; numbers(&session), after);
+    }
+    Ok(())
+}
+
+// Edits of a window of three hours without channels, and the hours that they move. The carry at an
+// hour point says only whether the tenth before it is known, so an hour moves with the one before
+// it where that tenth was known and is no longer, or the other way round.
+const MOVES: [(Step, u32, u32); 7] = [
+    (Step::Load(0), 0, 2),
+    (Step::Load(1), 1, 3),
+    (Step::Load(2), 2, 3),
+    (Step::Replace(1), 1, 2),
+    (Step::Blank(36_005, 36_006), 1, 2),
+    (Step::Withdraw(0), 0, 2),
+    (Step::Blank(0, 5), 0, 1),
+];
+
+#[test]
+fn moves_no_other_hours(rt: HostRuntime) -> Result<(), Fail> {
+    let alloc = rt.alloc();
+    let mut session = Session::new(alloc, three_hours(alloc)?)?;
+    let mut reads = Reads::new(Mark);
+    for (step, from, to) in MOVES {
+        let edit = edit_of(alloc, step)?;
+        assert_eq!(rt;
+            apply(&mut session, edit, &mut reads),
+            Ok(Applied { from, to })
+        );
     }
     Ok(())
 }

@@ -28,7 +28,8 @@ use Rattle.session.specs.Sessions.{Steps}
 use Rattle.sigaudit.specs.declared.hour_file.Unread.{Unread}
 use Rattle.sigaudit.specs.HourFile.{hour_said}
 use Rattle.sigaudit.specs.Turns.{refuses, refuses_file}
-use Rattle.sigaudit.specs.Script.{accepts, is_edit_memory, wanted_for, IsEdited, IsRead}
+use Rattle.session.specs.Moved.{Moves}
+use Rattle.sigaudit.specs.Script.{accepts, is_edit_memory, wanted_for, IsEdited, IsMade, IsRead}
 use Rattle.sigaudit.specs.Run.{TakesBy, TakesPut}
 use Rattle.sigaudit.specs.declared.status.Stopped.{Stopped}
 use Rattle.sigaudit.specs.declared.status.Stopped.TheVariants as stopped
@@ -105,39 +106,35 @@ names_row c w s new ch Memory ew el h = tt
 -- ---- what an edit tells
 
 -- a refusal other than want of memory is a turn of the line
-refused_turn : (c : Settings) (n : ℕ) (loaded : Option (ℕ × ℕ)) (s new : Store) (to : Result Store EditError) (e : EditError) → is_edit_memory e ≡ false → Steps c to s new (Err e)
-    → (new ≡ s) × IsEdited c n loaded s to (refuses c n (Edit e) s)
-refused_turn c n loaded s new to OutOfWindow ne h = (h.0, rw h.1 refl)
-refused_turn c n loaded s new to AlreadyHeld ne h = (h.0, rw h.1 refl)
-refused_turn c n loaded s new to NotHeld ne h = (h.0, rw h.1 refl)
-refused_turn c n loaded s new to EmptyRange ne h = (h.0, rw h.1 refl)
-refused_turn c n loaded s new to TooManyRows ne h = (h.0, rw h.1 refl)
-refused_turn c n loaded s new to TooManyBlanks ne h = (h.0, rw h.1 refl)
-refused_turn c n loaded s new to (Contradiction row) ne h = (h.0, rw h.1.1 (inr (row, h.1.2, h.1.3, refl)))
-refused_turn c n loaded s new to Memory ne h = absurd (cc)
+refused_turn : (c : Settings) (n : ℕ) (loaded : Option (ℕ × ℕ)) (s new : Store) (ch : Change) (to : Result Store EditError) (e : EditError) → is_edit_memory e ≡ false → Steps c to s new (Err e)
+    → (new ≡ s) × IsMade c n loaded s ch to (refuses c n (Edit e) s)
+refused_turn c n loaded s new ch to OutOfWindow ne h = (h.0, rw h.1 refl)
+refused_turn c n loaded s new ch to AlreadyHeld ne h = (h.0, rw h.1 refl)
+refused_turn c n loaded s new ch to NotHeld ne h = (h.0, rw h.1 refl)
+refused_turn c n loaded s new ch to EmptyRange ne h = (h.0, rw h.1 refl)
+refused_turn c n loaded s new ch to TooManyRows ne h = (h.0, rw h.1 refl)
+refused_turn c n loaded s new ch to TooManyBlanks ne h = (h.0, rw h.1 refl)
+refused_turn c n loaded s new ch to (Contradiction row) ne h = (h.0, rw h.1.1 (inr (row, h.1.2, h.1.3, refl)))
+refused_turn c n loaded s new ch to Memory ne h = absurd (cc)
 
-pub edit_refused : (c c' : Settings) (n : ℕ) (loaded : Option (ℕ × ℕ)) (s new : Store) (to : Result Store EditError) (e : EditError) (w w' : Option (List ℕ)) (f f' : ℕ) (r : Result Bool Stopped)
+pub edit_refused : (c c' : Settings) (n : ℕ) (loaded : Option (ℕ × ℕ)) (s new : Store) (ch : Change) (to : Result Store EditError) (e : EditError) (w w' : Option (List ℕ)) (f f' : ℕ) (r : Result Bool Stopped)
     → is_edit_memory e ≡ false → c' ≡ c → Steps c to s new (Err e) → ((x : Store) → TakesPut (refuses c' n (Edit e) x) w w' f f' x r)
-    → TakesBy (IsEdited c n loaded s to) w w' f f' new r
-edit_refused c c' n loaded s new to e w w' f f' r ne ec h p =
-    let k = refused_turn c n loaded s new to e ne h in
-    rw (k.0) (by_refusal (IsEdited c n loaded s to) c c' n (Edit e) s w w' f f' r ec k.1 p)
+    → TakesBy (IsMade c n loaded s ch to) w w' f f' new r
+edit_refused c c' n loaded s new ch to e w w' f f' r ne ec h p =
+    let k = refused_turn c n loaded s new ch to e ne h in
+    rw (k.0) (by_refusal (IsMade c n loaded s ch to) c c' n (Edit e) s w w' f f' r ec k.1 p)
 
 -- an edit that was made is a turn of the line
-made_turn : (c : Settings) (n : ℕ) (loaded : Option (ℕ × ℕ)) (s new : Store) (to : Result Store EditError) → to ≡ Ok new → HasHistory (log_of c.specs new) → IsEdited c n loaded s to (accepts c n loaded new)
-made_turn c n loaded s new to e h = rw e (inl (h, refl))
+made_turn : (c : Settings) (n : ℕ) (loaded : Option (ℕ × ℕ)) (s new : Store) (ch : Change) (to : Result Store EditError) (a : Applied) → to ≡ Ok new → HasHistory (log_of c.specs new) → Moves c s new ch a → IsMade c n loaded s ch to (accepts n loaded a new)
+made_turn c n loaded s new ch to a e h m = rw e (inl (h, a, m, refl))
 
-pub edit_made : (c : Settings) (n : ℕ) (loaded : Option (ℕ × ℕ)) (s new : Store) (to : Result Store EditError) (a : Applied) (w w' : Option (List ℕ)) (f f' : ℕ)
-    → Steps c to s new (Ok a) → a ≡ record { from = 0; to = c.window.hours } → f' ≡ f → Appends w w' (applied_text n loaded a) → TakesBy (IsEdited c n loaded s to) w w' f f' new (Ok false)
-edit_made c n loaded s new to a w w' f f' h ea ef p =
-    let p' = rw ea at p in
-    (accepts c n loaded new, made_turn c n loaded s new to h.0 h.1, p', ef, refl, refl)
+pub edit_made : (c : Settings) (n : ℕ) (loaded : Option (ℕ × ℕ)) (s new : Store) (ch : Change) (to : Result Store EditError) (a : Applied) (w w' : Option (List ℕ)) (f f' : ℕ)
+    → Steps c to s new (Ok a) → Moves c s new ch a → f' ≡ f → Appends w w' (applied_text n loaded a) → TakesBy (IsMade c n loaded s ch to) w w' f f' new (Ok false)
+edit_made c n loaded s new ch to a w w' f f' h m ef p = (accepts n loaded a new, made_turn c n loaded s new ch to a h.0 h.1 m, p, ef, refl, refl)
 
-pub edit_cut : (c : Settings) (n : ℕ) (loaded : Option (ℕ × ℕ)) (s new : Store) (to : Result Store EditError) (a : Applied) (w w' : Option (List ℕ)) (f f' : ℕ)
-    → Steps c to s new (Ok a) → a ≡ record { from = 0; to = c.window.hours } → Stops w w' f f' (applied_text n loaded a) → TakesBy (IsEdited c n loaded s to) w w' f f' new (Err stopped.Fault)
-edit_cut c n loaded s new to a w w' f f' h ea p =
-    let p' = rw ea at p in
-    (accepts c n loaded new, made_turn c n loaded s new to h.0 h.1, p')
+pub edit_cut : (c : Settings) (n : ℕ) (loaded : Option (ℕ × ℕ)) (s new : Store) (ch : Change) (to : Result Store EditError) (a : Applied) (w w' : Option (List ℕ)) (f f' : ℕ)
+    → Steps c to s new (Ok a) → Moves c s new ch a → Stops w w' f f' (applied_text n loaded a) → TakesBy (IsMade c n loaded s ch to) w w' f f' new (Err stopped.Fault)
+edit_cut c n loaded s new ch to a w w' f f' h m p = (accepts n loaded a new, made_turn c n loaded s new ch to a h.0 h.1 m, p)
 
 -- ---- rows of a file
 
@@ -157,7 +154,7 @@ bytes_refused c c' n hour make s signal window bytes e w w' f f' r ec es ew h p 
 pub bytes_loaded : (c c' : Settings) (n hour : ℕ) (make : Shown → Change) (s s' : Store) (signal : List ℕ) (window : Span) (bytes : List ℕ) (shown : Shown) (count repeats : ℕ) (ch : Change) (w w' : Option (List ℕ)) (f f' : ℕ) (r : Result Bool Stopped)
     → c' ≡ c → signal ≡ c'.signal → window ≡ c'.window → hour_said (record { signal = signal; hour = hour; window = window }) bytes ≡ Ok shown
     → count ≡ length shown.rows → repeats ≡ shown.repeats → ch ≡ make shown
-    → TakesBy (IsEdited c n (Some (count, repeats)) s (step_of s ch)) w w' f f' s' r → TakesBy (IsRead c n make s (hour_said (wanted_for c hour) bytes)) w w' f f' s' r
+    → TakesBy (IsEdited c n (Some (count, repeats)) s ch) w w' f f' s' r → TakesBy (IsRead c n make s (hour_said (wanted_for c hour) bytes)) w w' f f' s' r
 bytes_loaded c c' n hour make s s' signal window bytes shown count repeats ch w w' f f' r ec es ew h ek er em p =
     let sig : signal ≡ c.signal = es ∙ ap (λ (k : Settings). k.signal) ec in
     let win : window ≡ c.window = ew ∙ ap (λ (k : Settings). k.window) ec in

@@ -15,7 +15,7 @@ use Rattle.report_text.specs.Measures.{measures_text}
 use Rattle.report_text.specs.declared.refusal.Refusal.{Refusal}
 use Rattle.report_text.specs.declared.refusal.Refusal.TheVariants.{BadLine, FileTooLong, Edit}
 use Rattle.ring_config.specs.Settings.{Settings}
-use Rattle.session.specs.Edits.{Change, step_of}
+use Rattle.session.specs.Edits.{Change}
 use Rattle.session.specs.Edits as change
 use Rattle.script_lines.specs.Words.{Said}
 use Rattle.script_lines.specs.Words as line
@@ -170,7 +170,7 @@ unfolding IsTurn
 turn_offsets files c n name s t h = h
 
 -- a line that is an edit and needs no file
-pub turn_edit : (files : Files) (c : Settings) (n : ℕ) (x : Said) (ch : Change) (s : Store) → Some ch ≡ edit_said x → (t : Turn) → IsEdited c n None s (step_of s ch) t → IsTurn files c n x s t
+pub turn_edit : (files : Files) (c : Settings) (n : ℕ) (x : Said) (ch : Change) (s : Store) → Some ch ≡ edit_said x → (t : Turn) → IsEdited c n None s ch t → IsTurn files c n x s t
 unfolding IsTurn
 turn_edit files c n line.skip ch s e t h = absurd (cc)
 turn_edit files c n line.bad ch s e t h = absurd (cc)

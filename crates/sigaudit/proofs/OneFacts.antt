@@ -4,6 +4,7 @@ use Rattle.std.specs.Prelude.{slice_get}
 use Rattle.outside.specs.Shelf.{Files}
 use Rattle.sig_base.specs.HourRows.{Shown}
 use Rattle.sig_base.specs.declared.values.Row.{Row}
+use Rattle.sig_base.specs.declared.values.Applied.{Applied}
 use Rattle.sig_base.specs.declared.values.EditError.{EditError}
 use Rattle.sig_base.specs.declared.values.EditError.TheVariants.{Contradiction}
 use Rattle.sigaudit.specs.declared.hour_file.Unread.{Unread}
@@ -27,6 +28,7 @@ use Rattle.report_text.specs.declared.refusal.Refusal.{Refusal}
 use Rattle.report_text.specs.declared.refusal.Refusal.TheVariants.{Edit}
 use Rattle.report_text.specs.Measures.{measures_text}
 use Rattle.session.specs.Edits.{Change, step_of}
+use Rattle.sigaudit.proofs.MovedFacts.{moved_once}
 use Rattle.session.specs.Edits as change
 use Rattle.command_line.specs.Words.{Asked, for_run, for_count, for_pack, for_demo}
 use Rattle.demonstration.specs.Files.{config_name, demo_files, script_name}
@@ -36,7 +38,7 @@ use Rattle.script_lines.specs.Lines.{lines_of}
 use Rattle.sigaudit.specs.Asked.{asked_of}
 use Rattle.sigaudit.specs.Turns.{Turn, refuses, writes}
 use Rattle.sigaudit.specs.Audit.{AreFailing, AreVerdicts, IsAudited, audit_start, lines_text, verdicts_head}
-use Rattle.sigaudit.specs.Script.{IsEdited, IsFetched, IsMeasured, IsMeasuredOf, IsRead, IsTold, IsTurn, Told, followed, hour_bytes, hour_change, numbers_turn, wanted_for, window_head}
+use Rattle.sigaudit.specs.Script.{accepts, IsEdited, IsMade, IsFetched, IsMeasured, IsMeasuredOf, IsRead, IsTold, IsTurn, Told, followed, hour_bytes, hour_change, numbers_turn, wanted_for, window_head}
 use Rattle.sigaudit.specs.Transcript.{BeginsWithFirstLines, HaveOneTranscript, IsAnswer, IsConfigOutcome, IsFileOutcome, IsScriptOutcome, Outcome, first_lines, limited, outcome, told_outcome}
 
 -- where some history agrees an hour has one list of lines
@@ -59,17 +61,22 @@ pub record Laws : Type 0 where
 both : {t t' x : Turn} → t ≡ x → t' ≡ x → t ≡ t'
 both e e' = e ∙ sym e'
 
-one_edit : Laws → (c : Settings) (n : ℕ) (loaded : Option (ℕ × ℕ)) (s : Store) (to : Result Store EditError) (t t' : Turn) → IsEdited c n loaded s to t → IsEdited c n loaded s to t' → t ≡ t'
-one_edit laws c n loaded s (Err e) t t' h k = both h k
-one_edit laws c n loaded s (Ok new) t t' (inl h) (inl k) = both h.1 k.1
-one_edit laws c n loaded s (Ok new) t t' (inl h) (inr k) = absurd (k.2 h.0)
-one_edit laws c n loaded s (Ok new) t t' (inr h) (inl k) = absurd (h.2 k.0)
-one_edit laws c n loaded s (Ok new) t t' (inr h) (inr k) =
+one_made : Laws → (c : Settings) (n : ℕ) (loaded : Option (ℕ × ℕ)) (s : Store) (ch : Change) (to : Result Store EditError) (t t' : Turn) → IsMade c n loaded s ch to t → IsMade c n loaded s ch to t' → t ≡ t'
+one_made laws c n loaded s ch (Err e) t t' h k = both h k
+one_made laws c n loaded s ch (Ok new) t t' (inl h) (inl k) =
+    let same = moved_once c s new ch h.1 k.1 h.2 k.2 in
+    h.3 ∙ ap (λ (moved : Applied). accepts n loaded moved new) same ∙ sym k.3
+one_made laws c n loaded s ch (Ok new) t t' (inl h) (inr k) = absurd (k.2 h.0)
+one_made laws c n loaded s ch (Ok new) t t' (inr h) (inl k) = absurd (h.2 k.0)
+one_made laws c n loaded s ch (Ok new) t t' (inr h) (inr k) =
     let same = laws.row (log_of c.specs new) h.0 k.0 h.1 k.1 in
     h.3 ∙ ap (λ (row : Row). refuses c n (Edit (Contradiction row)) s) same ∙ sym k.3
 
+one_edit : Laws → (c : Settings) (n : ℕ) (loaded : Option (ℕ × ℕ)) (s : Store) (ch : Change) (t t' : Turn) → IsEdited c n loaded s ch t → IsEdited c n loaded s ch t' → t ≡ t'
+one_edit laws c n loaded s ch t t' h k = one_made laws c n loaded s ch (step_of s ch) t t' h k
+
 one_read : Laws → (c : Settings) (n : ℕ) (make : Shown → Change) (s : Store) (want : Result Shown Unread) (t t' : Turn) → IsRead c n make s want t → IsRead c n make s want t' → t ≡ t'
-one_read laws c n make s (Ok shown) t t' h k = one_edit laws c n (Some (length shown.rows, shown.repeats)) s (step_of s (make shown)) t t' h k
+one_read laws c n make s (Ok shown) t t' h k = one_edit laws c n (Some (length shown.rows, shown.repeats)) s (make shown) t t' h k
 one_read laws c n make s (Err e) t t' h k = both h k
 
 one_fetched : Laws → (c : Settings) (n hour : ℕ) (make : Shown → Change) (s : Store) (want : Result (List ℕ) Refusal) (t t' : Turn) → IsFetched c n hour make s want t → IsFetched c n hour make s want t' → t ≡ t'
@@ -138,9 +145,9 @@ one_turn laws files c n line.skip s t t' h k = both h k
 one_turn laws files c n line.bad s t t' h k = both h k
 one_turn laws files c n (line.load hour name) s t t' h k = one_fetched laws c n hour (hour_change false) s (hour_bytes files c hour name) t t' h k
 one_turn laws files c n (line.replace hour name) s t t' h k = one_fetched laws c n hour (hour_change true) s (hour_bytes files c hour name) t t' h k
-one_turn laws files c n (line.withdraw hour) s t t' h k = one_edit laws c n None s (step_of s (change.withdraw hour)) t t' h k
-one_turn laws files c n (line.blank from to) s t t' h k = one_edit laws c n None s (step_of s (change.blank from to)) t t' h k
-one_turn laws files c n (line.unblank from to) s t t' h k = one_edit laws c n None s (step_of s (change.unblank from to)) t t' h k
+one_turn laws files c n (line.withdraw hour) s t t' h k = one_edit laws c n None s (change.withdraw hour) t t' h k
+one_turn laws files c n (line.blank from to) s t t' h k = one_edit laws c n None s (change.blank from to) t t' h k
+one_turn laws files c n (line.unblank from to) s t t' h k = one_edit laws c n None s (change.unblank from to) t t' h k
 one_turn laws files c n line.audit s t t' h k = one_audit laws c n s t t' h k
 one_turn laws files c n (line.verdicts hour) s t t' h k = one_verdicts laws c n hour s (nat_lt hour c.window.hours) t t' h k
 one_turn laws files c n line.measures s t t' h k = one_measured laws c n s t t' h k

@@ -2,6 +2,7 @@
 use Rattle.std.specs.Prelude.{◌≡◌, ◌⊎◌, ℕ, ◌+◌, ◌||◌, ◌*◌, ◌^◌, nat_lt, List, [], ◌∷◌, ◌++◌, length, slice_get, codes, decimal, if◌then◌else◌, Option, Some, None, Result, Ok, Err, Bool, true, false}
 use Rattle.outside.specs.Shelf.{Files}
 use Rattle.sig_base.specs.HourRows.{Shown}
+use Rattle.sig_base.specs.declared.values.Applied.{Applied}
 use Rattle.sig_base.specs.declared.values.EditError.{EditError}
 use Rattle.sig_base.specs.declared.values.Row.{Row}
 use Rattle.sig_base.specs.declared.values.EditError.TheVariants.{OutOfWindow, Contradiction}
@@ -13,6 +14,7 @@ use Rattle.hour_work.specs.Numbers.{Numbers, total_of}
 use Rattle.signal_log.specs.Log.{HasHistory, IsContradiction, log_of}
 use Rattle.session.specs.Edits.{Change, step_of}
 use Rattle.session.specs.Edits as change
+use Rattle.session.specs.Moved.{Moves}
 use Rattle.script_lines.specs.Words.{Said, said}
 use Rattle.script_lines.specs.Words as line
 use Rattle.report_text.specs.declared.refusal.Refusal.{Refusal}
@@ -38,20 +40,23 @@ is_edit_memory edits.TooManyBlanks = false
 is_edit_memory (edits.Contradiction row) = false
 is_edit_memory edits.Memory = true
 
--- an edit that is accepted is answered by the hours that moved, which are all of the window
-abbrev pub accepts : Settings → ℕ → Option (ℕ × ℕ) → Store → Turn
-accepts c n loaded new = record { text = applied_text n loaded (record { from = 0; to = c.window.hours }); store = new; refused = false }
+-- an edit that is accepted is answered by the hours that move
+abbrev pub accepts : ℕ → Option (ℕ × ℕ) → Applied → Store → Turn
+accepts n loaded moved new = record { text = applied_text n loaded moved; store = new; refused = false }
 
--- an edit: what refuses it before it is made; else it is accepted where some history agrees with the new store, and refused where none does, by the row at which the new store contradicts itself
-abbrev pub IsEdited : Settings → ℕ → Option (ℕ × ℕ) → Store → Result Store EditError → Turn → Type 0
-IsEdited c n loaded s (Err e) t = t ≡ refuses c n (Edit e) s
-IsEdited c n loaded s (Ok new) t =
-    (HasHistory (log_of c.specs new) × (t ≡ accepts c n loaded new))
+-- an edit that makes this of the store, or is refused before it is made: it is accepted where some history agrees with the new store, and refused where none does, by the row at which the new store contradicts itself
+abbrev pub IsMade : Settings → ℕ → Option (ℕ × ℕ) → Store → Change → Result Store EditError → Turn → Type 0
+IsMade c n loaded s ch (Err e) t = t ≡ refuses c n (Edit e) s
+IsMade c n loaded s ch (Ok new) t =
+    (HasHistory (log_of c.specs new) × (moved : Applied) × Moves c s new ch moved × (t ≡ accepts n loaded moved new))
     ⊎ ((row : Row) × IsContradiction (log_of c.specs new) row × (HasHistory (log_of c.specs new) → ⊥) × (t ≡ refuses c n (Edit (Contradiction row)) s))
+
+abbrev pub IsEdited : Settings → ℕ → Option (ℕ × ℕ) → Store → Change → Turn → Type 0
+IsEdited c n loaded s ch t = IsMade c n loaded s ch (step_of s ch) t
 
 -- a load or a replacement of what the file says
 abbrev pub IsRead : Settings → ℕ → (Shown → Change) → Store → Result Shown Unread → Turn → Type 0
-IsRead c n make s (Ok shown) t = IsEdited c n (Some (length shown.rows, shown.repeats)) s (step_of s (make shown)) t
+IsRead c n make s (Ok shown) t = IsEdited c n (Some (length shown.rows, shown.repeats)) s (make shown) t
 IsRead c n make s (Err e) t = t ≡ refuses_file c n e s
 
 -- the rows that a line wants for an hour
@@ -118,9 +123,9 @@ IsTurn files c n line.skip s t = t ≡ passes s
 IsTurn files c n line.bad s t = t ≡ refuses c n BadLine s
 IsTurn files c n (line.load hour name) s t = IsFetched c n hour (hour_change false) s (hour_bytes files c hour name) t
 IsTurn files c n (line.replace hour name) s t = IsFetched c n hour (hour_change true) s (hour_bytes files c hour name) t
-IsTurn files c n (line.withdraw hour) s t = IsEdited c n None s (step_of s (change.withdraw hour)) t
-IsTurn files c n (line.blank from to) s t = IsEdited c n None s (step_of s (change.blank from to)) t
-IsTurn files c n (line.unblank from to) s t = IsEdited c n None s (step_of s (change.unblank from to)) t
+IsTurn files c n (line.withdraw hour) s t = IsEdited c n None s (change.withdraw hour) t
+IsTurn files c n (line.blank from to) s t = IsEdited c n None s (change.blank from to) t
+IsTurn files c n (line.unblank from to) s t = IsEdited c n None s (change.unblank from to) t
 IsTurn files c n line.audit s t = IsAudited c n s t
 IsTurn files c n (line.verdicts hour) s t = AreVerdicts c n hour s (nat_lt hour c.window.hours) t
 IsTurn files c n line.measures s t = IsMeasured c n s t

@@ -6,7 +6,7 @@ ghost use Rattle.report_text.specs.Line.{line_of};
 ghost use Rattle.sig_base.specs.HourRows.{Shown};
 ghost use Rattle.hour_store.specs.Store.{Store};
 ghost use Rattle.sigaudit.specs.HourFile.{hour_said};
-ghost use Rattle.session.specs.Edits.{change_of, step_of};
+ghost use Rattle.session.specs.Edits.{change_of};
 ghost use Rattle.session.specs.Sessions.{Grow};
 ghost use Rattle.script_lines.specs.Lines.{lines_of};
 ghost use Rattle.script_lines.specs.Words.{said};
@@ -54,7 +54,7 @@ fn edit_line<L, K: Sink>(
     sink: &mut K,
     reads: &mut Reads<L>,
 ) -> Result<bool, Stopped>
-    ensures turn { TakesBy (IsEdited session.old.config number loaded session.old.store (step_of session.old.store (change_of edit))) (K.written sink.old) (K.written sink.new) (K.faults sink.old) (K.faults sink.new) session.new.store result }
+    ensures turn { TakesBy (IsEdited session.old.config number loaded session.old.store (change_of edit)) (K.written sink.old) (K.written sink.new) (K.faults sink.old) (K.faults sink.new) session.new.store result }
     ensures config { session.new.config ≡ session.old.config }
     ensures grow { Grow reads.old reads.new }
 {

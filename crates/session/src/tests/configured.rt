@@ -5,7 +5,10 @@ use std::test::Fail;
 // A window of two hours.
 const TEXT: &str = "signal = \"7\"\nstart = \"2024-03-04T06\"\nhours = 2\n";
 
-// The same with phase 2.
+// A window of three hours.
+const LONGER: &str = "signal = \"7\"\nstart = \"2024-03-04T06\"\nhours = 3\n";
+
+// Two hours with phase 2.
 const WITH_PHASE: &str =
     "signal = \"7\"\nstart = \"2024-03-04T06\"\nhours = 2\n\n[[phase]]\nnumber = 2\nring = 1\nside = 1\n";
 
@@ -19,6 +22,10 @@ fn read(alloc: Global, text: &str) -> Result<Config, Fail> {
 
 pub fn two_hours(alloc: Global) -> Result<Config, Fail> {
     read(alloc, TEXT)
+}
+
+pub fn three_hours(alloc: Global) -> Result<Config, Fail> {
+    read(alloc, LONGER)
 }
 
 pub fn one_phase(alloc: Global) -> Result<Config, Fail> {

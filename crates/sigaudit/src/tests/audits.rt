@@ -58,7 +58,7 @@ const AUDITED: [(&str, &str, Status, &str); 5] = [
         "blank 2024-03-04T06:01:45.0 2024-03-04T06:01:47.0\nload 0 f\naudit\n",
         "7,2024-03-04 06:01:40.0,1,2\n7,2024-03-04 06:01:50.0,7,2\n7,2024-03-04 06:01:51.0,8,2\n",
         Status::Done,
-        "1 ok moved 0 2\n2 ok rows 3 repeats 0 moved 0 2\n3 audit\nrule 1 phase 2 Green at least 150 kept 0 broken 1 undecided 0\nbroken 1 2024-03-04T06:01:50.0 from 2024-03-04T06:01:40.0 to 2024-03-04T06:01:51.0\n",
+        "1 ok moved 0 1\n2 ok rows 3 repeats 0 moved 0 2\n3 audit\nrule 1 phase 2 Green at least 150 kept 0 broken 1 undecided 0\nbroken 1 2024-03-04T06:01:50.0 from 2024-03-04T06:01:40.0 to 2024-03-04T06:01:51.0\n",
     ),
     (
         "load 0 f\nwithdraw 0\naudit\n",
@@ -88,7 +88,7 @@ const HOLES: [(&str, &str, [&str; 2], &str); 9] = [
             "7,2024-03-04 06:01:40.0,1,2\n7,2024-03-04 06:02:00.0,8,2\n",
             "",
         ],
-        "1 ok moved 0 2\n2 ok rows 2 repeats 0 moved 0 2\n3 audit\nrule 1 phase 2 Green at least 150 kept 0 broken 0 undecided 1\nundecided 1 2024-03-04T06:02:00.0\n",
+        "1 ok moved 0 1\n2 ok rows 2 repeats 0 moved 0 2\n3 audit\nrule 1 phase 2 Green at least 150 kept 0 broken 0 undecided 1\nundecided 1 2024-03-04T06:02:00.0\n",
     ),
     // Nothing happened there.
     (
@@ -146,7 +146,7 @@ const HOLES: [(&str, &str, [&str; 2], &str); 9] = [
             "7,2024-03-04 06:00:10.0,12,2\n7,2024-03-04 06:00:10.0,12,4\n7,2024-03-04 06:00:40.0,1,2\n",
             "",
         ],
-        "1 ok moved 0 2\n2 ok rows 3 repeats 0 moved 0 2\n3 audit\nrule 1 conflict 2 4 kept 1 broken 0 undecided 3\nundecided 1 2024-03-04T06:00:00.0\nundecided 1 2024-03-04T06:00:30.0\nundecided 1 2024-03-04T06:00:40.0\n",
+        "1 ok moved 0 1\n2 ok rows 3 repeats 0 moved 0 2\n3 audit\nrule 1 conflict 2 4 kept 1 broken 0 undecided 3\nundecided 1 2024-03-04T06:00:00.0\nundecided 1 2024-03-04T06:00:30.0\nundecided 1 2024-03-04T06:00:40.0\n",
     ),
     // Nothing happened there.
     (

@@ -37,7 +37,7 @@ fn blanks(alloc: Global) -> Result<Vec<u8>, Fail> {
 fn answers(alloc: Global) -> Result<Vec<u8>, Fail> {
     let mut text = Vec::new(alloc);
     for n in 1..10_001u32 {
-        let line = format!(in alloc; "{n} ok moved 0 2\n")?;
+        let line = format!(in alloc; "{n} ok moved 0 1\n")?;
         text.extend_from_slice(line.as_bytes())?;
     }
     text.extend_from_slice(b"10001 refused too many blanks\n")?;

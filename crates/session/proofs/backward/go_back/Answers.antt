@@ -1,13 +1,13 @@
 use Rattle.std.proofs.Common.{◌≡◌, ◌∙◌, ◌+◌, ◌-◌, ◌<◌, arith, inl, inr, length, refl}
 use Rattle.std.proofs.lemmas.List.{get_or_default}
-use Rattle.session.proofs.BackLaws.{returning_done, returning_here, returning_on, returning_same, returning_start}
+use Rattle.session.proofs.BackLaws.{other_after, other_more, other_on, other_start, returning_done, returning_here, returning_on, returning_same, returning_start}
 use Rattle.session.proofs.GrowLaws.{grow_on, grow_same}
 use Rattle.session.proofs.backward.go_back.Goals as goal
 
 pub loop-hour-init : goal.loop-hour-init
 loop-hour-init g c =
     let p = returning_start c.args.config.now c.args.store.now c.args.first c.args.last c.args.kept.now c.new-fresh.result.items c.requires.store c.requires.order c.requires.within c.requires.kept c.new-fresh.ensures.items in
-    record { returning = p; size = p.size; grow = grow_same c.args.reads.now }
+    record { returning = p; size = p.size; other = other_start c.args.first c.args.last c.args.kept.now c.new-fresh.result.items c.requires.order; grow = grow_same c.args.reads.now }
 
 pub future_before-requires-clause-after : goal.future_before-requires-clause-after
 future_before-requires-clause-after g c =
@@ -33,7 +33,11 @@ loop-hour-preserved g c =
     let lt : c.loop-hour.hour - 1 < length c.args.store.now.hours = omega arith in
     let p = returning_on c.args.config.now c.args.store.now c.args.last c.args.kept.now c.loop-hour.fresh.items c.insert.new.self.items (c.loop-hour.hour - 1) c.loop-hour.hour c.pick-after.result.now c.in_ok-next.next fe
     c.requires.store c.requires.kept.size lt c.loop-hour.invariant.returning at c.in_ok-next.ensures.backs c.in_ok-insert.ensures.items in
-    record { returning = p; size = p.size; grow = grow_on _ _ _ c.loop-hour.invariant.grow c.future_before.ensures.grow }
+    let size = c.requires.kept.size in
+    let there : c.loop-hour.hour - 1 < length c.args.kept.now = omega arith in
+    let other = other_more c.args.first c.args.kept.now c.loop-hour.fresh.items c.insert.new.self.items (c.loop-hour.hour - 1) c.loop-hour.hour c.in_ok-next.next c.index-kept-place.result fe there c.in_ok-insert.ensures.items
+    (λ d. c.index-kept-place.is ∙ get_or_default c.args.kept.now (c.loop-hour.hour - 1) c.index-kept-place.result d there) (λ h. let z = c.if-done.ensures.1 h in cc) c.loop-hour.invariant.other in
+    record { returning = p; size = p.size; other = other; grow = grow_on _ _ _ c.loop-hour.invariant.grow c.future_before.ensures.grow }
 
 pub returns-then-done-clause-futures : goal.returns-then-done-clause-futures
 returns-then-done-clause-futures g c =
@@ -49,6 +53,7 @@ returns-then-done-clause-futures g c =
     c.requires.store size lt c.loop-hour.invariant.returning at c.in_ok-next.ensures.backs c.in_ok-insert.ensures.items in
     let n = p.size in
     returning_done c.args.config.now c.args.store.now c.args.first c.args.last c.args.kept.now c.insert.new.self.items (c.loop-hour.hour - 1) _ (omega arith) held.0 c.requires.order within c.requires.kept p
+    (other_on c.args.first c.args.kept.now c.loop-hour.fresh.items c.insert.new.self.items (c.loop-hour.hour - 1) c.loop-hour.hour c.in_ok-next.next fe there c.in_ok-insert.ensures.items c.loop-hour.invariant.other)
     (inr (returning_same c.args.kept.now c.loop-hour.fresh.items c.insert.new.self.items (c.loop-hour.hour - 1) c.in_ok-next.next c.index-kept-place.result there c.in_ok-insert.ensures.items held.1
     (λ d. c.index-kept-place.is ∙ get_or_default c.args.kept.now (c.loop-hour.hour - 1) c.index-kept-place.result d there)))
 
@@ -57,4 +62,5 @@ returns-clause-futures g c =
     let end : c.loop-hour.hour ≡ 0 = omega arith in
     let n = c.loop-hour.invariant.size in
     let order = c.requires.order in
-    returning_done c.args.config.now c.args.store.now c.args.first c.args.last c.args.kept.now c.loop-hour.fresh.items c.loop-hour.hour _ (omega arith) (omega arith) order c.requires.within c.requires.kept c.loop-hour.invariant.returning (inl end)
+    returning_done c.args.config.now c.args.store.now c.args.first c.args.last c.args.kept.now c.loop-hour.fresh.items c.loop-hour.hour _ (omega arith) (omega arith) order c.requires.within c.requires.kept c.loop-hour.invariant.returning
+    (other_after c.args.first c.args.kept.now c.loop-hour.hour c.loop-hour.fresh.items c.loop-hour.hour (c.loop-hour.hour + 1) (omega arith) c.loop-hour.invariant.other) (inl end)

@@ -1,11 +1,12 @@
 use Rattle.std.proofs.Common.{◌≡◌, ◌+◌, length}
 use Rattle.session.specs.Sessions.{Grow}
-use Rattle.session.proofs.BackLaws.{IsReturning}
+use Rattle.session.proofs.BackLaws.{AreOther, IsReturning}
 use Rattle.session.proofs.backward.go_back.Given as goal
 
 abbrev pub invariant-loop-hour : goal.invariant-loop-hour
 invariant-loop-hour g l = record {
   returning : IsReturning l.config l.store l.last l.kept l.fresh.items l.hour;
   size : l.hour + length l.fresh.items ≡ l.last + 1;
+  other : AreOther l.first l.kept l.hour l.fresh.items l.hour;
   grow : Grow l.fn.reads l.reads;
 }

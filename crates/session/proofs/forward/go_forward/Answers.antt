@@ -1,13 +1,13 @@
 use Rattle.std.proofs.Common.{◌≡◌, ◌∙◌, ◌+◌, ◌<◌, arith, inl, inr, length, refl}
 use Rattle.std.proofs.lemmas.List.{get_or_default}
-use Rattle.session.proofs.ForwardLaws.{going_done, going_here, going_on, going_same, going_start}
+use Rattle.session.proofs.ForwardLaws.{going_done, going_here, going_on, going_same, going_start, other_before, other_more, other_on, other_start}
 use Rattle.session.proofs.GrowLaws.{grow_on, grow_same}
 use Rattle.session.proofs.forward.go_forward.Goals as goal
 
 pub loop-hour-init : goal.loop-hour-init
 loop-hour-init g c =
     let p = going_start c.args.config.now c.args.store.now c.args.first c.args.last c.args.kept.now c.new-fresh.result.items c.hours-hour-end.ensures.store c.requires.order c.requires.within c.requires.kept c.new-fresh.ensures.items in
-    record { going = p; size = p.size; grow = grow_same c.args.reads.now }
+    record { going = p; size = p.size; other = other_start c.args.first c.args.last c.args.kept.now c.new-fresh.result.items c.requires.order; grow = grow_same c.args.reads.now }
 
 pub carry_over-requires-clause-before : goal.carry_over-requires-clause-before
 carry_over-requires-clause-before g c =
@@ -30,7 +30,11 @@ loop-hour-preserved g c =
     let lt : c.loop-hour.hour < length c.args.store.now.hours = omega arith in
     let p = going_on c.args.config.now c.args.store.now c.args.first c.args.kept.now c.loop-hour.fresh.items c.push.new.self.items c.loop-hour.hour c.pick-before.result.now c.in_ok-next.next
     c.hours-hour-end.ensures.store c.requires.kept.size lt c.loop-hour.invariant.going at c.in_ok-next.ensures.leads c.in_ok-push.ensures.items in
-    record { going = p; size = p.size; grow = grow_on _ _ _ c.loop-hour.invariant.grow c.carry_over.ensures.grow }
+    let size = c.requires.kept.size in
+    let there : c.loop-hour.hour + 1 < length c.args.kept.now = omega arith in
+    let other = other_more c.args.first c.args.last c.args.kept.now c.loop-hour.fresh.items c.push.new.self.items c.loop-hour.hour c.in_ok-next.next c.index-kept-place.result c.loop-hour.invariant.size there c.in_ok-push.ensures.items
+    (λ d. c.index-kept-place.is ∙ get_or_default c.args.kept.now (c.loop-hour.hour + 1) c.index-kept-place.result d there) (λ h. let z = c.if-done.ensures.says.1 h in cc) c.loop-hour.invariant.other in
+    record { going = p; size = p.size; other = other; grow = grow_on _ _ _ c.loop-hour.invariant.grow c.carry_over.ensures.grow }
 
 pub returns-then-done-clause-carries : goal.returns-then-done-clause-carries
 returns-then-done-clause-carries g c =
@@ -39,11 +43,12 @@ returns-then-done-clause-carries g c =
     let lt : c.loop-hour.hour < length c.args.store.now.hours = omega arith in
     let size = c.requires.kept.size in
     let there : c.loop-hour.hour + 1 < length c.args.kept.now = omega arith in
-    let held = c.if-done.ensures.0 refl in
+    let held = c.if-done.ensures.value.0 refl in
     let behind = held.0 in
     let p = going_on c.args.config.now c.args.store.now c.args.first c.args.kept.now c.loop-hour.fresh.items c.push.new.self.items c.loop-hour.hour c.pick-before.result.now c.in_ok-next.next
     c.hours-hour-end.ensures.store size lt c.loop-hour.invariant.going at c.in_ok-next.ensures.leads c.in_ok-push.ensures.items in
     going_done c.args.config.now c.args.store.now c.args.first c.args.last c.args.kept.now c.push.new.self.items (c.loop-hour.hour + 1) (omega arith) (omega arith) c.requires.kept p
+    (other_on c.args.first c.args.last c.args.kept.now c.loop-hour.fresh.items c.push.new.self.items c.loop-hour.hour c.in_ok-next.next c.loop-hour.invariant.size there c.in_ok-push.ensures.items c.loop-hour.invariant.other)
     (inr (going_same c.args.first c.args.kept.now c.loop-hour.fresh.items c.push.new.self.items c.loop-hour.hour c.in_ok-next.next c.index-kept-place.result c.loop-hour.invariant.size there c.in_ok-push.ensures.items held.1
     (λ d. c.index-kept-place.is ∙ get_or_default c.args.kept.now (c.loop-hour.hour + 1) c.index-kept-place.result d there)))
 
@@ -54,4 +59,5 @@ returns-clause-carries g c =
     let within = c.requires.within in
     let high = c.loop-hour.auto.hour-end (omega arith) in
     let end : c.loop-hour.hour ≡ length c.args.store.now.hours = omega arith in
-    going_done c.args.config.now c.args.store.now c.args.first c.args.last c.args.kept.now c.loop-hour.fresh.items c.loop-hour.hour (omega arith) (omega arith) c.requires.kept c.loop-hour.invariant.going (inl end)
+    going_done c.args.config.now c.args.store.now c.args.first c.args.last c.args.kept.now c.loop-hour.fresh.items c.loop-hour.hour (omega arith) (omega arith) c.requires.kept c.loop-hour.invariant.going
+    (other_before c.args.first c.args.last c.args.kept.now c.loop-hour.fresh.items c.loop-hour.hour (c.loop-hour.hour + 1) (omega arith) c.loop-hour.invariant.other) (inl end)

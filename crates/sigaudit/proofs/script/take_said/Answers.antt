@@ -2,7 +2,7 @@ use Rattle.std.proofs.Common.{◌≡◌, refl, ap, arith, true, false, None, nat
 use Rattle.script_lines.specs.Words as line
 use Rattle.script_lines.specs.Seen.{seen}
 use Rattle.report_text.specs.declared.refusal.Refusal.TheVariants.{BadLine}
-use Rattle.session.specs.Edits.{change_of, step_of}
+use Rattle.session.specs.Edits.{change_of}
 use Rattle.sigaudit.specs.Run.{world}
 use Rattle.sigaudit.specs.Turns.{Turn, refuses}
 use Rattle.sigaudit.specs.Audit.{AreVerdicts, IsAudited}
@@ -29,13 +29,13 @@ returns-in-Bad-clause-never_fall g c = never_of_by (λ (t : Turn). t ≡ refuses
 
 pub returns-in-Some-clause-turn : goal.returns-in-Some-clause-turn
 returns-in-Some-clause-turn g c = λ files told.
-    line_by files c.args.session.now.config c.args.number (seen c.args.line) (seen c.args.line) c.args.session.now.store (IsEdited c.args.session.now.config c.args.number None c.args.session.now.store (step_of c.args.session.now.store (change_of c.in-Some.edit))) (g.S.Shelf.counts c.args.shelf.now) _ _ _ _ c.edit_line.new.session.store c.edit_line.result refl (turn_edit files c.args.session.now.config c.args.number (seen c.args.line) (change_of c.in-Some.edit) c.args.session.now.store c.in-Some.ensures) (c.edit_line.ensures.turn)
+    line_by files c.args.session.now.config c.args.number (seen c.args.line) (seen c.args.line) c.args.session.now.store (IsEdited c.args.session.now.config c.args.number None c.args.session.now.store (change_of c.in-Some.edit)) (g.S.Shelf.counts c.args.shelf.now) _ _ _ _ c.edit_line.new.session.store c.edit_line.result refl (turn_edit files c.args.session.now.config c.args.number (seen c.args.line) (change_of c.in-Some.edit) c.args.session.now.store c.in-Some.ensures) (c.edit_line.ensures.turn)
 
 pub returns-in-Some-clause-cause : goal.returns-in-Some-clause-cause
-returns-in-Some-clause-cause g c = caused_of_by (IsEdited c.args.session.now.config c.args.number None c.args.session.now.store (step_of c.args.session.now.store (change_of c.in-Some.edit))) (g.S.Shelf.counts c.args.shelf.now) (g.S.Shelf.counts c.args.shelf.now) _ _ _ _ c.edit_line.new.session.store c.edit_line.result refl (c.edit_line.ensures.turn)
+returns-in-Some-clause-cause g c = caused_of_by (IsEdited c.args.session.now.config c.args.number None c.args.session.now.store (change_of c.in-Some.edit)) (g.S.Shelf.counts c.args.shelf.now) (g.S.Shelf.counts c.args.shelf.now) _ _ _ _ c.edit_line.new.session.store c.edit_line.result refl (c.edit_line.ensures.turn)
 
 pub returns-in-Some-clause-never_fall : goal.returns-in-Some-clause-never_fall
-returns-in-Some-clause-never_fall g c = never_of_by (IsEdited c.args.session.now.config c.args.number None c.args.session.now.store (step_of c.args.session.now.store (change_of c.in-Some.edit))) (g.S.Shelf.counts c.args.shelf.now) (g.S.Shelf.counts c.args.shelf.now) _ _ _ _ c.edit_line.new.session.store c.edit_line.result (omega arith) (omega arith) (omega arith) (c.edit_line.ensures.turn)
+returns-in-Some-clause-never_fall g c = never_of_by (IsEdited c.args.session.now.config c.args.number None c.args.session.now.store (change_of c.in-Some.edit)) (g.S.Shelf.counts c.args.shelf.now) (g.S.Shelf.counts c.args.shelf.now) _ _ _ _ c.edit_line.new.session.store c.edit_line.result (omega arith) (omega arith) (omega arith) (c.edit_line.ensures.turn)
 
 pub returns-in-Audit-clause-turn : goal.returns-in-Audit-clause-turn
 returns-in-Audit-clause-turn g c = λ files told.

@@ -7,6 +7,7 @@ use Rattle.session.proofs.EditLaws.{blank_step, few_blanks, in_order, inside, ma
 use Rattle.session.proofs.LessLaws.{never_blanked}
 use Rattle.session.proofs.MaskLaws.{with_same}
 use Rattle.session.proofs.RangeLaws.{with_within}
+use Rattle.session.proofs.MovedLaws.{moves_to}
 use Rattle.session.proofs.session.Session.blank.Goals as goal
 
 pub returns-then-ranges-gt-MOST_BLANKS-clause-step : goal.returns-then-ranges-gt-MOST_BLANKS-clause-step
@@ -107,3 +108,12 @@ returns-clause-never g c =
     let stop = rw (← c.self.view_is) at c.mask.ensures.stop in
     let less = rw (← c.self.view_is) at c.mask.ensures.store in
     never_blanked c.self.inside.config s c.in-Ok.blanks c.args.from c.args.to c.mask.result c.self.invariant.sound c.self.invariant.is_store less c.self.invariant.history made stop
+
+pub returns-clause-moved : goal.returns-clause-moved
+returns-clause-moved g c =
+    let s = c.self.inside.store in
+    let rf = c.ranges.from in
+    let rt = c.ranges.to in
+    let done = rw (← c.self.view_is) at c.mask.ensures.done in
+    let moved = simp to_z-of_z at (rw (← c.self.view_is) at c.mask.ensures.moved) in
+    rw (← c.self.view_is) (moves_to c.self.inside.config s (with_blanks s c.in-Ok.blanks) c.mask.new.self.store (blank c.args.from c.args.to) c.mask.result done moved)

@@ -1,7 +1,8 @@
-use Rattle.std.proofs.Common.{◌≡◌, ◌∙◌, ap}
+use Rattle.std.proofs.Common.{◌≡◌, ◌∙◌, ◌+◌, ◌<◌, ℕ, ap, arith, length, length-set}
 use Rattle.hour_store.specs.Store.{with_hour}
 use Rattle.session.specs.Sessions.{Kept}
 use Rattle.session.proofs.EditLaws.{hour_back}
+use Rattle.session.proofs.MovedLaws.{are_moved}
 use Rattle.session.proofs.RenewLaws.{kept_but_hour}
 use Rattle.session.proofs.session.Session.hold.Goals as goal
 
@@ -26,3 +27,25 @@ pub renew-requires-clause-kept : goal.renew-requires-clause-kept
 renew-requires-clause-kept g c =
     let lt = rw (← c.self.view_is) at c.requires.in_store in
     rw c.exchange-before.ensures.store (kept_but_hour c.self.inside.config c.self.inside.store c.args.hour c.args.entry c.self.inside.worked.carries.items c.self.inside.worked.futures.items c.self.inside.worked.report lt c.self.invariant.is_store c.self.invariant.kept)
+
+pub moved-hours-requires : goal.moved-hours-requires
+moved-hours-requires g c =
+    let few = c.self.invariant.is_store.few in
+    let size = c.self.invariant.kept.forth.size in
+    let room = c.in-Ok.ensures.fresh.carry_room in
+    omega arith
+
+pub returns-in-Ok-clause-moved : goal.returns-in-Ok-clause-moved
+returns-in-Ok-clause-moved g c =
+    let s = c.self.inside.store in
+    let hour = c.args.hour in
+    let worked = c.self.inside.worked in
+    let points = c.in-Ok.fresh.points in
+    let lt : hour < length s.hours = rw (← c.self.view_is) at c.requires.in_store in
+    let is = rw c.exchange-before.ensures.store at c.in-Ok.ensures.store in
+    let carries = rw c.exchange-before.ensures.store at c.in-Ok.ensures.carries in
+    let futures = rw c.exchange-before.ensures.store at c.in-Ok.ensures.futures in
+    let to = c.moved-hours.ensures.to ∙ ap (λ (n : ℕ). n + length points.carries.items) c.in-Ok.ensures.first in
+    let moved = are_moved c.self.inside.config s (with_hour s hour c.args.entry) c.self.invariant.sound c.self.invariant.is_store is (length-set s.hours hour c.args.entry) hour hour worked.carries.items worked.futures.items worked.report points.carries.items points.from points.futures.items c.moved-hours.result
+    (omega arith) lt c.self.invariant.kept carries futures c.moved-hours.ensures.from to in
+    rw (← c.self.view_is) moved

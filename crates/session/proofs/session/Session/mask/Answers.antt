@@ -1,73 +1,84 @@
-use Rattle.std.proofs.Common.{◌≡◌, ◌∙◌, ◌*◌, ◌≤ℤ◌, ◌<ℤ◌, arith, length, pos, refl, None, Some}
+use Rattle.std.proofs.Common.{◌≡◌, ◌∙◌, ◌+◌, ◌*◌, ◌≤ℤ◌, ◌<ℤ◌, ap, arith, length, pos, refl, ◌-ℤ◌, ℕ, rules, w64}
 use Rattle.std.proofs.lemmas.Int.{ints, to_z-of_z}
-use Rattle.hour_store.specs.Store.{LieWithin, with_blanks}
+use Rattle.std.specs.Prelude.{FitsSigned}
+use Rattle.hour_store.specs.Store.{with_blanks}
+use Rattle.session.specs.Moved.{IsIn}
 use Rattle.session.specs.Ranges.{SameApart}
-use Rattle.session.specs.Renewed.{AreHeldEnds}
-use Rattle.session.proofs.GrowLaws.{grow_same}
-use Rattle.session.proofs.MaskLaws.{belong_blanks, blanks_store, kept_but_blanks}
+use Rattle.session.proofs.MaskLaws.{hours_in_order, hours_within, kept_but_blanks}
+use Rattle.session.proofs.MovedLaws.{are_moved}
 use Rattle.session.proofs.session.Session.mask.Goals as goal
 
-pub end_of-requires-clause-low : goal.end_of-requires-clause-low
-end_of-requires-clause-low g c =
+pub hour_at-first-requires-clause-high : goal.hour_at-first-requires-clause-high
+hour_at-first-requires-clause-high g c =
+    let rf = c.ranges.from in
+    let rt = c.ranges.to in
+    let few = c.self.invariant.is_store.few in
+    let some : c.args.from <ℤ c.args.to = c.requires.some in
+    let high : c.args.to ≤ℤ pos (36000 * length c.self.inside.store.hours) = rw (← c.self.view_is) at c.requires.high in
+    simp to_z-of_z (omega (arith, ints))
+
+pub hour_at-last-requires-clause-low : goal.hour_at-last-requires-clause-low
+hour_at-last-requires-clause-low g c =
     let rf = c.ranges.from in
     let rt = c.ranges.to in
     let low : pos 0 ≤ℤ c.args.from = c.requires.low in
     let some : c.args.from <ℤ c.args.to = c.requires.some in
     simp to_z-of_z (omega (arith, ints))
 
-pub end_of-requires-clause-high : goal.end_of-requires-clause-high
-end_of-requires-clause-high g c =
+pub hour_at-last-requires-clause-high : goal.hour_at-last-requires-clause-high
+hour_at-last-requires-clause-high g c =
+    let rf = c.ranges.from in
     let rt = c.ranges.to in
     let few = c.self.invariant.is_store.few in
     let high : c.args.to ≤ℤ pos (36000 * length c.self.inside.store.hours) = rw (← c.self.view_is) at c.requires.high in
     simp to_z-of_z (omega (arith, ints))
-
-pub held_ends-requires-clause-order : goal.held_ends-requires-clause-order
-held_ends-requires-clause-order g c =
-    let rf = c.ranges.from in
-    let rt = c.ranges.to in
-    let some : c.args.from <ℤ c.args.to = c.requires.some in
-    let a : pos (36000 * c.hour_at.result) ≤ℤ c.args.from = simp to_z-of_z at c.hour_at.ensures in
-    let b : c.args.to ≤ℤ pos (36000 * c.end_of.result) = simp to_z-of_z at c.end_of.ensures.to in
-    omega (arith, ints)
-
-pub held_ends-requires-clause-within : goal.held_ends-requires-clause-within
-held_ends-requires-clause-within g c =
-    let rt = c.ranges.to in
-    let high : c.args.to ≤ℤ pos (36000 * length c.self.inside.store.hours) = rw (← c.self.view_is) at c.requires.high in
-    let first = simp to_z-of_z at c.end_of.ensures.first in
-    rw c.set_blanks-before.ensures.store (first (length c.self.inside.store.hours) high)
-
-pub invariant_of-self : goal.invariant_of-self
-invariant_of-self g c =
-    let s = c.self.inside.store in
-    let rf = c.ranges.from in
-    let rt = c.ranges.to in
-    let within : LieWithin (length s.hours) c.args.blanks = rw (← c.self.view_is) at c.requires.within in
-    let same : SameApart s.blanks c.args.from c.args.to c.args.blanks = rw (← c.self.view_is) at c.requires.same in
-    let a : pos (36000 * c.hour_at.result) ≤ℤ c.args.from = simp to_z-of_z at c.hour_at.ensures in
-    let b : c.args.to ≤ℤ pos (36000 * c.end_of.result) = simp to_z-of_z at c.end_of.ensures.to in
-    let none : AreHeldEnds s c.hour_at.result c.end_of.result None = rw c.set_blanks-before.ensures.store at c.in-None.ensures in
-    rw c.set_blanks-before.ensures.store (belong_blanks c.self.inside.config s c.args.blanks c.args.from c.args.to c.hour_at.result c.end_of.result c.self.inside.rules.items c.self.inside.worked.carries.items c.self.inside.worked.futures.items c.self.inside.worked.report within same a b none c.self.invariant)
-
-pub returns-in-None-clause-grow : goal.returns-in-None-clause-grow
-returns-in-None-clause-grow g c = grow_same c.args.reads.now
 
 pub renew-requires-clause-kept : goal.renew-requires-clause-kept
 renew-requires-clause-kept g c =
     let s = c.self.inside.store in
     let rf = c.ranges.from in
     let rt = c.ranges.to in
-    let same : SameApart s.blanks c.args.from c.args.to c.args.blanks = rw (← c.self.view_is) at c.requires.same in
+    let low : pos 0 ≤ℤ c.args.from = c.requires.low in
+    let some : c.args.from <ℤ c.args.to = c.requires.some in
     let high : c.args.to ≤ℤ pos (36000 * length s.hours) = rw (← c.self.view_is) at c.requires.high in
-    let first = simp to_z-of_z at c.end_of.ensures.first in
-    let a : pos (36000 * c.hour_at.result) ≤ℤ c.args.from = simp to_z-of_z at c.hour_at.ensures in
-    let b : c.args.to ≤ℤ pos (36000 * c.end_of.result) = simp to_z-of_z at c.end_of.ensures.to in
-    let ends : AreHeldEnds s c.hour_at.result c.end_of.result (Some (c.in-Some.first, c.in-Some.last)) = rw c.set_blanks-before.ensures.store at c.in-Some.ensures in
-    rw c.set_blanks-before.ensures.store (kept_but_blanks c.self.inside.config s c.args.blanks c.args.from c.args.to c.hour_at.result c.end_of.result c.in-Some.first c.in-Some.last c.self.inside.worked.carries.items c.self.inside.worked.futures.items c.self.inside.worked.report same a b (first (length s.hours) high) ends c.self.invariant.is_store c.self.invariant.kept)
+    let same : SameApart s.blanks c.args.from c.args.to c.args.blanks = rw (← c.self.view_is) at c.requires.same in
+    let begin : IsIn c.args.from c.hour_at-first.result = simp to_z-of_z at c.hour_at-first.ensures in
+    let fits : FitsSigned w64 (c.args.to -ℤ pos 1) = search (rules, ints) in
+    let end : IsIn (c.args.to -ℤ pos 1) c.hour_at-last.result = simp to_z-of_z at c.hour_at-last.ensures in
+    rw c.set_blanks-before.ensures.store (kept_but_blanks c.self.inside.config s c.args.blanks c.args.from c.args.to c.hour_at-first.result c.hour_at-last.result c.self.inside.worked.carries.items c.self.inside.worked.futures.items c.self.inside.worked.report same some high begin end c.self.invariant.is_store c.self.invariant.kept)
 
-pub invariant_of-self-in-Ok : goal.invariant_of-self-in-Ok
-invariant_of-self-in-Ok g c =
+pub moved-hours-requires : goal.moved-hours-requires
+moved-hours-requires g c =
+    let few = c.self.invariant.is_store.few in
+    let size = c.self.invariant.kept.forth.size in
+    let room = c.in-Ok.ensures.fresh.carry_room in
+    omega arith
+
+pub returns-in-Ok-clause-moved : goal.returns-in-Ok-clause-moved
+returns-in-Ok-clause-moved g c =
+    let s = c.self.inside.store in
+    let rf = c.ranges.from in
+    let rt = c.ranges.to in
+    let worked = c.self.inside.worked in
+    let points = c.in-Ok.fresh.points in
+    let low : pos 0 ≤ℤ c.args.from = c.requires.low in
+    let some : c.args.from <ℤ c.args.to = c.requires.some in
+    let high : c.args.to ≤ℤ pos (36000 * length s.hours) = rw (← c.self.view_is) at c.requires.high in
+    let begin : IsIn c.args.from c.hour_at-first.result = simp to_z-of_z at c.hour_at-first.ensures in
+    let fits : FitsSigned w64 (c.args.to -ℤ pos 1) = search (rules, ints) in
+    let end : IsIn (c.args.to -ℤ pos 1) c.hour_at-last.result = simp to_z-of_z at c.hour_at-last.ensures in
+    let order = hours_in_order c.args.from c.args.to c.hour_at-first.result c.hour_at-last.result some begin end in
+    let within = hours_within c.args.to c.hour_at-last.result (length s.hours) high end in
+    let is = rw c.set_blanks-before.ensures.store at c.in-Ok.ensures.store in
+    let carries = rw c.set_blanks-before.ensures.store at c.in-Ok.ensures.carries in
+    let futures = rw c.set_blanks-before.ensures.store at c.in-Ok.ensures.futures in
+    let to = c.moved-hours.ensures.to ∙ ap (λ (n : ℕ). n + length points.carries.items) c.in-Ok.ensures.first in
+    let moved = are_moved c.self.inside.config s (with_blanks s c.args.blanks) c.self.invariant.sound c.self.invariant.is_store is refl c.hour_at-first.result c.hour_at-last.result worked.carries.items worked.futures.items worked.report points.carries.items points.from points.futures.items c.moved-hours.result
+    order within c.self.invariant.kept carries futures c.moved-hours.ensures.from to in
+    rw (← c.self.view_is) (c.hour_at-first.result, c.hour_at-last.result, (begin, end), moved)
+
+pub invariant_of-self : goal.invariant_of-self
+invariant_of-self g c =
     let hours : length c.set_blanks-before.new.self.hours ≡ c.self.inside.config.window.hours = rw c.set_blanks-before.ensures.store c.self.invariant.hours in
     rw (c.adopt.ensures.carries, c.adopt.ensures.futures, c.adopt.ensures.report) (record {
       sound = c.self.invariant.sound;
@@ -77,6 +88,9 @@ invariant_of-self-in-Ok g c =
       history = c.in-Ok.ensures.history;
       kept = c.in-Ok.ensures.fresh.kept;
     })
+
+pub set_blanks-requires : goal.set_blanks-requires
+set_blanks-requires g c = rw c.set_blanks-before.ensures.store (record { within = c.set_blanks-before.ensures.within_before })
 
 pub invariant_of-self-in-Err : goal.invariant_of-self-in-Err
 invariant_of-self-in-Err g c =
@@ -89,21 +103,3 @@ returns-in-Err-clause-stop g c =
     let stop = rw c.set_blanks-before.ensures.store at c.in-Err.ensures.stop in
     let is = rw c.set_blanks-before.ensures.store at c.in-Err.ensures.store in
     rw (← c.self.view_is) (c.edit_error.ensures c.self.inside.config (with_blanks s c.args.blanks) c.self.invariant.sound is stop)
-
-pub returns-in-None-clause-store : goal.returns-in-None-clause-store
-returns-in-None-clause-store g c =
-    let within : LieWithin (length c.self.inside.store.hours) c.args.blanks = rw (← c.self.view_is) at c.requires.within in
-    rw (← c.self.view_is) (blanks_store c.self.inside.store c.args.blanks c.self.invariant.is_store within)
-
-pub returns-in-None-clause-done : goal.returns-in-None-clause-done
-returns-in-None-clause-done g c =
-    let s = c.self.inside.store in
-    let rf = c.ranges.from in
-    let rt = c.ranges.to in
-    let within : LieWithin (length s.hours) c.args.blanks = rw (← c.self.view_is) at c.requires.within in
-    let same : SameApart s.blanks c.args.from c.args.to c.args.blanks = rw (← c.self.view_is) at c.requires.same in
-    let a : pos (36000 * c.hour_at.result) ≤ℤ c.args.from = simp to_z-of_z at c.hour_at.ensures in
-    let b : c.args.to ≤ℤ pos (36000 * c.end_of.result) = simp to_z-of_z at c.end_of.ensures.to in
-    let none : AreHeldEnds s c.hour_at.result c.end_of.result None = rw c.set_blanks-before.ensures.store at c.in-None.ensures in
-    let all = belong_blanks c.self.inside.config s c.args.blanks c.args.from c.args.to c.hour_at.result c.end_of.result c.self.inside.rules.items c.self.inside.worked.carries.items c.self.inside.worked.futures.items c.self.inside.worked.report within same a b none c.self.invariant in
-    rw (← c.self.view_is) (c.set_blanks-before.ensures.store, all.history)

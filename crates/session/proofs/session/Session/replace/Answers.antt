@@ -3,6 +3,7 @@ use Rattle.sig_base.specs.Window.{Span}
 use Rattle.hour_store.specs.Store.{rows_held, with_hour}
 use Rattle.session.specs.Edits.{replace, step_of}
 use Rattle.session.proofs.EditLaws.{replace_step, steps_done}
+use Rattle.session.proofs.MovedLaws.{moves_hour}
 use Rattle.session.proofs.session.Session.replace.Goals as goal
 
 pub returns-clause-step : goal.returns-clause-step
@@ -22,3 +23,12 @@ returns-clause-step g c =
     let back = rw (← c.self.view_is) at c.hold.ensures.back in
     let stop = rw (← c.self.view_is) at c.hold.ensures.stop in
     rw (← c.self.view_is) (steps_done c.self.inside.config (step_of s (replace r)) s (with_hour s h (Some r)) c.hold.new.self.store c.hold.result step done back stop)
+
+pub returns-clause-moved : goal.returns-clause-moved
+returns-clause-moved g c =
+    let s = c.self.inside.store in
+    let h = c.hour-hour.result in
+    let here = c.hour-hour.ensures.value in
+    let done = rw (← c.self.view_is) at c.hold.ensures.done in
+    let moved = rw (← c.self.view_is) at c.hold.ensures.moved in
+    rw (← c.self.view_is) (moves_hour c.self.inside.config s (with_hour s h (Some c.args.rows)) c.hold.new.self.store h (replace c.args.rows) c.hold.result (here, here) done moved)

@@ -6,6 +6,7 @@ use Rattle.session.specs.Ranges.{Without}
 use Rattle.session.proofs.EditLaws.{unblank_step, few_blanks, in_order, inside, many_blanks, steps_done}
 use Rattle.session.proofs.MaskLaws.{without_same}
 use Rattle.session.proofs.RangeLaws.{without_within}
+use Rattle.session.proofs.MovedLaws.{moves_to}
 use Rattle.session.proofs.session.Session.unblank.Goals as goal
 
 pub returns-then-ranges-gt-MOST_BLANKS-clause-step : goal.returns-then-ranges-gt-MOST_BLANKS-clause-step
@@ -96,3 +97,12 @@ mask-requires-clause-same g c =
     let n : c.hours.result ≡ length s.hours = c.hours.ensures.value ∙ sym c.self.invariant.hours in
     let p = rw n at (inside c.hours.result c.args.from c.args.to out) in
     rw (← c.self.view_is) (simp to_z-of_z (without_same s.blanks c.in-Ok.blanks c.args.from c.args.to made))
+
+pub returns-clause-moved : goal.returns-clause-moved
+returns-clause-moved g c =
+    let s = c.self.inside.store in
+    let rf = c.ranges.from in
+    let rt = c.ranges.to in
+    let done = rw (← c.self.view_is) at c.mask.ensures.done in
+    let moved = simp to_z-of_z at (rw (← c.self.view_is) at c.mask.ensures.moved) in
+    rw (← c.self.view_is) (moves_to c.self.inside.config s (with_blanks s c.in-Ok.blanks) c.mask.new.self.store (unblank c.args.from c.args.to) c.mask.result done moved)

@@ -1,9 +1,10 @@
-use Rattle.std.proofs.Common.{◌∙◌, ◌<◌, None, ap, arith, length, sym}
+use Rattle.std.proofs.Common.{◌∙◌, ◌<◌, None, ap, arith, length, refl, sym}
 use Rattle.sig_base.specs.Window.{Span}
 use Rattle.hour_store.specs.Store.{with_hour}
 use Rattle.session.specs.Edits.{step_of, withdraw}
 use Rattle.session.proofs.EditLaws.{steps_done, withdraw_step}
 use Rattle.session.proofs.LessLaws.{never_withdrawn}
+use Rattle.session.proofs.MovedLaws.{moves_hour}
 use Rattle.session.proofs.session.Session.withdraw.Goals as goal
 
 pub returns-clause-step : goal.returns-clause-step
@@ -26,3 +27,11 @@ returns-clause-never g c =
     let stop = rw (← c.self.view_is) at c.hold.ensures.stop in
     let less = rw (← c.self.view_is) at c.hold.ensures.store in
     never_withdrawn c.self.inside.config s c.args.hour c.hold.result c.self.invariant.sound c.self.invariant.is_store less c.self.invariant.history stop
+
+pub returns-clause-moved : goal.returns-clause-moved
+returns-clause-moved g c =
+    let s = c.self.inside.store in
+    let h = c.args.hour in
+    let done = rw (← c.self.view_is) at c.hold.ensures.done in
+    let moved = rw (← c.self.view_is) at c.hold.ensures.moved in
+    rw (← c.self.view_is) (moves_hour c.self.inside.config s (with_hour s h None) c.hold.new.self.store h (withdraw h) c.hold.result (refl, refl) done moved)

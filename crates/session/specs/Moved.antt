@@ -1,0 +1,33 @@
+-- The hours whose answers can change by an edit.
+use Rattle.std.specs.Prelude.{◌≡◌, ◌+◌, ◌*◌, ◌≤◌, ◌<◌, ◌⊎◌, ℕ, ℤ, pos, ◌-ℤ◌, ◌≤ℤ◌, ◌<ℤ◌, length}
+use Rattle.sig_base.specs.declared.values.Applied.{Applied}
+use Rattle.hour_store.specs.Store.{Store}
+use Rattle.ring_config.specs.Settings.{Settings}
+use Rattle.hour_work.specs.Moved.{IsSameCarry, IsSameFuture}
+use Rattle.session.specs.Edits.{Change, load, replace, withdraw, blank, unblank}
+
+-- the tenth is one of the hour
+abbrev pub IsIn : ℤ → ℕ → Type 0
+IsIn t hour = (pos (36000 * hour) ≤ℤ t) × (t <ℤ pos (36000 * (hour + 1)))
+
+-- the first and the last hour that an edit touches: its hour, or those of the first and the last tenth of its range
+abbrev pub Touches : Change → ℕ → ℕ → Type 0
+Touches (load r) first last = (first ≡ r.hour) × (last ≡ r.hour)
+Touches (replace r) first last = (first ≡ r.hour) × (last ≡ r.hour)
+Touches (withdraw hour) first last = (first ≡ hour) × (last ≡ hour)
+Touches (blank from to) first last = IsIn from first × IsIn (to -ℤ pos 1) last
+Touches (unblank from to) first last = IsIn from first × IsIn (to -ℤ pos 1) last
+
+-- the hours that move between two stores of which the second has others than the first from the hour `first` to the hour `last`. They begin at the greatest point at or before the hour `first` from which both can be completed from the same states, or at the window's start; they end at the least point after the hour `last` up to which both say the same, or at the window's end
+pub record AreMoved (c : Settings) (s t : Store) (first last : ℕ) (moved : Applied) : Type 0 where
+  pub from_low : moved.from ≤ first
+  pub from_same : (moved.from ≡ 0) ⊎ IsSameFuture c s t moved.from
+  pub from_greatest : (k : ℕ) → moved.from < k → k ≤ first → IsSameFuture c s t k → ⊥
+  pub to_low : last < moved.to
+  pub to_high : moved.to ≤ length s.hours
+  pub to_same : (moved.to ≡ length s.hours) ⊎ IsSameCarry c s t moved.to
+  pub to_least : (k : ℕ) → last < k → k < moved.to → IsSameCarry c s t k → ⊥
+
+-- these hours move by an edit that makes the second store of the first one
+abbrev pub Moves : Settings → Store → Store → Change → Applied → Type 0
+Moves c s t change moved = (first : ℕ) × (last : ℕ) × Touches change first last × AreMoved c s t first last moved

@@ -15,6 +15,7 @@
 
 mod ahead;
 mod approach;
+mod arrivals;
 mod carry;
 mod chains;
 mod cycles;
@@ -30,6 +31,7 @@ mod sums;
 mod tests;
 mod under_way;
 
+pub use arrivals::arrival_points;
 pub use carry::ArrivalCarry;
 pub use hour::{ArrivalSums, arrivals_carried, arrivals_hour, arrivals_unheld};
 pub use laws::diagrams_fit;

@@ -85,8 +85,8 @@ fn is_on(detector: u8, row: &Row) -> bool
     row.code == DETECTOR_ON && row.param == u16::from(detector)
 }
 
-// Whether the row is one of the advance detector of an approach of the phase.
-fn arrives(approach: &Approach, phase: u8, row: &Row) -> bool
+/// Whether the row is one of the advance detector of an approach of the phase.
+pub(crate) fn arrives(approach: &Approach, phase: u8, row: &Row) -> bool
     ensures { result ≡ (approach.now.phase == phase && is_on_at approach.now.advance row.now) }
 {
     match approach.advance {
@@ -112,8 +112,13 @@ fn add_points(config: &Config, phase: u8, row: &Row, points: &mut Points) -> Res
     Ok(())
 }
 
-// The points of arrivals.
-fn points_among(alloc: Global, config: &Config, phase: u8, rows: &[Row]) -> Result<Points, NoMemory>
+/// The points of arrivals.
+pub(crate) fn points_among(
+    alloc: Global,
+    config: &Config,
+    phase: u8,
+    rows: &[Row],
+) -> Result<Points, NoMemory>
     ensures { IfOk result (λ points. All (λ x. x.at < 26820000) rows.now
         → points ≡ flat_map (points_at phase 0 config.now.approaches) rows.now) }
 {

@@ -20,3 +20,4 @@ pub mod PhaseLaws
 pub mod GreenLaws
 pub mod OrderLaws
 pub mod BarLaws
+pub mod PickedLaws

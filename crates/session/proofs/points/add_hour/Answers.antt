@@ -33,7 +33,7 @@ returns-clause-points g c =
     let has = has_hour s c.args.hour (option_copied c.open_hour-rows.result) c.blanked-blanked.result.now c.blanked-blanked.ensures.store c.requires.in_store c.open_hour-rows.ensures.rows c.blanked-blanked.ensures.value in
     c.in_ok-add_points.ensures ∙ ap (λ zs. c.args.found.now.points ++ zs) (c.list.ensures ∙ c.in_ok-points.ensures s has c.requires.before)
 
-pub phase_points-requires-clause-agrees : goal.phase_points-points-requires-clause-agrees
+pub phase_points-requires-clause-agrees : goal.phase_points-requires-clause-agrees
 phase_points-requires-clause-agrees g c =
     let s = c.args.store.now in
     let has = has_hour s c.args.hour (option_copied c.open_hour-rows.result) c.blanked-blanked.result.now c.blanked-blanked.ensures.store c.requires.in_store c.open_hour-rows.ensures.rows c.blanked-blanked.ensures.value in

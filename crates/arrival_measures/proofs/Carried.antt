@@ -1,10 +1,10 @@
 -- The points of an hour are told by what crosses the point before it.
-use Rattle.std.proofs.Common.{◌≡◌, ℕ, ◌<◌, Bool, List, ◌∷◌, Option, ap, sym, ◌∙◌}
+use Rattle.std.proofs.Common.{◌≡◌, ℕ, Bool, List, ap, sym, ◌∙◌}
 use Rattle.std.specs.Prelude.{All, flat_map}
 use Rattle.sig_base.specs.declared.values.Row.{Row}
 use Rattle.gap_map.specs.declared.stretch.Stretch.{Stretch}
 use Rattle.hour_sweep.specs.Rows.{known_rows}
-use Rattle.hour_sweep.specs.Hours.{IsHour, point}
+use Rattle.hour_sweep.specs.Hours.{IsHour}
 use Rattle.ring_config.specs.Settings.{Settings}
 use Rattle.ring_config.specs.Sound.{IsApproach}
 use Rattle.arrival_measures.specs.Crossing.{CarryParts, IsCarry}

@@ -3,7 +3,6 @@ use Rattle.std.specs.Prelude.{All, flat_map}
 use Rattle.std.proofs.lemmas.Result.{IfOk-weaker}
 use Rattle.sig_base.specs.declared.values.Row.{Row}
 use Rattle.board.specs.Logs.{HourLog}
-use Rattle.arrival_measures.specs.declared.points.Point.{Point}
 use Rattle.arrival_measures.specs.Points.{ArePicked, ArePointsOf, IsArrival, points_at}
 use Rattle.arrival_measures.specs.Views.{IsSeen}
 use Rattle.arrival_measures.proofs.Picking.{picked_all, rows_low}

@@ -1,4 +1,4 @@
-use Rattle.std.proofs.Common.{◌≡◌, ◌<◌, ◌∙◌, List, ap, sym, subst, length, get_or, refl, arith}
+use Rattle.std.proofs.Common.{◌<◌, ◌∙◌, List, ap, subst, length, refl, arith}
 use Rattle.std.proofs.lemmas.List.{take_all}
 use Rattle.sig_base.specs.declared.values.Row.{Row}
 use Rattle.board.specs.Logs.{no_row}

@@ -1,4 +1,4 @@
-use Rattle.std.proofs.Common.{◌≡◌, ◌∙◌, ◌<◌, ◌&&◌, eqb, true, false, ap, sym, length, drop, [], arith}
+use Rattle.std.proofs.Common.{◌≡◌, ◌∙◌, ◌&&◌, eqb, true, false, ap, sym, drop, [], arith}
 use Rattle.std.proofs.lemmas.List.{drop_all}
 use Rattle.ring_config.specs.declared.items.Approach.{Approach}
 use Rattle.arrival_measures.specs.Points.{is_ahead, is_on_at}

@@ -1,4 +1,4 @@
-use Rattle.std.proofs.Common.{◌≡◌, ◌∙◌, ◌<◌, true, sym, ap, subst, List, length, get_or}
+use Rattle.std.proofs.Common.{◌∙◌, ◌<◌, sym, ap, subst, List, length, get_or}
 use Rattle.sig_base.specs.declared.values.Row.{Row}
 use Rattle.board.specs.Logs.{no_row}
 use Rattle.arrival_measures.proofs.Picking.{arrival_is, not_ahead, not_known, row_known}

@@ -1,4 +1,4 @@
-use Rattle.std.proofs.Common.{rules, w64, ◌≡◌, ◌∙◌, ◌<◌, true, ap, subst, sym, refl, length, get_or, pos}
+use Rattle.std.proofs.Common.{rules, w64, ◌≡◌, ◌∙◌, true, ap, subst, refl, get_or, pos}
 use Rattle.std.proofs.lemmas.Int.{ints, to_z-of_z}
 use Rattle.std.specs.Prelude.{FitsSigned}
 use Rattle.sig_base.specs.declared.values.Row.{Row}

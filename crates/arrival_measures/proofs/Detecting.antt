@@ -1,5 +1,5 @@
 -- The rows at which detectors go on, and what is sure of their faults, from one pass over an hour.
-use Rattle.std.proofs.Common.{◌≡◌, ◌≢◌, ℕ, ◌+◌, ◌<◌, ◌≤◌, Bool, true, false, not, ◌&&◌, cond, eqb, ltb, List, [], ◌∷◌, ◌++◌, Option, Some, None, refl, ap, ◌∙◌, arith}
+use Rattle.std.proofs.Common.{◌≡◌, ◌≢◌, ℕ, ◌+◌, ◌<◌, ◌≤◌, Bool, true, false, not, ◌&&◌, cond, eqb, ltb, List, [], ◌∷◌, ◌++◌, Option, Some, None, refl, ap, sym, ◌∙◌, arith}
 use Rattle.std.specs.Prelude.{All, option_map, filter_map}
 use Rattle.std.specs.List.{cons_option, filter}
 use Rattle.std.proofs.lemmas.Bool.{and_parts, eq-eqb, ne_eqb, ltb-true}
@@ -19,7 +19,7 @@ use Rattle.arrival_measures.specs.declared.faults.Detection.{Detection}
 use Rattle.arrival_measures.specs.declared.faults.Detections.{Detections}
 use Rattle.arrival_measures.specs.Faults.{arrivals_from, begins_fault, faults_from, faulty, faulty_since, is_of, is_own}
 use Rattle.arrival_measures.specs.Crossing.{flag_of, flags_of, has_detector}
-use Rattle.arrival_measures.specs.Steps.{AreDetections, arrival_in, detected_at, detected_by, fault_in, flag_after, flag_cleared}
+use Rattle.arrival_measures.specs.Steps.{AreDetections, arrival_in, detected_at, detected_by, fault_in, flag_after, flag_cleared, of_approaches}
 
 -- ---- the flag of a detector, row by row
 
@@ -118,3 +118,10 @@ detections_are known c before hour rows outs parts d is a f p = record {
   faults = f ∙ ap (λ zs. filter_map fault_in zs) is.outs_are ∙ faults_split known (has_detector c) before (known_rows known rows);
   flags = p ∙ is.parts_are ∙ ap (λ t. flags_of known c t (before ++ known_rows known rows)) (let e : point hour + 36000 ≡ point (hour + 1) = omega arith in e);
 }
+
+-- the arrivals of the hour are told by the flags at the point before it
+pub arrivals_by : (known : ℕ → Bool) (c : Settings) (before : List Row) (hour : ℕ) (rows : List Row) (ss : List Stretch) (flags : List (Option Flag)) → IsHour known hour rows ss → All (λ x. x.at < point hour) before → flags ≡ flags_of known c (point hour) before → of_approaches c (arrivals_from known before (known_rows known rows)) ≡ filter_map arrival_in (swept (tracking_after flag_after detected_by) (tracking_cleared flag_cleared) ss rows (record { parts = flags; outs = [] })).outs
+arrivals_by known c before hour rows ss flags h low at =
+    let end : Tracking Flag Detection = swept (tracking_after flag_after detected_by) (tracking_cleared flag_cleared) ss rows (record { parts = flags; outs = [] }) in
+    let is = detected known c before hour rows ss flags end refl h low at in
+    sym (ap (λ zs. filter_map arrival_in zs) is.outs_are ∙ arrivals_split known (has_detector c) before (known_rows known rows))

@@ -212,9 +212,6 @@ arrivals_bounded known hour c before rows or =
     let all = both_bounds (point hour) (point hour + 36000) rows (ordered_low (point hour) (point hour + 36000) (point hour) rows (omega arith) or) (below_end (point hour) (point hour + 36000) rows or) in
     All-filter (λ x. has_detector c x.param) P (arrivals_from known before (known_rows known rows)) (passing_all P (is_arrival known) before (known_rows known rows) (All-filter (λ x. known x.at) P rows all))
 
-pub few_tenths : (known : ℕ → Bool) (hour : ℕ) (c : Settings) (before rows : List Row) → hour < 744 → AreOrdered (point hour) (point hour + 36000) rows → All (λ x. x.at < 26820000) (of_approaches c (arrivals_from known before (known_rows known rows)))
-few_tenths known hour c before rows lt or = λ k d l. let b = (arrivals_bounded known hour c before rows or k d l).1 in omega arith
-
 pub bar_low : (known : ℕ → Bool) (hour : ℕ) (c : Settings) (before rows : List Row) (o : Option ℕ) → AreOrdered (point hour) (point hour + 36000) rows → All (λ x. point hour ≤ x.at) (rows_with (of_approaches c (arrivals_from known before (known_rows known rows))) o)
 bar_low known hour c before rows None or = All-nil (λ x. point hour ≤ x.at)
 bar_low known hour c before rows (Some d) or = All-filter (is_on d) (λ x. point hour ≤ x.at) (of_approaches c (arrivals_from known before (known_rows known rows))) (λ k e l. (arrivals_bounded known hour c before rows or k e l).0)

@@ -18,3 +18,5 @@ pub mod Sorting
 pub mod RowPoints
 pub mod OneSum
 pub mod Fitting
+pub mod Picking
+pub mod Carried

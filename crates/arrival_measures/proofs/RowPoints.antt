@@ -51,10 +51,10 @@ or_right : (a b : Bool) → b ≡ true → (a || b) ≡ true
 or_right true b h = refl
 or_right false b h = h
 
-abbrev has_of : ℕ → Approach → Bool
+abbrev pub has_of : ℕ → Approach → Bool
 has_of n a = has_number (detectors a) n
 
-on_has : (a : Approach) (o : Option ℕ) (x : Row) → a.advance ≡ o → is_on_at o x ≡ true → has_of x.param a ≡ true
+pub on_has : (a : Approach) (o : Option ℕ) (x : Row) → a.advance ≡ o → is_on_at o x ≡ true → has_of x.param a ≡ true
 on_has a None x is e = absurd (cc)
 on_has a (Some d) x is e =
     let at : eqb d x.param ≡ true = eq-eqb d x.param (sym (eqb-true x.param d (and_parts (eqb x.code 82) (eqb x.param d) e).1)) in

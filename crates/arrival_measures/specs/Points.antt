@@ -1,16 +1,23 @@
 -- Points of a phase's diagram: when vehicles came in its cycles.
-use Rattle.std.specs.Prelude.{ℕ, zero, suc, ◌≡◌, ◌+◌, ◌-◌, ◌==◌, ◌<◌, All, Bool, false, if◌then◌else◌, ◌&&◌, List, [], ◌∷◌, ◌++◌, Option, Some, None, map, filter, flat_map}
+use Rattle.std.specs.Prelude.{ℕ, zero, suc, ◌≡◌, ◌⊎◌, ◌+◌, ◌-◌, ◌==◌, ◌<◌, All, Bool, true, false, if◌then◌else◌, ◌&&◌, List, [], ◌∷◌, ◌++◌, Option, Some, None, map, filter, flat_map}
+use Rattle.std.specs.List.{list_any}
 use Rattle.std.specs.List.Sorted.{IsNonDecreasingBy}
 use Rattle.sig_base.specs.declared.values.Row.{Row}
+use Rattle.event_codes.specs.declared.channels.Channel.{Channel}
+use Rattle.event_codes.specs.declared.channels.Kind.TheVariants.{Detector}
+use Rattle.gap_map.specs.Stretches.{known_at}
+use Rattle.board.specs.Logs.{HourLog}
+use Rattle.board.specs.Verdicts.{MayPassRow}
 use Rattle.service_cut.specs.declared.items.Cycle.{Cycle}
 use Rattle.service_cut.specs.Whole.{CycleFits}
-use Rattle.ring_config.specs.Settings.{Settings}
+use Rattle.ring_config.specs.Settings.{Settings, spec_place}
 use Rattle.ring_config.specs.declared.items.Approach.{Approach}
 use Rattle.arrival_measures.specs.declared.points.Point.{Point}
 use Rattle.arrival_measures.specs.declared.points.Diagram.{Diagram}
 use Rattle.cycle_arrivals.specs.Arrivals.{is_on}
 use Rattle.arrival_measures.specs.Faults.{arrivals_from}
 use Rattle.arrival_measures.specs.Hours.{cycles_of}
+use Rattle.arrival_measures.specs.Judged.{AllPass}
 
 abbrev pub is_on_at : Option ℕ → Row → Bool
 is_on_at None x = false
@@ -26,6 +33,44 @@ points_at p i (a ∷ more) x =
 -- the points of the arrivals among the known rows, in row order, where the first rows stand before them; a point's offset is here its arrival tenth
 abbrev pub points_from : (ℕ → Bool) → Settings → ℕ → List Row → List Row → List Point
 points_from known c p before rows = flat_map (points_at p 0 c.approaches) (arrivals_from known before rows)
+
+-- ---- by the view of an hour
+
+-- the colour is Fault
+abbrev pub is_fault : ℕ → Bool
+is_fault c = c == 2
+
+abbrev pub detector_channel : ℕ → Channel
+detector_channel d = record { kind = Detector; number = d }
+
+-- the row, of this number among the hour's rows, is one before which its detector isn't sure to have a fault: not all states that it may have there have the colour Fault
+pub record MayWork (c : Settings) (log : HourLog) (n : ℕ) (x : Row) : Type 0 where
+  pub place : ℕ
+  pub is_place : spec_place c.specs (detector_channel x.param) ≡ Some place
+  pub not_sure : AllPass is_fault (MayPassRow log n place) → ⊥
+
+-- it is one at which a detector goes on that is ahead of an approach of phase p
+abbrev pub is_ahead : ℕ → List Approach → Row → Bool
+is_ahead p all x = list_any (λ a. a.phase == p && is_on_at a.advance x) all
+
+-- it is an arrival of phase p
+pub record IsArrival (c : Settings) (log : HourLog) (p n : ℕ) (x : Row) : Type 0 where
+  pub is_known : known_at log.stretches x.at ≡ true
+  pub ahead : is_ahead p c.approaches x ≡ true
+  pub may_work : MayWork c log n x
+
+-- of the rows, of which the first has number n, these are those of which P holds, in their order
+unfoldable pub ArePicked : (ℕ → Row → Type 0) → ℕ → List Row → List Row → Type 0
+ArePicked P n [] picked = picked ≡ []
+ArePicked P n (x ∷ xs) picked = (P n x × ((rest : List Row) × (picked ≡ x ∷ rest) × ArePicked P (n + 1) xs rest)) ⊎ ((P n x → ⊥) × ArePicked P (n + 1) xs picked)
+
+-- these are the points of phase p in the hour: those of its arrivals, in row order
+pub record ArePointsOf (c : Settings) (log : HourLog) (p : ℕ) (points : List Point) : Type 0 where
+  pub arrivals : List Row
+  pub are_arrivals : ArePicked (IsArrival c log p) 0 log.rows arrivals
+  pub are_points : points ≡ flat_map (points_at p 0 c.approaches) arrivals
+
+-- ---- diagrams
 
 -- the points at this tenth
 abbrev pub at_tenth : ℕ → List Point → List Point

@@ -1,11 +1,13 @@
 -- What the steps of an hour owe one another.
-use Rattle.std.specs.Prelude.{ℕ, ◌≡◌, ◌↔◌, ◌≤◌, ◌<◌, ◌+◌, ◌-◌, ◌^◌, ◌==◌, ◌&&◌, ◌||◌, ◌++◌, min, not, nat_lt, Bool, true, false, if◌then◌else◌, IsTrue, IfSome, List, [], ◌∷◌, Option, Some, None, All, filter, length, map}
+use Rattle.std.specs.Prelude.{ℕ, ◌≡◌, ◌↔◌, ◌≤◌, ◌<◌, ◌+◌, ◌-◌, ◌^◌, ◌==◌, ◌&&◌, ◌||◌, ◌++◌, min, not, nat_lt, Bool, true, false, if◌then◌else◌, IsTrue, IfSome, List, [], ◌∷◌, Option, Some, None, All, filter, length, map, slice_index_or}
 use Rattle.std.specs.List.{range_with_len}
 use Rattle.sig_base.specs.declared.values.Row.{Row}
 use Rattle.event_codes.specs.declared.channels.Kind.TheVariants.{Detector}
 use Rattle.colour_machine.specs.Mask.{Has}
 use Rattle.reach.specs.Runs.{State}
 use Rattle.reach.specs.declared.seen.Seen.{Seen}
+use Rattle.gap_map.specs.Stretches.{known_at}
+use Rattle.board.specs.Logs.{HourLog, no_row}
 use Rattle.hour_sums.specs.Numbers.{capped}
 use Rattle.hour_sweep.specs.Rows.{known_rows}
 use Rattle.hour_sweep.specs.Hours.{AreOrdered, IsHour, point}
@@ -169,6 +171,12 @@ pub record AreJudgedRows (test : ℕ → Bool) (May : ℕ → State → Type 0) 
   pub none : CountOf (λ x. NonePass test (May x.at)) (filter sees rows) j.none
   pub some : CountOf (λ x. OnlySomePass test (May x.at)) (filter sees rows) j.some
   pub unseen : j.unseen ≡ capped (length (filter (λ x. not (sees x)) rows))
+
+-- the row is a known one of the hour, with this number among its rows
+pub record IsKnownRow (log : HourLog) (n : ℕ) (x : Row) : Type 0 where
+  pub within : n < length log.rows
+  pub is : x ≡ slice_index_or log.rows n no_row
+  pub is_known : known_at log.stretches x.at ≡ true
 
 -- ---- whole cycles
 

@@ -107,9 +107,9 @@ fn seen(view: &HourView, spec: u16, at: u32, colours: Mask) -> Seen
     view.seen_at_end(spec, at, &test)
 }
 
-// Whether the tenth is known, by the stretches of an hour that isn't past it; one after the hour
-// isn't.
-fn is_known(stretches: &[Stretch], at: u32) -> bool
+/// Whether the tenth is known, by the stretches of an hour that isn't past it; one after the hour
+/// isn't.
+pub(crate) fn is_known(stretches: &[Stretch], at: u32) -> bool
     ensures { (known : ℕ → Bool) (a b : ℕ) → AreStretches known a b stretches.now → a ≤ at
         → result ≡ (known at && nat_lt at b) }
 {

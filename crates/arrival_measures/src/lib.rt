@@ -7,7 +7,8 @@
 //! by the travel time to the stop bar, so it may be one of a later hour; those that are on their way
 //! at a point between hours are carried over it. In a whole cycle the rows alone say what the phase
 //! shows, so what a cycle gives is added up row by row and carried over the points too.
-//! `docs/DEFINITIONS.md` has the definitions.
+//! For diagrams the view of the hour says which rows are arrivals; for the numbers the detector's own
+//! rows do. `docs/DEFINITIONS.md` has the definitions.
 //!
 //! An approach goes over its own rows alone: one pass puts the rows of an hour into chains, from
 //! each row of a phase or of a detector to the next one.
@@ -15,6 +16,7 @@
 
 mod ahead;
 mod approach;
+mod arrivals;
 mod carry;
 mod chains;
 mod cycles;
@@ -30,8 +32,9 @@ mod sums;
 mod tests;
 mod under_way;
 
+pub use arrivals::arrival_points;
 pub use carry::ArrivalCarry;
 pub use hour::{ArrivalSums, arrivals_carried, arrivals_hour, arrivals_unheld};
 pub use laws::diagrams_fit;
-pub use points::{Diagram, Point, Points, diagrams, row_points};
+pub use points::{Diagram, Point, Points, diagrams};
 pub use sums::ArrivalSum;

@@ -1,17 +1,11 @@
 // The points of diagrams.
-ghost use Rattle.std.specs.Prelude.{◌≡◌, ◌++◌, ◌∷◌, ◌==◌, ◌&&◌, ◌<◌, ◌-◌, [], ℕ, Bool, List, All, flat_map, map, IfOk, OnOk, OnErr};
+ghost use Rattle.std.specs.Prelude.{◌≡◌, ◌++◌, ◌∷◌, ◌==◌, ◌&&◌, ◌<◌, ◌-◌, [], List, All, flat_map, map, IfOk, OnOk, OnErr};
 ghost use Rattle.sig_base.specs.declared.values.Row.{Row};
-ghost use Rattle.hour_sweep.specs.Rows.{known_rows};
-ghost use Rattle.hour_sweep.specs.Hours.{IsHour};
 ghost use Rattle.cycle_arrivals.specs.Arrivals.{is_on};
 ghost use Rattle.arrival_measures.specs.declared.points.Point.{Point};
-ghost use Rattle.arrival_measures.specs.Crossing.{IsCarry};
-ghost use Rattle.arrival_measures.specs.Points.{IsByTenth, by_tenth, diagram_of, is_on_at, points_at, points_from};
+ghost use Rattle.arrival_measures.specs.Points.{IsByTenth, by_tenth, diagram_of, is_on_at, points_at};
 
 use crate::approach::approach_of;
-use crate::carry::ArrivalCarry;
-use crate::faults::detect;
-use gap_map::Stretch;
 use ring_config::{Approach, Config};
 use service_cut::Cycle;
 use sig_base::{NoMemory, Row};
@@ -85,8 +79,8 @@ fn is_on(detector: u8, row: &Row) -> bool
     row.code == DETECTOR_ON && row.param == u16::from(detector)
 }
 
-// Whether the row is one of the advance detector of an approach of the phase.
-fn arrives(approach: &Approach, phase: u8, row: &Row) -> bool
+/// Whether the row is one of the advance detector of an approach of the phase.
+pub(crate) fn arrives(approach: &Approach, phase: u8, row: &Row) -> bool
     ensures { result ≡ (approach.now.phase == phase && is_on_at approach.now.advance row.now) }
 {
     match approach.advance {
@@ -112,8 +106,13 @@ fn add_points(config: &Config, phase: u8, row: &Row, points: &mut Points) -> Res
     Ok(())
 }
 
-// The points of arrivals.
-fn points_among(alloc: Global, config: &Config, phase: u8, rows: &[Row]) -> Result<Points, NoMemory>
+/// The points of arrivals.
+pub(crate) fn points_among(
+    alloc: Global,
+    config: &Config,
+    phase: u8,
+    rows: &[Row],
+) -> Result<Points, NoMemory>
     ensures { IfOk result (λ points. All (λ x. x.at < 26820000) rows.now
         → points ≡ flat_map (points_at phase 0 config.now.approaches) rows.now) }
 {
@@ -121,27 +120,6 @@ fn points_among(alloc: Global, config: &Config, phase: u8, rows: &[Row]) -> Resu
     for row in rows {
         add_points(config, phase, row, &mut points)?;
     }
-    Ok(points)
-}
-
-/// The arrivals of an hour at the advance detectors of a phase's approaches, in row order, and for
-/// one row in the approaches' file order. An offset is here the arrival tenth, of the window. The
-/// carry is of the point before the hour.
-pub fn row_points(
-    alloc: Global,
-    config: &Config,
-    phase: u8,
-    carry: &ArrivalCarry,
-    rows: &[Row],
-    stretches: &[Stretch],
-) -> Result<Points, NoMemory>
-    ensures { IfOk result (λ points. (known : ℕ → Bool) (before : List Row) (hour : ℕ)
-        → IsHour known hour rows.now stretches.now → IsCarry known config.now before hour carry.now
-        → points ≡ points_from known config.now phase before (known_rows known rows.now)) }
-{
-    let _hours = config.hours();
-    let found = detect(alloc, &carry.flags, rows, stretches)?;
-    let points = points_among(alloc, config, phase, &found.arrivals)?;
     Ok(points)
 }
 

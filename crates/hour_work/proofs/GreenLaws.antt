@@ -265,7 +265,7 @@ among known p end all front r rest x parts order seen given =
     }
 
 -- the same in parts
-parts_are : (all before own front : List Row) (r : Row) (rest later : List Row) → all ≡ before ++ (own ++ later) → own ≡ front ++ r ∷ rest → all ≡ (before ++ front) ++ r ∷ (rest ++ later)
+pub parts_are : (all before own front : List Row) (r : Row) (rest later : List Row) → all ≡ before ++ (own ++ later) → own ≡ front ++ r ∷ rest → all ≡ (before ++ front) ++ r ∷ (rest ++ later)
 parts_are all before own front r rest later e f =
     e
     ∙ (ap (λ zs. before ++ (zs ++ later)) f

@@ -21,3 +21,4 @@ pub mod GreenLaws
 pub mod OrderLaws
 pub mod BarLaws
 pub mod MovedLaws
+pub mod PickedLaws

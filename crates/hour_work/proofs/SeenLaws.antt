@@ -98,7 +98,7 @@ module _ (c : Settings) (s : Store) (hour : ℕ) (before : Carried) (rows : List
   seen_hour : IsHour (is_known s) hour rows ss
   seen_hour = hour_is s hour (Some rows) seen.blanks ss seen.between.has_hour seen.is_view.is_log.is_hour.are_rows seen.cut
 
-  seen_rows : known_rows (is_known s) rows ≡ own_rows s hour
+  pub seen_rows : known_rows (is_known s) rows ≡ own_rows s hour
   seen_rows = own_known s hour (Some rows) seen.between.has_hour.held
 
   -- the numbers of the phases
@@ -138,7 +138,7 @@ module _ (c : Settings) (s : Store) (hour : ℕ) (before : Carried) (rows : List
   seen_view : IsSeen c view rows ss seen_log
   seen_view = record { is_view = seen.is_view; same_specs = refl; same_rows = refl; same_stretches = refl }
 
-  tells : ViewsTell s seen_log
+  pub tells : ViewsTell s seen_log
   tells = hours_tell s seen_log (channels_are c seen.sound) (between_hour c seen.sound s hour before rows seen.blanks seen.after ss seen.between seen.cut)
 
   ends_as : (channel : Channel) (i : ℕ) (asked : Asked) (t : ℕ) → spec_place c.specs channel ≡ Some i → first_tenth hour ≤ t → t < first_tenth hour + 36000 → MeetsAt seen_log i asked t ↔ MeetsIn c s i asked t
@@ -156,7 +156,7 @@ module _ (c : Settings) (s : Store) (hour : ℕ) (before : Carried) (rows : List
   pub seen_states : (others : OtherNumbers) → ((log : HourLog) → IsSeen c view rows ss log → AreStates (MeetsAt log) (first_tenth log.hour) c others) → AreStates (MeetsIn c s) (first_tenth hour) c others
   seen_states others h = states_as (MeetsAt seen_log) (MeetsIn c s) (first_tenth hour) c others ends_as (h seen_log seen_view)
 
-  seen_shown : IsShown c view rows ss seen_log
+  pub seen_shown : IsShown c view rows ss seen_log
   seen_shown = record { is_view = seen.is_view; same_specs = refl; same_rows = refl; same_stretches = refl }
 
   same_colours : (p i : ℕ) → spec_place c.specs (phase_channel p) ≡ Some i → (x : Row) → IsSeenIn (is_known s) hour x → HaveSameColours (MayPass seen_log x.at i) (MayBeIn c s i x.at)

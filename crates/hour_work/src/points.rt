@@ -1,5 +1,5 @@
 // The cycles of a phase in one hour, and its arrivals.
-ghost use Rattle.std.specs.Prelude.{◌≡◌, ◌<◌, option_copied, IfOk, IfSome};
+ghost use Rattle.std.specs.Prelude.{◌≡◌, ◌<◌, Some, option_copied, IfOk, IfSome};
 ghost use Rattle.sig_base.specs.HourRows.{AreRowsOf};
 ghost use Rattle.hour_store.specs.Store.{Store, is_known};
 ghost use Rattle.hour_sums.specs.Numbers.{own};
@@ -8,10 +8,12 @@ ghost use Rattle.arrival_measures.specs.Points.{points_from};
 ghost use Rattle.hour_work.specs.Rows.{earlier_rows, own_rows};
 ghost use Rattle.hour_work.specs.Measures.{cycles_in};
 ghost use Rattle.hour_work.specs.Points.{IsCarryAt};
+ghost use Rattle.hour_work.specs.Reports.{IsHourBetween};
 
+use crate::seen::seen_hour;
 use crate::steps::held_rows;
 use crate::{Carry, Future};
-use arrival_measures::{Points, row_points};
+use arrival_measures::{Points, arrival_points};
 use gap_map::stretches;
 use ring_config::Config;
 use service_cut::{Cycle, cut_hour};
@@ -21,8 +23,8 @@ use std::alloc::Global;
 
 /// The arrivals of an hour, 0 to 743, at the advance detectors of a phase's approaches, in row
 /// order, where these rows are held of the hour (`None`: it isn't held) and these tenths are
-/// blanked, from what is kept at the point before it. An offset is here the arrival tenth, of the
-/// window.
+/// blanked, from what is kept at the points before and after it. An offset is here the arrival
+/// tenth, of the window. Some history agrees with the log.
 pub fn phase_points(
     alloc: Global,
     config: &Config,
@@ -35,19 +37,36 @@ pub fn phase_points(
 ) -> Result<Points, NoMemory>
     requires in_range { hour < 744 }
     requires of_hour { IfSome rows (λ r. AreRowsOf hour r.now) }
+    requires agrees { (s : Store) × IsHourBetween config.now s hour before.now (option_copied rows) blanked.now after.now }
     ensures { IfOk result (λ p. (s : Store) → HasHour s hour (option_copied rows.entry) blanked.now
         → IsCarryAt config.now s hour before.now
         → p ≡ points_from (is_known s) config.now phase (earlier_rows s hour) (own_rows s hour)) }
 {
-    let parts = stretches(alloc, hour, rows.is_some(), blanked)?;
-    row_points(
-        alloc,
-        config,
-        phase,
-        &before.arrivals,
-        held_rows(rows),
-        &parts,
-    )
+    match rows {
+        Some(rows) => held_points(alloc, config, phase, hour, before, rows, blanked, after),
+        None => Ok(Points::new(alloc)),
+    }
+}
+
+// Those of an hour of which these rows are held.
+fn held_points(
+    alloc: Global,
+    config: &Config,
+    phase: u8,
+    hour: Hour,
+    before: &Carry,
+    rows: &[Row],
+    blanked: &SpanSet,
+    after: &Future,
+) -> Result<Points, NoMemory>
+    requires of_hour { AreRowsOf hour rows.now }
+    requires agrees { (s : Store) × IsHourBetween config.now s hour before.now (Some rows.now) blanked.now after.now }
+    ensures { IfOk result (λ p. (s : Store) → HasHour s hour (Some rows.now) blanked.now
+        → IsCarryAt config.now s hour before.now
+        → p ≡ points_from (is_known s) config.now phase (earlier_rows s hour) (own_rows s hour)) }
+{
+    let (parts, view) = seen_hour(alloc, config, hour, before, rows, blanked, after)?;
+    arrival_points(alloc, config, phase, &view, rows, &parts)
 }
 
 /// The whole cycles of a phase that end in an hour, 0 to 743, in their order, from what is kept at

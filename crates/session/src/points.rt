@@ -1,11 +1,12 @@
 // The diagrams of a phase.
-ghost use Rattle.std.specs.Prelude.{◌≡◌, ◌++◌, ◌<◌, length, IfOk, OnOk};
+ghost use Rattle.std.specs.Prelude.{◌≡◌, ◌+◌, ◌++◌, ◌<◌, length, IfOk, OnOk};
 ghost use Rattle.hour_sums.specs.Numbers.{own};
 ghost use Rattle.hour_store.specs.Store.{is_known, known_rows};
+ghost use Rattle.signal_log.specs.Log.{HasHistory, log_of};
 ghost use Rattle.arrival_measures.specs.Points.{diagrams_of, points_from};
 ghost use Rattle.hour_work.specs.Rows.{earlier_rows, own_rows};
 ghost use Rattle.hour_work.specs.Measures.{cycles_in};
-ghost use Rattle.hour_work.specs.Points.{IsCarryAt};
+ghost use Rattle.hour_work.specs.Points.{IsCarryAt, IsFutureAt};
 ghost use Rattle.session.specs.Links.{AreKept};
 ghost use Rattle.session.specs.Sessions.{Grow};
 
@@ -49,6 +50,8 @@ fn add_hour<L>(
 ) -> Result<(), NoMemory>
     requires in_store { hour < length store.now.hours }
     requires before { IsCarryAt config.now store.now hour before.now }
+    requires after { IsFutureAt config.now store.now (hour + 1) after.now }
+    requires history { HasHistory (log_of config.now.specs store.now) }
     ensures cycles { OnOk result (found.new.cycles.items ≡ found.old.cycles.items ++ own (λ x. x.phase) phase (cycles_in config.now store.now hour)) }
     ensures points { OnOk result (found.new.points ≡ found.old.points
         ++ points_from (is_known store.now) config.now phase (earlier_rows store.now hour)
@@ -74,6 +77,7 @@ pub fn phase_diagrams<L>(
     reads: &mut Reads<L>,
 ) -> Result<Vec<Diagram>, NoMemory>
     requires kept { AreKept config.now store.now worked.now.carries.items worked.now.futures.items worked.now.report }
+    requires history { HasHistory (log_of config.now.specs store.now) }
     ensures points { IfOk result (λ v. v.items ≡ diagrams_of (is_known store.now) config.now phase (known_rows store.now)) }
     ensures grow { Grow reads.old reads.new }
 {

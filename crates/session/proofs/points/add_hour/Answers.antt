@@ -1,5 +1,7 @@
 use Rattle.std.proofs.Common.{◌++◌, ◌∙◌, ap}
-use Rattle.std.specs.Prelude.{option_copied}
+use Rattle.std.specs.Prelude.{◌+◌, option_copied}
+use Rattle.signal_log.specs.Log.{log_of}
+use Rattle.signal_log.proofs.Suiting.{all_count}
 use Rattle.session.proofs.KeptLaws.{has_hour}
 use Rattle.session.proofs.GrowLaws.{grow_raised_to}
 use Rattle.session.proofs.points.add_hour.Goals as goal
@@ -30,3 +32,10 @@ returns-clause-points g c =
     let s = c.args.store.now in
     let has = has_hour s c.args.hour (option_copied c.open_hour-rows.result) c.blanked-blanked.result.now c.blanked-blanked.ensures.store c.requires.in_store c.open_hour-rows.ensures.rows c.blanked-blanked.ensures.value in
     c.in_ok-add_points.ensures ∙ ap (λ zs. c.args.found.now.points ++ zs) (c.list.ensures ∙ c.in_ok-points.ensures s has c.requires.before)
+
+pub phase_points-requires-clause-agrees : goal.phase_points-requires-clause-agrees
+phase_points-requires-clause-agrees g c =
+    let s = c.args.store.now in
+    let has = has_hour s c.args.hour (option_copied c.open_hour-rows.result) c.blanked-blanked.result.now c.blanked-blanked.ensures.store c.requires.in_store c.open_hour-rows.ensures.rows c.blanked-blanked.ensures.value in
+    let after = all_count (log_of c.args.config.now.specs s) (c.args.hour + 1) c.args.after.now c.requires.after in
+    (s, record { has_hour = has; is_before = c.requires.before; is_after = after; history = c.requires.history })

@@ -1,9 +1,9 @@
-use Rattle.std.proofs.Common.{◌≡◌, ◌∙◌, ◌≤◌, arith, length, map}
+use Rattle.std.proofs.Common.{◌≡◌, ◌∙◌, ◌+◌, ◌≤◌, arith, length, map}
 use Rattle.std.proofs.lemmas.Result.{IfOk-weaker}
 use Rattle.hour_store.specs.Store.{is_known, known_rows}
 use Rattle.arrival_measures.specs.Points.{diagram_of, diagrams_of}
 use Rattle.session.proofs.GrowLaws.{grow_on, grow_same}
-use Rattle.session.proofs.KeptLaws.{carry_is}
+use Rattle.session.proofs.KeptLaws.{carry_is, future_is}
 use Rattle.session.proofs.DiagramLaws.{cycles_more, diagrams_whole, points_more}
 use Rattle.session.proofs.points.phase_diagrams.Goals as goal
 
@@ -15,6 +15,12 @@ add_hour-requires-clause-before g c =
     let n = c.hours-hour-end.ensures.value in
     let le : c.loop-hour.hour ≤ length c.args.store.now.hours = omega arith in
     carry_is c.args.config.now c.args.store.now c.args.worked.now.carries.items c.loop-hour.hour c.index-before.result.now c.hours-hour-end.ensures.store c.requires.kept.forth le c.index-before.ensures
+
+pub add_hour-requires-clause-after : goal.add_hour-requires-clause-after
+add_hour-requires-clause-after g c =
+    let n = c.hours-hour-end.ensures.value in
+    let le : c.loop-hour.hour + 1 ≤ length c.args.store.now.hours = omega arith in
+    future_is c.args.config.now c.args.store.now c.args.worked.now.futures.items (c.loop-hour.hour + 1) c.index-after.result.now c.hours-hour-end.ensures.store c.requires.kept.back le c.index-after.ensures
 
 pub returns-in_err-add_hour-clause-grow : goal.returns-in_err-add_hour-clause-grow
 returns-in_err-add_hour-clause-grow g c = grow_on _ _ _ c.loop-hour.invariant.grow c.add_hour.ensures.grow

@@ -1,5 +1,6 @@
 pub mod Log
 pub mod States
 pub mod Points
+pub mod Over
 pub mod Views
 pub mod Laws

@@ -8,6 +8,7 @@ ghost use Rattle.board.specs.Stops.{AreBefore};
 ghost use Rattle.board.specs.Places.{AllEarly};
 ghost use Rattle.signal_log.specs.Log.{log_of};
 ghost use Rattle.signal_log.specs.Points.{ArePastsAt, HasHour, NamesContradiction, rows_or_none};
+ghost use Rattle.signal_log.specs.Over.{ArePastsOver, NamesStopOver};
 
 use board::{Pasts, PastsError, pasts_hour};
 use channel_tables::Spec;
@@ -18,7 +19,8 @@ use std::alloc::Global;
 
 /// The states of each channel at the point after an hour, from those at the point before it, where
 /// these rows are held of the hour (`None`: it isn't held) and these tenths are blanked. `NoState`:
-/// the log contradicts itself at this row.
+/// the log contradicts itself at this row, the first known one of the hour after which its channel
+/// has no state.
 pub fn pasts_after(
     alloc: Global,
     specs: &[Spec],
@@ -35,6 +37,10 @@ pub fn pasts_after(
     ensures shape { IfOk result (λ p. AreBefore specs.now p × AllEarly (end_tenth hour) p) }
     ensures pasts { IfOk result (λ p. (s : Store) → HasHour s hour (option_copied rows.entry) blanked.now → ArePastsAt (log_of specs.now s) hour before.now → ArePastsAt (log_of specs.now s) (hour + 1) p) }
     ensures stop { IfErr result (λ e. (s : Store) → HasHour s hour (option_copied rows.entry) blanked.now → ArePastsAt (log_of specs.now s) hour before.now → NamesContradiction (log_of specs.now s) e) }
+    ensures over { IfOk result (ArePastsOver specs.now hour (option_copied rows.entry) blanked.now
+        before.now) }
+    ensures stop_over { IfErr result (NamesStopOver specs.now hour (option_copied rows.entry)
+        blanked.now before.now) }
 {
     let cut = stretches(alloc, hour, rows.is_some(), blanked)?;
     pasts_hour(alloc, specs, before, held_rows(rows), &cut)

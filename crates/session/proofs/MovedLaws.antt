@@ -1,5 +1,5 @@
 -- The hours that an edit moves are those between the points at which nothing changes.
-use Rattle.std.proofs.Common.{◌≡◌, ◌⊎◌, inl, inr, ℕ, ◌+◌, ◌-◌, ◌<◌, ◌≤◌, List, [], true, length, get_or, sym, subst, arith, OnOk, IfOk, Result, Ok, Err}
+use Rattle.std.proofs.Common.{◌≡◌, ◌∙◌, ◌⊎◌, inl, inr, ℕ, ◌+◌, ◌-◌, ◌<◌, ◌≤◌, List, [], true, length, get_or, sym, ap, subst, arith, OnOk, IfOk, Result, Ok, Err}
 use Rattle.std.proofs.lemmas.Bool.{cases_lt}
 use Rattle.sig_base.specs.declared.values.Applied.{Applied}
 use Rattle.sig_base.specs.declared.values.EditError.{EditError}
@@ -8,14 +8,17 @@ use Rattle.ring_config.specs.Settings.{Settings}
 use Rattle.ring_config.specs.Sound.{IsSound}
 use Rattle.signal_log.specs.Log.{HasHistory, log_of}
 use Rattle.hour_work.specs.Moved.{IsSameCarry, IsSameFuture}
-use Rattle.hour_work.specs.Numbers.{Numbers, patched}
+use Rattle.hour_work.specs.Numbers.{Numbers, Summed, patched}
 use Rattle.hour_work.specs.Points.{Carried, IsCarryAt, IsFutureAt}
+use Rattle.hour_work.specs.Reports.{IsReport}
 use Rattle.hour_work.proofs.MovedLaws.{carries_one, futures_one}
+use Rattle.hour_work.proofs.OneLaws.{one_report}
+use Rattle.hour_work.proofs.PatchLaws.{patched-below, patched-past}
 use Rattle.session.specs.Edits.{Change}
 use Rattle.session.specs.Links.{Ahead, AreCarries, AreFutures, AreKept}
-use Rattle.session.specs.Moved.{AreMoved, Moves, Touches}
-use Rattle.session.specs.Renewed.{AreNewCarries, AreNewFutures}
-use Rattle.session.proofs.KeptLaws.{carry_kept, future_kept}
+use Rattle.session.specs.Moved.{AreMoved, KeepParts, Moves, Touches}
+use Rattle.session.specs.Renewed.{AreNewCarries, AreNewFutures, IsRenewed}
+use Rattle.session.proofs.KeptLaws.{carry_kept, future_kept, report_kept}
 
 -- stands where a list has no carry
 no_carry : Carried
@@ -98,3 +101,22 @@ moves_hour c s t new hour change (Err e) touched done moved = tt
 pub moves_to : (c : Settings) (s t new : Store) (change : Change) (result : Result Applied EditError) → OnOk result ((new ≡ t) × HasHistory (log_of c.specs t)) → IfOk result (Moves c s t change) → IfOk result (Moves c s new change)
 moves_to c s t new change (Ok x) done moved = subst (λ (v : Store). Moves c s v change x) (sym done.0) moved
 moves_to c s t new change (Err e) done moved = tt
+
+-- the numbers of the hours that don't move stay
+pub keep_parts : (c : Settings) (s t : Store) (first : ℕ) (xs new_carries : List Carried) (ys : List Ahead) (from : ℕ) (new_futures : List Ahead) (ps : List Numbers) (start : ℕ) (new_parts : List Numbers) (sums : Summed) (moved : Applied) → IsStore s → HasHistory (log_of c.specs s) → AreKept c s xs ys ps → IsStore t → HasHistory (log_of c.specs t)
+    → IsRenewed c t xs first new_carries ys from new_futures ps start new_parts sums → moved.from ≡ from → moved.to ≡ first + length new_carries → KeepParts c s t moved
+keep_parts c s t first xs new_carries ys from new_futures ps start new_parts sums moved is has kept is_new has_new new fe te a b hour d old fresh out =
+    let low = new.low in
+    let end = new.end in
+    let room = new.part_room in
+    let one : a ≡ ps = one_report c s a ps has old (report_kept c s xs ys ps is kept has) in
+    let other : b ≡ patched ps start new_parts = one_report c t b (patched ps start new_parts) has_new fresh (report_kept c t (patched xs (first + 1) new_carries) (patched ys from new_futures) (patched ps start new_parts) is_new new.kept has_new) in
+    let stay : get_or (patched ps start new_parts) hour d ≡ get_or ps hour d = elim out [
+      | inl below ↦ patched-below ps start new_parts hour d (omega arith) (omega arith)
+      | inr past ↦ patched-past ps start new_parts hour d (omega arith) (omega arith)
+    ] in
+    ap (λ (qs : List Numbers). get_or qs hour d) other ∙ (stay ∙ sym (ap (λ (qs : List Numbers). get_or qs hour d) one))
+
+pub keep_to : (c : Settings) (s t new : Store) (result : Result Applied EditError) → OnOk result ((new ≡ t) × HasHistory (log_of c.specs t)) → IfOk result (KeepParts c s t) → IfOk result (KeepParts c s new)
+keep_to c s t new (Ok x) done stay = subst (λ (v : Store). KeepParts c s v x) (sym done.0) stay
+keep_to c s t new (Err e) done stay = tt

@@ -132,6 +132,8 @@ renewed c s first last carries new_carries futures from start new_futures parts 
       carry_room = omega arith;
       future_room = omega arith;
       part_room = omega arith;
+      low = after_from;
+      end = size;
       kept = kept_new c s first last carries new_carries futures from start (first + length new_carries) new_futures parts new_parts refl after_from before_first but x y stays z;
       small = z.small;
       new_sums = new;

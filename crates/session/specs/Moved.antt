@@ -1,9 +1,11 @@
 -- The hours whose answers can change by an edit.
-use Rattle.std.specs.Prelude.{◌≡◌, ◌+◌, ◌*◌, ◌≤◌, ◌<◌, ◌⊎◌, ℕ, ℤ, pos, ◌-ℤ◌, ◌≤ℤ◌, ◌<ℤ◌, length}
+use Rattle.std.specs.Prelude.{◌≡◌, ◌+◌, ◌*◌, ◌≤◌, ◌<◌, ◌⊎◌, ℕ, ℤ, pos, ◌-ℤ◌, ◌≤ℤ◌, ◌<ℤ◌, List, length, slice_index_or}
 use Rattle.sig_base.specs.declared.values.Applied.{Applied}
 use Rattle.hour_store.specs.Store.{Store}
 use Rattle.ring_config.specs.Settings.{Settings}
 use Rattle.hour_work.specs.Moved.{IsSameCarry, IsSameFuture}
+use Rattle.hour_work.specs.Numbers.{Numbers}
+use Rattle.hour_work.specs.Reports.{IsReport}
 use Rattle.session.specs.Edits.{Change, load, replace, withdraw, blank, unblank}
 
 -- the tenth is one of the hour
@@ -31,3 +33,7 @@ pub record AreMoved (c : Settings) (s t : Store) (first last : ℕ) (moved : App
 -- these hours move by an edit that makes the second store of the first one
 abbrev pub Moves : Settings → Store → Store → Change → Applied → Type 0
 Moves c s t change moved = (first : ℕ) × (last : ℕ) × Touches change first last × AreMoved c s t first last moved
+
+-- the reports of both stores have the same numbers for every hour that doesn't move
+abbrev pub KeepParts : Settings → Store → Store → Applied → Type 0
+KeepParts c s t moved = (a b : List Numbers) (hour : ℕ) (d : Numbers) → IsReport c s a → IsReport c t b → (hour < moved.from) ⊎ (moved.to ≤ hour) → slice_index_or b hour d ≡ slice_index_or a hour d

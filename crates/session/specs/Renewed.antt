@@ -39,6 +39,8 @@ pub record IsRenewed (c : Settings) (s : Store) (carries : List Carried) (first 
   pub carry_room : first + 1 + length new_carries ≤ length carries
   pub future_room : from + length new_futures ≤ length futures
   pub part_room : start + length new_parts ≤ length parts
+  pub low : from ≤ start
+  pub end : start + length new_parts ≡ first + length new_carries
   pub kept : AreKept c s (patched carries (first + 1) new_carries) (patched futures from new_futures) (patched parts start new_parts)
   pub small : All (FitHours 1) new_parts
   pub new_sums : AreNewSums parts (patched parts start new_parts) sums

@@ -11,7 +11,7 @@ ghost use Rattle.rule_audit.specs.Rules.{rules_for};
 ghost use Rattle.hour_work.specs.Points.{NamesRow};
 ghost use Rattle.hour_work.specs.Reports.{IsReport};
 ghost use Rattle.session.specs.Edits.{blank, change_of, load, replace, step_of, unblank, withdraw};
-ghost use Rattle.session.specs.Moved.{AreMoved, Moves};
+ghost use Rattle.session.specs.Moved.{AreMoved, KeepParts, Moves};
 ghost use Rattle.session.specs.Ranges.{SameApart};
 ghost use Rattle.session.specs.Sessions.{AreCounted, Grow, Kept, MayRefuse, OpensNone, Steps, StopsAt};
 ghost use Rattle.session.specs.Windows.{AreHourLines};
@@ -173,6 +173,7 @@ impl<L> Session<L> {
         requires of_hour { IfSome entry (λ r. r.hour ≡ hour) }
         ensures done { OnOk result ((self.new.store ≡ with_hour self.old.store hour entry) × HasHistory (log_of self.old.config.specs (with_hour self.old.store hour entry))) }
         ensures moved { IfOk result (AreMoved self.old.config self.old.store (with_hour self.old.store hour entry) hour hour) }
+        ensures stays { IfOk result (KeepParts self.old.config self.old.store (with_hour self.old.store hour entry)) }
         ensures back { OnErr result (self.new.store ≡ self.old.store) }
         ensures stop { IfErr result (StopsAt self.old.config (with_hour self.old.store hour entry)) }
         ensures store { IsStore (with_hour self.old.store hour entry) }
@@ -218,6 +219,7 @@ impl<L> Session<L> {
         requires same { SameApart self.old.store.blanks from to blanks }
         ensures done { OnOk result ((self.new.store ≡ with_blanks self.old.store blanks) × HasHistory (log_of self.old.config.specs (with_blanks self.old.store blanks))) }
         ensures moved { IfOk result (Moves self.old.config self.old.store (with_blanks self.old.store blanks) (blank from to)) }
+        ensures stays { IfOk result (KeepParts self.old.config self.old.store (with_blanks self.old.store blanks)) }
         ensures back { OnErr result (self.new.store ≡ self.old.store) }
         ensures stop { IfErr result (StopsAt self.old.config (with_blanks self.old.store blanks)) }
         ensures store { IsStore (with_blanks self.old.store blanks) }
@@ -253,6 +255,7 @@ impl<L> Session<L> {
     fn load(&mut self, rows: HourRows<L>, reads: &mut Reads<L>) -> Result<Applied, EditError>
         ensures step { Steps self.old.config (step_of self.old.store (load rows)) self.old.store self.new.store result }
         ensures moved { IfOk result (Moves self.old.config self.old.store self.new.store (load rows)) }
+        ensures stays { IfOk result (KeepParts self.old.config self.old.store self.new.store) }
         ensures config { self.new.config ≡ self.old.config }
         ensures opens { IfErr result (OpensNone reads.old reads.new) }
         ensures grow { Grow reads.old reads.new }
@@ -274,6 +277,7 @@ impl<L> Session<L> {
     fn replace(&mut self, rows: HourRows<L>, reads: &mut Reads<L>) -> Result<Applied, EditError>
         ensures step { Steps self.old.config (step_of self.old.store (replace rows)) self.old.store self.new.store result }
         ensures moved { IfOk result (Moves self.old.config self.old.store self.new.store (replace rows)) }
+        ensures stays { IfOk result (KeepParts self.old.config self.old.store self.new.store) }
         ensures config { self.new.config ≡ self.old.config }
         ensures opens { IfErr result (OpensNone reads.old reads.new) }
         ensures grow { Grow reads.old reads.new }
@@ -296,6 +300,7 @@ impl<L> Session<L> {
         ensures step { Steps self.old.config (step_of self.old.store (withdraw hour)) self.old.store self.new.store result }
         ensures never { IfErr result (MayRefuse (withdraw hour)) }
         ensures moved { IfOk result (Moves self.old.config self.old.store self.new.store (withdraw hour)) }
+        ensures stays { IfOk result (KeepParts self.old.config self.old.store self.new.store) }
         ensures config { self.new.config ≡ self.old.config }
         ensures opens { IfErr result (OpensNone reads.old reads.new) }
         ensures grow { Grow reads.old reads.new }
@@ -314,6 +319,7 @@ impl<L> Session<L> {
         ensures step { Steps self.old.config (step_of self.old.store (blank from to)) self.old.store self.new.store result }
         ensures never { IfErr result (MayRefuse (blank from to)) }
         ensures moved { IfOk result (Moves self.old.config self.old.store self.new.store (blank from to)) }
+        ensures stays { IfOk result (KeepParts self.old.config self.old.store self.new.store) }
         ensures config { self.new.config ≡ self.old.config }
         ensures opens { IfErr result (OpensNone reads.old reads.new) }
         ensures grow { Grow reads.old reads.new }
@@ -343,6 +349,7 @@ impl<L> Session<L> {
     ) -> Result<Applied, EditError>
         ensures step { Steps self.old.config (step_of self.old.store (unblank from to)) self.old.store self.new.store result }
         ensures moved { IfOk result (Moves self.old.config self.old.store self.new.store (unblank from to)) }
+        ensures stays { IfOk result (KeepParts self.old.config self.old.store self.new.store) }
         ensures config { self.new.config ≡ self.old.config }
         ensures opens { IfErr result (OpensNone reads.old reads.new) }
         ensures grow { Grow reads.old reads.new }
@@ -376,6 +383,7 @@ impl<L> Session<L> {
         ensures step { Steps self.old.config (step_of self.old.store (change_of edit)) self.old.store self.new.store result }
         ensures never { IfErr result (MayRefuse (change_of edit)) }
         ensures moved { IfOk result (Moves self.old.config self.old.store self.new.store (change_of edit)) }
+        ensures stays { IfOk result (KeepParts self.old.config self.old.store self.new.store) }
         ensures config { self.new.config ≡ self.old.config }
         ensures opens { IfErr result (OpensNone reads.old reads.new) }
         ensures grow { Grow reads.old reads.new }

@@ -7,7 +7,7 @@ use Rattle.session.proofs.EditLaws.{blank_step, few_blanks, in_order, inside, ma
 use Rattle.session.proofs.LessLaws.{never_blanked}
 use Rattle.session.proofs.MaskLaws.{with_same}
 use Rattle.session.proofs.RangeLaws.{with_within}
-use Rattle.session.proofs.MovedLaws.{moves_to}
+use Rattle.session.proofs.MovedLaws.{keep_to, moves_to}
 use Rattle.session.proofs.session.Session.blank.Goals as goal
 
 pub returns-then-ranges-gt-MOST_BLANKS-clause-step : goal.returns-then-ranges-gt-MOST_BLANKS-clause-step
@@ -117,3 +117,10 @@ returns-clause-moved g c =
     let done = rw (← c.self.view_is) at c.mask.ensures.done in
     let moved = simp to_z-of_z at (rw (← c.self.view_is) at c.mask.ensures.moved) in
     rw (← c.self.view_is) (moves_to c.self.inside.config s (with_blanks s c.in-Ok.blanks) c.mask.new.self.store (blank c.args.from c.args.to) c.mask.result done moved)
+
+pub returns-clause-stays : goal.returns-clause-stays
+returns-clause-stays g c =
+    let s = c.self.inside.store in
+    let done = rw (← c.self.view_is) at c.mask.ensures.done in
+    let stays = rw (← c.self.view_is) at c.mask.ensures.stays in
+    rw (← c.self.view_is) (keep_to c.self.inside.config s (with_blanks s c.in-Ok.blanks) c.mask.new.self.store c.mask.result done stays)

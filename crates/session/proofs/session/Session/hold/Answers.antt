@@ -2,7 +2,7 @@ use Rattle.std.proofs.Common.{◌≡◌, ◌∙◌, ◌+◌, ◌<◌, ℕ, ap, a
 use Rattle.hour_store.specs.Store.{with_hour}
 use Rattle.session.specs.Sessions.{Kept}
 use Rattle.session.proofs.EditLaws.{hour_back}
-use Rattle.session.proofs.MovedLaws.{are_moved}
+use Rattle.session.proofs.MovedLaws.{are_moved, keep_parts}
 use Rattle.session.proofs.RenewLaws.{kept_but_hour}
 use Rattle.session.proofs.session.Session.hold.Goals as goal
 
@@ -49,3 +49,15 @@ returns-in-Ok-clause-moved g c =
     let moved = are_moved c.self.inside.config s (with_hour s hour c.args.entry) c.self.invariant.sound c.self.invariant.is_store is (length-set s.hours hour c.args.entry) hour hour worked.carries.items worked.futures.items worked.report points.carries.items points.from points.futures.items c.moved-hours.result
     (omega arith) lt c.self.invariant.kept carries futures c.moved-hours.ensures.from to in
     rw (← c.self.view_is) moved
+
+pub returns-in-Ok-clause-stays : goal.returns-in-Ok-clause-stays
+returns-in-Ok-clause-stays g c =
+    let s = c.self.inside.store in
+    let worked = c.self.inside.worked in
+    let fresh = c.in-Ok.fresh in
+    let points = fresh.points in
+    let is = rw c.exchange-before.ensures.store at c.in-Ok.ensures.store in
+    let has = rw c.exchange-before.ensures.store at c.in-Ok.ensures.history in
+    let new = rw c.exchange-before.ensures.store at c.in-Ok.ensures.fresh in
+    rw (← c.self.view_is) (keep_parts c.self.inside.config s (with_hour s c.args.hour c.args.entry) points.first worked.carries.items points.carries.items worked.futures.items points.from points.futures.items worked.report fresh.start fresh.parts.items fresh.sums c.moved-hours.result
+    c.self.invariant.is_store c.self.invariant.history c.self.invariant.kept is has new c.moved-hours.ensures.from c.moved-hours.ensures.to)

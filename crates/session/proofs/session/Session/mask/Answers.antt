@@ -5,7 +5,7 @@ use Rattle.hour_store.specs.Store.{with_blanks}
 use Rattle.session.specs.Moved.{IsIn}
 use Rattle.session.specs.Ranges.{SameApart}
 use Rattle.session.proofs.MaskLaws.{hours_in_order, hours_within, kept_but_blanks}
-use Rattle.session.proofs.MovedLaws.{are_moved}
+use Rattle.session.proofs.MovedLaws.{are_moved, keep_parts}
 use Rattle.session.proofs.session.Session.mask.Goals as goal
 
 pub hour_at-first-requires-clause-high : goal.hour_at-first-requires-clause-high
@@ -103,3 +103,15 @@ returns-in-Err-clause-stop g c =
     let stop = rw c.set_blanks-before.ensures.store at c.in-Err.ensures.stop in
     let is = rw c.set_blanks-before.ensures.store at c.in-Err.ensures.store in
     rw (← c.self.view_is) (c.edit_error.ensures c.self.inside.config (with_blanks s c.args.blanks) c.self.invariant.sound is stop)
+
+pub returns-in-Ok-clause-stays : goal.returns-in-Ok-clause-stays
+returns-in-Ok-clause-stays g c =
+    let s = c.self.inside.store in
+    let worked = c.self.inside.worked in
+    let fresh = c.in-Ok.fresh in
+    let points = fresh.points in
+    let is = rw c.set_blanks-before.ensures.store at c.in-Ok.ensures.store in
+    let has = rw c.set_blanks-before.ensures.store at c.in-Ok.ensures.history in
+    let new = rw c.set_blanks-before.ensures.store at c.in-Ok.ensures.fresh in
+    rw (← c.self.view_is) (keep_parts c.self.inside.config s (with_blanks s c.args.blanks) points.first worked.carries.items points.carries.items worked.futures.items points.from points.futures.items worked.report fresh.start fresh.parts.items fresh.sums c.moved-hours.result
+    c.self.invariant.is_store c.self.invariant.history c.self.invariant.kept is has new c.moved-hours.ensures.from c.moved-hours.ensures.to)

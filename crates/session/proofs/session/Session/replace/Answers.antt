@@ -3,7 +3,7 @@ use Rattle.sig_base.specs.Window.{Span}
 use Rattle.hour_store.specs.Store.{rows_held, with_hour}
 use Rattle.session.specs.Edits.{replace, step_of}
 use Rattle.session.proofs.EditLaws.{replace_step, steps_done}
-use Rattle.session.proofs.MovedLaws.{moves_hour}
+use Rattle.session.proofs.MovedLaws.{keep_to, moves_hour}
 use Rattle.session.proofs.session.Session.replace.Goals as goal
 
 pub returns-clause-step : goal.returns-clause-step
@@ -32,3 +32,11 @@ returns-clause-moved g c =
     let done = rw (← c.self.view_is) at c.hold.ensures.done in
     let moved = rw (← c.self.view_is) at c.hold.ensures.moved in
     rw (← c.self.view_is) (moves_hour c.self.inside.config s (with_hour s h (Some c.args.rows)) c.hold.new.self.store h (replace c.args.rows) c.hold.result (here, here) done moved)
+
+pub returns-clause-stays : goal.returns-clause-stays
+returns-clause-stays g c =
+    let s = c.self.inside.store in
+    let h = c.hour-hour.result in
+    let done = rw (← c.self.view_is) at c.hold.ensures.done in
+    let stays = rw (← c.self.view_is) at c.hold.ensures.stays in
+    rw (← c.self.view_is) (keep_to c.self.inside.config s (with_hour s h (Some c.args.rows)) c.hold.new.self.store c.hold.result done stays)

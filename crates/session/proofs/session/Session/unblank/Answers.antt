@@ -6,7 +6,7 @@ use Rattle.session.specs.Ranges.{Without}
 use Rattle.session.proofs.EditLaws.{unblank_step, few_blanks, in_order, inside, many_blanks, steps_done}
 use Rattle.session.proofs.MaskLaws.{without_same}
 use Rattle.session.proofs.RangeLaws.{without_within}
-use Rattle.session.proofs.MovedLaws.{moves_to}
+use Rattle.session.proofs.MovedLaws.{keep_to, moves_to}
 use Rattle.session.proofs.session.Session.unblank.Goals as goal
 
 pub returns-then-ranges-gt-MOST_BLANKS-clause-step : goal.returns-then-ranges-gt-MOST_BLANKS-clause-step
@@ -106,3 +106,10 @@ returns-clause-moved g c =
     let done = rw (← c.self.view_is) at c.mask.ensures.done in
     let moved = simp to_z-of_z at (rw (← c.self.view_is) at c.mask.ensures.moved) in
     rw (← c.self.view_is) (moves_to c.self.inside.config s (with_blanks s c.in-Ok.blanks) c.mask.new.self.store (unblank c.args.from c.args.to) c.mask.result done moved)
+
+pub returns-clause-stays : goal.returns-clause-stays
+returns-clause-stays g c =
+    let s = c.self.inside.store in
+    let done = rw (← c.self.view_is) at c.mask.ensures.done in
+    let stays = rw (← c.self.view_is) at c.mask.ensures.stays in
+    rw (← c.self.view_is) (keep_to c.self.inside.config s (with_blanks s c.in-Ok.blanks) c.mask.new.self.store c.mask.result done stays)

@@ -4,7 +4,7 @@ use Rattle.hour_store.specs.Store.{with_hour}
 use Rattle.session.specs.Edits.{step_of, withdraw}
 use Rattle.session.proofs.EditLaws.{steps_done, withdraw_step}
 use Rattle.session.proofs.LessLaws.{never_withdrawn}
-use Rattle.session.proofs.MovedLaws.{moves_hour}
+use Rattle.session.proofs.MovedLaws.{keep_to, moves_hour}
 use Rattle.session.proofs.session.Session.withdraw.Goals as goal
 
 pub returns-clause-step : goal.returns-clause-step
@@ -35,3 +35,11 @@ returns-clause-moved g c =
     let done = rw (← c.self.view_is) at c.hold.ensures.done in
     let moved = rw (← c.self.view_is) at c.hold.ensures.moved in
     rw (← c.self.view_is) (moves_hour c.self.inside.config s (with_hour s h None) c.hold.new.self.store h (withdraw h) c.hold.result (refl, refl) done moved)
+
+pub returns-clause-stays : goal.returns-clause-stays
+returns-clause-stays g c =
+    let s = c.self.inside.store in
+    let h = c.args.hour in
+    let done = rw (← c.self.view_is) at c.hold.ensures.done in
+    let stays = rw (← c.self.view_is) at c.hold.ensures.stays in
+    rw (← c.self.view_is) (keep_to c.self.inside.config s (with_hour s h None) c.hold.new.self.store c.hold.result done stays)

@@ -27,7 +27,7 @@ returns-in-Err-clause-stop_over c =
     let stop = rw c.specs.ensures.value at c.in-Err.ensures.stop_over in
     let rows = option_copied c.args.rows in
     let blanks = c.args.blanked.now in
-    subst (λ (v : Carried). NamesStop cfg.specs c.args.hour rows blanks v.pasts c.forward_error.result) c.before-2.view_is (c.forward_error.ensures.stop cfg.specs c.args.hour rows blanks c.before-2.now.pasts stop)
+    subst (λ (v : Carried). NamesStop cfg.specs c.args.hour rows blanks v.pasts c.forward_error.result) c.before-2.view_is (c.forward_error.ensures.stop cfg.specs c.args.hour rows blanks _ stop)
 
 pub returns-in-Ok-clause-over : goal.returns-in-Ok-clause-over
 returns-in-Ok-clause-over c =

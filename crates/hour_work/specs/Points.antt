@@ -1,6 +1,8 @@
 -- What is kept at an hour point: the place before an hour's first tenth, or the window's end.
 use Rattle.std.specs.Prelude.{◌≡◌, ◌-◌, ℕ, ℤ, nat_lt, Bool, ◌&&◌, List, Option}
 use Rattle.span_set.specs.declared.set.Span.{Span}
+use Rattle.sig_base.specs.declared.values.Row.{Row}
+use Rattle.channel_tables.specs.declared.spec.Spec.{Spec}
 use Rattle.hour_store.specs.Store.{Store, is_known}
 use Rattle.board.specs.Logs.{first_tenth}
 use Rattle.board.specs.Stops.{AreBefore}
@@ -8,6 +10,7 @@ use Rattle.board.specs.Places.{AllEarly}
 use Rattle.ring_config.specs.Settings.{Settings}
 use Rattle.signal_log.specs.Log.{IsContradiction, Log, log_of}
 use Rattle.signal_log.specs.Points.{ArePastsAt, AreAheadsAt, AreAheadsFor}
+use Rattle.signal_log.specs.Over.{IsStopOver}
 use Rattle.service_cut.specs.declared.parts.Part.{Part}
 use Rattle.service_cut.specs.Parts.{IsCarry as IsCut}
 use Rattle.other_measures.specs.Crossing.{Crossing, IsCarry as IsCrossing}
@@ -57,3 +60,8 @@ IsFutureFor c s k future = AreAheadsFor (log_of c.specs s) k future
 abbrev pub NamesRow : Log → ForwardError → Type 0
 NamesRow log (Contradiction row) = IsContradiction log row
 NamesRow log Memory = Unit {0}
+
+-- an error that isn't want of memory names the hour's first known row after which its channel has no state, from these states before the hour
+abbrev pub NamesStop : List Spec → ℕ → Option (List Row) → List Span → List (List (List Span)) → ForwardError → Type 0
+NamesStop specs hour rows blanks before (Contradiction row) = IsStopOver specs hour rows blanks before row
+NamesStop specs hour rows blanks before Memory = Unit {0}

@@ -1,5 +1,8 @@
 // From one hour point to the next, and back.
-ghost use Rattle.std.specs.Prelude.{◌≡◌, ◌+◌, ◌*◌, ◌<◌, option_copied, IfOk, IfErr, IfSome};
+ghost use Rattle.std.specs.Prelude.{◌≡◌, ◌+◌, ◌*◌, ◌<◌, ℕ, List, Option, option_copied, IfOk, IfErr, IfSome};
+ghost use Rattle.span_set.specs.declared.set.Span.{Span};
+ghost use Rattle.sig_base.specs.declared.values.Row.{Row};
+ghost use Rattle.channel_tables.specs.declared.spec.Spec.{Spec};
 ghost use Rattle.sig_base.specs.HourRows.{AreRowsOf};
 ghost use Rattle.hour_store.specs.Store.{Store, is_known};
 ghost use Rattle.board.specs.Logs.{first_tenth};
@@ -8,13 +11,14 @@ ghost use Rattle.board.specs.Stops.{AreBefore};
 ghost use Rattle.gap_map.specs.Stretches.{known_in};
 ghost use Rattle.signal_log.specs.Log.{Log, log_of};
 ghost use Rattle.signal_log.specs.Points.{ArePastsAt, HasHour, NamesContradiction, rows_or_none};
+ghost use Rattle.signal_log.specs.Over.{ArePastsOver, NamesStopOver};
 ghost use Rattle.service_cut.specs.Parts.{IsCarry as IsCut};
 ghost use Rattle.stop_bar.specs.All.{AreAtBars};
 ghost use Rattle.other_measures.specs.Crossing.{IsCarry as IsCrossing};
 ghost use Rattle.arrival_measures.specs.Crossing.{IsCarry as AreOpen};
 ghost use Rattle.hour_work.specs.Rows.{earlier_rows};
 ghost use Rattle.hour_work.specs.declared.steps.ForwardError.TheVariants.{Memory};
-ghost use Rattle.hour_work.specs.Points.{FitPoint, IsCarryAt, IsFutureAt, NamesRow};
+ghost use Rattle.hour_work.specs.Points.{FitPoint, IsCarryAt, IsFutureAt, NamesRow, NamesStop};
 
 use crate::stop_bars::splits_over;
 use crate::{Carry, Future};
@@ -56,7 +60,8 @@ impl<T: Drop> From<AllocFailed<T>> for ForwardError {
 
 /// What is kept at the point after an hour, 0 to 743, from what is kept at the point before it,
 /// where these rows are held of the hour (`None`: it isn't held) and these tenths are blanked.
-/// `Contradiction` comes where the log contradicts itself at a row of the hour.
+/// `Contradiction` comes where the log contradicts itself at a row of the hour: the first known one
+/// after which its channel has no state, whatever the states before the hour.
 pub fn forward(
     alloc: Global,
     config: &Config,
@@ -71,6 +76,10 @@ pub fn forward(
     ensures fit { IfOk result (FitPoint config.now (hour + 1)) }
     ensures carry { IfOk result (λ c. (s : Store) → HasHour s hour (option_copied rows.entry) blanked.now → IsCarryAt config.now s hour before.now → IsCarryAt config.now s (hour + 1) c) }
     ensures stop { IfErr result (λ e. (s : Store) → HasHour s hour (option_copied rows.entry) blanked.now → IsCarryAt config.now s hour before.now → NamesRow (log_of config.now.specs s) e) }
+    ensures over { IfOk result (λ c. ArePastsOver config.now.specs hour (option_copied rows.entry)
+        blanked.now before.now.pasts c.pasts) }
+    ensures stop_over { IfErr result (NamesStop config.now.specs hour (option_copied rows.entry)
+        blanked.now before.now.pasts) }
 {
     let pasts = pasts_over(alloc, config, hour, before, rows, blanked)?;
     let UnderWay {
@@ -104,6 +113,10 @@ fn pasts_over(
     ensures shape { IfOk result (λ p. AreBefore config.now.specs p × AllEarly (first_tenth (hour + 1)) p) }
     ensures pasts { IfOk result (λ p. (s : Store) → HasHour s hour (option_copied rows.entry) blanked.now → IsCarryAt config.now s hour before.now → ArePastsAt (log_of config.now.specs s) (hour + 1) p) }
     ensures stop { IfErr result (λ e. (s : Store) → HasHour s hour (option_copied rows.entry) blanked.now → IsCarryAt config.now s hour before.now → NamesRow (log_of config.now.specs s) e) }
+    ensures over { IfOk result (λ p. ArePastsOver config.now.specs hour (option_copied rows.entry)
+        blanked.now before.now.pasts p) }
+    ensures stop_over { IfErr result (NamesStop config.now.specs hour (option_copied rows.entry)
+        blanked.now before.now.pasts) }
 {
     match pasts_after(alloc, config.specs(), hour, &before.pasts, rows, blanked) {
         Ok(pasts) => Ok(pasts),
@@ -188,7 +201,10 @@ pub fn backward(
 }
 
 fn forward_error(error: PastsError) -> ForwardError
-    ensures { (log : Log) → NamesContradiction log error → NamesRow log result }
+    ensures row { (log : Log) → NamesContradiction log error → NamesRow log result }
+    ensures stop { (specs : List Spec) (hour : ℕ) (rows : Option (List Row)) (blanks : List Span)
+        (before : List (List (List Span))) → NamesStopOver specs hour rows blanks before error
+        → NamesStop specs hour rows blanks before result }
 {
     match error {
         PastsError::NoState(row) => ForwardError::Contradiction(row),

@@ -1,8 +1,10 @@
 use Rattle.std.proofs.Common.{◌≡◌, ℕ, ◌+◌, arith, subst, sym}
+use Rattle.std.specs.Prelude.{option_copied}
 use Rattle.board.specs.Logs.{end_tenth, first_tenth}
 use Rattle.board.specs.Places.{AllEarly}
 use Rattle.signal_log.specs.Log.{log_of}
-use Rattle.hour_work.specs.Points.{Carried, FitPoint, IsCarryAt}
+use Rattle.signal_log.specs.Over.{ArePastsOver}
+use Rattle.hour_work.specs.Points.{Carried, FitPoint, IsCarryAt, NamesStop}
 use Rattle.rule_audit.proofs.Tracked.{channels_are}
 use Rattle.hour_work.proofs.steps.pasts_over.Goals as goal
 
@@ -17,7 +19,21 @@ returns-in-Err-clause-stop c = λ s has is.
     let cfg = c.args.config.now in
     let carry = subst (λ (v : Carried). IsCarryAt cfg s c.args.hour v) (sym c.before-2.view_is) is in
     let stop = rw c.specs.ensures.value at c.in-Err.ensures.stop in
-    c.forward_error.ensures (log_of cfg.specs s) (stop s has carry.pasts)
+    c.forward_error.ensures.row (log_of cfg.specs s) (stop s has carry.pasts)
+
+pub returns-in-Err-clause-stop_over : goal.returns-in-Err-clause-stop_over
+returns-in-Err-clause-stop_over c =
+    let cfg = c.args.config.now in
+    let stop = rw c.specs.ensures.value at c.in-Err.ensures.stop_over in
+    let rows = option_copied c.args.rows in
+    let blanks = c.args.blanked.now in
+    subst (λ (v : Carried). NamesStop cfg.specs c.args.hour rows blanks v.pasts c.forward_error.result) c.before-2.view_is (c.forward_error.ensures.stop cfg.specs c.args.hour rows blanks _ stop)
+
+pub returns-in-Ok-clause-over : goal.returns-in-Ok-clause-over
+returns-in-Ok-clause-over c =
+    let cfg = c.args.config.now in
+    let over = rw c.specs.ensures.value at c.in-Ok.ensures.over in
+    subst (λ (v : Carried). ArePastsOver cfg.specs c.args.hour (option_copied c.args.rows) c.args.blanked.now v.pasts c.in-Ok.pasts) c.before-2.view_is over
 
 pub returns-in-Ok-clause-shape : goal.returns-in-Ok-clause-shape
 returns-in-Ok-clause-shape c =

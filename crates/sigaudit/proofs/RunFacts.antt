@@ -134,7 +134,7 @@ text_there Is want bytes bytes' k k' w f new st e eb ek h =
     rw e h'
 
 -- the refusal of a configuration is the one that its definition has
-config_fails : (said : Read Settings) (e : ConfigError) → is_config_memory e ≡ false → Fails e said → said ≡ Err e
+pub config_fails : (said : Read Settings) (e : ConfigError) → is_config_memory e ≡ false → Fails e said → said ≡ Err e
 config_fails said NotToml ne h = h
 config_fails said (Missing at) ne h = h
 config_fails said (BadValue at) ne h = h

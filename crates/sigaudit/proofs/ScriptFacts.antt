@@ -73,11 +73,11 @@ is_on_start files c lines s w f n e = record {
   answer = refl;
 }
 
-lines_next : (text : List ℕ) → 0 < length text → lines_of text ≡ first_line text ∷ lines_of (after_line text)
+pub lines_next : (text : List ℕ) → 0 < length text → lines_of text ≡ first_line text ∷ lines_of (after_line text)
 lines_next [] h = absurd (omega arith)
 lines_next (b ∷ bs) h = lines_step b bs
 
-lines_over : (text : List ℕ) → length text ≡ 0 → lines_of text ≡ []
+pub lines_over : (text : List ℕ) → length text ≡ 0 → lines_of text ≡ []
 unfolding lines_of
 lines_over [] h = refl
 lines_over (b ∷ bs) h = absurd (omega arith)

@@ -10,4 +10,5 @@ pub mod Offsets
 pub mod Script
 pub mod DemoShelf
 pub mod Transcript
+pub mod Counting
 pub mod Run

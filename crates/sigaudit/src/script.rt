@@ -1,5 +1,5 @@
 // A script, line by line.
-ghost use Rattle.std.specs.Prelude.{◌≡◌, ◌<◌, ◌≤◌, ◌^◌, Some, None, ◌∷◌, [], codes, decimal, length, option_map};
+ghost use Rattle.std.specs.Prelude.{◌≡◌, ◌<◌, ◌≤◌, ◌^◌, Some, None, ◌∷◌, [], codes, decimal, length, option_map, OnOk};
 ghost use Rattle.outside.specs.Shelf.{Files};
 ghost use Rattle.outside.specs.Sink.{Puts};
 ghost use Rattle.report_text.specs.Line.{line_of};
@@ -12,6 +12,7 @@ ghost use Rattle.script_lines.specs.Lines.{lines_of};
 ghost use Rattle.script_lines.specs.Words.{said};
 ghost use Rattle.script_lines.specs.Seen.{seen};
 ghost use Rattle.sigaudit.specs.Script.{edit_said, hour_head, window_head, is_edit_memory, hour_bytes, hour_change, hour_file, wanted_for, IsEdited, IsFetched, IsMeasured, IsMeasuredOf, IsRead, IsTurn};
+ghost use Rattle.sigaudit.specs.Counting.{AreCounted, ArePlain, EditTally, FetchTally, IsPlain, LineTally, ReadTally, ScriptTally};
 ghost use Rattle.sigaudit.specs.Run.{world, CountsFetch, FetchesHour, NamesNoRow, IsCaused, NeverFall, Takes, TakesBy, TellsAll};
 
 use crate::audit::{audit_line, verdicts_line};
@@ -56,6 +57,8 @@ fn edit_line<L, K: Sink>(
 ) -> Result<bool, Stopped>
     ensures turn { TakesBy (IsEdited session.old.config number loaded session.old.store (change_of edit)) (K.written sink.old) (K.written sink.new) (K.faults sink.old) (K.faults sink.new) session.new.store result }
     ensures config { session.new.config ≡ session.old.config }
+    ensures opens { OnOk result (AreCounted
+        (EditTally session.old.config session.old.store (change_of edit)) reads.old reads.new) }
     ensures grow { Grow reads.old reads.new }
 {
     match session.apply(edit, reads) {
@@ -98,6 +101,9 @@ fn bytes_line<L, K: Sink>(
     requires { hour < session.old.config.window.hours }
     ensures turn { TakesBy (IsRead session.old.config number (hour_change replaces) session.old.store (hour_said (wanted_for session.old.config hour) bytes.now)) (K.written sink.old) (K.written sink.new) (K.faults sink.old) (K.faults sink.new) session.new.store result }
     ensures config { session.new.config ≡ session.old.config }
+    ensures opens { OnOk result (AreCounted
+        (ReadTally session.old.config (hour_change replaces) session.old.store
+        (hour_said (wanted_for session.old.config hour) bytes.now)) reads.old reads.new) }
     ensures grow { Grow reads.old reads.new }
 {
     let config = session.config();
@@ -156,6 +162,9 @@ fn fetch_line<L, S: Shelf, K: Sink>(
     ensures never_fall { NeverFall (world (S.counts shelf.old) (K.written sink.old) (K.faults sink.old)) (world (S.counts shelf.new) (K.written sink.new) (K.faults sink.new)) }
     ensures files { S.files shelf.new ≡ S.files shelf.old }
     ensures config { session.new.config ≡ session.old.config }
+    ensures opens { (files : Files) → S.files shelf.old ≡ Some files → OnOk result (AreCounted
+        (FetchTally session.old.config hour (hour_change replaces) session.old.store
+        (hour_file (files name.now))) reads.old reads.new) }
     ensures grow { Grow reads.old reads.new }
 {
     let mut bytes = Vec::new(alloc);
@@ -185,6 +194,9 @@ fn file_line<L, S: Shelf, K: Sink>(
     ensures never_fall { NeverFall (world (S.counts shelf.old) (K.written sink.old) (K.faults sink.old)) (world (S.counts shelf.new) (K.written sink.new) (K.faults sink.new)) }
     ensures files { S.files shelf.new ≡ S.files shelf.old }
     ensures config { session.new.config ≡ session.old.config }
+    ensures opens { (files : Files) → S.files shelf.old ≡ Some files → OnOk result (AreCounted
+        (FetchTally session.old.config hour (hour_change replaces) session.old.store
+        (hour_bytes files session.old.config hour name.now)) reads.old reads.new) }
     ensures grow { Grow reads.old reads.new }
 {
     if hour >= session.config().window().hours() {
@@ -294,6 +306,9 @@ fn take_said<L, S: Shelf, K: Sink>(
     ensures never_fall { NeverFall (world (S.counts shelf.old) (K.written sink.old) (K.faults sink.old)) (world (S.counts shelf.new) (K.written sink.new) (K.faults sink.new)) }
     ensures files { S.files shelf.new ≡ S.files shelf.old }
     ensures config { session.new.config ≡ session.old.config }
+    ensures opens { (files : Files) → S.files shelf.old ≡ Some files → IsPlain (seen line.entry)
+        → OnOk result (AreCounted (LineTally files session.old.config (seen line.entry)
+        session.old.store) reads.old reads.new) }
     ensures grow { Grow reads.old reads.new }
 {
     if let Some(edit) = edit_in(line) {
@@ -338,6 +353,10 @@ fn take_line<L, S: Shelf, K: Sink>(
     ensures never_fall { NeverFall (world (S.counts shelf.old) (K.written sink.old) (K.faults sink.old)) (world (S.counts shelf.new) (K.written sink.new) (K.faults sink.new)) }
     ensures files { S.files shelf.new ≡ S.files shelf.old }
     ensures config { session.new.config ≡ session.old.config }
+    ensures opens { (files : Files) → S.files shelf.old ≡ Some files
+        → IsPlain (said session.old.config.window line.now)
+        → OnOk result (AreCounted (LineTally files session.old.config
+        (said session.old.config.window line.now) session.old.store) reads.old reads.new) }
     ensures grow { Grow reads.old reads.new }
 {
     let said = read_line(line, session.config().window());
@@ -360,6 +379,10 @@ pub fn run_script<L, S: Shelf, K: Sink>(
         → TellsAll files session.old.config (lines_of script.now) session.old.store (world (S.counts shelf.old) (K.written sink.old) (K.faults sink.old)) (world (S.counts shelf.new) (K.written sink.new) (K.faults sink.new)) result }
     ensures cause { IsCaused (world (S.counts shelf.old) (K.written sink.old) (K.faults sink.old)) (world (S.counts shelf.new) (K.written sink.new) (K.faults sink.new)) result }
     ensures never_fall { NeverFall (world (S.counts shelf.old) (K.written sink.old) (K.faults sink.old)) (world (S.counts shelf.new) (K.written sink.new) (K.faults sink.new)) }
+    ensures opens { (files : Files) → S.files shelf.old ≡ Some files
+        → ArePlain session.old.config.window (lines_of script.now)
+        → OnOk result (AreCounted (ScriptTally files session.old.config (lines_of script.now)
+        session.old.store) reads.old reads.new) }
     ensures grow { Grow reads.old reads.new }
 {
     let mut rest = script;

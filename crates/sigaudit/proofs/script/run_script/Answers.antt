@@ -8,6 +8,8 @@ use Rattle.sigaudit.specs.Script.{IsTurn}
 use Rattle.sigaudit.specs.Run.{world, Takes}
 use Rattle.sigaudit.proofs.GrowFacts.{grow_same, grow_on}
 use Rattle.sigaudit.proofs.TakeFacts.{never_on, never_still}
+use Rattle.sigaudit.specs.Counting.{AreCounted, IsPlain, LineTally}
+use Rattle.sigaudit.proofs.CountFacts.{counted_start, line_counted, line_plain, lines_counted}
 use Rattle.sigaudit.proofs.ScriptFacts.{is_on_start, line_more, line_cut, cut_caused, lines_done}
 use Rattle.sigaudit.proofs.script.run_script.Goals as goal
 
@@ -21,6 +23,7 @@ loop-rest-init g c = record {
   never = never_still _ _ _;
   grow = grow_same c.args.reads.now;
   told = λ files told. is_on_start files c.args.session.now.config (lines_of c.args.script.now) c.args.session.now.store (g.K.Sink.written c.args.sink.now) (g.K.Sink.faults c.args.sink.now) 1 refl;
+  opens = λ files told plain. counted_start files c.args.session.now.config (lines_of c.args.script.now) c.args.session.now.store 1 c.args.reads.now refl;
 }
 
 pub loop-rest-smaller : goal.loop-rest-smaller
@@ -61,6 +64,17 @@ loop-rest-preserved g c =
           let turn = subst (λ (k : Settings). Takes (IsTurn files k (c.loop-rest.number + 1) (said k.window c.split_line.result.0.now) c.loop-rest.session.store) (world (g.S.Shelf.counts c.loop-rest.shelf) (g.K.Sink.written c.loop-rest.sink) (g.K.Sink.faults c.loop-rest.sink)) (world (g.S.Shelf.counts c.take_line.new.shelf) (g.K.Sink.written c.take_line.new.sink) (g.K.Sink.faults c.take_line.new.sink)) c.take_line.new.session.store (Ok c.in-Ok.is_refused)) i.config (c.in-Ok.ensures.turn files (i.files ∙ told)) in
           line_more files c.args.session.now.config (lines_of c.args.script.now) c.args.session.now.store (g.K.Sink.written c.args.sink.now) (g.K.Sink.faults c.args.sink.now) (c.loop-rest.number + 1) (c.loop-rest.number + 1 + 1) c.loop-rest.rest.now c.split_line.result.0.now c.split_line.result.1.now (world (g.S.Shelf.counts c.loop-rest.shelf) (g.K.Sink.written c.loop-rest.sink) (g.K.Sink.faults c.loop-rest.sink)) (world (g.S.Shelf.counts c.take_line.new.shelf) (g.K.Sink.written c.take_line.new.sink) (g.K.Sink.faults c.take_line.new.sink)) c.loop-rest.session.store c.take_line.new.session.store c.loop-rest.refused c.in-Ok.is_refused
           some c.split_line.ensures.line c.split_line.ensures.rest refl (i.told files told) turn;
+      opens = λ files told plain.
+          let cfg = c.args.session.now.config in
+          let lines = lines_of c.args.script.now in
+          let line = c.split_line.result.0.now in
+          let s = c.loop-rest.session.store in
+          let on = i.opens files told plain in
+          let is_plain = line_plain files cfg lines c.args.session.now.store s (c.loop-rest.number + 1) c.loop-rest.rest.now line c.args.reads.now c.loop-rest.reads some c.split_line.ensures.line plain on in
+          let turn = subst (λ (k : Settings). Takes (IsTurn files k (c.loop-rest.number + 1) (said k.window line) s) (world (g.S.Shelf.counts c.loop-rest.shelf) (g.K.Sink.written c.loop-rest.sink) (g.K.Sink.faults c.loop-rest.sink)) (world (g.S.Shelf.counts c.take_line.new.shelf) (g.K.Sink.written c.take_line.new.sink) (g.K.Sink.faults c.take_line.new.sink)) c.take_line.new.session.store (Ok c.in-Ok.is_refused)) i.config (c.in-Ok.ensures.turn files (i.files ∙ told)) in
+          let counts = subst (λ (k : Settings). IsPlain (said k.window line) → AreCounted (LineTally files k (said k.window line) s) c.loop-rest.reads c.take_line.new.reads) i.config (c.in-Ok.ensures.opens files (i.files ∙ told)) is_plain in
+          line_counted files cfg lines c.args.session.now.store (c.loop-rest.number + 1) (c.loop-rest.number + 1 + 1) c.loop-rest.rest.now line c.split_line.result.1.now (world (g.S.Shelf.counts c.loop-rest.shelf) (g.K.Sink.written c.loop-rest.sink) (g.K.Sink.faults c.loop-rest.sink)) (world (g.S.Shelf.counts c.take_line.new.shelf) (g.K.Sink.written c.take_line.new.sink) (g.K.Sink.faults c.take_line.new.sink)) s c.take_line.new.session.store c.in-Ok.is_refused c.args.reads.now c.loop-rest.reads c.take_line.new.reads
+          some c.split_line.ensures.line c.split_line.ensures.rest refl on turn counts;
     }
 
 pub returns-clause-transcript : goal.returns-clause-transcript
@@ -68,3 +82,8 @@ returns-clause-transcript g c = λ files told.
     let none : length c.loop-rest.rest.now ≡ 0 = eqb-true (length c.loop-rest.rest.now) 0 (sym c.is_empty.ensures ∙ c.loop-rest-test.false) in
     let i = c.loop-rest.invariant in
     lines_done files c.args.session.now.config (lines_of c.args.script.now) c.args.session.now.store (c.loop-rest.number + 1) c.loop-rest.rest.now (world (g.S.Shelf.counts c.args.shelf.now) (g.K.Sink.written c.args.sink.now) (g.K.Sink.faults c.args.sink.now)) (world (g.S.Shelf.counts c.loop-rest.shelf) (g.K.Sink.written c.loop-rest.sink) (g.K.Sink.faults c.loop-rest.sink)) c.loop-rest.session.store c.loop-rest.refused none i.failed (i.told files told)
+
+pub returns-clause-opens : goal.returns-clause-opens
+returns-clause-opens g c = λ files told plain.
+    let none : length c.loop-rest.rest.now ≡ 0 = eqb-true (length c.loop-rest.rest.now) 0 (sym c.is_empty.ensures ∙ c.loop-rest-test.false) in
+    lines_counted files c.args.session.now.config (lines_of c.args.script.now) c.args.session.now.store c.loop-rest.session.store (c.loop-rest.number + 1) c.loop-rest.rest.now c.args.reads.now c.loop-rest.reads none (c.loop-rest.invariant.opens files told plain)

@@ -2,11 +2,13 @@ use Rattle.std.proofs.Common.{◌≡◌, ◌+◌, ◌≤◌, length, Some}
 use Rattle.outside.specs.Shelf.{Files}
 use Rattle.script_lines.specs.Lines.{lines_of}
 use Rattle.session.specs.Sessions.{Grow}
+use Rattle.sigaudit.specs.Counting.{ArePlain}
 use Rattle.sigaudit.specs.Run.{world, NeverFall}
+use Rattle.sigaudit.proofs.CountFacts.{IsCountedOn}
 use Rattle.sigaudit.proofs.ScriptFacts.{IsOn}
 use Rattle.sigaudit.proofs.script.run_script.Given as goal
 
--- no fault came, the lines so far were taken, and those of the rest of the script are left
+-- no fault came, the lines so far were taken and opened hours as they say, and those of the rest of the script are left
 abbrev pub invariant-loop-rest : goal.invariant-loop-rest
 invariant-loop-rest g l = record {
   room : l.number + length l.rest ≤ length l.script;
@@ -18,6 +20,8 @@ invariant-loop-rest g l = record {
   grow : Grow l.fn.reads l.reads;
   told : (files : Files) → g.S.Shelf.files l.fn.shelf ≡ Some files →
       IsOn files l.fn.session.config (lines_of l.fn.script) l.fn.session.store (g.K.Sink.written l.fn.sink) (g.K.Sink.written l.sink) (g.K.Sink.faults l.fn.sink) (g.K.Sink.faults l.sink) (l.number + 1) (lines_of l.rest) l.session.store l.refused;
+  opens : (files : Files) → g.S.Shelf.files l.fn.shelf ≡ Some files → ArePlain l.fn.session.config.window (lines_of l.fn.script) →
+      IsCountedOn files l.fn.session.config (lines_of l.fn.script) l.fn.session.store (l.number + 1) (lines_of l.rest) l.session.store l.fn.reads l.reads;
 }
 
 abbrev pub decreases-loop-rest : goal.decreases-loop-rest

@@ -1,0 +1,295 @@
+-- How the lines of a script open hours.
+use Rattle.std.proofs.Common.{◌≡◌, ◌<◌, ◌≤◌, ◌+◌, ◌*◌, ◌/◌, ◌^◌, ◌++◌, ◌∙◌, ◌⊎◌, ℕ, List, [], ◌∷◌, length, Bool, true, false, Option, Some, None, Result, Ok, Err, refl, sym, ap, subst, inl, inr, arith, append_assoc, append-nil, nat_lt, IfSome}
+use Rattle.std.specs.Prelude.{OnOk, slice_index, if◌then◌else◌}
+use Rattle.std.proofs.lemmas.Bool.{cases_lt, lt-ltb, le-ltb}
+use Rattle.std.proofs.lemmas.List.{length-append}
+use Rattle.outside.specs.Shelf.{Files}
+use Rattle.sig_base.specs.HourRows.{Shown}
+use Rattle.sig_base.specs.Window.{Span}
+use Rattle.sig_base.specs.declared.values.Row.{Row}
+use Rattle.sig_base.specs.declared.values.Applied.{Applied}
+use Rattle.sig_base.specs.declared.values.EditError.{EditError}
+use Rattle.sig_base.specs.declared.values.EditError.TheVariants.{OutOfWindow, AlreadyHeld, NotHeld, EmptyRange, TooManyRows, TooManyBlanks, Contradiction, Memory}
+use Rattle.hour_store.specs.Store.{Store, nothing_held}
+use Rattle.ring_config.specs.Reading.{Fails, Read}
+use Rattle.ring_config.specs.Settings.{Settings, config_of}
+use Rattle.ring_config.specs.declared.error.ConfigError.{ConfigError}
+use Rattle.session.specs.Edits.{Change, step_of}
+use Rattle.session.specs.Edits as change
+use Rattle.session.specs.Moved.{Moves}
+use Rattle.session.specs.Opens.{AreOpened, IsOpened, OpensBy}
+use Rattle.session.specs.Sessions.{Kept, Steps}
+use Rattle.session.proofs.OpenLaws.{opened_not, opened_on, opened_wider}
+use Rattle.command_line.specs.Words.{Asked, for_run, for_count, for_pack, for_demo}
+use Rattle.script_lines.specs.Lines.{after_line, first_line, lines_of}
+use Rattle.script_lines.specs.Words.{Said, said}
+use Rattle.script_lines.specs.Words as line
+use Rattle.report_text.specs.declared.refusal.Refusal.{Refusal}
+use Rattle.sigaudit.specs.declared.hour_file.Unread.{Unread}
+use Rattle.sigaudit.specs.declared.status.Status.{Status}
+use Rattle.sigaudit.specs.declared.status.Status.TheVariants as outer
+use Rattle.sigaudit.specs.declared.status.Ended.{Ended}
+use Rattle.sigaudit.specs.declared.status.Ended.TheVariants as ended
+use Rattle.sigaudit.specs.declared.status.Stopped.{Stopped}
+use Rattle.sigaudit.specs.declared.status.Stopped.TheVariants as stopped
+use Rattle.sigaudit.specs.Counting.{AreCounted, ArePlain, AreTallied, CountsAnswer, CountsConfig, CountsFile, CountsText, EditTally, FetchTally, IsPlain, LineTally, MadeTally, ReadTally, ScriptTally, WhereTaken, within}
+use Rattle.sigaudit.specs.HourFile.{hour_said}
+use Rattle.sigaudit.specs.Run.{World, Takes}
+use Rattle.sigaudit.specs.Script.{edit_said, hour_bytes, hour_change, is_edit_memory, wanted_for, IsTurn}
+use Rattle.sigaudit.specs.Status.{status_of_run}
+use Rattle.sigaudit.specs.Transcript.{ended_by, limited}
+use Rattle.sigaudit.specs.Turns.{Turn}
+use Rattle.sigaudit.proofs.ScriptFacts.{lines_next, lines_over}
+
+-- ---- one edit
+
+pub on_ok : {T E : Type 0} (r : Result T E) (P : Type 0) → P → OnOk r P
+on_ok (Ok x) P p = p
+on_ok (Err e) P p = tt
+
+pub on_ok_by : {T E : Type 0} (r : Result T E) (P Q : Type 0) → (P → Q) → OnOk r P → OnOk r Q
+on_ok_by (Ok x) P Q f p = f p
+on_ok_by (Err e) P Q f p = tt
+
+within_is : (from to h : ℕ) → from ≤ h → h < to → within from to h ≡ 1
+within_is from to h low high = rw (le-ltb h from low, lt-ltb h to high) refl
+
+within_not : (from to h : ℕ) → (h < from) ⊎ (to ≤ h) → within from to h ≡ 0
+within_not from to h (inl before) = rw (lt-ltb h from before) refl
+within_not from to h (inr past) = elim (cases_lt h from) [ inl before ↦ rw (lt-ltb h from before) refl | inr low ↦ rw (le-ltb h from low, le-ltb h to past) refl ]
+
+-- nothing was opened
+pub counted_still : (Tally : ℕ → ℕ → ℕ → Type 0) (a b : List ℕ) → b ≡ a → ((h : ℕ) → Tally h 0 0) → AreCounted Tally a b
+counted_still Tally a b e tally = (ap length e, λ h lt. (0, 0, tally h, opened_not (slice_index a h) (slice_index b h) (ap (λ (x : List ℕ). slice_index x h) e)))
+
+pub same_tally : (T U : ℕ → ℕ → ℕ → Type 0) (a b : List ℕ) → ((h m k : ℕ) → T h m k → U h m k) → AreCounted T a b → AreCounted U a b
+same_tally T U a b f (size, each) = (size, λ h lt. let (m, k, tally, opened) = each h lt in (m, k, f h m k tally, opened))
+
+made_counted : (c : Settings) (s new : Store) (ch : Change) (a : Applied) (old now : List ℕ) → Moves c s new ch a → AreOpened a.from a.to 1 3 old now → AreCounted (MadeTally c s ch (Ok new)) old now
+made_counted c s new ch a old now moves opens = (opens.size, λ h lt. elim (cases_lt h a.from) [
+  | inl before ↦ (0, 0, inl (a, moves, sym (within_not a.from a.to h (inl before)), refl), opened_not (slice_index old h) (slice_index now h) (opens.outside h (inl before)))
+  | inr low ↦ elim (cases_lt h a.to) [
+    | inl high ↦ (1, 0, inl (a, moves, sym (within_is a.from a.to h low high), refl), opens.within h lt low high)
+    | inr past ↦ (0, 0, inl (a, moves, sym (within_not a.from a.to h (inr past)), refl), opened_not (slice_index old h) (slice_index now h) (opens.outside h (inr past)))
+  ]
+])
+
+pub edit_counted : (c : Settings) (s new : Store) (ch : Change) (a : Applied) (old now : List ℕ) → Steps c (step_of s ch) s new (Ok a) → Moves c s new ch a → OpensBy ch old now (Ok a) → AreCounted (EditTally c s ch) old now
+unfolding OpensBy
+edit_counted c s new ch a old now steps moves opens = rw steps.0 (made_counted c s new ch a old now moves opens)
+
+-- an edit that is refused before it is made
+unmade : (c : Settings) (s : Store) (ch : Change) (to : Result Store EditError) (e : EditError) (old now : List ℕ) → to ≡ Err e → now ≡ old → AreCounted (MadeTally c s ch to) old now
+unmade c s ch to e old now made same = rw made (counted_still (MadeTally c s ch (Err e)) old now same (λ h. (refl, refl)))
+
+stopped_counted : (c : Settings) (s new : Store) (ch : Change) (row : Row) (old now : List ℕ) → Steps c (Ok new) s s (Err (Contradiction row)) → OpensBy ch old now (Err (Contradiction row)) → AreCounted (MadeTally c s ch (Ok new)) old now
+unfolding OpensBy
+stopped_counted c s new ch row old now steps (first, last, touches, opens) =
+    let to = row.at / 36000 + 1 in
+    let (_, t, is, contradicts, _) = steps in
+    let same : t ≡ new = cc in
+    let at = rw same at contradicts in
+    (opens.size, λ h lt. elim (cases_lt h first) [
+      | inl before ↦ (0, 0, inr (row, first, last, at, touches, refl, sym (within_not first to h (inl before))), opened_not (slice_index old h) (slice_index now h) (opens.outside h (inl before)))
+      | inr low ↦ elim (cases_lt h to) [
+        | inl high ↦ (0, 1, inr (row, first, last, at, touches, refl, sym (within_is first to h low high)), opened_wider 1 1 0 3 (slice_index old h) (slice_index now h) (omega arith) (omega arith) (opens.within h lt low high))
+        | inr past ↦ (0, 0, inr (row, first, last, at, touches, refl, sym (within_not first to h (inr past))), opened_not (slice_index old h) (slice_index now h) (opens.outside h (inr past)))
+      ]
+    ])
+
+pub refusal_counted : (c : Settings) (s new : Store) (ch : Change) (to : Result Store EditError) (e : EditError) (old now : List ℕ) → is_edit_memory e ≡ false → Steps c to s new (Err e) → OpensBy ch old now (Err e) → AreCounted (MadeTally c s ch to) old now
+unfolding OpensBy
+refusal_counted c s new ch to OutOfWindow old now ne steps opens = unmade c s ch to OutOfWindow old now steps.1 opens
+refusal_counted c s new ch to AlreadyHeld old now ne steps opens = unmade c s ch to AlreadyHeld old now steps.1 opens
+refusal_counted c s new ch to NotHeld old now ne steps opens = unmade c s ch to NotHeld old now steps.1 opens
+refusal_counted c s new ch to EmptyRange old now ne steps opens = unmade c s ch to EmptyRange old now steps.1 opens
+refusal_counted c s new ch to TooManyRows old now ne steps opens = unmade c s ch to TooManyRows old now steps.1 opens
+refusal_counted c s new ch to TooManyBlanks old now ne steps opens = unmade c s ch to TooManyBlanks old now steps.1 opens
+refusal_counted c s new ch to (Contradiction row) old now ne steps opens =
+    let (same, t, is, contradicts, none) = steps in
+    rw is (stopped_counted c s t ch row old now (refl, t, refl, contradicts, none) opens)
+refusal_counted c s new ch to Memory old now ne steps opens = absurd (cc)
+
+-- ---- an hour file
+
+pub read_counted : (c : Settings) (make : Shown → Change) (s : Store) (read : Result Shown Unread) (shown : Shown) (ch : Change) (old now : List ℕ) (r : Result Bool Stopped) → read ≡ Ok shown → ch ≡ make shown → OnOk r (AreCounted (EditTally c s ch) old now) → OnOk r (AreCounted (ReadTally c make s read) old now)
+read_counted c make s read shown ch old now r e em h = rw e (subst (λ (x : Change). OnOk r (AreCounted (EditTally c s x) old now)) em h)
+
+pub unread_counted : (c : Settings) (make : Shown → Change) (s : Store) (read : Result Shown Unread) (e : Unread) (old : List ℕ) (r : Result Bool Stopped) → read ≡ Err e → OnOk r (AreCounted (ReadTally c make s read) old old)
+unread_counted c make s read e old r is = rw is (on_ok r (AreCounted (ReadTally c make s (Err e)) old old) (counted_still (ReadTally c make s (Err e)) old old refl (λ h. (refl, refl))))
+
+pub fetched_counted : (c : Settings) (hour : ℕ) (make : Shown → Change) (s : Store) (want : Result (List ℕ) Refusal) (bytes bytes' old now : List ℕ) (r : Result Bool Stopped) → want ≡ Ok bytes → bytes' ≡ bytes → OnOk r (AreCounted (ReadTally c make s (hour_said (wanted_for c hour) bytes')) old now) → OnOk r (AreCounted (FetchTally c hour make s want) old now)
+fetched_counted c hour make s want bytes bytes' old now r e eb h = rw e (subst (λ (x : List ℕ). OnOk r (AreCounted (ReadTally c make s (hour_said (wanted_for c hour) x)) old now)) eb h)
+
+pub missed_counted : (c : Settings) (hour : ℕ) (make : Shown → Change) (s : Store) (want : Result (List ℕ) Refusal) (refusal : Refusal) (old : List ℕ) (r : Result Bool Stopped) → want ≡ Err refusal → OnOk r (AreCounted (FetchTally c hour make s want) old old)
+missed_counted c hour make s want refusal old r is = rw is (on_ok r (AreCounted (FetchTally c hour make s (Err refusal)) old old) (counted_still (FetchTally c hour make s (Err refusal)) old old refl (λ h. (refl, refl))))
+
+-- ---- one line
+
+pub line_edit : (files : Files) (c : Settings) (x : Said) (ch : Change) (s : Store) → Some ch ≡ edit_said x → (h m k : ℕ) → EditTally c s ch h m k → LineTally files c x s h m k
+unfolding LineTally
+line_edit files c line.skip ch s e h m k t = absurd (cc)
+line_edit files c line.bad ch s e h m k t = absurd (cc)
+line_edit files c (line.load hour name) ch s e h m k t = absurd (cc)
+line_edit files c (line.replace hour name) ch s e h m k t = absurd (cc)
+line_edit files c (line.withdraw hour) ch s e h m k t = let same : ch ≡ change.withdraw hour = cc in rw same at t
+line_edit files c (line.blank from to) ch s e h m k t = let same : ch ≡ change.blank from to = cc in rw same at t
+line_edit files c (line.unblank from to) ch s e h m k t = let same : ch ≡ change.unblank from to = cc in rw same at t
+line_edit files c line.audit ch s e h m k t = absurd (cc)
+line_edit files c (line.verdicts hour) ch s e h m k t = absurd (cc)
+line_edit files c line.measures ch s e h m k t = absurd (cc)
+line_edit files c (line.measures_of hour) ch s e h m k t = absurd (cc)
+line_edit files c (line.points p) ch s e h m k t = absurd (cc)
+line_edit files c (line.offsets name) ch s e h m k t = absurd (cc)
+
+pub line_edited : (files : Files) (c : Settings) (x : Said) (ch : Change) (s : Store) (old now : List ℕ) (r : Result Bool Stopped) → Some ch ≡ edit_said x → OnOk r (AreCounted (EditTally c s ch) old now) → OnOk r (AreCounted (LineTally files c x s) old now)
+line_edited files c x ch s old now r e h = on_ok_by r (AreCounted (EditTally c s ch) old now) (AreCounted (LineTally files c x s) old now) (same_tally (EditTally c s ch) (LineTally files c x s) old now (line_edit files c x ch s e)) h
+
+line_loads : (files : Files) (c : Settings) (hour : ℕ) (name : List ℕ) (s : Store) (h m k : ℕ) → FetchTally c hour (hour_change false) s (hour_bytes files c hour name) h m k → LineTally files c (line.load hour name) s h m k
+unfolding LineTally
+line_loads files c hour name s h m k t = t
+
+line_replaces : (files : Files) (c : Settings) (hour : ℕ) (name : List ℕ) (s : Store) (h m k : ℕ) → FetchTally c hour (hour_change true) s (hour_bytes files c hour name) h m k → LineTally files c (line.replace hour name) s h m k
+unfolding LineTally
+line_replaces files c hour name s h m k t = t
+
+pub line_loaded : (files : Files) (c : Settings) (x : Said) (hour : ℕ) (name : List ℕ) (s : Store) (old now : List ℕ) (r : Result Bool Stopped) → x ≡ line.load hour name → OnOk r (AreCounted (FetchTally c hour (hour_change false) s (hour_bytes files c hour name)) old now) → OnOk r (AreCounted (LineTally files c x s) old now)
+line_loaded files c x hour name s old now r e h =
+    rw e (on_ok_by r (AreCounted (FetchTally c hour (hour_change false) s (hour_bytes files c hour name)) old now) (AreCounted (LineTally files c (line.load hour name) s) old now) (same_tally (FetchTally c hour (hour_change false) s (hour_bytes files c hour name)) (LineTally files c (line.load hour name) s) old now (line_loads files c hour name s)) h)
+
+pub line_replaced : (files : Files) (c : Settings) (x : Said) (hour : ℕ) (name : List ℕ) (s : Store) (old now : List ℕ) (r : Result Bool Stopped) → x ≡ line.replace hour name → OnOk r (AreCounted (FetchTally c hour (hour_change true) s (hour_bytes files c hour name)) old now) → OnOk r (AreCounted (LineTally files c x s) old now)
+line_replaced files c x hour name s old now r e h =
+    rw e (on_ok_by r (AreCounted (FetchTally c hour (hour_change true) s (hour_bytes files c hour name)) old now) (AreCounted (LineTally files c (line.replace hour name) s) old now) (same_tally (FetchTally c hour (hour_change true) s (hour_bytes files c hour name)) (LineTally files c (line.replace hour name) s) old now (line_replaces files c hour name s)) h)
+
+-- a line that is no edit
+still_line : (files : Files) (c : Settings) (x : Said) (s : Store) (h : ℕ) → edit_said x ≡ None → ((hour : ℕ) (name : List ℕ) → x ≡ line.load hour name → ⊥) → ((hour : ℕ) (name : List ℕ) → x ≡ line.replace hour name → ⊥) → LineTally files c x s h 0 0
+unfolding LineTally
+still_line files c line.skip s h e no_load no_replace = (refl, refl)
+still_line files c line.bad s h e no_load no_replace = (refl, refl)
+still_line files c (line.load hour name) s h e no_load no_replace = absurd (no_load hour name refl)
+still_line files c (line.replace hour name) s h e no_load no_replace = absurd (no_replace hour name refl)
+still_line files c (line.withdraw hour) s h e no_load no_replace = absurd (cc)
+still_line files c (line.blank from to) s h e no_load no_replace = absurd (cc)
+still_line files c (line.unblank from to) s h e no_load no_replace = absurd (cc)
+still_line files c line.audit s h e no_load no_replace = (refl, refl)
+still_line files c (line.verdicts hour) s h e no_load no_replace = (refl, refl)
+still_line files c line.measures s h e no_load no_replace = (refl, refl)
+still_line files c (line.measures_of hour) s h e no_load no_replace = (refl, refl)
+still_line files c (line.points p) s h e no_load no_replace = (refl, refl)
+still_line files c (line.offsets name) s h e no_load no_replace = (refl, refl)
+
+-- ---- lines one after another
+
+pub tally_none : (files : Files) (c : Settings) (n : ℕ) (s : Store) (h : ℕ) → AreTallied files c n [] s s h 0 0
+unfolding AreTallied
+tally_none files c n s h = (refl, refl, refl)
+
+tally_more : (files : Files) (c : Settings) (n at : ℕ) (ls : List (List ℕ)) (l : List ℕ) (s mid last : Store) (t : Turn) (h m1 k1 m2 k2 : ℕ) → at ≡ n + length ls
+    → AreTallied files c n ls s mid h m1 k1 → IsTurn files c at (said c.window l) mid t → last ≡ t.store → LineTally files c (said c.window l) mid h m2 k2 → AreTallied files c n (ls ++ l ∷ []) s last h (m1 + m2) (k1 + k2)
+unfolding AreTallied
+tally_more files c n at [] l s mid last t h m1 k1 m2 k2 e (is, none, stops) turn store tally =
+    let number : at ≡ n = omega arith in
+    let turn' = rw (number, is) at turn in
+    let tally' = rw is at tally in
+    (t, turn', (m2, k2, 0, 0, tally', (store, refl, refl), omega arith, omega arith))
+tally_more files c n at (x ∷ xs) l s mid last t h m1 k1 m2 k2 e (u, first, (a, b, a', b', one, rest, moves, stops)) turn store tally =
+    (u, first, (a, b, a' + m2, b' + k2, one, tally_more files c (n + 1) at xs l u.store mid last t h a' b' m2 k2 (omega arith) rest turn store tally, omega arith, omega arith))
+
+-- two openings one after another, by tallies that add up
+counted_on : (T U V : ℕ → ℕ → ℕ → Type 0) (a b d : List ℕ) → ((h m k m' k' : ℕ) → T h m k → U h m' k' → V h (m + m') (k + k')) → AreCounted T a b → AreCounted U b d → AreCounted V a d
+counted_on T U V a b d join (size, each) (size', each') = (size' ∙ size, λ h lt.
+    let (m, k, tally, opened) = each h lt in
+    let (m', k', tally', opened') = each' h (rw size lt) in
+    let both = opened_on m (3 * (m + k)) m' (3 * (m' + k')) (slice_index a h) (slice_index b h) (slice_index d h) opened opened' in
+    (m + m', k + k', join h m k m' k' tally tally', opened_wider (m + m') (3 * (m + k) + 3 * (m' + k')) (m + m') (3 * ((m + m') + (k + k'))) (slice_index a h) (slice_index d h) (omega arith) (omega arith) both))
+
+-- the lines before line n were taken, these are left, and hours were opened so
+pub record IsCountedOn (files : Files) (c : Settings) (lines : List (List ℕ)) (s0 : Store) (n : ℕ) (rest : List (List ℕ)) (s : Store) (old now : List ℕ) : Type 0 where
+  pub done : List (List ℕ)
+  pub all : lines ≡ done ++ rest
+  pub number : n ≡ 1 + length done
+  pub counted : AreCounted (AreTallied files c 1 done s0 s) old now
+
+pub counted_start : (files : Files) (c : Settings) (lines : List (List ℕ)) (s : Store) (n : ℕ) (old : List ℕ) → n ≡ 1 → IsCountedOn files c lines s n lines s old old
+counted_start files c lines s n old e = record {
+  done = [];
+  all = refl;
+  number = e;
+  counted = counted_still (AreTallied files c 1 [] s s) old old refl (λ h. tally_none files c 1 s h);
+}
+
+-- a line of plain ones is plain
+plain_at : (w : Span) (done : List (List ℕ)) (l : List ℕ) (rest : List (List ℕ)) → ArePlain w (done ++ l ∷ rest) → IsPlain (said w l)
+plain_at w [] l rest (here, more) = here
+plain_at w (x ∷ xs) l rest (here, more) = plain_at w xs l rest more
+
+pub line_plain : (files : Files) (c : Settings) (lines : List (List ℕ)) (s0 s : Store) (n : ℕ) (text line : List ℕ) (old now : List ℕ) → 0 < length text → line ≡ first_line text → ArePlain c.window lines
+    → IsCountedOn files c lines s0 n (lines_of text) s old now → IsPlain (said c.window line)
+line_plain files c lines s0 s n text line old now some l plain on =
+    let all : lines ≡ on.done ++ line ∷ lines_of (after_line text) = on.all ∙ (rw (lines_next text some, ← l) refl) in
+    plain_at c.window on.done line (lines_of (after_line text)) (rw all at plain)
+
+-- one more line was taken
+pub line_counted : (files : Files) (c : Settings) (lines : List (List ℕ)) (s0 : Store) (n m : ℕ) (text line after : List ℕ) (mid new : World) (s s' : Store) (r : Bool) (old now then : List ℕ)
+    → 0 < length text → line ≡ first_line text → after ≡ after_line text → m ≡ n + 1
+    → IsCountedOn files c lines s0 n (lines_of text) s old now
+    → Takes (IsTurn files c n (said c.window line) s) mid new s' (Ok r) → AreCounted (LineTally files c (said c.window line) s) now then
+    → IsCountedOn files c lines s0 m (lines_of after) s' old then
+line_counted files c lines s0 n m text line after mid new s s' r old now then some l a em on takes counts =
+    let (t, turn, _, _, store, _) = takes in
+    record {
+      done = on.done ++ line ∷ [];
+      all = on.all ∙ (rw (lines_next text some, ← l, ← a, append_assoc) refl);
+      number = let e = on.number in rw length-append (omega arith);
+      counted = counted_on (AreTallied files c 1 on.done s0 s) (LineTally files c (said c.window line) s) (AreTallied files c 1 (on.done ++ line ∷ []) s0 s') old now then
+          (λ h x k x' k' tally tally'. tally_more files c 1 n on.done line s0 s s' t h x k x' k' on.number tally turn store tally') on.counted counts;
+    }
+
+-- no line is left
+pub lines_counted : (files : Files) (c : Settings) (lines : List (List ℕ)) (s0 s : Store) (n : ℕ) (text old now : List ℕ) → length text ≡ 0 → IsCountedOn files c lines s0 n (lines_of text) s old now → AreCounted (ScriptTally files c lines s0) old now
+lines_counted files c lines s0 s n text old now none on =
+    let all : lines ≡ on.done = on.all ∙ (rw (lines_over text none, append-nil) refl) in
+    rw all (same_tally (AreTallied files c 1 on.done s0 s) (ScriptTally files c on.done s0) old now (λ h m k tally. (s, tally)) on.counted)
+
+-- ---- a run
+
+pub script_counted : (files : Files) (c : Settings) (script : List ℕ) (session : Kept) (old now : List ℕ) (refused : Bool) → session ≡ record { config = c; store = nothing_held c.window.hours }
+    → (ArePlain session.config.window (lines_of script) → AreCounted (ScriptTally files session.config (lines_of script) session.store) old now) → WhereTaken (status_of_run (Ok (ended_by refused))) (CountsText files c old now (Some script))
+script_counted files c script session old now true e h = subst (λ (k : Kept). ArePlain k.config.window (lines_of script) → AreCounted (ScriptTally files k.config (lines_of script) k.store) old now) e h
+script_counted files c script session old now false e h = subst (λ (k : Kept). ArePlain k.config.window (lines_of script) → AreCounted (ScriptTally files k.config (lines_of script) k.store) old now) e h
+
+pub taken_not : (s : Stopped) (P : Type 0) → WhereTaken (status_of_run (Err s)) P
+taken_not stopped.Fault P = tt
+taken_not stopped.Memory P = tt
+
+-- where there is nothing to say
+pub taken_any : (st : Status) (P : Type 0) → P → WhereTaken st P
+taken_any outer.Done P p = p
+taken_any outer.SomeRefused P p = p
+taken_any outer.Usage P p = tt
+taken_any outer.BadConfig P p = tt
+taken_any outer.Fault P p = tt
+taken_any outer.Memory P p = tt
+taken_any outer.NoFile P p = tt
+
+pub taken_by : (st : Status) (P Q : Type 0) → (P → Q) → WhereTaken st P → WhereTaken st Q
+taken_by outer.Done P Q f p = f p
+taken_by outer.SomeRefused P Q f p = f p
+taken_by outer.Usage P Q f p = tt
+taken_by outer.BadConfig P Q f p = tt
+taken_by outer.Fault P Q f p = tt
+taken_by outer.Memory P Q f p = tt
+taken_by outer.NoFile P Q f p = tt
+
+-- a text that is there
+pub text_counted : (P : Option (List ℕ) → Type 0) (want : Option (List ℕ)) (bytes bytes' : List ℕ) (st : Status) → want ≡ Some bytes → bytes' ≡ bytes → WhereTaken st (P (Some bytes')) → WhereTaken st (P want)
+text_counted P want bytes bytes' st e eb h = rw e (subst (λ (x : List ℕ). WhereTaken st (P (Some x))) eb h)
+
+pub config_counted : (files : Files) (script old : List ℕ) (read : Read Settings) (e : ConfigError) (st : Status) → read ≡ Err e → WhereTaken st (CountsConfig files script old old read)
+config_counted files script old read e st is = rw is (taken_any st (CountsConfig files script old old (Err e)) tt)
+
+pub request_counted : (files : Files) (x : Asked) (config script old now : List ℕ) (st : Status) → x ≡ for_run config script → WhereTaken st (CountsFile files script old now (limited 1048576 (files config))) → WhereTaken st (CountsAnswer files old now (Some x))
+request_counted files x config script old now st e h = rw e h
+
+pub answer_counted : (asked o : Option Asked) (files : Files) (old now : List ℕ) (st : Status) → asked ≡ o → WhereTaken st (CountsAnswer files old now o) → WhereTaken st (CountsAnswer files old now asked)
+answer_counted asked o files old now st e h = rw e h

@@ -1,0 +1,122 @@
+-- How often a script opens each hour.
+use Rattle.std.specs.Prelude.{◌≡◌, ◌⊎◌, ◌<◌, ◌+◌, ◌*◌, ◌/◌, ◌^◌, ℕ, nat_lt, if◌then◌else◌, List, [], ◌∷◌, length, slice_index, Option, Some, None, Result, Ok, Err, ⊤}
+use Rattle.outside.specs.Shelf.{Files}
+use Rattle.sig_base.specs.HourRows.{Shown}
+use Rattle.sig_base.specs.Window.{Span}
+use Rattle.sig_base.specs.declared.values.Applied.{Applied}
+use Rattle.sig_base.specs.declared.values.EditError.{EditError}
+use Rattle.sig_base.specs.declared.values.Row.{Row}
+use Rattle.hour_store.specs.Store.{Store, nothing_held}
+use Rattle.ring_config.specs.Reading.{Read}
+use Rattle.ring_config.specs.Settings.{Settings, config_of}
+use Rattle.signal_log.specs.Log.{IsContradiction, log_of}
+use Rattle.session.specs.Edits.{Change, step_of}
+use Rattle.session.specs.Edits as change
+use Rattle.session.specs.Moved.{Moves, Touches}
+use Rattle.session.specs.Opens.{IsOpened}
+use Rattle.command_line.specs.Words.{Asked, for_run, for_count, for_pack, for_demo}
+use Rattle.script_lines.specs.Lines.{lines_of}
+use Rattle.script_lines.specs.Words.{Said, said}
+use Rattle.script_lines.specs.Words as line
+use Rattle.report_text.specs.declared.refusal.Refusal.{Refusal}
+use Rattle.sigaudit.specs.declared.hour_file.Unread.{Unread}
+use Rattle.sigaudit.specs.declared.status.Status.{Status}
+use Rattle.sigaudit.specs.declared.status.Status.TheVariants.{Done, SomeRefused, Usage, BadConfig, Fault, Memory, NoFile}
+use Rattle.sigaudit.specs.HourFile.{hour_said}
+use Rattle.sigaudit.specs.Script.{hour_bytes, hour_change, wanted_for, IsTurn}
+use Rattle.sigaudit.specs.Transcript.{limited}
+use Rattle.sigaudit.specs.Turns.{Turn}
+
+-- 1 for an hour from `from` up to `to`, 0 for any other
+abbrev pub within : ℕ → ℕ → ℕ → ℕ
+within from to h = if nat_lt h from then 0 else (if nat_lt h to then 1 else 0)
+
+-- how often an hour moves, and how often it lies between the first hour that an edit touches and the row at which it contradicts the log, both with it: by an edit that makes this of the store
+abbrev pub MadeTally : Settings → Store → Change → Result Store EditError → ℕ → ℕ → ℕ → Type 0
+MadeTally c s ch (Err e) h m k = (m ≡ 0) × (k ≡ 0)
+MadeTally c s ch (Ok new) h m k =
+    ((moved : Applied) × Moves c s new ch moved × (m ≡ within moved.from moved.to h) × (k ≡ 0))
+    ⊎ ((row : Row) × (first : ℕ) × (last : ℕ) × IsContradiction (log_of c.specs new) row × Touches ch first last × (m ≡ 0) × (k ≡ within first (row.at / 36000 + 1) h))
+
+-- by an edit
+abbrev pub EditTally : Settings → Store → Change → ℕ → ℕ → ℕ → Type 0
+EditTally c s ch h m k = MadeTally c s ch (step_of s ch) h m k
+
+-- by a load or a replacement of what a file says
+abbrev pub ReadTally : Settings → (Shown → Change) → Store → Result Shown Unread → ℕ → ℕ → ℕ → Type 0
+ReadTally c make s (Ok shown) h m k = EditTally c s (make shown) h m k
+ReadTally c make s (Err e) h m k = (m ≡ 0) × (k ≡ 0)
+
+-- by a load or a replacement of an hour by these bytes
+abbrev pub FetchTally : Settings → ℕ → (Shown → Change) → Store → Result (List ℕ) Refusal → ℕ → ℕ → ℕ → Type 0
+FetchTally c hour make s (Ok bytes) h m k = ReadTally c make s (hour_said (wanted_for c hour) bytes) h m k
+FetchTally c hour make s (Err refusal) h m k = (m ≡ 0) × (k ≡ 0)
+
+-- the line is an edit, asks for measures, is bad or is skipped
+abbrev pub IsPlain : Said → Type 0
+IsPlain line.audit = ⊥
+IsPlain (line.verdicts hour) = ⊥
+IsPlain (line.points p) = ⊥
+IsPlain (line.offsets name) = ⊥
+IsPlain _ = ⊤
+
+-- by such a line
+unfoldable pub LineTally : Files → Settings → Said → Store → ℕ → ℕ → ℕ → Type 0
+LineTally files c (line.load hour name) s h m k = FetchTally c hour (hour_change false) s (hour_bytes files c hour name) h m k
+LineTally files c (line.replace hour name) s h m k = FetchTally c hour (hour_change true) s (hour_bytes files c hour name) h m k
+LineTally files c (line.withdraw hour) s h m k = EditTally c s (change.withdraw hour) h m k
+LineTally files c (line.blank from to) s h m k = EditTally c s (change.blank from to) h m k
+LineTally files c (line.unblank from to) s h m k = EditTally c s (change.unblank from to) h m k
+LineTally files c _ s h m k = (m ≡ 0) × (k ≡ 0)
+
+-- by such lines in their order, numbered from n, which make the last store of the first one
+unfoldable pub AreTallied : Files → Settings → ℕ → List (List ℕ) → Store → Store → ℕ → ℕ → ℕ → Type 0
+AreTallied files c n [] s last h m k = (last ≡ s) × (m ≡ 0) × (k ≡ 0)
+AreTallied files c n (l ∷ ls) s last h m k =
+    (t : Turn) × IsTurn files c n (said c.window l) s t
+    × ((m1 : ℕ) × (k1 : ℕ) × (m2 : ℕ) × (k2 : ℕ) × LineTally files c (said c.window l) s h m1 k1 × AreTallied files c (n + 1) ls t.store last h m2 k2 × (m ≡ m1 + m2) × (k ≡ k1 + k2))
+
+-- each line is such a line
+abbrev pub ArePlain : Span → List (List ℕ) → Type 0
+ArePlain w [] = ⊤
+ArePlain w (l ∷ ls) = IsPlain (said w l) × ArePlain w ls
+
+-- by the lines of a script over a store
+abbrev pub ScriptTally : Files → Settings → List (List ℕ) → Store → ℕ → ℕ → ℕ → Type 0
+ScriptTally files c lines s h m k = (last : Store) × AreTallied files c 1 lines s last h m k
+
+-- each hour that has a count was opened at least as often as it moves by accepted edits, and at most three times as often as it moves or lies on the way to a contradiction
+abbrev pub AreCounted : (ℕ → ℕ → ℕ → Type 0) → List ℕ → List ℕ → Type 0
+AreCounted Tally old new =
+    (length new ≡ length old) × ((h : ℕ) → h < length old → (m : ℕ) × (k : ℕ) × Tally h m k × IsOpened m (3 * (m + k)) (slice_index old h) (slice_index new h))
+
+-- where all lines of a script are such lines
+abbrev pub CountsText : Files → Settings → List ℕ → List ℕ → Option (List ℕ) → Type 0
+CountsText files c old new None = ⊤
+CountsText files c old new (Some script) = ArePlain c.window (lines_of script) → AreCounted (ScriptTally files c (lines_of script) (nothing_held c.window.hours)) old new
+
+abbrev pub CountsConfig : Files → List ℕ → List ℕ → List ℕ → Read Settings → Type 0
+CountsConfig files script old new (Err e) = ⊤
+CountsConfig files script old new (Ok c) = CountsText files c old new (limited (4 * 2 ^ 20) (files script))
+
+abbrev pub CountsFile : Files → List ℕ → List ℕ → List ℕ → Option (List ℕ) → Type 0
+CountsFile files script old new None = ⊤
+CountsFile files script old new (Some bytes) = CountsConfig files script old new (config_of bytes)
+
+-- of a run that the words ask for
+abbrev pub CountsAnswer : Files → List ℕ → List ℕ → Option Asked → Type 0
+CountsAnswer files old new None = ⊤
+CountsAnswer files old new (Some (for_run config script)) = CountsFile files script old new (limited (2 ^ 20) (files config))
+CountsAnswer files old new (Some (for_count file signal day hour)) = ⊤
+CountsAnswer files old new (Some (for_pack file signal day hour)) = ⊤
+CountsAnswer files old new (Some (for_demo hours)) = ⊤
+
+-- where all lines of a script were taken
+abbrev pub WhereTaken : Status → Type 0 → Type 0
+WhereTaken Done P = P
+WhereTaken SomeRefused P = P
+WhereTaken Usage P = ⊤
+WhereTaken BadConfig P = ⊤
+WhereTaken Fault P = ⊤
+WhereTaken Memory P = ⊤
+WhereTaken NoFile P = ⊤

@@ -11,12 +11,18 @@ use Rattle.sig_base.specs.declared.values.EditError.{EditError}
 use Rattle.sig_base.specs.declared.values.EditError.TheVariants as edit
 use Rattle.span_set.specs.declared.set.Span.{Span}
 use Rattle.span_set.specs.Spans.{AreRanges}
-use Rattle.hour_store.specs.Store.{LieWithin, Store, count_in, held_at, rows_held, with_blanks, with_hour}
+use Rattle.hour_store.specs.Store.{IsStore, LieWithin, Store, count_in, held_at, rows_held, with_blanks, with_hour}
 use Rattle.ring_config.specs.Settings.{Settings}
+use Rattle.ring_config.specs.Sound.{IsSound}
 use Rattle.signal_log.specs.Log.{HasHistory, log_of}
+use Rattle.signal_log.proofs.Lawful.{no_history}
+use Rattle.rule_audit.proofs.Tracked.{channels_are}
+use Rattle.hour_work.specs.declared.steps.ForwardError.{ForwardError}
+use Rattle.hour_work.specs.declared.steps.ForwardError.TheVariants as forward
+use Rattle.hour_work.specs.Points.{NamesRow}
 use Rattle.session.specs.Edits.{blank, load, reaches_out, replace, withdraw, step_of, unblank, unless_many_blanks}
 use Rattle.session.specs.Ranges.{With, Without}
-use Rattle.session.specs.Sessions.{MayWantMemory, OpensNone, Steps, StopsAt}
+use Rattle.session.specs.Sessions.{MayWantMemory, Steps, StopsAt, refusal_for}
 use Rattle.session.proofs.RangeLaws.{with_is, without_is}
 
 set_set : {X : Type 0} (xs : List X) (i : ℕ) (x y : X) → set (set xs i x) i y ≡ set xs i y
@@ -49,19 +55,10 @@ pub steps_done : (c : Settings) (to : Result Store EditError) (old t new : Store
 steps_done c to old t new (Ok x) is done back stop = (is ∙ ap Ok (sym done.0), subst (λ s. HasHistory (log_of c.specs s)) (sym done.0) done.1)
 steps_done c to old t new (Err e) is done back stop = steps_stopped c to old t new e is back stop
 
-opens_stopped : (c : Settings) (t : Store) (a b : List ℕ) (e : EditError) → StopsAt c t e → OpensNone a b e
-opens_stopped c t a b (edit.Contradiction row) stop = tt
-opens_stopped c t a b edit.Memory stop = tt
-opens_stopped c t a b edit.OutOfWindow stop = absurd stop
-opens_stopped c t a b edit.AlreadyHeld stop = absurd stop
-opens_stopped c t a b edit.NotHeld stop = absurd stop
-opens_stopped c t a b edit.EmptyRange stop = absurd stop
-opens_stopped c t a b edit.TooManyRows stop = absurd stop
-opens_stopped c t a b edit.TooManyBlanks stop = absurd stop
-
-pub opens_some : (c : Settings) (t : Store) (a b : List ℕ) (result : Result Applied EditError) → IfErr result (StopsAt c t) → IfErr result (OpensNone a b)
-opens_some c t a b (Ok x) p = tt
-opens_some c t a b (Err e) p = opens_stopped c t a b e p
+-- why an edit is refused on the way
+pub stops_at : (c : Settings) (s : Store) (e : ForwardError) (refusal : EditError) → refusal ≡ refusal_for e → IsSound c → IsStore s → NamesRow (log_of c.specs s) e → StopsAt c s refusal
+stops_at c s (forward.Contradiction row) refusal is sound store stop = rw is (stop, no_history c.specs s row (channels_are c sound) store stop)
+stops_at c s forward.Memory refusal is sound store stop = rw is tt
 
 -- a range that doesn't reach out of a window
 pub inside : (hours : ℕ) (f t : ℤ) → reaches_out hours f t ≡ false → (pos 0 ≤ℤ f) × (t ≤ℤ pos (36000 * hours))

@@ -1,4 +1,5 @@
 pub mod GrowLaws
+pub mod OpenLaws
 pub mod RangeLaws
 pub mod EditLaws
 pub mod KeptLaws

@@ -1,6 +1,7 @@
 pub mod Ranges
 pub mod Edits
 pub mod Moved
+pub mod Opens
 pub mod Links
 pub mod Windows
 pub mod Sessions

@@ -9,6 +9,8 @@ use Rattle.ring_config.specs.Sound.{IsSound}
 use Rattle.signal_log.specs.Log.{HasHistory, IsContradiction, log_of}
 use Rattle.rule_audit.specs.declared.rules.Rule.{Rule}
 use Rattle.rule_audit.specs.Rules.{rules_for}
+use Rattle.hour_work.specs.declared.steps.ForwardError.{ForwardError}
+use Rattle.hour_work.specs.declared.steps.ForwardError.TheVariants as stop
 use Rattle.hour_work.specs.Numbers.{Numbers, total_of}
 use Rattle.hour_work.specs.Points.{Carried}
 use Rattle.session.specs.Edits.{Change, withdraw, blank}
@@ -38,17 +40,16 @@ StopsAt c s (Contradiction row) = IsContradiction (log_of c.specs s) row × (Has
 StopsAt c s Memory = Unit {0}
 StopsAt c s e = ⊥
 
+-- why an edit is refused, by why nothing is carried over an hour
+abbrev pub refusal_for : ForwardError → EditError
+refusal_for (stop.Contradiction row) = Contradiction row
+refusal_for stop.Memory = Memory
+
 -- a withdrawal and a blanking contradict nothing
 abbrev pub MayRefuse : Change → EditError → Type 0
 MayRefuse (withdraw _) (Contradiction _) = ⊥
 MayRefuse (blank _ _) (Contradiction _) = ⊥
 MayRefuse _ _ = Unit {0}
-
--- an hour is opened by a refused edit only for want of memory, or to find a contradiction
-abbrev pub OpensNone : List ℕ → List ℕ → EditError → Type 0
-OpensNone old new Memory = Unit {0}
-OpensNone old new (Contradiction _) = Unit {0}
-OpensNone old new e = new ≡ old
 
 -- no count fell; a count ends at the last value of a u64
 unfoldable pub Grow : List ℕ → List ℕ → Type 0

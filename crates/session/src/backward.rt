@@ -2,6 +2,7 @@
 ghost use Rattle.std.specs.Prelude.{◌≡◌, ◌↔◌, ◌+◌, ◌-◌, ◌≤◌, ◌<◌, length, IfOk, IsTrue};
 ghost use Rattle.hour_store.specs.Store.{IsStore};
 ghost use Rattle.session.specs.Links.{AreFuturesBut};
+ghost use Rattle.session.specs.Opens.{AreOpened};
 ghost use Rattle.session.specs.Renewed.{AreNewFutures};
 ghost use Rattle.session.specs.Sessions.{Grow};
 
@@ -35,6 +36,8 @@ pub fn go_back<L>(
     requires within { last < length store.now.hours }
     requires kept { AreFuturesBut config.now store.now first last kept.now }
     ensures futures { IfOk result (λ v. AreNewFutures config.now store.now first last kept.now (last + 1 - length v.items) v.items) }
+    ensures opens { IfOk result (λ v. AreOpened (last + 1 - length v.items) (last + 1) 1 1
+        reads.old reads.new) }
     ensures grow { Grow reads.old reads.new }
 {
     let mut fresh = Vec::new(alloc);

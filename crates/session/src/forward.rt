@@ -1,10 +1,11 @@
 // Forward over the hours that an edit changes.
-ghost use Rattle.std.specs.Prelude.{◌≡◌, ◌↔◌, ◌≤◌, ◌<◌, length, IfOk, IfErr, IsTrue};
+ghost use Rattle.std.specs.Prelude.{◌≡◌, ◌↔◌, ◌+◌, ◌≤◌, ◌<◌, length, IfOk, IfErr, IsTrue};
 ghost use Rattle.hour_store.specs.Store.{IsStore};
 ghost use Rattle.signal_log.specs.Log.{log_of};
 ghost use Rattle.hour_work.specs.Moved.{SaySame};
 ghost use Rattle.hour_work.specs.Points.{NamesRow};
 ghost use Rattle.session.specs.Links.{AreCarriesBut};
+ghost use Rattle.session.specs.Opens.{AreOpened, OpensToRow};
 ghost use Rattle.session.specs.Renewed.{AreNewCarries};
 ghost use Rattle.session.specs.Sessions.{Grow};
 
@@ -40,6 +41,9 @@ pub fn go_forward<L>(
     ensures store { IsStore store.now }
     ensures carries { IfOk result (λ v. AreNewCarries config.now store.now first last kept.now v.items) }
     ensures stop { IfErr result (NamesRow (log_of config.now.specs store.now)) }
+    ensures opens { IfOk result (λ v. AreOpened first (first + length v.items) 1 1 reads.old
+        reads.new) }
+    ensures opens_to_row { IfErr result (OpensToRow first reads.old reads.new) }
     ensures grow { Grow reads.old reads.new }
 {
     let mut fresh = Vec::new(alloc);

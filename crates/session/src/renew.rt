@@ -10,6 +10,7 @@ ghost use Rattle.rule_audit.specs.Rules.{rules_for};
 ghost use Rattle.hour_work.specs.Numbers.{AreNewSums, FitHours, patched};
 ghost use Rattle.hour_work.specs.Points.{Carried, NamesRow};
 ghost use Rattle.session.specs.Links.{Ahead, AreCarries, AreCarriesBut, AreFutures, AreFuturesBut, AreKeptBut};
+ghost use Rattle.session.specs.Opens.{AreOpened, OpensToRow};
 ghost use Rattle.session.specs.Renewed.{AreNewCarries, AreNewFutures, AreNewParts, AreSameUpTo, IsRenewed};
 ghost use Rattle.session.specs.Sessions.{Grow};
 
@@ -112,6 +113,8 @@ fn parts_between<L>(
     requires forth { AreCarries config.now store.now (patched worked.now.carries.items (points.now.first + 1) points.now.carries.items) }
     requires back { AreFutures config.now store.now (patched worked.now.futures.items points.now.from points.now.futures.items) }
     ensures parts { IfOk result (λ v. AreNewParts config.now store.now (patched worked.now.carries.items (points.now.first + 1) points.now.carries.items) (patched worked.now.futures.items points.now.from points.now.futures.items) start (points.now.first + length points.now.carries.items) v.items) }
+    ensures opens { OnOk result (AreOpened start
+        (points.now.first + length points.now.carries.items) 1 1 reads.old reads.new) }
     ensures grow { Grow reads.old reads.new }
 {
     let mut parts = Vec::new(alloc);
@@ -155,6 +158,9 @@ fn points_of<L>(
     ensures carries { IfOk result (λ p. AreNewCarries config.now store.now first last worked.now.carries.items p.carries.items) }
     ensures futures { IfOk result (λ p. AreNewFutures config.now store.now first last worked.now.futures.items p.from p.futures.items) }
     ensures stop { IfErr result (NamesRow (log_of config.now.specs store.now)) }
+    ensures opens { IfOk result (λ p. AreOpened p.from (p.first + length p.carries.items) 1 2
+        reads.old reads.new) }
+    ensures opens_to_row { IfErr result (OpensToRow first reads.old reads.new) }
     ensures grow { Grow reads.old reads.new }
 {
     let carries = go_forward(alloc, config, store, first, last, &worked.carries, reads)?;
@@ -190,6 +196,9 @@ pub fn renew<L>(
     ensures fresh { IfOk result (λ f. IsRenewed config.now store.now worked.now.carries.items f.points.first f.points.carries.items worked.now.futures.items f.points.from f.points.futures.items worked.now.report f.start f.parts.items f.sums) }
     ensures history { OnOk result (HasHistory (log_of config.now.specs store.now)) }
     ensures stop { IfErr result (NamesRow (log_of config.now.specs store.now)) }
+    ensures opens { IfOk result (λ f. AreOpened f.points.from
+        (f.points.first + length f.points.carries.items) 1 3 reads.old reads.new) }
+    ensures opens_to_row { IfErr result (OpensToRow first reads.old reads.new) }
     ensures grow { Grow reads.old reads.new }
 {
     let points = points_of(alloc, config, store, worked, first, last, reads)?;

@@ -10,10 +10,11 @@ ghost use Rattle.signal_log.specs.Log.{HasHistory, log_of};
 ghost use Rattle.rule_audit.specs.Rules.{rules_for};
 ghost use Rattle.hour_work.specs.Points.{NamesRow};
 ghost use Rattle.hour_work.specs.Reports.{IsReport};
-ghost use Rattle.session.specs.Edits.{blank, change_of, load, replace, step_of, unblank, withdraw};
-ghost use Rattle.session.specs.Moved.{AreMoved, KeepParts, Moves};
+ghost use Rattle.session.specs.Edits.{Change, blank, change_of, load, replace, step_of, unblank, withdraw};
+ghost use Rattle.session.specs.Moved.{AreMoved, KeepParts, Moves, Touches};
+ghost use Rattle.session.specs.Opens.{OpensBy};
 ghost use Rattle.session.specs.Ranges.{SameApart};
-ghost use Rattle.session.specs.Sessions.{AreCounted, Grow, Kept, MayRefuse, OpensNone, Steps, StopsAt};
+ghost use Rattle.session.specs.Sessions.{AreCounted, Grow, Kept, MayRefuse, Steps, StopsAt, refusal_for};
 ghost use Rattle.session.specs.Windows.{AreHourLines};
 
 use crate::Edit;
@@ -69,7 +70,7 @@ fn rows_with<L>(store: &HourStore<L>, hour: Hour, count: u32) -> u64
 fn let_go<L>(_rows: Option<HourRows<L>>) {}
 
 fn edit_error(error: ForwardError) -> EditError
-    ensures { (c : Settings) (s : Store) → IsSound c → IsStore s → NamesRow (log_of c.specs s) error → StopsAt c s result }
+    ensures { result ≡ refusal_for error }
 {
     match error {
         ForwardError::Contradiction(row) => EditError::Contradiction(row),
@@ -173,11 +174,14 @@ impl<L> Session<L> {
         requires of_hour { IfSome entry (λ r. r.hour ≡ hour) }
         ensures done { OnOk result ((self.new.store ≡ with_hour self.old.store hour entry) × HasHistory (log_of self.old.config.specs (with_hour self.old.store hour entry))) }
         ensures moved { IfOk result (AreMoved self.old.config self.old.store (with_hour self.old.store hour entry) hour hour) }
-        ensures stays { IfOk result (KeepParts self.old.config self.old.store (with_hour self.old.store hour entry)) }
+        ensures stays { IfOk result (KeepParts self.old.config self.old.store
+            (with_hour self.old.store hour entry)) }
         ensures back { OnErr result (self.new.store ≡ self.old.store) }
         ensures stop { IfErr result (StopsAt self.old.config (with_hour self.old.store hour entry)) }
         ensures store { IsStore (with_hour self.old.store hour entry) }
         ensures config { self.new.config ≡ self.old.config }
+        ensures opens { (change : Change) → Touches change hour hour
+            → OpensBy change reads.old reads.new result }
         ensures grow { Grow reads.old reads.new }
     {
         let before = exchange(&mut self.store, hour, entry);
@@ -219,11 +223,13 @@ impl<L> Session<L> {
         requires same { SameApart self.old.store.blanks from to blanks }
         ensures done { OnOk result ((self.new.store ≡ with_blanks self.old.store blanks) × HasHistory (log_of self.old.config.specs (with_blanks self.old.store blanks))) }
         ensures moved { IfOk result (Moves self.old.config self.old.store (with_blanks self.old.store blanks) (blank from to)) }
-        ensures stays { IfOk result (KeepParts self.old.config self.old.store (with_blanks self.old.store blanks)) }
+        ensures stays { IfOk result (KeepParts self.old.config self.old.store
+            (with_blanks self.old.store blanks)) }
         ensures back { OnErr result (self.new.store ≡ self.old.store) }
         ensures stop { IfErr result (StopsAt self.old.config (with_blanks self.old.store blanks)) }
         ensures store { IsStore (with_blanks self.old.store blanks) }
         ensures config { self.new.config ≡ self.old.config }
+        ensures opens { OpensBy (blank from to) reads.old reads.new result }
         ensures grow { Grow reads.old reads.new }
     {
         let before = self.store.set_blanks(blanks);
@@ -251,13 +257,13 @@ impl<L> Session<L> {
         }
     }
 
-    #[tactic(auto, using(crate::proofs::EditLaws::steps_done, crate::proofs::EditLaws::opens_some, crate::proofs::GrowLaws::grow_same), unfolding(crate::specs::Edits::step_of))]
+    #[tactic(auto, using(crate::proofs::EditLaws::steps_done, crate::proofs::GrowLaws::grow_same), unfolding(crate::specs::Edits::step_of, crate::specs::Opens::OpensBy))]
     fn load(&mut self, rows: HourRows<L>, reads: &mut Reads<L>) -> Result<Applied, EditError>
         ensures step { Steps self.old.config (step_of self.old.store (load rows)) self.old.store self.new.store result }
         ensures moved { IfOk result (Moves self.old.config self.old.store self.new.store (load rows)) }
         ensures stays { IfOk result (KeepParts self.old.config self.old.store self.new.store) }
         ensures config { self.new.config ≡ self.old.config }
-        ensures opens { IfErr result (OpensNone reads.old reads.new) }
+        ensures opens { OpensBy (load rows) reads.old reads.new result }
         ensures grow { Grow reads.old reads.new }
     {
         let hour = rows.hour();
@@ -273,13 +279,13 @@ impl<L> Session<L> {
         self.hold(hour, Some(rows), reads)
     }
 
-    #[tactic(auto, using(crate::proofs::EditLaws::steps_done, crate::proofs::EditLaws::opens_some, crate::proofs::GrowLaws::grow_same), unfolding(crate::specs::Edits::step_of))]
+    #[tactic(auto, using(crate::proofs::EditLaws::steps_done, crate::proofs::GrowLaws::grow_same), unfolding(crate::specs::Edits::step_of, crate::specs::Opens::OpensBy))]
     fn replace(&mut self, rows: HourRows<L>, reads: &mut Reads<L>) -> Result<Applied, EditError>
         ensures step { Steps self.old.config (step_of self.old.store (replace rows)) self.old.store self.new.store result }
         ensures moved { IfOk result (Moves self.old.config self.old.store self.new.store (replace rows)) }
         ensures stays { IfOk result (KeepParts self.old.config self.old.store self.new.store) }
         ensures config { self.new.config ≡ self.old.config }
-        ensures opens { IfErr result (OpensNone reads.old reads.new) }
+        ensures opens { OpensBy (replace rows) reads.old reads.new result }
         ensures grow { Grow reads.old reads.new }
     {
         let hour = rows.hour();
@@ -295,14 +301,14 @@ impl<L> Session<L> {
         self.hold(hour, Some(rows), reads)
     }
 
-    #[tactic(auto, using(crate::proofs::EditLaws::steps_done, crate::proofs::EditLaws::opens_some, crate::proofs::GrowLaws::grow_same), unfolding(crate::specs::Edits::step_of))]
+    #[tactic(auto, using(crate::proofs::EditLaws::steps_done, crate::proofs::GrowLaws::grow_same), unfolding(crate::specs::Edits::step_of, crate::specs::Opens::OpensBy))]
     fn withdraw(&mut self, hour: Hour, reads: &mut Reads<L>) -> Result<Applied, EditError>
         ensures step { Steps self.old.config (step_of self.old.store (withdraw hour)) self.old.store self.new.store result }
         ensures never { IfErr result (MayRefuse (withdraw hour)) }
         ensures moved { IfOk result (Moves self.old.config self.old.store self.new.store (withdraw hour)) }
         ensures stays { IfOk result (KeepParts self.old.config self.old.store self.new.store) }
         ensures config { self.new.config ≡ self.old.config }
-        ensures opens { IfErr result (OpensNone reads.old reads.new) }
+        ensures opens { OpensBy (withdraw hour) reads.old reads.new result }
         ensures grow { Grow reads.old reads.new }
     {
         if !self.config.window().has_hour(hour) {
@@ -314,14 +320,14 @@ impl<L> Session<L> {
         self.hold(hour, None, reads)
     }
 
-    #[tactic(auto, using(crate::proofs::EditLaws::steps_done, crate::proofs::EditLaws::opens_some, crate::proofs::GrowLaws::grow_same), unfolding(crate::specs::Edits::step_of))]
+    #[tactic(auto, using(crate::proofs::EditLaws::steps_done, crate::proofs::GrowLaws::grow_same), unfolding(crate::specs::Edits::step_of, crate::specs::Opens::OpensBy))]
     fn blank(&mut self, from: Tenth, to: Tenth, reads: &mut Reads<L>) -> Result<Applied, EditError>
         ensures step { Steps self.old.config (step_of self.old.store (blank from to)) self.old.store self.new.store result }
         ensures never { IfErr result (MayRefuse (blank from to)) }
         ensures moved { IfOk result (Moves self.old.config self.old.store self.new.store (blank from to)) }
         ensures stays { IfOk result (KeepParts self.old.config self.old.store self.new.store) }
         ensures config { self.new.config ≡ self.old.config }
-        ensures opens { IfErr result (OpensNone reads.old reads.new) }
+        ensures opens { OpensBy (blank from to) reads.old reads.new result }
         ensures grow { Grow reads.old reads.new }
     {
         if reaches_out(self.config.hours(), from, to) {
@@ -340,7 +346,7 @@ impl<L> Session<L> {
         self.mask(blanks, from, to, reads)
     }
 
-    #[tactic(auto, using(crate::proofs::EditLaws::steps_done, crate::proofs::EditLaws::opens_some, crate::proofs::GrowLaws::grow_same), unfolding(crate::specs::Edits::step_of))]
+    #[tactic(auto, using(crate::proofs::EditLaws::steps_done, crate::proofs::GrowLaws::grow_same), unfolding(crate::specs::Edits::step_of, crate::specs::Opens::OpensBy))]
     fn unblank(
         &mut self,
         from: Tenth,
@@ -351,7 +357,7 @@ impl<L> Session<L> {
         ensures moved { IfOk result (Moves self.old.config self.old.store self.new.store (unblank from to)) }
         ensures stays { IfOk result (KeepParts self.old.config self.old.store self.new.store) }
         ensures config { self.new.config ≡ self.old.config }
-        ensures opens { IfErr result (OpensNone reads.old reads.new) }
+        ensures opens { OpensBy (unblank from to) reads.old reads.new result }
         ensures grow { Grow reads.old reads.new }
     {
         if reaches_out(self.config.hours(), from, to) {
@@ -385,7 +391,7 @@ impl<L> Session<L> {
         ensures moved { IfOk result (Moves self.old.config self.old.store self.new.store (change_of edit)) }
         ensures stays { IfOk result (KeepParts self.old.config self.old.store self.new.store) }
         ensures config { self.new.config ≡ self.old.config }
-        ensures opens { IfErr result (OpensNone reads.old reads.new) }
+        ensures opens { OpensBy (change_of edit) reads.old reads.new result }
         ensures grow { Grow reads.old reads.new }
     {
         match edit {

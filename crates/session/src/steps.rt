@@ -6,7 +6,7 @@ ghost use Rattle.rule_audit.specs.Rules.{rules_for};
 ghost use Rattle.hour_work.specs.Numbers.{FitHours};
 ghost use Rattle.hour_work.specs.Points.{IsCarryAt, IsFutureAt, NamesRow};
 ghost use Rattle.session.specs.Links.{Backs, Counts, Leads};
-ghost use Rattle.session.specs.Sessions.{Grow};
+ghost use Rattle.session.specs.Opens.{AreOpened, NamesRowOf};
 
 use hour_store::HourStore;
 use hour_work::{Carry, ForwardError, Future, Partial, backward, forward, partial};
@@ -28,7 +28,8 @@ pub fn carry_over<L>(
     requires before { IsCarryAt config.now store.now hour before.now }
     ensures leads { IfOk result (Leads config.now hour (rows_at store.now hour) store.now.blanks before.now) }
     ensures stop { IfErr result (NamesRow (log_of config.now.specs store.now)) }
-    ensures grow { Grow reads.old reads.new }
+    ensures row { IfErr result (NamesRowOf hour) }
+    ensures once { AreOpened hour (hour + 1) 1 1 reads.old reads.new }
 {
     let rows = store.open_hour(hour, reads);
     forward(alloc, config, hour, before, rows, store.blanked())
@@ -46,7 +47,7 @@ pub fn future_before<L>(
     requires in_store { hour < length store.now.hours }
     requires after { IsFutureAt config.now store.now (hour + 1) after.now }
     ensures backs { IfOk result (Backs config.now hour (rows_at store.now hour) store.now.blanks after.now) }
-    ensures grow { Grow reads.old reads.new }
+    ensures once { AreOpened hour (hour + 1) 1 1 reads.old reads.new }
 {
     let rows = store.open_hour(hour, reads);
     backward(alloc, config, hour, after, rows, store.blanked())
@@ -70,7 +71,7 @@ pub fn part_between<L>(
     requires history { HasHistory (log_of config.now.specs store.now) }
     ensures counts { IfOk result (Counts config.now hour (rows_at store.now hour) store.now.blanks before.now after.now) }
     ensures small { IfOk result (FitHours 1) }
-    ensures grow { Grow reads.old reads.new }
+    ensures once { AreOpened hour (hour + 1) 1 1 reads.old reads.new }
 {
     let rows = store.open_hour(hour, reads);
     partial(

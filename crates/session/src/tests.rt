@@ -101,30 +101,36 @@ fn edits_one_after_another(rt: HostRuntime) -> Result<(), Fail> {
     Ok(())
 }
 
-// Edits of a window of three hours without channels, and the hours that they move. The carry at an
-// hour point says only whether the tenth before it is known, so an hour moves with the one before
-// it where that tenth was known and is no longer, or the other way round.
-const MOVES: [(Step, u32, u32); 7] = [
-    (Step::Load(0), 0, 2),
-    (Step::Load(1), 1, 3),
-    (Step::Load(2), 2, 3),
-    (Step::Replace(1), 1, 2),
-    (Step::Blank(36_005, 36_006), 1, 2),
-    (Step::Withdraw(0), 0, 2),
-    (Step::Blank(0, 5), 0, 1),
+// Edits of a window of three hours without channels, the hours that they move, and how often each
+// hour was opened up to then. The carry at an hour point says only whether the tenth before it is
+// known, so an hour moves with the one before it where that tenth was known and is no longer, or
+// the other way round. An edited hour is opened three times, the one after it that moves twice.
+const MOVES: [(Step, u32, u32, [u64; 3]); 7] = [
+    (Step::Load(0), 0, 2, [3, 2, 0]),
+    (Step::Load(1), 1, 3, [3, 5, 2]),
+    (Step::Load(2), 2, 3, [3, 5, 5]),
+    (Step::Replace(1), 1, 2, [3, 8, 5]),
+    (Step::Blank(36_005, 36_006), 1, 2, [3, 11, 5]),
+    (Step::Withdraw(0), 0, 2, [6, 13, 5]),
+    (Step::Blank(0, 5), 0, 1, [9, 13, 5]),
 ];
+
+fn counts(reads: &Reads<Mark>) -> [u64; 3] {
+    [reads.count(0), reads.count(1), reads.count(2)]
+}
 
 #[test]
 fn moves_no_other_hours(rt: HostRuntime) -> Result<(), Fail> {
     let alloc = rt.alloc();
     let mut session = Session::new(alloc, three_hours(alloc)?)?;
     let mut reads = Reads::new(Mark);
-    for (step, from, to) in MOVES {
+    for (step, from, to, opened) in MOVES {
         let edit = edit_of(alloc, step)?;
         assert_eq!(rt;
             apply(&mut session, edit, &mut reads),
             Ok(Applied { from, to })
         );
+        assert_eq!(rt; counts(&reads), opened);
     }
     Ok(())
 }

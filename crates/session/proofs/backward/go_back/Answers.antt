@@ -1,13 +1,13 @@
 use Rattle.std.proofs.Common.{◌≡◌, ◌∙◌, ◌+◌, ◌-◌, ◌<◌, arith, inl, inr, length, refl}
 use Rattle.std.proofs.lemmas.List.{get_or_default}
 use Rattle.session.proofs.BackLaws.{other_after, other_more, other_on, other_start, returning_done, returning_here, returning_on, returning_same, returning_start}
-use Rattle.session.proofs.GrowLaws.{grow_on, grow_same}
+use Rattle.session.proofs.OpenLaws.{grow_opened, opened_as, opened_before, opened_none}
 use Rattle.session.proofs.backward.go_back.Goals as goal
 
 pub loop-hour-init : goal.loop-hour-init
 loop-hour-init g c =
     let p = returning_start c.args.config.now c.args.store.now c.args.first c.args.last c.args.kept.now c.new-fresh.result.items c.requires.store c.requires.order c.requires.within c.requires.kept c.new-fresh.ensures.items in
-    record { returning = p; size = p.size; other = other_start c.args.first c.args.last c.args.kept.now c.new-fresh.result.items c.requires.order; grow = grow_same c.args.reads.now }
+    record { returning = p; size = p.size; other = other_start c.args.first c.args.last c.args.kept.now c.new-fresh.result.items c.requires.order; opens = opened_none (c.args.last + 1) c.args.reads.now }
 
 pub future_before-requires-clause-after : goal.future_before-requires-clause-after
 future_before-requires-clause-after g c =
@@ -16,13 +16,22 @@ future_before-requires-clause-after g c =
     returning_here c.args.config.now c.args.store.now c.args.last c.args.kept.now c.loop-hour.fresh.items (c.loop-hour.hour - 1) c.loop-hour.hour c.pick-after.result.now fe c.loop-hour.invariant.returning at
 
 pub returns-in_err-next-clause-grow : goal.returns-in_err-next-clause-grow
-returns-in_err-next-clause-grow g c = grow_on _ _ _ c.loop-hour.invariant.grow c.future_before.ensures.grow
+returns-in_err-next-clause-grow g c =
+    let size = c.loop-hour.invariant.size in
+    let fe : c.loop-hour.hour ≡ (c.loop-hour.hour - 1) + 1 = omega arith in
+    grow_opened _ _ _ _ _ _ (opened_before (c.loop-hour.hour - 1) (c.args.last + 1) _ _ _ (let n = c.loop-hour.invariant.size in let some = c.loop-hour.auto.hour in omega arith) (opened_as _ _ _ _ _ _ _ _ fe refl c.loop-hour.invariant.opens) c.future_before.ensures.once)
 
 pub returns-in_err-insert-clause-grow : goal.returns-in_err-insert-clause-grow
-returns-in_err-insert-clause-grow g c = grow_on _ _ _ c.loop-hour.invariant.grow c.future_before.ensures.grow
+returns-in_err-insert-clause-grow g c =
+    let size = c.loop-hour.invariant.size in
+    let fe : c.loop-hour.hour ≡ (c.loop-hour.hour - 1) + 1 = omega arith in
+    grow_opened _ _ _ _ _ _ (opened_before (c.loop-hour.hour - 1) (c.args.last + 1) _ _ _ (let n = c.loop-hour.invariant.size in let some = c.loop-hour.auto.hour in omega arith) (opened_as _ _ _ _ _ _ _ _ fe refl c.loop-hour.invariant.opens) c.future_before.ensures.once)
 
 pub returns-then-done-clause-grow : goal.returns-then-done-clause-grow
-returns-then-done-clause-grow g c = grow_on _ _ _ c.loop-hour.invariant.grow c.future_before.ensures.grow
+returns-then-done-clause-grow g c =
+    let size = c.loop-hour.invariant.size in
+    let fe : c.loop-hour.hour ≡ (c.loop-hour.hour - 1) + 1 = omega arith in
+    grow_opened _ _ _ _ _ _ (opened_before (c.loop-hour.hour - 1) (c.args.last + 1) _ _ _ (let n = c.loop-hour.invariant.size in let some = c.loop-hour.auto.hour in omega arith) (opened_as _ _ _ _ _ _ _ _ fe refl c.loop-hour.invariant.opens) c.future_before.ensures.once)
 
 pub loop-hour-preserved : goal.loop-hour-preserved
 loop-hour-preserved g c =
@@ -37,7 +46,7 @@ loop-hour-preserved g c =
     let there : c.loop-hour.hour - 1 < length c.args.kept.now = omega arith in
     let other = other_more c.args.first c.args.kept.now c.loop-hour.fresh.items c.insert.new.self.items (c.loop-hour.hour - 1) c.loop-hour.hour c.in_ok-next.next c.index-kept-place.result fe there c.in_ok-insert.ensures.items
     (λ d. c.index-kept-place.is ∙ get_or_default c.args.kept.now (c.loop-hour.hour - 1) c.index-kept-place.result d there) (λ h. let z = c.if-done.ensures.1 h in cc) c.loop-hour.invariant.other in
-    record { returning = p; size = p.size; other = other; grow = grow_on _ _ _ c.loop-hour.invariant.grow c.future_before.ensures.grow }
+    record { returning = p; size = p.size; other = other; opens = opened_before (c.loop-hour.hour - 1) (c.args.last + 1) _ _ _ (let n = c.loop-hour.invariant.size in let some = c.loop-hour.auto.hour in omega arith) (opened_as _ _ _ _ _ _ _ _ fe refl c.loop-hour.invariant.opens) c.future_before.ensures.once }
 
 pub returns-then-done-clause-futures : goal.returns-then-done-clause-futures
 returns-then-done-clause-futures g c =
@@ -64,3 +73,20 @@ returns-clause-futures g c =
     let order = c.requires.order in
     returning_done c.args.config.now c.args.store.now c.args.first c.args.last c.args.kept.now c.loop-hour.fresh.items c.loop-hour.hour _ (omega arith) (omega arith) order c.requires.within c.requires.kept c.loop-hour.invariant.returning
     (other_after c.args.first c.args.kept.now c.loop-hour.hour c.loop-hour.fresh.items c.loop-hour.hour (c.loop-hour.hour + 1) (omega arith) c.loop-hour.invariant.other) (inl end)
+
+pub returns-clause-grow : goal.returns-clause-grow
+returns-clause-grow g c = grow_opened _ _ _ _ _ _ c.loop-hour.invariant.opens
+
+pub returns-then-done-clause-opens : goal.returns-then-done-clause-opens
+returns-then-done-clause-opens g c =
+    let size = c.loop-hour.invariant.size in
+    let fe : c.loop-hour.hour ≡ (c.loop-hour.hour - 1) + 1 = omega arith in
+    let more : length c.insert.new.self.items ≡ length c.loop-hour.fresh.items + 1 = rw c.in_ok-insert.ensures.items (omega arith) in
+    let from : c.loop-hour.hour - 1 ≡ (c.args.last + 1) - length c.insert.new.self.items = omega arith in
+    opened_as _ _ _ _ _ _ _ _ from refl (opened_before (c.loop-hour.hour - 1) (c.args.last + 1) _ _ _ (let n = c.loop-hour.invariant.size in let some = c.loop-hour.auto.hour in omega arith) (opened_as _ _ _ _ _ _ _ _ fe refl c.loop-hour.invariant.opens) c.future_before.ensures.once)
+
+pub returns-clause-opens : goal.returns-clause-opens
+returns-clause-opens g c =
+    let size = c.loop-hour.invariant.size in
+    let from : c.loop-hour.hour ≡ (c.args.last + 1) - length c.loop-hour.fresh.items = omega arith in
+    opened_as _ _ _ _ _ _ _ _ from refl c.loop-hour.invariant.opens

@@ -1,5 +1,5 @@
 use Rattle.std.proofs.Common.{◌≡◌, ◌+◌, length}
-use Rattle.session.specs.Sessions.{Grow}
+use Rattle.session.specs.Opens.{AreOpened}
 use Rattle.session.proofs.BackLaws.{AreOther, IsReturning}
 use Rattle.session.proofs.backward.go_back.Given as goal
 
@@ -8,5 +8,5 @@ invariant-loop-hour g l = record {
   returning : IsReturning l.config l.store l.last l.kept l.fresh.items l.hour;
   size : l.hour + length l.fresh.items ≡ l.last + 1;
   other : AreOther l.first l.kept l.hour l.fresh.items l.hour;
-  grow : Grow l.fn.reads l.reads;
+  opens : AreOpened l.hour (l.last + 1) 1 1 l.fn.reads l.reads;
 }

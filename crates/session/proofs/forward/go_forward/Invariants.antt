@@ -1,5 +1,5 @@
 use Rattle.std.proofs.Common.{◌≡◌, ◌+◌, length}
-use Rattle.session.specs.Sessions.{Grow}
+use Rattle.session.specs.Opens.{AreOpened}
 use Rattle.session.proofs.ForwardLaws.{IsGoing, SayOther}
 use Rattle.session.proofs.forward.go_forward.Given as goal
 
@@ -8,5 +8,5 @@ invariant-loop-hour g l = record {
   going : IsGoing l.config l.store l.first l.kept l.fresh.items l.hour;
   size : l.first + length l.fresh.items ≡ l.hour;
   other : SayOther l.first l.last l.kept l.fresh.items (l.hour + 1);
-  grow : Grow l.fn.reads l.reads;
+  opens : AreOpened l.first l.hour 1 1 l.fn.reads l.reads;
 }

@@ -1,14 +1,14 @@
-use Rattle.std.proofs.Common.{◌+◌, ◌≤◌, arith, length}
+use Rattle.std.proofs.Common.{◌≡◌, ◌+◌, ◌≤◌, arith, length, refl}
 use Rattle.hour_work.specs.Numbers.{patched}
-use Rattle.session.proofs.GrowLaws.{grow_on, grow_same}
 use Rattle.session.proofs.KeptLaws.{carry_is, future_is, history_kept}
+use Rattle.session.proofs.OpenLaws.{grow_opened, opened_as, opened_next, opened_none}
 use Rattle.session.proofs.RenewLaws.{no_parts, parts_more}
 use Rattle.session.proofs.renew.parts_between.Goals as goal
 
 pub loop-hour-init : goal.loop-hour-init
 loop-hour-init g c = record {
   parts = no_parts c.args.config.now c.args.store.now _ _ c.args.start c.new-parts.result.items c.new-parts.ensures.items;
-  grow = grow_same c.args.reads.now;
+  opens = opened_none c.args.start c.args.reads.now;
 }
 
 pub part_between-requires-clause-before : goal.part_between-requires-clause-before
@@ -29,10 +29,10 @@ pub part_between-requires-clause-history : goal.part_between-requires-clause-his
 part_between-requires-clause-history g c = history_kept c.args.config.now c.args.store.now (patched c.args.worked.now.carries.items (c.args.points.now.first + 1) c.args.points.now.carries.items) c.requires.sound c.requires.store c.requires.forth
 
 pub returns-in_err-part-clause-grow : goal.returns-in_err-part-clause-grow
-returns-in_err-part-clause-grow g c = grow_on _ _ _ c.loop-hour.invariant.grow c.part_between.ensures.grow
+returns-in_err-part-clause-grow g c = grow_opened _ _ _ _ _ _ (opened_next _ _ _ _ _ c.loop-hour.auto.hour c.loop-hour.invariant.opens c.part_between.ensures.once)
 
 pub returns-in_err-push-clause-grow : goal.returns-in_err-push-clause-grow
-returns-in_err-push-clause-grow g c = grow_on _ _ _ c.loop-hour.invariant.grow c.part_between.ensures.grow
+returns-in_err-push-clause-grow g c = grow_opened _ _ _ _ _ _ (opened_next _ _ _ _ _ c.loop-hour.auto.hour c.loop-hour.invariant.opens c.part_between.ensures.once)
 
 pub loop-hour-preserved : goal.loop-hour-preserved
 loop-hour-preserved g c =
@@ -41,5 +41,14 @@ loop-hour-preserved g c =
     record {
       parts = parts_more c.args.config.now c.args.store.now (patched c.args.worked.now.carries.items (c.args.points.now.first + 1) c.args.points.now.carries.items) (patched c.args.worked.now.futures.items c.args.points.now.from c.args.points.now.futures.items) c.args.start c.loop-hour.hour c.loop-hour.parts.items c.push.new.self.items c.pick-before.result.now c.pick-after.result.now c.in_ok-part.part
           c.loop-hour.invariant.parts before after c.in_ok-part.ensures.counts c.in_ok-part.ensures.small c.in_ok-push.ensures.items;
-      grow = grow_on _ _ _ c.loop-hour.invariant.grow c.part_between.ensures.grow;
+      opens = opened_next _ _ _ _ _ c.loop-hour.auto.hour c.loop-hour.invariant.opens c.part_between.ensures.once;
     }
+
+pub returns-clause-grow : goal.returns-clause-grow
+returns-clause-grow g c = grow_opened _ _ _ _ _ _ c.loop-hour.invariant.opens
+
+pub returns-clause-opens : goal.returns-clause-opens
+returns-clause-opens g c =
+    let order = c.requires.order in
+    let end : c.loop-hour.hour ≡ c.args.points.now.first + length c.args.points.now.carries.items = omega arith in
+    opened_as _ _ _ _ _ _ _ _ refl end c.loop-hour.invariant.opens

@@ -1,7 +1,8 @@
-use Rattle.std.proofs.Common.{◌+◌, ◌≤◌}
+use Rattle.std.proofs.Common.{◌+◌, ◌≤◌, arith}
 use Rattle.hour_work.specs.Numbers.{patched}
 use Rattle.session.proofs.GrowLaws.{grow_on}
 use Rattle.session.proofs.KeptLaws.{history_kept}
+use Rattle.session.proofs.OpenLaws.{opened_among}
 use Rattle.session.proofs.RenewLaws.{renewed, shapes_new}
 use Rattle.session.proofs.renew.renew.Goals as goal
 
@@ -36,3 +37,6 @@ returns-clause-fresh g c =
     let z = rw first at c.in_ok-parts.ensures.parts in
     let sums = rw c.deref.ensures.value at c.in_ok-sums.ensures in
     rw first (renewed cfg s c.args.first c.args.last kept.carries.items p.carries.items kept.futures.items p.from start p.futures.items kept.report c.in_ok-parts.parts.items c.in_ok-sums.sums c.start_of-start.ensures.low high c.requires.kept c.in_ok-points.ensures.carries c.in_ok-points.ensures.futures c.start_of-start.ensures.same z sums)
+
+pub returns-clause-opens : goal.returns-clause-opens
+returns-clause-opens g c = opened_among _ _ _ _ _ _ _ _ _ _ _ c.start_of-start.ensures.low (omega arith) c.in_ok-points.ensures.opens c.in_ok-parts.ensures.opens

@@ -6,11 +6,11 @@ use Rattle.signal_log.specs.Log.{log_of}
 use Rattle.signal_log.proofs.Suiting.{all_count}
 use Rattle.session.specs.Links.{Counts}
 use Rattle.session.proofs.KeptLaws.{has_hour}
-use Rattle.session.proofs.GrowLaws.{grow_raised_to}
+use Rattle.session.proofs.OpenLaws.{opened_raised}
 use Rattle.session.proofs.steps.part_between.Goals as goal
 
-pub returns-clause-grow : goal.returns-clause-grow
-returns-clause-grow g c = grow_raised_to _ _ c.args.hour c.open_hour-rows.ensures.raised
+pub returns-clause-once : goal.returns-clause-once
+returns-clause-once g c = opened_raised _ _ c.args.hour c.open_hour-rows.ensures.raised
 
 pub partial-requires-clause-agrees : goal.partial-requires-clause-agrees
 partial-requires-clause-agrees g c =

@@ -124,3 +124,9 @@ returns-clause-stays g c =
     let done = rw (← c.self.view_is) at c.mask.ensures.done in
     let stays = rw (← c.self.view_is) at c.mask.ensures.stays in
     rw (← c.self.view_is) (keep_to c.self.inside.config s (with_blanks s c.in-Ok.blanks) c.mask.new.self.store c.mask.result done stays)
+
+pub returns-clause-opens : goal.returns-clause-opens
+returns-clause-opens g c =
+    let rf = c.ranges.from in
+    let rt = c.ranges.to in
+    simp to_z-of_z at c.mask.ensures.opens

@@ -1,8 +1,9 @@
 use Rattle.std.proofs.Common.{◌≡◌, ◌∙◌, ◌+◌, ◌<◌, ℕ, ap, arith, length, length-set}
 use Rattle.hour_store.specs.Store.{with_hour}
 use Rattle.session.specs.Sessions.{Kept}
-use Rattle.session.proofs.EditLaws.{hour_back}
+use Rattle.session.proofs.EditLaws.{hour_back, stops_at}
 use Rattle.session.proofs.MovedLaws.{are_moved, keep_parts}
+use Rattle.session.proofs.OpenLaws.{opens_made, opens_refused}
 use Rattle.session.proofs.RenewLaws.{kept_but_hour}
 use Rattle.session.proofs.session.Session.hold.Goals as goal
 
@@ -21,7 +22,7 @@ returns-in-Err-clause-stop g c =
     let s = c.self.inside.store in
     let stop = rw c.exchange-before.ensures.store at c.in-Err.ensures.stop in
     let is = rw c.exchange-before.ensures.store at c.in-Err.ensures.store in
-    rw (← c.self.view_is) (c.edit_error.ensures c.self.inside.config (with_hour s c.args.hour c.args.entry) c.self.invariant.sound is stop)
+    rw (← c.self.view_is) (stops_at c.self.inside.config (with_hour s c.args.hour c.args.entry) c.in-Err.error c.edit_error.result c.edit_error.ensures c.self.invariant.sound is stop)
 
 pub renew-requires-clause-kept : goal.renew-requires-clause-kept
 renew-requires-clause-kept g c =
@@ -61,3 +62,9 @@ returns-in-Ok-clause-stays g c =
     let new = rw c.exchange-before.ensures.store at c.in-Ok.ensures.fresh in
     rw (← c.self.view_is) (keep_parts c.self.inside.config s (with_hour s c.args.hour c.args.entry) points.first worked.carries.items points.carries.items worked.futures.items points.from points.futures.items worked.report fresh.start fresh.parts.items fresh.sums c.moved-hours.result
     c.self.invariant.is_store c.self.invariant.history c.self.invariant.kept is has new c.moved-hours.ensures.from c.moved-hours.ensures.to)
+
+pub returns-in-Ok-clause-opens : goal.returns-in-Ok-clause-opens
+returns-in-Ok-clause-opens g c = λ change touched. opens_made change _ _ _ _ _ c.moved-hours.ensures.from c.moved-hours.ensures.to c.in-Ok.ensures.opens
+
+pub returns-in-Err-clause-opens : goal.returns-in-Err-clause-opens
+returns-in-Err-clause-opens g c = λ change touched. opens_refused change c.args.hour c.args.hour _ _ c.in-Err.error _ c.edit_error.ensures touched c.in-Err.ensures.opens_to_row

@@ -2,10 +2,13 @@ use Rattle.std.proofs.Common.{◌≡◌, ◌∙◌, ◌+◌, ◌*◌, ◌≤ℤ�
 use Rattle.std.proofs.lemmas.Int.{ints, to_z-of_z}
 use Rattle.std.specs.Prelude.{FitsSigned}
 use Rattle.hour_store.specs.Store.{with_blanks}
+use Rattle.session.specs.Edits.{blank}
 use Rattle.session.specs.Moved.{IsIn}
 use Rattle.session.specs.Ranges.{SameApart}
+use Rattle.session.proofs.EditLaws.{stops_at}
 use Rattle.session.proofs.MaskLaws.{hours_in_order, hours_within, kept_but_blanks}
 use Rattle.session.proofs.MovedLaws.{are_moved, keep_parts}
+use Rattle.session.proofs.OpenLaws.{opens_made, opens_refused}
 use Rattle.session.proofs.session.Session.mask.Goals as goal
 
 pub hour_at-first-requires-clause-high : goal.hour_at-first-requires-clause-high
@@ -102,7 +105,7 @@ returns-in-Err-clause-stop g c =
     let s = c.self.inside.store in
     let stop = rw c.set_blanks-before.ensures.store at c.in-Err.ensures.stop in
     let is = rw c.set_blanks-before.ensures.store at c.in-Err.ensures.store in
-    rw (← c.self.view_is) (c.edit_error.ensures c.self.inside.config (with_blanks s c.args.blanks) c.self.invariant.sound is stop)
+    rw (← c.self.view_is) (stops_at c.self.inside.config (with_blanks s c.args.blanks) c.in-Err.error c.edit_error.result c.edit_error.ensures c.self.invariant.sound is stop)
 
 pub returns-in-Ok-clause-stays : goal.returns-in-Ok-clause-stays
 returns-in-Ok-clause-stays g c =
@@ -115,3 +118,17 @@ returns-in-Ok-clause-stays g c =
     let new = rw c.set_blanks-before.ensures.store at c.in-Ok.ensures.fresh in
     rw (← c.self.view_is) (keep_parts c.self.inside.config s (with_blanks s c.args.blanks) points.first worked.carries.items points.carries.items worked.futures.items points.from points.futures.items worked.report fresh.start fresh.parts.items fresh.sums c.moved-hours.result
     c.self.invariant.is_store c.self.invariant.history c.self.invariant.kept is has new c.moved-hours.ensures.from c.moved-hours.ensures.to)
+
+pub returns-in-Ok-clause-opens : goal.returns-in-Ok-clause-opens
+returns-in-Ok-clause-opens g c = opens_made (blank c.args.from c.args.to) _ _ _ _ _ c.moved-hours.ensures.from c.moved-hours.ensures.to c.in-Ok.ensures.opens
+
+pub returns-in-Err-clause-opens : goal.returns-in-Err-clause-opens
+returns-in-Err-clause-opens g c =
+    let rf = c.ranges.from in
+    let rt = c.ranges.to in
+    let low : pos 0 ≤ℤ c.args.from = c.requires.low in
+    let some : c.args.from <ℤ c.args.to = c.requires.some in
+    let begin : IsIn c.args.from c.hour_at-first.result = simp to_z-of_z at c.hour_at-first.ensures in
+    let fits : FitsSigned w64 (c.args.to -ℤ pos 1) = search (rules, ints) in
+    let end : IsIn (c.args.to -ℤ pos 1) c.hour_at-last.result = simp to_z-of_z at c.hour_at-last.ensures in
+    opens_refused (blank c.args.from c.args.to) c.hour_at-first.result c.hour_at-last.result _ _ c.in-Err.error _ c.edit_error.ensures (begin, end) c.in-Err.ensures.opens_to_row

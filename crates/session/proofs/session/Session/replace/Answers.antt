@@ -40,3 +40,8 @@ returns-clause-stays g c =
     let done = rw (← c.self.view_is) at c.hold.ensures.done in
     let stays = rw (← c.self.view_is) at c.hold.ensures.stays in
     rw (← c.self.view_is) (keep_to c.self.inside.config s (with_hour s h (Some c.args.rows)) c.hold.new.self.store c.hold.result done stays)
+
+pub returns-clause-opens : goal.returns-clause-opens
+returns-clause-opens g c =
+    let here = c.hour-hour.ensures.value in
+    c.hold.ensures.opens (replace c.args.rows) (here, here)

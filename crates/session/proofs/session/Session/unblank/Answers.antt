@@ -7,6 +7,7 @@ use Rattle.session.proofs.EditLaws.{unblank_step, few_blanks, in_order, inside, 
 use Rattle.session.proofs.MaskLaws.{without_same}
 use Rattle.session.proofs.RangeLaws.{without_within}
 use Rattle.session.proofs.MovedLaws.{keep_to, moves_to}
+use Rattle.session.proofs.OpenLaws.{opens_unblank}
 use Rattle.session.proofs.session.Session.unblank.Goals as goal
 
 pub returns-then-ranges-gt-MOST_BLANKS-clause-step : goal.returns-then-ranges-gt-MOST_BLANKS-clause-step
@@ -113,3 +114,10 @@ returns-clause-stays g c =
     let done = rw (← c.self.view_is) at c.mask.ensures.done in
     let stays = rw (← c.self.view_is) at c.mask.ensures.stays in
     rw (← c.self.view_is) (keep_to c.self.inside.config s (with_blanks s c.in-Ok.blanks) c.mask.new.self.store c.mask.result done stays)
+
+pub returns-clause-opens : goal.returns-clause-opens
+returns-clause-opens g c =
+    let rf = c.ranges.from in
+    let rt = c.ranges.to in
+    let opens = simp to_z-of_z at c.mask.ensures.opens in
+    opens_unblank c.args.from c.args.to _ _ c.mask.result opens

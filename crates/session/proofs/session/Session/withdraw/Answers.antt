@@ -43,3 +43,6 @@ returns-clause-stays g c =
     let done = rw (← c.self.view_is) at c.hold.ensures.done in
     let stays = rw (← c.self.view_is) at c.hold.ensures.stays in
     rw (← c.self.view_is) (keep_to c.self.inside.config s (with_hour s h None) c.hold.new.self.store c.hold.result done stays)
+
+pub returns-clause-opens : goal.returns-clause-opens
+returns-clause-opens g c = c.hold.ensures.opens (withdraw c.args.hour) (refl, refl)

@@ -25,6 +25,7 @@ use Rattle.script_lines.specs.Lines.{after_line, first_line, lines_of}
 use Rattle.script_lines.specs.Words.{Said, said}
 use Rattle.script_lines.specs.Words as line
 use Rattle.report_text.specs.declared.refusal.Refusal.{Refusal}
+use Rattle.report_text.specs.declared.refusal.Refusal.TheVariants.{Edit}
 use Rattle.sigaudit.specs.declared.hour_file.Unread.{Unread}
 use Rattle.sigaudit.specs.declared.status.Status.{Status}
 use Rattle.sigaudit.specs.declared.status.Status.TheVariants as outer
@@ -32,10 +33,10 @@ use Rattle.sigaudit.specs.declared.status.Ended.{Ended}
 use Rattle.sigaudit.specs.declared.status.Ended.TheVariants as ended
 use Rattle.sigaudit.specs.declared.status.Stopped.{Stopped}
 use Rattle.sigaudit.specs.declared.status.Stopped.TheVariants as stopped
-use Rattle.sigaudit.specs.Counting.{AreCounted, ArePlain, AreTallied, CountsAnswer, CountsConfig, CountsFile, CountsText, EditTally, FetchTally, IsPlain, LineTally, MadeTally, ReadTally, ScriptTally, WhereTaken, within}
+use Rattle.sigaudit.specs.Counting.{AreCounted, ArePlain, AreTallied, OpensAnswer, OpensConfig, OpensFile, OpensText, EditTally, FetchTally, IsPlain, LineTally, MadeTally, ReadTally, ScriptTally, WhereTaken, within}
 use Rattle.sigaudit.specs.HourFile.{hour_said}
 use Rattle.sigaudit.specs.Run.{World, Takes}
-use Rattle.sigaudit.specs.Script.{edit_said, hour_bytes, hour_change, is_edit_memory, wanted_for, IsTurn}
+use Rattle.sigaudit.specs.Script.{edit_said, hour_bytes, hour_change, hour_file, is_edit_memory, wanted_for, IsTurn}
 use Rattle.sigaudit.specs.Status.{status_of_run}
 use Rattle.sigaudit.specs.Transcript.{ended_by, limited}
 use Rattle.sigaudit.specs.Turns.{Turn}
@@ -86,7 +87,7 @@ stopped_counted : (c : Settings) (s new : Store) (ch : Change) (row : Row) (old 
 unfolding OpensBy
 stopped_counted c s new ch row old now steps (first, last, touches, opens) =
     let to = row.at / 36000 + 1 in
-    let (_, t, is, contradicts, _) = steps in
+    let (_, (t, is, contradicts, _)) = steps in
     let same : t ≡ new = cc in
     let at = rw same at contradicts in
     (opens.size, λ h lt. elim (cases_lt h first) [
@@ -106,11 +107,19 @@ refusal_counted c s new ch to EmptyRange old now ne steps opens = unmade c s ch 
 refusal_counted c s new ch to TooManyRows old now ne steps opens = unmade c s ch to TooManyRows old now steps.1 opens
 refusal_counted c s new ch to TooManyBlanks old now ne steps opens = unmade c s ch to TooManyBlanks old now steps.1 opens
 refusal_counted c s new ch to (Contradiction row) old now ne steps opens =
-    let (same, t, is, contradicts, none) = steps in
-    rw is (stopped_counted c s t ch row old now (refl, t, refl, contradicts, none) opens)
+    let (_, (t, is, contradicts, none)) = steps in
+    rw is (stopped_counted c s t ch row old now (refl, (t, refl, contradicts, none)) opens)
 refusal_counted c s new ch to Memory old now ne steps opens = absurd (cc)
 
 -- ---- an hour file
+
+-- what a file says, by the configuration
+pub said_as : (c c' : Settings) (hour : ℕ) (signal : List ℕ) (window : Span) (bytes : List ℕ) (x : Result Shown Unread) → c' ≡ c → signal ≡ c'.signal → window ≡ c'.window → hour_said (record { signal = signal; hour = hour; window = window }) bytes ≡ x → hour_said (wanted_for c hour) bytes ≡ x
+said_as c c' hour signal window bytes x ec es ew h =
+    let sig : signal ≡ c.signal = es ∙ ap (λ (k : Settings). k.signal) ec in
+    let win : window ≡ c.window = ew ∙ ap (λ (k : Settings). k.window) ec in
+    let h' : hour_said (wanted_for c hour) bytes ≡ x = rw (sig, win) at h in
+    h'
 
 pub read_counted : (c : Settings) (make : Shown → Change) (s : Store) (read : Result Shown Unread) (shown : Shown) (ch : Change) (old now : List ℕ) (r : Result Bool Stopped) → read ≡ Ok shown → ch ≡ make shown → OnOk r (AreCounted (EditTally c s ch) old now) → OnOk r (AreCounted (ReadTally c make s read) old now)
 read_counted c make s read shown ch old now r e em h = rw e (subst (λ (x : Change). OnOk r (AreCounted (EditTally c s x) old now)) em h)
@@ -123,6 +132,17 @@ fetched_counted c hour make s want bytes bytes' old now r e eb h = rw e (subst (
 
 pub missed_counted : (c : Settings) (hour : ℕ) (make : Shown → Change) (s : Store) (want : Result (List ℕ) Refusal) (refusal : Refusal) (old : List ℕ) (r : Result Bool Stopped) → want ≡ Err refusal → OnOk r (AreCounted (FetchTally c hour make s want) old old)
 missed_counted c hour make s want refusal old r is = rw is (on_ok r (AreCounted (FetchTally c hour make s (Err refusal)) old old) (counted_still (FetchTally c hour make s (Err refusal)) old old refl (λ h. (refl, refl))))
+
+-- an hour that the window hasn't, or has
+pub outside_counted : (files : Files) (c : Settings) (hour : ℕ) (name : List ℕ) (make : Shown → Change) (s : Store) (old : List ℕ) (r : Result Bool Stopped) → c.window.hours ≤ hour → OnOk r (AreCounted (FetchTally c hour make s (hour_bytes files c hour name)) old old)
+outside_counted files c hour name make s old r past =
+    let e : hour_bytes files c hour name ≡ Err (Edit OutOfWindow) = rw (le-ltb hour c.window.hours past) refl in
+    missed_counted c hour make s (hour_bytes files c hour name) (Edit OutOfWindow) old r e
+
+pub inside_counted : (files : Files) (c : Settings) (hour : ℕ) (name : List ℕ) (make : Shown → Change) (s : Store) (old now : List ℕ) (r : Result Bool Stopped) → hour < c.window.hours → OnOk r (AreCounted (FetchTally c hour make s (hour_file (files name))) old now) → OnOk r (AreCounted (FetchTally c hour make s (hour_bytes files c hour name)) old now)
+inside_counted files c hour name make s old now r lt h =
+    let e : hour_bytes files c hour name ≡ hour_file (files name) = rw (lt-ltb hour c.window.hours lt) refl in
+    rw e h
 
 -- ---- one line
 
@@ -162,21 +182,28 @@ line_replaced files c x hour name s old now r e h =
     rw e (on_ok_by r (AreCounted (FetchTally c hour (hour_change true) s (hour_bytes files c hour name)) old now) (AreCounted (LineTally files c (line.replace hour name) s) old now) (same_tally (FetchTally c hour (hour_change true) s (hour_bytes files c hour name)) (LineTally files c (line.replace hour name) s) old now (line_replaces files c hour name s)) h)
 
 -- a line that is no edit
-still_line : (files : Files) (c : Settings) (x : Said) (s : Store) (h : ℕ) → edit_said x ≡ None → ((hour : ℕ) (name : List ℕ) → x ≡ line.load hour name → ⊥) → ((hour : ℕ) (name : List ℕ) → x ≡ line.replace hour name → ⊥) → LineTally files c x s h 0 0
+pub skip_still : (files : Files) (c : Settings) (s : Store) (h : ℕ) → LineTally files c line.skip s h 0 0
 unfolding LineTally
-still_line files c line.skip s h e no_load no_replace = (refl, refl)
-still_line files c line.bad s h e no_load no_replace = (refl, refl)
-still_line files c (line.load hour name) s h e no_load no_replace = absurd (no_load hour name refl)
-still_line files c (line.replace hour name) s h e no_load no_replace = absurd (no_replace hour name refl)
-still_line files c (line.withdraw hour) s h e no_load no_replace = absurd (cc)
-still_line files c (line.blank from to) s h e no_load no_replace = absurd (cc)
-still_line files c (line.unblank from to) s h e no_load no_replace = absurd (cc)
-still_line files c line.audit s h e no_load no_replace = (refl, refl)
-still_line files c (line.verdicts hour) s h e no_load no_replace = (refl, refl)
-still_line files c line.measures s h e no_load no_replace = (refl, refl)
-still_line files c (line.measures_of hour) s h e no_load no_replace = (refl, refl)
-still_line files c (line.points p) s h e no_load no_replace = (refl, refl)
-still_line files c (line.offsets name) s h e no_load no_replace = (refl, refl)
+skip_still files c s h = (refl, refl)
+
+pub bad_still : (files : Files) (c : Settings) (s : Store) (h : ℕ) → LineTally files c line.bad s h 0 0
+unfolding LineTally
+bad_still files c s h = (refl, refl)
+
+pub measures_still : (files : Files) (c : Settings) (s : Store) (h : ℕ) → LineTally files c line.measures s h 0 0
+unfolding LineTally
+measures_still files c s h = (refl, refl)
+
+pub hour_still : (files : Files) (c : Settings) (hour : ℕ) (s : Store) (h : ℕ) → LineTally files c (line.measures_of hour) s h 0 0
+unfolding LineTally
+hour_still files c hour s h = (refl, refl)
+
+pub line_still : (files : Files) (c : Settings) (x y : Said) (s : Store) (old : List ℕ) (r : Result Bool Stopped) → x ≡ y → ((h : ℕ) → LineTally files c y s h 0 0) → OnOk r (AreCounted (LineTally files c x s) old old)
+line_still files c x y s old r e still = rw e (on_ok r (AreCounted (LineTally files c y s) old old) (counted_still (LineTally files c y s) old old refl still))
+
+-- a line by what is read of it
+pub line_read : (files : Files) (c : Settings) (x y : Said) (s : Store) (old now : List ℕ) (r : Result Bool Stopped) → x ≡ y → (IsPlain x → OnOk r (AreCounted (LineTally files c x s) old now)) → IsPlain y → OnOk r (AreCounted (LineTally files c y s) old now)
+line_read files c x y s old now r e h = subst (λ (z : Said). IsPlain z → OnOk r (AreCounted (LineTally files c z s) old now)) e h
 
 -- ---- lines one after another
 
@@ -230,18 +257,18 @@ line_plain files c lines s0 s n text line old now some l plain on =
     plain_at c.window on.done line (lines_of (after_line text)) (rw all at plain)
 
 -- one more line was taken
-pub line_counted : (files : Files) (c : Settings) (lines : List (List ℕ)) (s0 : Store) (n m : ℕ) (text line after : List ℕ) (mid new : World) (s s' : Store) (r : Bool) (old now then : List ℕ)
+pub line_counted : (files : Files) (c : Settings) (lines : List (List ℕ)) (s0 : Store) (n m : ℕ) (text line after : List ℕ) (mid new : World) (s s' : Store) (r : Bool) (old now later : List ℕ)
     → 0 < length text → line ≡ first_line text → after ≡ after_line text → m ≡ n + 1
     → IsCountedOn files c lines s0 n (lines_of text) s old now
-    → Takes (IsTurn files c n (said c.window line) s) mid new s' (Ok r) → AreCounted (LineTally files c (said c.window line) s) now then
-    → IsCountedOn files c lines s0 m (lines_of after) s' old then
-line_counted files c lines s0 n m text line after mid new s s' r old now then some l a em on takes counts =
+    → Takes (IsTurn files c n (said c.window line) s) mid new s' (Ok r) → AreCounted (LineTally files c (said c.window line) s) now later
+    → IsCountedOn files c lines s0 m (lines_of after) s' old later
+line_counted files c lines s0 n m text line after mid new s s' r old now later some l a em on takes counts =
     let (t, turn, _, _, store, _) = takes in
     record {
       done = on.done ++ line ∷ [];
       all = on.all ∙ (rw (lines_next text some, ← l, ← a, append_assoc) refl);
       number = let e = on.number in rw length-append (omega arith);
-      counted = counted_on (AreTallied files c 1 on.done s0 s) (LineTally files c (said c.window line) s) (AreTallied files c 1 (on.done ++ line ∷ []) s0 s') old now then
+      counted = counted_on (AreTallied files c 1 on.done s0 s) (LineTally files c (said c.window line) s) (AreTallied files c 1 (on.done ++ line ∷ []) s0 s') old now later
           (λ h x k x' k' tally tally'. tally_more files c 1 n on.done line s0 s s' t h x k x' k' on.number tally turn store tally') on.counted counts;
     }
 
@@ -254,7 +281,7 @@ lines_counted files c lines s0 s n text old now none on =
 -- ---- a run
 
 pub script_counted : (files : Files) (c : Settings) (script : List ℕ) (session : Kept) (old now : List ℕ) (refused : Bool) → session ≡ record { config = c; store = nothing_held c.window.hours }
-    → (ArePlain session.config.window (lines_of script) → AreCounted (ScriptTally files session.config (lines_of script) session.store) old now) → WhereTaken (status_of_run (Ok (ended_by refused))) (CountsText files c old now (Some script))
+    → (ArePlain session.config.window (lines_of script) → AreCounted (ScriptTally files session.config (lines_of script) session.store) old now) → WhereTaken (status_of_run (Ok (ended_by refused))) (OpensText files c old now (Some script))
 script_counted files c script session old now true e h = subst (λ (k : Kept). ArePlain k.config.window (lines_of script) → AreCounted (ScriptTally files k.config (lines_of script) k.store) old now) e h
 script_counted files c script session old now false e h = subst (λ (k : Kept). ArePlain k.config.window (lines_of script) → AreCounted (ScriptTally files k.config (lines_of script) k.store) old now) e h
 
@@ -285,11 +312,11 @@ taken_by outer.NoFile P Q f p = tt
 pub text_counted : (P : Option (List ℕ) → Type 0) (want : Option (List ℕ)) (bytes bytes' : List ℕ) (st : Status) → want ≡ Some bytes → bytes' ≡ bytes → WhereTaken st (P (Some bytes')) → WhereTaken st (P want)
 text_counted P want bytes bytes' st e eb h = rw e (subst (λ (x : List ℕ). WhereTaken st (P (Some x))) eb h)
 
-pub config_counted : (files : Files) (script old : List ℕ) (read : Read Settings) (e : ConfigError) (st : Status) → read ≡ Err e → WhereTaken st (CountsConfig files script old old read)
-config_counted files script old read e st is = rw is (taken_any st (CountsConfig files script old old (Err e)) tt)
+pub config_counted : (files : Files) (script old : List ℕ) (read : Read Settings) (e : ConfigError) (st : Status) → read ≡ Err e → WhereTaken st (OpensConfig files script old old read)
+config_counted files script old read e st is = rw is (taken_any st (OpensConfig files script old old (Err e)) tt)
 
-pub request_counted : (files : Files) (x : Asked) (config script old now : List ℕ) (st : Status) → x ≡ for_run config script → WhereTaken st (CountsFile files script old now (limited 1048576 (files config))) → WhereTaken st (CountsAnswer files old now (Some x))
+pub request_counted : (files : Files) (x : Asked) (config script old now : List ℕ) (st : Status) → x ≡ for_run config script → WhereTaken st (OpensFile files script old now (limited 1048576 (files config))) → WhereTaken st (OpensAnswer files old now (Some x))
 request_counted files x config script old now st e h = rw e h
 
-pub answer_counted : (asked o : Option Asked) (files : Files) (old now : List ℕ) (st : Status) → asked ≡ o → WhereTaken st (CountsAnswer files old now o) → WhereTaken st (CountsAnswer files old now asked)
+pub answer_counted : (asked o : Option Asked) (files : Files) (old now : List ℕ) (st : Status) → asked ≡ o → WhereTaken st (OpensAnswer files old now o) → WhereTaken st (OpensAnswer files old now asked)
 answer_counted asked o files old now st e h = rw e h

@@ -1,5 +1,5 @@
 -- How often a script opens each hour.
-use Rattle.std.specs.Prelude.{◌≡◌, ◌⊎◌, ◌<◌, ◌+◌, ◌*◌, ◌/◌, ◌^◌, ℕ, nat_lt, if◌then◌else◌, List, [], ◌∷◌, length, slice_index, Option, Some, None, Result, Ok, Err, ⊤}
+use Rattle.std.specs.Prelude.{◌≡◌, ◌⊎◌, ◌<◌, ◌+◌, ◌*◌, ◌/◌, ◌^◌, ℕ, nat_lt, if◌then◌else◌, List, [], ◌∷◌, length, slice_index, Option, Some, None, Result, Ok, Err, true, false, ⊤}
 use Rattle.outside.specs.Shelf.{Files}
 use Rattle.sig_base.specs.HourRows.{Shown}
 use Rattle.sig_base.specs.Window.{Span}
@@ -91,25 +91,25 @@ AreCounted Tally old new =
     (length new ≡ length old) × ((h : ℕ) → h < length old → (m : ℕ) × (k : ℕ) × Tally h m k × IsOpened m (3 * (m + k)) (slice_index old h) (slice_index new h))
 
 -- where all lines of a script are such lines
-abbrev pub CountsText : Files → Settings → List ℕ → List ℕ → Option (List ℕ) → Type 0
-CountsText files c old new None = ⊤
-CountsText files c old new (Some script) = ArePlain c.window (lines_of script) → AreCounted (ScriptTally files c (lines_of script) (nothing_held c.window.hours)) old new
+abbrev pub OpensText : Files → Settings → List ℕ → List ℕ → Option (List ℕ) → Type 0
+OpensText files c old new None = ⊤
+OpensText files c old new (Some script) = ArePlain c.window (lines_of script) → AreCounted (ScriptTally files c (lines_of script) (nothing_held c.window.hours)) old new
 
-abbrev pub CountsConfig : Files → List ℕ → List ℕ → List ℕ → Read Settings → Type 0
-CountsConfig files script old new (Err e) = ⊤
-CountsConfig files script old new (Ok c) = CountsText files c old new (limited (4 * 2 ^ 20) (files script))
+abbrev pub OpensConfig : Files → List ℕ → List ℕ → List ℕ → Read Settings → Type 0
+OpensConfig files script old new (Err e) = ⊤
+OpensConfig files script old new (Ok c) = OpensText files c old new (limited (4 * 2 ^ 20) (files script))
 
-abbrev pub CountsFile : Files → List ℕ → List ℕ → List ℕ → Option (List ℕ) → Type 0
-CountsFile files script old new None = ⊤
-CountsFile files script old new (Some bytes) = CountsConfig files script old new (config_of bytes)
+abbrev pub OpensFile : Files → List ℕ → List ℕ → List ℕ → Option (List ℕ) → Type 0
+OpensFile files script old new None = ⊤
+OpensFile files script old new (Some bytes) = OpensConfig files script old new (config_of bytes)
 
 -- of a run that the words ask for
-abbrev pub CountsAnswer : Files → List ℕ → List ℕ → Option Asked → Type 0
-CountsAnswer files old new None = ⊤
-CountsAnswer files old new (Some (for_run config script)) = CountsFile files script old new (limited (2 ^ 20) (files config))
-CountsAnswer files old new (Some (for_count file signal day hour)) = ⊤
-CountsAnswer files old new (Some (for_pack file signal day hour)) = ⊤
-CountsAnswer files old new (Some (for_demo hours)) = ⊤
+abbrev pub OpensAnswer : Files → List ℕ → List ℕ → Option Asked → Type 0
+OpensAnswer files old new None = ⊤
+OpensAnswer files old new (Some (for_run config script)) = OpensFile files script old new (limited (2 ^ 20) (files config))
+OpensAnswer files old new (Some (for_count file signal day hour)) = ⊤
+OpensAnswer files old new (Some (for_pack file signal day hour)) = ⊤
+OpensAnswer files old new (Some (for_demo hours)) = ⊤
 
 -- where all lines of a script were taken
 abbrev pub WhereTaken : Status → Type 0 → Type 0

@@ -9,7 +9,7 @@ ghost use Rattle.sigaudit.specs.Asked.{asked_of};
 ghost use Rattle.sigaudit.specs.ConfigText.{config_text, is_config_memory};
 ghost use Rattle.sigaudit.specs.Status.{status_of_run};
 ghost use Rattle.sigaudit.specs.Transcript.{ended_by, limited, outcome, usage_text, BeginsWithFirstLines, HaveOneTranscript, IsAnswer, IsConfigOutcome, IsDemoOutcome, IsFileOutcome, IsScriptOutcome};
-ghost use Rattle.sigaudit.specs.Counting.{CountsAnswer, CountsConfig, CountsFile, CountsText, WhereTaken};
+ghost use Rattle.sigaudit.specs.Counting.{OpensAnswer, OpensConfig, OpensFile, OpensText, WhereTaken};
 ghost use Rattle.sigaudit.specs.Run.{world, CountsText, FetchesText, DemoCause, FewBytes, IsRun, LeavesShelf, RunsAs, HasCause, NeedsWords, NeverFall, PutsOutcome, ScriptCause};
 
 use crate::config_text::put_config_error;
@@ -99,7 +99,7 @@ fn run_lines<L, S: Shelf, K: Sink>(
     ensures cause { ScriptCause (world (S.counts shelf.old) (K.written sink.old) (K.faults sink.old)) (world (S.counts shelf.new) (K.written sink.new) (K.faults sink.new)) (status_of_run result) }
     ensures never_fall { NeverFall (world (S.counts shelf.old) (K.written sink.old) (K.faults sink.old)) (world (S.counts shelf.new) (K.written sink.new) (K.faults sink.new)) }
     ensures opens { (files : Files) → S.files shelf.old ≡ Some files → WhereTaken
-        (status_of_run result) (CountsText files config reads.old reads.new (Some script.now)) }
+        (status_of_run result) (OpensText files config reads.old reads.new (Some script.now)) }
     ensures grow { Grow reads.old reads.new }
 {
     let mut session = match Session::new(alloc, config) {
@@ -136,7 +136,7 @@ fn run_script_file<L, S: Shelf, K: Sink>(
     ensures cause { ScriptCause (world (S.counts shelf.old) (K.written sink.old) (K.faults sink.old)) (world (S.counts shelf.new) (K.written sink.new) (K.faults sink.new)) (status_of_run result) }
     ensures never_fall { NeverFall (world (S.counts shelf.old) (K.written sink.old) (K.faults sink.old)) (world (S.counts shelf.new) (K.written sink.new) (K.faults sink.new)) }
     ensures opens { (files : Files) → S.files shelf.old ≡ Some files
-        → WhereTaken (status_of_run result) (CountsText files config reads.old reads.new
+        → WhereTaken (status_of_run result) (OpensText files config reads.old reads.new
         (limited 4194304 (files name.now))) }
     ensures grow { Grow reads.old reads.new }
 {
@@ -168,7 +168,7 @@ fn run_config<L, S: Shelf, K: Sink>(
     ensures cause { ScriptCause (world (S.counts shelf.old) (K.written sink.old) (K.faults sink.old)) (world (S.counts shelf.new) (K.written sink.new) (K.faults sink.new)) (status_of_run result) }
     ensures never_fall { NeverFall (world (S.counts shelf.old) (K.written sink.old) (K.faults sink.old)) (world (S.counts shelf.new) (K.written sink.new) (K.faults sink.new)) }
     ensures opens { (files : Files) → S.files shelf.old ≡ Some files
-        → WhereTaken (status_of_run result) (CountsConfig files script.now reads.old reads.new
+        → WhereTaken (status_of_run result) (OpensConfig files script.now reads.old reads.new
         (config_of bytes.now)) }
     ensures grow { Grow reads.old reads.new }
 {
@@ -197,7 +197,7 @@ fn run_files<L, S: Shelf, K: Sink>(
     ensures cause { ScriptCause (world (S.counts shelf.old) (K.written sink.old) (K.faults sink.old)) (world (S.counts shelf.new) (K.written sink.new) (K.faults sink.new)) (status_of_run result) }
     ensures never_fall { NeverFall (world (S.counts shelf.old) (K.written sink.old) (K.faults sink.old)) (world (S.counts shelf.new) (K.written sink.new) (K.faults sink.new)) }
     ensures opens { (files : Files) → S.files shelf.old ≡ Some files
-        → WhereTaken (status_of_run result) (CountsFile files script.now reads.old reads.new
+        → WhereTaken (status_of_run result) (OpensFile files script.now reads.old reads.new
         (limited 1048576 (files config.now))) }
     ensures grow { Grow reads.old reads.new }
 {
@@ -248,7 +248,7 @@ fn run_request<L, S: Shelf, K: Sink>(
     ensures alone { LeavesShelf (Some (seen request.entry)) (world (S.counts shelf.old) (K.written sink.old) (K.faults sink.old)) (world (S.counts shelf.new) (K.written sink.new) (K.faults sink.new)) (status_of_run result) }
     ensures never_fall { NeverFall (world (S.counts shelf.old) (K.written sink.old) (K.faults sink.old)) (world (S.counts shelf.new) (K.written sink.new) (K.faults sink.new)) }
     ensures opens { (files : Files) → S.files shelf.old ≡ Some files
-        → WhereTaken (status_of_run result) (CountsAnswer files reads.old reads.new
+        → WhereTaken (status_of_run result) (OpensAnswer files reads.old reads.new
         (Some (seen request.entry))) }
     ensures grow { Grow reads.old reads.new }
 {
@@ -293,7 +293,7 @@ fn run_to_end<L, S: Shelf, K: Sink>(
     ensures alone { LeavesShelf (asked_of words.now) (world (S.counts shelf.old) (K.written sink.old) (K.faults sink.old)) (world (S.counts shelf.new) (K.written sink.new) (K.faults sink.new)) (status_of_run result) }
     ensures never_fall { NeverFall (world (S.counts shelf.old) (K.written sink.old) (K.faults sink.old)) (world (S.counts shelf.new) (K.written sink.new) (K.faults sink.new)) }
     ensures opens { (files : Files) → S.files shelf.old ≡ Some files
-        → WhereTaken (status_of_run result) (CountsAnswer files reads.old reads.new
+        → WhereTaken (status_of_run result) (OpensAnswer files reads.old reads.new
         (asked_of words.now)) }
     ensures grow { Grow reads.old reads.new }
 {
@@ -333,7 +333,7 @@ pub fn run<L, S: Shelf, K: Sink>(
     // is opened at least as often as it moves by accepted edits, and at most three times as often
     // as it moves or lies on the way to a contradiction.
     ensures opens { IfSome (S.files shelf.old) (λ files. WhereTaken result
-        (CountsAnswer files reads.old reads.new (asked_of words.now))) }
+        (OpensAnswer files reads.old reads.new (asked_of words.now))) }
 
     // No count of opened hours falls.
     ensures grow { Grow reads.old reads.new }

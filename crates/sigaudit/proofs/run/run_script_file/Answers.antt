@@ -2,6 +2,8 @@ use Rattle.std.proofs.Common.{◌∙◌, refl}
 use Rattle.sigaudit.specs.Run.{world}
 use Rattle.sigaudit.specs.Status.{status_of_run}
 use Rattle.sigaudit.specs.Transcript.{IsScriptOutcome, limited}
+use Rattle.sigaudit.specs.Counting.{OpensText}
+use Rattle.sigaudit.proofs.CountFacts.{text_counted}
 use Rattle.sigaudit.proofs.RunFacts.{nothing_there, script_begun, stop_told, text_there}
 use Rattle.sigaudit.proofs.run.run_script_file.Goals as goal
 
@@ -18,3 +20,8 @@ pub returns-in-Stop-clause-told : goal.returns-in-Stop-clause-told
 returns-in-Stop-clause-told g c = λ files told.
     stop_told (IsScriptOutcome files c.args.config (limited 4194304 (files c.args.name.now))) (g.S.Shelf.counts c.args.shelf.now) (g.S.Shelf.counts c.fetch_text.new.shelf) (g.K.Sink.written c.args.sink.now) (g.K.Sink.faults c.args.sink.now) c.in-Stop.stopped
     (script_begun files c.args.config (limited 4194304 (files c.args.name.now))) c.in-Stop.ensures.counts
+
+pub returns-in-Have-clause-opens : goal.returns-in-Have-clause-opens
+returns-in-Have-clause-opens g c = λ files told.
+    text_counted (OpensText files c.args.config c.args.reads.now c.run_lines.new.reads) (limited 4194304 (files c.args.name.now)) c.fetch_text.new.bytes.items c.deref.result.now (status_of_run c.run_lines.result)
+    (c.in-Have.ensures.told files told) c.deref.ensures.value (c.run_lines.ensures.opens files (c.in-Have.ensures.files ∙ told))

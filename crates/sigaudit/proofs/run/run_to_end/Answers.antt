@@ -5,6 +5,7 @@ use Rattle.sigaudit.specs.Run.{world}
 use Rattle.sigaudit.specs.Status.{status_of_run}
 use Rattle.sigaudit.specs.Transcript.{IsAnswer}
 use Rattle.sigaudit.proofs.DemoFacts.{alone_as}
+use Rattle.sigaudit.proofs.CountFacts.{answer_counted}
 use Rattle.sigaudit.proofs.RunFacts.{answer_begun, run-of_nothing, asked_is, answer_as, cause_as, needs_as, usage_told, usage_cause}
 use Rattle.sigaudit.proofs.run.run_to_end.Goals as goal
 
@@ -48,3 +49,8 @@ pub returns-in-Err-Usage-clause-alone : goal.returns-in-Err-Usage-clause-alone
 returns-in-Err-Usage-clause-alone g c =
     let asked : asked_of c.args.words.now ≡ None = asked_is c.args.words.now c.in-Ok.all.items c.deref.result.now None c.deref.ensures.value c.in-Ok.ensures (rw c.in-Err-Usage.field-0-is at c.in-Err-Usage.ensures.value) in
     alone_as c.args.words.now None (world (g.S.Shelf.counts c.args.shelf.now) (g.K.Sink.written c.args.sink.now) (g.K.Sink.faults c.args.sink.now)) (world (g.S.Shelf.counts c.args.shelf.now) (g.K.Sink.written c.show_usage.new.sink) (g.K.Sink.faults c.show_usage.new.sink)) (status_of_run c.show_usage.result) asked tt
+
+pub returns-in-Ok-parse_words-clause-opens : goal.returns-in-Ok-parse_words-clause-opens
+returns-in-Ok-parse_words-clause-opens g c = λ files told.
+    let asked : asked_of c.args.words.now ≡ Some (seen c.in-Ok-parse_words.request) = asked_is c.args.words.now c.in-Ok.all.items c.deref.result.now (Some (seen c.in-Ok-parse_words.request)) c.deref.ensures.value c.in-Ok.ensures c.in-Ok-parse_words.ensures.value in
+    answer_counted (asked_of c.args.words.now) (Some (seen c.in-Ok-parse_words.request)) files c.args.reads.now c.run_request.new.reads (status_of_run c.run_request.result) asked (c.run_request.ensures.opens files told)

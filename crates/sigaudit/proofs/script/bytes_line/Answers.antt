@@ -1,7 +1,9 @@
-use Rattle.std.proofs.Common.{◌≡◌, refl}
+use Rattle.std.proofs.Common.{◌≡◌, refl, Ok, Err}
+use Rattle.session.specs.Edits.{change_of}
 use Rattle.sigaudit.specs.declared.hour_file.Unread.TheVariants.{Records, Packed}
 use Rattle.sigaudit.specs.HourFile.{hour_said}
 use Rattle.sigaudit.specs.Script.{hour_change, wanted_for, IsRead}
+use Rattle.sigaudit.proofs.CountFacts.{read_counted, said_as, unread_counted}
 use Rattle.sigaudit.proofs.TakeFacts.{by_nothing}
 use Rattle.sigaudit.proofs.EditFacts.{bytes_refused}
 use Rattle.sigaudit.proofs.script.bytes_line.Goals as goal
@@ -17,3 +19,21 @@ returns-in-Err-Packed-clause-turn g c =
     bytes_refused c.args.session.now.config c.config-config.result.now c.args.number c.args.hour (hour_change c.args.replaces) c.args.session.now.store
     c.signal.result.now c.window.result.now c.args.bytes.now (Packed c.in-Err-Packed.error) _ _ _ _ c.refuse_packed.result
     c.config-config.ensures.value c.signal.ensures.value c.window.ensures (rw c.in-Err-Packed.field-0-is at c.in-Err-Packed.ensures.err) c.refuse_packed.ensures
+
+pub returns-in-Ok-clause-opens : goal.returns-in-Ok-clause-opens
+returns-in-Ok-clause-opens g c =
+    let cfg = c.args.session.now.config in
+    let read = said_as cfg c.config-config.result.now c.args.hour c.signal.result.now c.window.result.now c.args.bytes.now (Ok c.in-Ok.rows) c.config-config.ensures.value c.signal.ensures.value c.window.ensures c.in-Ok.ensures.ok in
+    read_counted cfg (hour_change c.args.replaces) c.args.session.now.store (hour_said (wanted_for cfg c.args.hour) c.args.bytes.now) c.in-Ok.rows (change_of c.edit_of.result) c.args.reads.now c.edit_line.new.reads c.edit_line.result read c.edit_of.ensures c.edit_line.ensures.opens
+
+pub returns-in-Err-Records-clause-opens : goal.returns-in-Err-Records-clause-opens
+returns-in-Err-Records-clause-opens g c =
+    let cfg = c.args.session.now.config in
+    let read = said_as cfg c.config-config.result.now c.args.hour c.signal.result.now c.window.result.now c.args.bytes.now (Err (Records c.in-Err-Records.error)) c.config-config.ensures.value c.signal.ensures.value c.window.ensures (rw c.in-Err-Records.field-0-is at c.in-Err-Records.ensures.err) in
+    unread_counted cfg (hour_change c.args.replaces) c.args.session.now.store (hour_said (wanted_for cfg c.args.hour) c.args.bytes.now) (Records c.in-Err-Records.error) c.args.reads.now c.refuse.result read
+
+pub returns-in-Err-Packed-clause-opens : goal.returns-in-Err-Packed-clause-opens
+returns-in-Err-Packed-clause-opens g c =
+    let cfg = c.args.session.now.config in
+    let read = said_as cfg c.config-config.result.now c.args.hour c.signal.result.now c.window.result.now c.args.bytes.now (Err (Packed c.in-Err-Packed.error)) c.config-config.ensures.value c.signal.ensures.value c.window.ensures (rw c.in-Err-Packed.field-0-is at c.in-Err-Packed.ensures.err) in
+    unread_counted cfg (hour_change c.args.replaces) c.args.session.now.store (hour_said (wanted_for cfg c.args.hour) c.args.bytes.now) (Packed c.in-Err-Packed.error) c.args.reads.now c.refuse_packed.result read

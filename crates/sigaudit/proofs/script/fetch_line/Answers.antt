@@ -1,6 +1,7 @@
 use Rattle.std.proofs.Common.{◌≡◌, arith}
 use Rattle.sigaudit.specs.Turns.{Turn, refuses}
 use Rattle.sigaudit.specs.Script.{hour_change, hour_file, IsFetched}
+use Rattle.sigaudit.proofs.CountFacts.{fetched_counted, missed_counted}
 use Rattle.sigaudit.proofs.TakeFacts.{caused_of_by, never_of_by, takes_of_by}
 use Rattle.sigaudit.proofs.LineFacts.{by_bad, fetch_refused}
 use Rattle.sigaudit.proofs.script.fetch_line.Goals as goal
@@ -19,3 +20,11 @@ returns-in-Missed-clause-cause g c = caused_of_by (λ (t : Turn). t ≡ refuses 
 pub returns-in-Missed-clause-never_fall : goal.returns-in-Missed-clause-never_fall
 returns-in-Missed-clause-never_fall g c =
     never_of_by (λ (t : Turn). t ≡ refuses c.args.session.now.config c.args.number c.in-Missed.refusal c.args.session.now.store) (g.S.Shelf.counts c.args.shelf.now) (g.S.Shelf.counts c.fetch_hour.new.shelf) _ _ _ _ c.args.session.now.store c.refuse.result c.in-Missed.ensures.counts.0 (let e = c.in-Missed.ensures.counts.1 in omega arith) c.in-Missed.ensures.counts.2 (by_bad c.args.session.now.config c.config.result.now c.args.number c.in-Missed.refusal c.args.session.now.store _ _ _ _ c.refuse.result c.config.ensures.value c.refuse.ensures)
+
+pub returns-in-There-clause-opens : goal.returns-in-There-clause-opens
+returns-in-There-clause-opens g c = λ files told.
+    fetched_counted c.args.session.now.config c.args.hour (hour_change c.args.replaces) c.args.session.now.store (hour_file (files c.args.name.now)) c.fetch_hour.new.bytes.items c.deref.result.now c.args.reads.now c.bytes_line.new.reads c.bytes_line.result (c.in-There.ensures.told files told) c.deref.ensures.value c.bytes_line.ensures.opens
+
+pub returns-in-Missed-clause-opens : goal.returns-in-Missed-clause-opens
+returns-in-Missed-clause-opens g c = λ files told.
+    missed_counted c.args.session.now.config c.args.hour (hour_change c.args.replaces) c.args.session.now.store (hour_file (files c.args.name.now)) c.in-Missed.refusal c.args.reads.now c.refuse.result (c.in-Missed.ensures.told files told)

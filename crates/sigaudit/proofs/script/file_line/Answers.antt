@@ -6,6 +6,7 @@ use Rattle.ring_config.specs.Settings.{Settings}
 use Rattle.sigaudit.specs.Turns.{Turn, refuses}
 use Rattle.sigaudit.specs.Script.{hour_bytes, hour_change, IsFetched}
 use Rattle.sigaudit.specs.Run.{world}
+use Rattle.sigaudit.proofs.CountFacts.{inside_counted, outside_counted}
 use Rattle.sigaudit.proofs.TakeFacts.{caused_of_by, never_of_by, takes_of_by}
 use Rattle.sigaudit.proofs.LineFacts.{by_bad, inside_line, outside_line}
 use Rattle.sigaudit.proofs.script.file_line.Goals as goal
@@ -35,3 +36,15 @@ returns-clause-turn g c = λ files told.
     let within : c.args.hour < c.args.session.now.config.window.hours = let t = c.if-hour-hours.false in omega arith in
     inside_line files c.args.session.now.config c.args.number c.args.hour c.args.name.now (hour_change c.args.replaces) c.args.session.now.store c.fetch_line.new.session.store
     (world (g.S.Shelf.counts c.args.shelf.now) (g.K.Sink.written c.args.sink.now) (g.K.Sink.faults c.args.sink.now)) (world (g.S.Shelf.counts c.fetch_line.new.shelf) (g.K.Sink.written c.fetch_line.new.sink) (g.K.Sink.faults c.fetch_line.new.sink)) c.fetch_line.result within (c.fetch_line.ensures.turn files told)
+
+pub returns-then-hour-hours-clause-opens : goal.returns-then-hour-hours-clause-opens
+returns-then-hour-hours-clause-opens g c = λ files told.
+    let same : c.hours.result ≡ c.args.session.now.config.window.hours = c.hours.ensures.value ∙ ap (λ (w : Span). w.hours) c.window.ensures ∙ ap (λ (k : Settings). k.window.hours) c.config.ensures.value in
+    let past : c.args.session.now.config.window.hours ≤ c.args.hour = let t = c.if-hour-hours.true in omega arith in
+    outside_counted files c.args.session.now.config c.args.hour c.args.name.now (hour_change c.args.replaces) c.args.session.now.store c.args.reads.now c.refuse.result past
+
+pub returns-clause-opens : goal.returns-clause-opens
+returns-clause-opens g c = λ files told.
+    let same : c.hours.result ≡ c.args.session.now.config.window.hours = c.hours.ensures.value ∙ ap (λ (w : Span). w.hours) c.window.ensures ∙ ap (λ (k : Settings). k.window.hours) c.config.ensures.value in
+    let inside : c.args.hour < c.args.session.now.config.window.hours = let t = c.if-hour-hours.false in omega arith in
+    inside_counted files c.args.session.now.config c.args.hour c.args.name.now (hour_change c.args.replaces) c.args.session.now.store c.args.reads.now c.fetch_line.new.reads c.fetch_line.result inside (c.fetch_line.ensures.opens files told)

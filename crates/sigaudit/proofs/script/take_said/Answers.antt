@@ -1,4 +1,4 @@
-use Rattle.std.proofs.Common.{◌≡◌, refl, ap, arith, true, false, None, nat_lt}
+use Rattle.std.proofs.Common.{◌≡◌, refl, ap, arith, true, false, None, Ok, nat_lt}
 use Rattle.script_lines.specs.Words as line
 use Rattle.script_lines.specs.Seen.{seen}
 use Rattle.report_text.specs.declared.refusal.Refusal.TheVariants.{BadLine}
@@ -9,6 +9,7 @@ use Rattle.sigaudit.specs.Audit.{AreVerdicts, IsAudited}
 use Rattle.sigaudit.specs.Points.{points_of_phase}
 use Rattle.sigaudit.specs.Offsets.{offsets_of}
 use Rattle.sigaudit.specs.Script.{hour_bytes, hour_change, IsEdited, IsFetched, IsMeasured, IsMeasuredOf}
+use Rattle.sigaudit.proofs.CountFacts.{bad_still, hour_still, line_edited, line_loaded, line_replaced, line_still, measures_still, skip_still}
 use Rattle.sigaudit.proofs.TakeFacts.{caused_of_by, never_of_by}
 use Rattle.sigaudit.proofs.LineFacts.{by_bad, line_as, line_by, line_skipped, turn_audit, turn_bad, turn_edit, turn_hour, turn_load, turn_measures, turn_offsets, turn_points, turn_replace, turn_verdicts}
 use Rattle.sigaudit.proofs.script.take_said.Goals as goal
@@ -106,3 +107,31 @@ pub returns-in-Replace-clause-turn : goal.returns-in-Replace-clause-turn
 returns-in-Replace-clause-turn g c = λ files told.
     line_as files c.args.session.now.config c.args.number (seen c.args.line) (line.replace c.in-Replace.hour c.in-Replace.name.now) c.args.session.now.store (IsFetched c.args.session.now.config c.args.number c.in-Replace.hour (hour_change true) c.args.session.now.store (hour_bytes files c.args.session.now.config c.in-Replace.hour c.in-Replace.name.now)) (world (g.S.Shelf.counts c.args.shelf.now) (g.K.Sink.written c.args.sink.now) (g.K.Sink.faults c.args.sink.now)) (world (g.S.Shelf.counts c.file_line-in-Replace.new.shelf) (g.K.Sink.written c.file_line-in-Replace.new.sink) (g.K.Sink.faults c.file_line-in-Replace.new.sink)) c.file_line-in-Replace.new.session.store c.file_line-in-Replace.result
     (ap seen c.in-Replace.is) (turn_replace files c.args.session.now.config c.args.number c.in-Replace.hour c.in-Replace.name.now c.args.session.now.store) (c.file_line-in-Replace.ensures.turn files told)
+
+pub returns-in-Some-clause-opens : goal.returns-in-Some-clause-opens
+returns-in-Some-clause-opens g c = λ files told plain.
+    line_edited files c.args.session.now.config (seen c.args.line) (change_of c.in-Some.edit) c.args.session.now.store c.args.reads.now c.edit_line.new.reads c.edit_line.result c.in-Some.ensures c.edit_line.ensures.opens
+
+pub returns-in-Load-clause-opens : goal.returns-in-Load-clause-opens
+returns-in-Load-clause-opens g c = λ files told plain.
+    line_loaded files c.args.session.now.config (seen c.args.line) c.in-Load.hour c.in-Load.name.now c.args.session.now.store c.args.reads.now c.file_line.new.reads c.file_line.result (ap seen c.in-Load.is) (c.file_line.ensures.opens files told)
+
+pub returns-in-Replace-clause-opens : goal.returns-in-Replace-clause-opens
+returns-in-Replace-clause-opens g c = λ files told plain.
+    line_replaced files c.args.session.now.config (seen c.args.line) c.in-Replace.hour c.in-Replace.name.now c.args.session.now.store c.args.reads.now c.file_line-in-Replace.new.reads c.file_line-in-Replace.result (ap seen c.in-Replace.is) (c.file_line-in-Replace.ensures.opens files told)
+
+pub returns-in-Skip-clause-opens : goal.returns-in-Skip-clause-opens
+returns-in-Skip-clause-opens g c = λ files told plain.
+    line_still files c.args.session.now.config (seen c.args.line) line.skip c.args.session.now.store c.args.reads.now (Ok false) (ap seen c.in-Skip.is) (λ h. skip_still files c.args.session.now.config c.args.session.now.store h)
+
+pub returns-in-Bad-clause-opens : goal.returns-in-Bad-clause-opens
+returns-in-Bad-clause-opens g c = λ files told plain.
+    line_still files c.args.session.now.config (seen c.args.line) line.bad c.args.session.now.store c.args.reads.now c.refuse.result (ap seen c.in-Bad.is) (λ h. bad_still files c.args.session.now.config c.args.session.now.store h)
+
+pub returns-in-Measures-clause-opens : goal.returns-in-Measures-clause-opens
+returns-in-Measures-clause-opens g c = λ files told plain.
+    line_still files c.args.session.now.config (seen c.args.line) line.measures c.args.session.now.store c.args.reads.now c.measures_line.result (ap seen c.in-Measures.is) (λ h. measures_still files c.args.session.now.config c.args.session.now.store h)
+
+pub returns-in-MeasuresOf-clause-opens : goal.returns-in-MeasuresOf-clause-opens
+returns-in-MeasuresOf-clause-opens g c = λ files told plain.
+    line_still files c.args.session.now.config (seen c.args.line) (line.measures_of c.in-MeasuresOf.hour) c.args.session.now.store c.args.reads.now c.hour_line.result (ap seen c.in-MeasuresOf.is) (λ h. hour_still files c.args.session.now.config c.in-MeasuresOf.hour c.args.session.now.store h)

@@ -10,7 +10,6 @@ use Rattle.signal_log.specs.Log.{HasHistory, log_of}
 use Rattle.hour_work.specs.Moved.{IsSameCarry, IsSameFuture}
 use Rattle.hour_work.specs.Numbers.{Numbers, Summed, patched}
 use Rattle.hour_work.specs.Points.{Carried, IsCarryAt, IsFutureAt}
-use Rattle.hour_work.specs.Reports.{IsReport}
 use Rattle.hour_work.proofs.MovedLaws.{carries_one, futures_one}
 use Rattle.hour_work.proofs.OneLaws.{one_report}
 use Rattle.hour_work.proofs.PatchLaws.{patched-below, patched-past}

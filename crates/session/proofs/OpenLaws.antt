@@ -1,5 +1,5 @@
 -- How often hours are opened, call after call.
-use Rattle.std.proofs.Common.{◌≡◌, ◌∙◌, ◌⊎◌, inl, inr, ℕ, zero, suc, ◌+◌, ◌-◌, ◌^◌, ◌<◌, ◌≤◌, ◌≢◌, min, List, length, length-set, get_or, get_or-set_same, get_or-set_other, Option, refl, sym, ap, subst, arith, ℤ, Result, Ok, Err}
+use Rattle.std.proofs.Common.{◌≡◌, ◌∙◌, inl, inr, ℕ, zero, suc, ◌+◌, ◌-◌, ◌^◌, ◌<◌, ◌≤◌, ◌≢◌, min, List, length, length-set, get_or, get_or-set_same, get_or-set_other, Option, refl, sym, ap, subst, arith, ℤ, Result, Ok, Err}
 use Rattle.std.proofs.lemmas.Bool.{cases_lt}
 use Rattle.std.proofs.lemmas.List.{get_or_past}
 use Rattle.sig_base.specs.Reads.{one_more, raised}

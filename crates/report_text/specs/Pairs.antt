@@ -5,7 +5,6 @@ use Rattle.sig_base.specs.Stamp.{stamp_at}
 use Rattle.event_codes.specs.declared.channels.Channel.{Channel}
 use Rattle.channel_tables.specs.declared.spec.Spec.{Spec}
 use Rattle.ring_config.specs.Settings.{Settings}
-use Rattle.rule_audit.specs.declared.lines.AuditLine.{AuditLine}
 use Rattle.filling_pair.specs.declared.strands.Fill.{Fill}
 use Rattle.filling_pair.specs.declared.strands.Strand.{Strand}
 use Rattle.filling_pair.specs.declared.strands.Pair.{Pair}
@@ -38,12 +37,13 @@ abbrev pub side_text : Settings → List ℕ → List Strand → List ℕ
 side_text c word ss = line_of (word ∷ []) ++ strands_text c ss
 
 -- the number of the rule, and when it is undecided
-abbrev pub undecided_line : Span → AuditLine → List ℕ
-undecided_line w l = line_of (codes "undecided " ∷ decimal l.rule ∷ codes " " ∷ stamp_at w l.at ∷ [])
+abbrev pub undecided_line : Span → ℕ → ℕ → List ℕ
+undecided_line w rule at = line_of (codes "undecided " ∷ decimal rule ∷ codes " " ∷ stamp_at w at ∷ [])
 
--- an undecided line, what keeps it, and what breaks it
-abbrev pub pair_text : Settings → AuditLine → Pair → List ℕ
-pair_text c l p = undecided_line c.window l ++ (side_text c (codes "keeps") p.keeps ++ side_text c (codes "breaks") p.breaks)
+-- what the rule of this number leaves undecided at this tenth, what keeps it, and what breaks it
+abbrev pub pair_text : Settings → ℕ → ℕ → Pair → List ℕ
+pair_text c rule at p =
+    undecided_line c.window rule at ++ (side_text c (codes "keeps") p.keeps ++ side_text c (codes "breaks") p.breaks)
 
 -- the tenths of these fills are in the window
 abbrev pub AreFillsIn : Span → List Fill → Type 0

@@ -160,7 +160,7 @@ fn put_sides<K: Sink>(config: &Config, pair: &Pair, sink: &mut K) -> Result<(), 
 fn put_undecided<K: Sink>(window: &Window, line: &AuditLine, sink: &mut K) -> Result<(), PutFailed>
     requires { line.now.at < 36000 * window.now.hours }
     ensures { Puts (K.written sink.old) (K.written sink.new) (K.faults sink.old) (K.faults sink.new)
-        (undecided_line window.now line.now) result }
+        (undecided_line window.now line.now.rule line.now.at) result }
 {
     let stamp = window.stamp(line.at);
     let mut number = Buffer::new();
@@ -189,7 +189,7 @@ pub fn put_pair<K: Sink>(
     requires at { line.now.at < 36000 * config.now.window.hours }
     requires pair { IsPairIn config.now.window pair.now }
     ensures { Puts (K.written sink.old) (K.written sink.new) (K.faults sink.old) (K.faults sink.new)
-        (pair_text config.now line.now pair.now) result }
+        (pair_text config.now line.now.rule line.now.at pair.now) result }
 {
     match put_undecided(config.window(), line, sink) {
         Ok(()) => {}

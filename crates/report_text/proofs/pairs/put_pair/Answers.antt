@@ -7,13 +7,13 @@ pub returns-in-Err : goal.returns-in-Err
 returns-in-Err g c =
     let s = c.args.config.now in
     let p = c.args.pair.now in
-    stops-front _ _ _ _ (undecided_line s.window c.args.line.now) (side_text s (codes "keeps") p.keeps ++ side_text s (codes "breaks") p.breaks) (rw (c.window.ensures) at c.in-Err.ensures)
+    stops-front _ _ _ _ (undecided_line s.window c.args.line.now.rule c.args.line.now.at) (side_text s (codes "keeps") p.keeps ++ side_text s (codes "breaks") p.breaks) (rw (c.window.ensures) at c.in-Err.ensures)
 
 pub returns : goal.returns
 returns g c =
     let s = c.args.config.now in
     let p = c.args.pair.now in
-    puts-then _ _ _ _ _ _ (undecided_line s.window c.args.line.now) (side_text s (codes "keeps") p.keeps ++ side_text s (codes "breaks") p.breaks) c.put_sides.result
+    puts-then _ _ _ _ _ _ (undecided_line s.window c.args.line.now.rule c.args.line.now.at) (side_text s (codes "keeps") p.keeps ++ side_text s (codes "breaks") p.breaks) c.put_sides.result
     c.in-Ok.ensures.0
     (rw (c.window.ensures) at c.in-Ok.ensures.1)
     c.put_sides.ensures

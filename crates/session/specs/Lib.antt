@@ -6,3 +6,4 @@ pub mod Windows
 pub mod Sessions
 pub mod Renewed
 pub mod HourLines
+pub mod Pairs

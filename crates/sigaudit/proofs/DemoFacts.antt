@@ -1,5 +1,5 @@
 -- A demonstration is a run over a shelf of its own, on which nothing is missing.
-use Rattle.std.proofs.Common.{◌≡◌, ◌≤◌, ◌<◌, ◌^◌, ◌*◌, ℕ, List, [], length, Option, Some, None, Result, Ok, Err, refl, sym, ap, subst, ◌∙◌, inl, inr, arith, Bool, true, false}
+use Rattle.std.proofs.Common.{◌≡◌, ◌≤◌, ℕ, List, length, Option, Some, None, Ok, Err, refl, ap, subst, inl, inr, arith, Bool, true, false}
 use Rattle.std.proofs.lemmas.Bool.Decides.{nat_tests}
 use Rattle.outside.specs.Counted.{Rose}
 use Rattle.outside.specs.Shelf.{Counts, Files}
@@ -17,7 +17,6 @@ use Rattle.sigaudit.specs.Transcript.{Outcome, outcome, ended_by, limited, IsAns
 use Rattle.sigaudit.specs.Run.{World, world, DemoCause, HasFault, LeavesShelf, RunsAs, ScriptCause}
 use Rattle.sigaudit.specs.declared.status.Status.{Status}
 use Rattle.sigaudit.specs.declared.status.Status.TheVariants as outer
-use Rattle.sigaudit.specs.declared.status.Ended.{Ended}
 use Rattle.sigaudit.specs.declared.status.Ended.TheVariants as ended
 use Rattle.sigaudit.proofs.RunFacts.{run_as}
 

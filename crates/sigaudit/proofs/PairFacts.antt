@@ -1,13 +1,12 @@
 -- How what a rule leaves undecided is written.
-use Rattle.std.proofs.Common.{◌≡◌, ◌<◌, ◌≤◌, ◌+◌, ◌*◌, ◌∙◌, ℕ, List, [], ◌∷◌, length, Bool, true, false, Option, Some, None, Result, Ok, Err, refl, ap, subst, inl, inr, arith}
+use Rattle.std.proofs.Common.{◌≡◌, ◌<◌, ◌≤◌, ◌*◌, ℕ, List, [], ◌∷◌, length, Bool, true, false, Option, Some, None, Result, Ok, Err, refl, ap, subst, inl, inr, arith}
 use Rattle.std.specs.Prelude.{flat_map}
 use Rattle.std.specs.List.{All}
 use Rattle.std.proofs.lemmas.List.Elements.{All-cons, All-nil}
-use Rattle.std.specs.Io.KnownBytes.{Appends}
 use Rattle.outside.specs.Sink.{Stops}
 use Rattle.outside.specs.Shelf.{Counts, Files}
 use Rattle.outside.proofs.PutsFacts.{appends-nothing}
-use Rattle.hour_store.specs.Store.{Store, nothing_held}
+use Rattle.hour_store.specs.Store.{Store}
 use Rattle.sig_base.specs.Window.{Span}
 use Rattle.row_reader.specs.Stamp.{stamp_in}
 use Rattle.ring_config.specs.Settings.{Settings}
@@ -18,13 +17,13 @@ use Rattle.filling_pair.specs.declared.strands.Fill.{Fill}
 use Rattle.filling_pair.specs.declared.strands.Strand.{Strand}
 use Rattle.filling_pair.specs.declared.strands.Pair.{Pair}
 use Rattle.filling_pair.specs.Strands.{AreAllStrands, AreFills}
-use Rattle.session.specs.Pairs.{ArePairsAt, ArePairsOf, AreSide}
+use Rattle.session.specs.Pairs.{ArePairsAt, ArePairsOf}
 use Rattle.session.specs.Sessions.{Kept}
 use Rattle.script_lines.specs.Lines.{lines_of}
 use Rattle.report_text.specs.Pairs.{AreFillsIn, AreStrandsIn, IsPairIn, pair_text}
 use Rattle.sigaudit.specs.Aims.{for_rule}
 use Rattle.sigaudit.specs.Pairs.{AreFound, found_text, nothing_text, place_of}
-use Rattle.sigaudit.specs.Run.{CountsCarried, CountsGrow, IsCarriedOut, IsCaused, NeverFall, PutsOne, RunsAs, ScriptCause, TellsAll, World, world}
+use Rattle.sigaudit.specs.Run.{IsCarriedOut, PutsOne, RunsAs, ScriptCause, world}
 use Rattle.sigaudit.specs.Status.{status_of_run}
 use Rattle.sigaudit.specs.Transcript.{IsAimOutcome, ended_by, outcome}
 use Rattle.sigaudit.specs.declared.status.Stopped.{Stopped}

@@ -1,5 +1,5 @@
 -- What a run does to the shelf and the sink.
-use Rattle.std.specs.Prelude.{◌≡◌, ◌≤◌, ◌⊎◌, ℕ, List, [], length, take, Option, Some, None, IsSome, Result, Ok, Err, Bool, false, ⊤}
+use Rattle.std.specs.Prelude.{◌≡◌, ◌≤◌, ◌⊎◌, ℕ, List, [], length, take, Option, Some, None, IsSome, Result, Ok, Err, Bool, ⊤}
 use Rattle.std.specs.Io.KnownBytes.{Appends}
 use Rattle.outside.specs.Counted.{Rose}
 use Rattle.outside.specs.Shelf.{Counts, Files}

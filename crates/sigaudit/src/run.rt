@@ -287,7 +287,15 @@ fn run_demo<L, K: Sink>(
         Ok(shelf) => shelf,
         Err(_) => return Err(Stopped::Memory),
     };
-    run_files(alloc, "config", "script", Purpose::Lines, &mut shelf, sink, reads)
+    run_files(
+        alloc,
+        "config",
+        "script",
+        Purpose::Lines,
+        &mut shelf,
+        sink,
+        reads,
+    )
 }
 
 // Does what the words ask for.

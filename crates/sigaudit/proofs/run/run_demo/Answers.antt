@@ -1,4 +1,4 @@
-use Rattle.std.proofs.Common.{◌≡◌, ap, refl}
+use Rattle.std.proofs.Common.{ap, refl}
 use Rattle.demonstration.specs.Files.{demo_files}
 use Rattle.sigaudit.specs.DemoShelf.{DemoFiles, demo_counts}
 use Rattle.sigaudit.specs.Run.{world}

@@ -72,7 +72,7 @@ fn faults_missing_files_and_faulty_words(rt: HostRuntime) -> Result<(), Fail> {
     let none = Words::new(alloc);
     let mut shelf = MemShelf::new(alloc);
     shelf.fail_call(2)?;
-    let mut sink = MemSink::new(alloc, 120)?;
+    let mut sink = MemSink::new(alloc, 140)?;
     let mut reads = Reads::new(Mark);
     for (asked, status) in [
         (&words, Status::NoFile),

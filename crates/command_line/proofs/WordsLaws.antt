@@ -15,7 +15,7 @@ use Rattle.clap.specs.Values.{kind_of}
 use Rattle.clap.specs.declared.error.Error.{Error}
 use Rattle.clap.specs.declared.error.kind.ErrorKind.TheVariants.{OutOfMemory}
 use Rattle.clap.proofs.OnLiterals.{clap_on_literals}
-use Rattle.command_line.specs.Words.{sigaudit, faults, rows, request_of, asked_by, asked_for, given_by, Asked, text_of}
+use Rattle.command_line.specs.Words.{sigaudit, faults, rows, request_of, asked_for, given_by, Asked, text_of}
 
 pub is_free : is_simple_and_free sigaudit ≡ true
 unfolding clap_on_literals
@@ -46,10 +46,10 @@ is_parsed words app m same none has =
 pub given : (r : Option (Bor Text)) (f : Found) (id : Text) → option_map (λ s. s.now) r ≡ first_value f id → text_of r ≡ first_of id (rows_of f)
 given r f id e = e ∙ first_value-rows f id
 
-pub seven : (a b c d e f g : Option Text) (found : List Row) → a ≡ first_of (codes "config") found → b ≡ first_of (codes "script") found → c ≡ first_of (codes "count") found
-    → d ≡ first_of (codes "signal") found → e ≡ first_of (codes "hour") found → f ≡ first_of (codes "pack") found → g ≡ first_of (codes "demo") found → asked_by a b c d e f g ≡ asked_for (given_by found)
-unfolding asked_for
-seven a b c d e f g found p q r s t u v = rw (p, q, r, s, t, u, v) refl
+pub given_same : (a b c d e f g h i : Option Text) (found : List Row) → a ≡ first_of (codes "config") found → b ≡ first_of (codes "script") found → c ≡ first_of (codes "rule") found → d ≡ first_of (codes "at") found
+    → e ≡ first_of (codes "count") found → f ≡ first_of (codes "signal") found → g ≡ first_of (codes "hour") found → h ≡ first_of (codes "pack") found → i ≡ first_of (codes "demo") found
+    → record { config = a; script = b; rule = c; at = d; count = e; signal = f; hour = g; pack = h; demo = i } ≡ given_by found
+given_same a b c d e f g h i found p q r s t u v w x = rw (p, q, r, s, t, u, v, w, x) refl
 
 pub some_asked : (o : Option Asked) (found : List Row) (words : List Text) → faults words ≡ [] → found ≡ rows words → o ≡ asked_for (given_by found) → request_of words ≡ o
 unfolding request_of

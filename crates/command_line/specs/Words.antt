@@ -1,5 +1,6 @@
 -- What the words of the command line ask for.
-use Rattle.std.specs.Prelude.{◌≡◌, ℕ, ℤ, ◌<◌, ◌≤◌, ◌==◌, true, List, [], codes, Option, Some, None, Result, Ok, Err, option_map, if◌then◌else◌}
+use Rattle.std.specs.Prelude.{◌≡◌, ℕ, ℤ, ◌<◌, ◌≤◌, ◌==◌, ◌&&◌, not, true, Bool, List, [], codes, Option, Some, None, is_none, is_some, Result, Ok, Err, option_map, if◌then◌else◌}
+use Rattle.std.specs.List.{list_any}
 use Rattle.std.specs.Borrow.{Bor}
 use Rattle.clap.specs.Walk.{Text, Rule, Row, first_of, is_empty, rows_of}
 use Rattle.clap.specs.Matches.{found_of}
@@ -11,7 +12,8 @@ use Rattle.clap.specs.declared.builder.action.ArgAction.TheVariants.{Set}
 use Rattle.sig_base.specs.Window.{IsDay}
 use Rattle.row_reader.specs.Number.{number_of}
 use Rattle.row_reader.specs.Signal.{is_signal}
-use Rattle.row_reader.specs.Stamp.{hour_stamp_of}
+use Rattle.row_reader.specs.Stamp.{hour_stamp_of, stamp_of}
+use Rattle.command_line.specs.declared.Options.{Options}
 use Rattle.command_line.specs.declared.Request.{Request}
 use Rattle.command_line.specs.declared.Request.TheVariants as code
 use Rattle.command_line.specs.declared.Refused.{Refused}
@@ -21,24 +23,27 @@ use Rattle.command_line.specs.declared.Refused.TheVariants.{Usage, Memory}
 abbrev pub option_rule : Text → Rule
 option_rule name = record (new_rule name) { long = Some name; action = Some Set }
 
--- the command: seven options, none of them required
+-- the command: nine options, none of them required
 abbrev pub sigaudit : App
 sigaudit =
-    with_rule (with_rule (with_rule (with_rule (with_rule (with_rule (with_rule (new_app (codes "sigaudit"))
-    (option_rule (codes "config"))) (option_rule (codes "script"))) (option_rule (codes "count")))
+    with_rule (with_rule (with_rule (with_rule (with_rule (with_rule (with_rule (with_rule (with_rule (new_app (codes "sigaudit"))
+    (option_rule (codes "config"))) (option_rule (codes "script"))) (option_rule (codes "rule"))) (option_rule (codes "at"))) (option_rule (codes "count")))
     (option_rule (codes "signal"))) (option_rule (codes "hour"))) (option_rule (codes "pack"))) (option_rule (codes "demo"))
 
--- a run of a script over a configuration; of one file of this signal and this hour of a day, a count of the codes or its packed bytes; the demonstration of so many hours
+-- a run of a script over a configuration; the fillings of what a rule of this number leaves undecided at a stamp after such a run; of one file of this signal and this hour of a day, a count of the codes or its packed bytes; the demonstration of so many hours
 pub data Asked : Type 0 where
   for_run : Text → Text → Asked
+  for_pairs : Text → Text → ℕ → Text → Asked
   for_count : Text → Text → ℤ → ℕ → Asked
   for_pack : Text → Text → ℤ → ℕ → Asked
   for_demo : ℕ → Asked
 
--- the values of the seven options
+-- the values of the nine options
 pub record Given : Type 0 where
   pub config : Option Text
   pub script : Option Text
+  pub rule : Option Text
+  pub at : Option Text
   pub count : Option Text
   pub signal : Option Text
   pub hour : Option Text
@@ -49,12 +54,23 @@ abbrev pub given_by : List Row → Given
 given_by found = record {
   config = first_of (codes "config") found;
   script = first_of (codes "script") found;
+  rule = first_of (codes "rule") found;
+  at = first_of (codes "at") found;
   count = first_of (codes "count") found;
   signal = first_of (codes "signal") found;
   hour = first_of (codes "hour") found;
   pack = first_of (codes "pack") found;
   demo = first_of (codes "demo") found;
 }
+
+-- a stamp with the letter `T`, and no space, between its date and its time
+abbrev pub is_stamp : Text → Bool
+is_stamp text = not (list_any (λ b. b == 32) text) && is_some (stamp_of text)
+
+-- the fillings at a rule of one to six digits and at a stamp, where both are readable
+abbrev pub pairs_asked : Text → Text → Text → Text → Option Asked
+pairs_asked config script rule at =
+    if is_stamp at then option_map (λ k. for_pairs config script k at) (number_of 1 6 999999 rule) else None
 
 -- the day and the hour that the words name for a signal, where both are readable
 abbrev pub hour_asked : Text → Text → Option (ℤ × ℕ)
@@ -76,16 +92,31 @@ some_hours (Some n) = if n == 0 then None else Some n
 abbrev pub demo_asked : Text → Option Asked
 demo_asked hours = option_map for_demo (some_hours (number_of 1 3 168 hours))
 
--- the request of exactly these options
-abbrev pub asked_by : Option Text → Option Text → Option Text → Option Text → Option Text → Option Text → Option Text → Option Asked
-asked_by (Some c) (Some s) None None None None None = Some (for_run c s)
-asked_by None None (Some f) (Some i) (Some h) None None = count_asked f i h
-asked_by None None None (Some i) (Some h) (Some f) None = pack_asked f i h
-asked_by None None None None None None (Some n) = demo_asked n
-asked_by _ _ _ _ _ _ _ = None
+-- the request of exactly these options of a script: the configuration, the script, the rule and the stamp
+abbrev pub script_asked : Option Text → Option Text → Option Text → Option Text → Option Asked
+script_asked (Some c) (Some s) None None = Some (for_run c s)
+script_asked (Some c) (Some s) (Some k) (Some t) = pairs_asked c s k t
+script_asked _ _ _ _ = None
 
+-- the request of exactly these options without a script: the counted file, the signal, the hour, the file to be packed and the demonstration's hours
+abbrev pub file_asked : Option Text → Option Text → Option Text → Option Text → Option Text → Option Asked
+file_asked (Some f) (Some i) (Some h) None None = count_asked f i h
+file_asked None (Some i) (Some h) (Some f) None = pack_asked f i h
+file_asked None None None None (Some n) = demo_asked n
+file_asked _ _ _ _ _ = None
+
+-- only options of a script have values, or none of them has one
+abbrev pub is_of_script : Given → Bool
+is_of_script g = is_none g.count && is_none g.signal && is_none g.hour && is_none g.pack && is_none g.demo
+
+abbrev pub is_of_file : Given → Bool
+is_of_file g = is_none g.config && is_none g.script && is_none g.rule && is_none g.at
+
+-- the request of exactly the options that have values
 unfoldable pub asked_for : Given → Option Asked
-asked_for g = asked_by g.config g.script g.count g.signal g.hour g.pack g.demo
+asked_for g =
+    if is_of_script g then script_asked g.config g.script g.rule g.at
+    else (if is_of_file g then file_asked g.count g.signal g.hour g.pack g.demo else None)
 
 -- what the command says of the words: the kinds of error that they give, and the matches
 unfoldable pub faults : List Text → Kinds
@@ -100,6 +131,7 @@ request_of words = if is_empty (faults words) then asked_for (given_by (rows wor
 
 abbrev pub seen : Request → Asked
 seen (code.Run config script) = for_run config.now script.now
+seen (code.Pairs config script rule at) = for_pairs config.now script.now rule at.now
 seen (code.Count file signal day hour) = for_count file.now signal.now day hour
 seen (code.Pack file signal day hour) = for_pack file.now signal.now day hour
 seen (code.Demo hours) = for_demo hours
@@ -113,10 +145,19 @@ Answers (Err Memory) asked = Unit {0}
 abbrev pub text_of : Option (Bor Text) → Option Text
 text_of = option_map (λ s. s.now)
 
-abbrev pub AsksFor : Option Request → Option (Bor Text) → Option (Bor Text) → Option (Bor Text) → Option (Bor Text) → Option (Bor Text) → Option (Bor Text) → Option (Bor Text) → Type 0
-AsksFor result config script count signal hour pack demo =
-    option_map seen result
-    ≡ asked_by (text_of config) (text_of script) (text_of count) (text_of signal) (text_of hour) (text_of pack) (text_of demo)
+-- the values of the code's options
+abbrev pub given_in : Options → Given
+given_in o = record {
+  config = text_of o.config;
+  script = text_of o.script;
+  rule = text_of o.rule;
+  at = text_of o.at;
+  count = text_of o.count;
+  signal = text_of o.signal;
+  hour = text_of o.hour;
+  pack = text_of o.pack;
+  demo = text_of o.demo;
+}
 
 -- the matches are those of the words, or there is no request, unless memory ran out
 abbrev pub Parses : Result ArgMatches Refused → List Text → Type 0
@@ -124,9 +165,10 @@ Parses (Ok m) words = (faults words ≡ []) × (rows_of (found_of m) ≡ rows wo
 Parses (Err Usage) words = request_of words ≡ None
 Parses (Err Memory) words = Unit {0}
 
--- a signal, a day, an hour and a number of hours that are named are ones that there can be
+-- a stamp, a signal, a day, an hour and a number of hours that are named are ones that there can be
 abbrev pub IsReadable : Request → Type 0
 IsReadable (code.Run config script) = Unit {0}
+IsReadable (code.Pairs config script rule at) = is_stamp at.now ≡ true
 IsReadable (code.Count file signal day hour) = IsDay day × (hour < 24) × (is_signal signal.now ≡ true)
 IsReadable (code.Pack file signal day hour) = IsDay day × (hour < 24) × (is_signal signal.now ≡ true)
 IsReadable (code.Demo hours) = (1 ≤ hours) × (hours ≤ 168)

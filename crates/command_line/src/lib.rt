@@ -1,4 +1,4 @@
-//! What the words of a command line ask for: one simple command of seven options, each taking one
+//! What the words of a command line ask for: one simple command of nine options, each taking one
 //! value, and the sets of them that the program has. The rules are those of
 //! `docs/FORMATS.md`.
 #![tactic(auto)]
@@ -7,12 +7,13 @@ ghost use Rattle.std.specs.Prelude.{◌≡◌, ◌<◌, ◌≤◌, true, false, 
 ghost use Rattle.sig_base.specs.Window.{IsDay};
 ghost use Rattle.row_reader.specs.Signal.{is_signal};
 ghost use Rattle.clap.specs.Words.{app_of, rule_of, found_of, rows_of};
-ghost use Rattle.command_line.specs.Words.{count_asked, demo_asked, hour_asked, pack_asked, option_rule, sigaudit, request_of, Answers, IsReadable, Parses, asked_for, given_by, seen, AsksFor};
+ghost use Rattle.command_line.specs.Words.{count_asked, demo_asked, file_asked, hour_asked, is_of_file, is_of_script, is_stamp, pack_asked, pairs_asked, script_asked, text_of, option_rule, sigaudit, request_of, Answers, IsReadable, Parses, asked_for, given_by, given_in, seen};
 ghost use Rattle.command_line.specs.declared.Refused.TheVariants.{Memory};
 
 use clap::error::ErrorKind;
 use clap::{Arg, ArgAction, ArgMatches, Command};
-use row_reader::{is_signal, read_hour_stamp, read_number};
+use row_reader::{is_signal, read_hour_stamp, read_number, read_stamp};
+use sig_base::Window;
 use std::alloc::{AllocError, Global};
 
 /// What the words ask for.
@@ -20,6 +21,9 @@ use std::alloc::{AllocError, Global};
 pub enum Request<'a> {
     /// A configuration and a script, by their names.
     Run(&'a str, &'a str),
+    /// The same, the number of a rule, at most 999,999, and a stamp with the letter `T`: what the
+    /// rule leaves undecided there.
+    Pairs(&'a str, &'a str, u32, &'a str),
     /// A file by its name, the signal, and the hour: a day, counted from 1970-01-01, and an hour of
     /// it, 0 to 23.
     Count(&'a str, &'a str, i64, u8),
@@ -59,11 +63,38 @@ fn command<'a>(alloc: Global) -> Result<Command<'a>, AllocError>
     Command::new(alloc, "sigaudit")
         .arg(option(alloc, "config"))?
         .arg(option(alloc, "script"))?
+        .arg(option(alloc, "rule"))?
+        .arg(option(alloc, "at"))?
         .arg(option(alloc, "count"))?
         .arg(option(alloc, "signal"))?
         .arg(option(alloc, "hour"))?
         .arg(option(alloc, "pack"))?
         .arg(option(alloc, "demo"))
+}
+
+// Whether a text is a stamp with the letter `T`. It is one in every window or in none.
+fn is_stamp(text: &str) -> bool
+    ensures { result ≡ is_stamp text.now }
+{
+    let bytes = text.as_bytes();
+    match Window::new(0, 0, 1) {
+        Some(window) => !bytes.contains(&b' ') && read_stamp(bytes, &window).is_some(),
+        None => false,
+    }
+}
+
+fn pairs_asked<'a>(config: &'a str, script: &'a str, rule: &str, at: &'a str) -> Option<Request<'a>>
+    ensures value { option_map seen result
+        ≡ pairs_asked config.entry.now script.entry.now rule.now at.entry.now }
+    ensures readable { IfSome result IsReadable }
+{
+    if !is_stamp(at) {
+        return None;
+    }
+    match read_number(rule.as_bytes(), 1, 6, 999_999) {
+        Some(rule) => Some(Request::Pairs(config, script, rule, at)),
+        None => None,
+    }
 }
 
 // The hour of one signal that the words name, a day and an hour of it, where both are readable.
@@ -108,32 +139,97 @@ fn demo_asked<'a>(hours: &str) -> Option<Request<'a>>
     }
 }
 
-fn choose<'a>(
+// The values of the options.
+#[derive(Clone, Copy)]
+struct Options<'a> {
     config: Option<&'a str>,
     script: Option<&'a str>,
+    rule: Option<&'a str>,
+    at: Option<&'a str>,
+    count: Option<&'a str>,
+    signal: Option<&'a str>,
+    hour: Option<&'a str>,
+    pack: Option<&'a str>,
+    demo: Option<&'a str>,
+}
+
+// The request of exactly these options of a script.
+fn script_asked<'a>(
+    config: Option<&'a str>,
+    script: Option<&'a str>,
+    rule: Option<&'a str>,
+    at: Option<&'a str>,
+) -> Option<Request<'a>>
+    ensures value { option_map seen result
+        ≡ script_asked (text_of config.entry) (text_of script.entry) (text_of rule.entry)
+        (text_of at.entry) }
+    ensures readable { IfSome result IsReadable }
+{
+    match (config, script, rule, at) {
+        (Some(config), Some(script), None, None) => Some(Request::Run(config, script)),
+        (Some(config), Some(script), Some(rule), Some(at)) => {
+            pairs_asked(config, script, rule, at)
+        }
+        _ => None,
+    }
+}
+
+// The request of exactly these options without a script.
+fn file_asked<'a>(
     count: Option<&'a str>,
     signal: Option<&'a str>,
     hour: Option<&'a str>,
     pack: Option<&'a str>,
     demo: Option<&'a str>,
 ) -> Option<Request<'a>>
-    ensures value { AsksFor result config.entry script.entry count.entry signal.entry hour.entry
-        pack.entry demo.entry }
+    ensures value { option_map seen result
+        ≡ file_asked (text_of count.entry) (text_of signal.entry) (text_of hour.entry)
+        (text_of pack.entry) (text_of demo.entry) }
     ensures readable { IfSome result IsReadable }
 {
-    match (config, script, count, signal, hour, pack, demo) {
-        (Some(config), Some(script), None, None, None, None, None) => {
-            Some(Request::Run(config, script))
-        }
-        (None, None, Some(file), Some(signal), Some(hour), None, None) => {
-            count_asked(file, signal, hour)
-        }
-        (None, None, None, Some(signal), Some(hour), Some(file), None) => {
-            pack_asked(file, signal, hour)
-        }
-        (None, None, None, None, None, None, Some(hours)) => demo_asked(hours),
+    match (count, signal, hour, pack, demo) {
+        (Some(file), Some(signal), Some(hour), None, None) => count_asked(file, signal, hour),
+        (None, Some(signal), Some(hour), Some(file), None) => pack_asked(file, signal, hour),
+        (None, None, None, None, Some(hours)) => demo_asked(hours),
         _ => None,
     }
+}
+
+fn is_of_script(given: Options<'_>) -> bool
+    ensures { result ≡ is_of_script (given_in given.entry) }
+{
+    given.count.is_none()
+        && given.signal.is_none()
+        && given.hour.is_none()
+        && given.pack.is_none()
+        && given.demo.is_none()
+}
+
+fn is_of_file(given: Options<'_>) -> bool
+    ensures { result ≡ is_of_file (given_in given.entry) }
+{
+    given.config.is_none() && given.script.is_none() && given.rule.is_none() && given.at.is_none()
+}
+
+// The request of exactly the options that have values.
+#[tactic(auto, unfolding(crate::specs::Words::asked_for))]
+fn choose<'a>(given: Options<'a>) -> Option<Request<'a>>
+    ensures value { option_map seen result ≡ asked_for (given_in given.entry) }
+    ensures readable { IfSome result IsReadable }
+{
+    if is_of_script(given) {
+        return script_asked(given.config, given.script, given.rule, given.at);
+    }
+    if is_of_file(given) {
+        return file_asked(
+            given.count,
+            given.signal,
+            given.hour,
+            given.pack,
+            given.demo,
+        );
+    }
+    None
 }
 
 // The matches of the words, the program's own name first.
@@ -155,20 +251,23 @@ fn asked<'a>(matches: &ArgMatches<'a>) -> Option<Request<'a>>
     ensures value { option_map seen result ≡ asked_for (given_by (rows_of (found_of matches.now))) }
     ensures readable { IfSome result IsReadable }
 {
-    choose(
-        matches.get_str("config"),
-        matches.get_str("script"),
-        matches.get_str("count"),
-        matches.get_str("signal"),
-        matches.get_str("hour"),
-        matches.get_str("pack"),
-        matches.get_str("demo"),
-    )
+    choose(Options {
+        config: matches.get_str("config"),
+        script: matches.get_str("script"),
+        rule: matches.get_str("rule"),
+        at: matches.get_str("at"),
+        count: matches.get_str("count"),
+        signal: matches.get_str("signal"),
+        hour: matches.get_str("hour"),
+        pack: matches.get_str("pack"),
+        demo: matches.get_str("demo"),
+    })
 }
 
 /// What the words ask for, the program's own name first. `Usage` comes exactly where the command
 /// refuses them for another cause than memory, where the options are none of the sets that the
-/// program has, or where the signal, the hour or the number of hours isn't readable.
+/// program has, or where the rule, the stamp, the signal, the hour or the number of hours isn't
+/// readable.
 pub fn parse_words<'a>(alloc: Global, words: &'a [&'a str]) -> Result<Request<'a>, Refused>
     ensures value { Answers result (request_of (map (λ w. w.now) words.entry.now)) }
     ensures readable { IfOk result IsReadable }
@@ -187,6 +286,7 @@ mod tests {
     #[test]
     fn words_in_any_order(rt: HostRuntime) {
         let run = Ok(Request::Run("c", "s"));
+        let pairs = Ok(Request::Pairs("c", "s", 1, "3/4/2024T6:02:00"));
         let count = Ok(Request::Count("f", "7", 19_786, 6));
         let pack = Ok(Request::Pack("f", "7", 19_786, 6));
         for (words, wanted) in [
@@ -208,6 +308,41 @@ mod tests {
                     "--hour=2024-03-04T06",
                 ]
                 .as_slice(),
+                Err(Refused::Usage),
+            ),
+            (
+                [
+                    "--at",
+                    "3/4/2024T6:02:00",
+                    "--rule=000001",
+                    "--script=s",
+                    "--config=c",
+                ]
+                .as_slice(),
+                pairs,
+            ),
+            (
+                [
+                    "--at=3/4/2024 6:02:00",
+                    "--rule=1",
+                    "--script=s",
+                    "--config=c",
+                ]
+                .as_slice(),
+                Err(Refused::Usage),
+            ),
+            (
+                [
+                    "--at=3/4/2024T6:02:00",
+                    "--rule=0000001",
+                    "--script=s",
+                    "--config=c",
+                ]
+                .as_slice(),
+                Err(Refused::Usage),
+            ),
+            (
+                ["--rule=1", "--script=s", "--config=c"].as_slice(),
                 Err(Refused::Usage),
             ),
             (["--config", "c"].as_slice(), Err(Refused::Usage)),

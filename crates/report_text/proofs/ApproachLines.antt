@@ -1,5 +1,5 @@
 -- How the lines of approaches, and those of points, follow from one another.
-use Rattle.std.proofs.Common.{◌≡◌, ◌<◌, ◌≤◌, ◌+◌, ◌++◌, ◌∷◌, [], ℕ, List, zero, suc, length, drop, get_or, Some, None, refl, sym, add-one}
+use Rattle.std.proofs.Common.{◌≡◌, ◌<◌, ◌≤◌, ◌+◌, ◌++◌, ◌∷◌, [], ℕ, List, zero, suc, length, drop, get_or, Some, None, refl, sym, ap, ◌∙◌, add-one}
 use Rattle.std.specs.Prelude.{flat_map, slice_get}
 use Rattle.std.proofs.Math.Seq.{drop-cons}
 use Rattle.std.proofs.lemmas.List.{drop_all}
@@ -59,6 +59,11 @@ pub points_next : {A : Type 0} (line : A → List ℕ) (points : List A) (i : �
 points_next line points i d h =
     let here : drop i points ≡ get_or points i d ∷ drop (i + 1) points = rw add-one (drop-cons points i d h) in
     rw here (flat_map-cons line (get_or points i d) (drop (i + 1) points))
+
+-- the same where the point is at hand
+pub point_here : {A : Type 0} (line : A → List ℕ) (points : List A) (i : ℕ) (x : A) → i < length points → x ≡ get_or points i x
+    → flat_map line (drop i points) ≡ line x ++ flat_map line (drop (i + 1) points)
+point_here line points i x h e = points_next line points i x h ∙ ap (λ y. line y ++ flat_map line (drop (i + 1) points)) (sym e)
 
 pub points_end : {A : Type 0} (line : A → List ℕ) (points : List A) (i : ℕ) → length points ≤ i → flat_map line (drop i points) ≡ []
 points_end line points i h = rw (drop_all i points h) refl

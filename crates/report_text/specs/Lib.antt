@@ -2,6 +2,7 @@ pub mod Line
 pub mod Counts
 pub mod Refusals
 pub mod Packed
+pub mod Pairs
 pub mod Applied
 pub mod Approaches
 pub mod Measures

@@ -11,6 +11,7 @@ mod diagrams;
 mod lines;
 mod measures;
 mod packed;
+mod pairs;
 mod peds;
 mod phases;
 mod preempts;
@@ -24,6 +25,7 @@ pub use counts::put_counts;
 pub use diagrams::put_diagram;
 pub use measures::put_measures;
 pub use packed::put_packed_refusal;
+pub use pairs::put_pair;
 pub use refusal::{Refusal, put_refusal};
 pub use shifts::put_shifts;
 

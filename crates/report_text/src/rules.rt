@@ -11,7 +11,7 @@ use reach::AgeBound;
 use ring_config::{Config, IntervalItem};
 use rule_audit::Rule;
 
-fn kind_text(kind: Kind) -> &'static str
+pub(crate) fn kind_text(kind: Kind) -> &'static str
     ensures { result.now ≡ kind_text kind }
 {
     match kind {
@@ -26,7 +26,7 @@ fn kind_text(kind: Kind) -> &'static str
     }
 }
 
-fn colour_text(kind: Kind, colour: u8) -> &'static str
+pub(crate) fn colour_text(kind: Kind, colour: u8) -> &'static str
     ensures { result.now ≡ colour_text kind colour }
 {
     match colour_name(kind, colour) {

@@ -1,11 +1,15 @@
 use crate::approaches::put_approaches;
-use crate::{put_diagram, put_shifts};
+use crate::{put_diagram, put_pair, put_shifts};
 use arrival_measures::{ArrivalSum, Diagram, Point, Points};
+use filling_pair::{Fill, Fills, Pair, Strand, Strands};
 use offset_search::{Arrival, shift_counts};
 use outside::MemSink;
 use ring_config::read_config;
+use rule_audit::{AuditLine, Place};
 use service_cut::Cycle;
+use sig_base::{NoMemory, Verdict};
 use split_measures::SplitSum;
+use std::alloc::Global;
 use std::test::Fail;
 
 // An approach with both detectors.
@@ -161,5 +165,57 @@ fn lines_of_no_shifts(rt: HostRuntime) -> Result<(), Fail> {
     let mut sink = MemSink::new(alloc, 100)?;
     assert_eq!(rt; put_shifts(1, b"X", 0, &shifts, &mut sink), Ok(()));
     assert_eq!(rt; sink.bytes(), b"1 offsets X\nbest -\n".as_slice());
+    Ok(())
+}
+
+// The phase comes in red, as old as a colour can be there at the least, and then has these fills.
+fn from_red(alloc: Global, fills: &[Fill]) -> Result<Strands, NoMemory> {
+    let mut own = Fills::new(alloc);
+    for fill in fills {
+        own.push(*fill)?;
+    }
+    let mut strands = Strands::new(alloc);
+    strands.push(Strand {
+        spec: 0,
+        colour: 0,
+        entry: -1,
+        fills: own,
+    })?;
+    Ok(strands)
+}
+
+#[test]
+fn lines_of_a_pair(rt: HostRuntime) -> Result<(), Fail> {
+    let alloc = rt.alloc();
+    let Ok(config) = read_config(alloc, CONFIG.as_bytes()) else {
+        assert!(rt; false);
+        return Ok(());
+    };
+    let ends = Fill {
+        at: 1050,
+        code: 7,
+        param: 2,
+    };
+    let begins = Fill {
+        at: 1060,
+        code: 1,
+        param: 2,
+    };
+    let pair = Pair {
+        keeps: from_red(alloc, &[])?,
+        breaks: from_red(alloc, &[ends, begins])?,
+    };
+    let line = AuditLine {
+        rule: 1,
+        at: 1200,
+        place: Place::BeforeRow(3),
+        verdict: Verdict::Undecided,
+        window: None,
+    };
+    let mut sink = MemSink::new(alloc, 1000)?;
+    assert_eq!(rt; put_pair(&config, &line, &pair, &mut sink), Ok(()));
+    let wanted =
+        "undecided 1 2024-03-04T06:02:00.0\nkeeps\nchannel phase 2 from Red 1\nbreaks\nchannel phase 2 from Red 1\nfill 2024-03-04T06:01:45.0 code 7 param 2\nfill 2024-03-04T06:01:46.0 code 1 param 2\n";
+    assert_eq!(rt; sink.bytes(), wanted.as_bytes());
     Ok(())
 }

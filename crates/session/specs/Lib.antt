@@ -7,3 +7,4 @@ pub mod Windows
 pub mod Sessions
 pub mod Renewed
 pub mod HourLines
+pub mod Pairs

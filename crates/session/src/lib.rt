@@ -12,6 +12,7 @@ mod blanks;
 mod edit;
 mod forward;
 mod hours;
+mod pairs;
 mod points;
 mod renew;
 mod session;

@@ -20,7 +20,7 @@ use Rattle.session.specs.Moved.{Moves}
 use Rattle.session.specs.Opens.{AreOpened, IsOpened, OpensBy}
 use Rattle.session.specs.Sessions.{Kept, Steps}
 use Rattle.session.proofs.OpenLaws.{opened_not, opened_on, opened_wider}
-use Rattle.command_line.specs.Words.{Asked, for_run, for_count, for_pack, for_demo}
+use Rattle.command_line.specs.Words.{Asked, for_run}
 use Rattle.script_lines.specs.Lines.{after_line, first_line, lines_of}
 use Rattle.script_lines.specs.Words.{Said, said}
 use Rattle.script_lines.specs.Words as line
@@ -34,6 +34,7 @@ use Rattle.sigaudit.specs.declared.status.Ended.TheVariants as ended
 use Rattle.sigaudit.specs.declared.status.Stopped.{Stopped}
 use Rattle.sigaudit.specs.declared.status.Stopped.TheVariants as stopped
 use Rattle.sigaudit.specs.Counting.{AreCounted, ArePlain, AreTallied, OpensAnswer, OpensConfig, OpensFile, OpensText, EditTally, FetchTally, IsPlain, LineTally, MadeTally, ReadTally, ScriptTally, WhereTaken, within}
+use Rattle.sigaudit.specs.Aims.{Aim, for_lines}
 use Rattle.sigaudit.specs.HourFile.{hour_said}
 use Rattle.sigaudit.specs.Run.{World, Takes}
 use Rattle.sigaudit.specs.Script.{edit_said, hour_bytes, hour_change, hour_file, is_edit_memory, wanted_for, IsTurn}
@@ -281,7 +282,7 @@ lines_counted files c lines s0 s n text old now none on =
 -- ---- a run
 
 pub script_counted : (files : Files) (c : Settings) (script : List ℕ) (session : Kept) (old now : List ℕ) (refused : Bool) → session ≡ record { config = c; store = nothing_held c.window.hours }
-    → (ArePlain session.config.window (lines_of script) → AreCounted (ScriptTally files session.config (lines_of script) session.store) old now) → WhereTaken (status_of_run (Ok (ended_by refused))) (OpensText files c old now (Some script))
+    → (ArePlain session.config.window (lines_of script) → AreCounted (ScriptTally files session.config (lines_of script) session.store) old now) → WhereTaken (status_of_run (Ok (ended_by refused))) (OpensText files c for_lines old now (Some script))
 script_counted files c script session old now true e h = subst (λ (k : Kept). ArePlain k.config.window (lines_of script) → AreCounted (ScriptTally files k.config (lines_of script) k.store) old now) e h
 script_counted files c script session old now false e h = subst (λ (k : Kept). ArePlain k.config.window (lines_of script) → AreCounted (ScriptTally files k.config (lines_of script) k.store) old now) e h
 
@@ -312,10 +313,10 @@ taken_by outer.NoFile P Q f p = tt
 pub text_counted : (P : Option (List ℕ) → Type 0) (want : Option (List ℕ)) (bytes bytes' : List ℕ) (st : Status) → want ≡ Some bytes → bytes' ≡ bytes → WhereTaken st (P (Some bytes')) → WhereTaken st (P want)
 text_counted P want bytes bytes' st e eb h = rw e (subst (λ (x : List ℕ). WhereTaken st (P (Some x))) eb h)
 
-pub config_counted : (files : Files) (script old : List ℕ) (read : Read Settings) (e : ConfigError) (st : Status) → read ≡ Err e → WhereTaken st (OpensConfig files script old old read)
-config_counted files script old read e st is = rw is (taken_any st (OpensConfig files script old old (Err e)) tt)
+pub config_counted : (files : Files) (aim : Aim) (script old : List ℕ) (read : Read Settings) (e : ConfigError) (st : Status) → read ≡ Err e → WhereTaken st (OpensConfig files aim script old old read)
+config_counted files aim script old read e st is = rw is (taken_any st (OpensConfig files aim script old old (Err e)) tt)
 
-pub request_counted : (files : Files) (x : Asked) (config script old now : List ℕ) (st : Status) → x ≡ for_run config script → WhereTaken st (OpensFile files script old now (limited 1048576 (files config))) → WhereTaken st (OpensAnswer files old now (Some x))
+pub request_counted : (files : Files) (x : Asked) (config script old now : List ℕ) (st : Status) → x ≡ for_run config script → WhereTaken st (OpensFile files for_lines script old now (limited 1048576 (files config))) → WhereTaken st (OpensAnswer files old now (Some x))
 request_counted files x config script old now st e h = rw e h
 
 pub answer_counted : (asked o : Option Asked) (files : Files) (old now : List ℕ) (st : Status) → asked ≡ o → WhereTaken st (OpensAnswer files old now o) → WhereTaken st (OpensAnswer files old now asked)

@@ -1,5 +1,5 @@
 -- A demonstration is a run over a shelf of its own, on which nothing is missing.
-use Rattle.std.proofs.Common.{◌≡◌, ◌≤◌, ◌<◌, ◌^◌, ◌*◌, ℕ, List, [], length, Option, Some, None, Result, Ok, Err, refl, sym, ap, subst, ◌∙◌, inl, inr, arith, Bool, true, false}
+use Rattle.std.proofs.Common.{◌≡◌, ◌≤◌, ℕ, List, length, Option, Some, None, Ok, Err, refl, ap, subst, inl, inr, arith, Bool, true, false}
 use Rattle.std.proofs.lemmas.Bool.Decides.{nat_tests}
 use Rattle.outside.specs.Counted.{Rose}
 use Rattle.outside.specs.Shelf.{Counts, Files}
@@ -10,13 +10,13 @@ use Rattle.demonstration.specs.Texts.{config_text, script_text}
 use Rattle.demonstration.specs.Files.{config_name, demo_files, script_name}
 use Rattle.demonstration.proofs.SizeFacts.{config-short, script-short}
 use Rattle.script_lines.specs.Lines.{lines_of}
+use Rattle.sigaudit.specs.Aims.{for_lines}
 use Rattle.sigaudit.specs.Asked.{asked_of}
 use Rattle.sigaudit.specs.DemoShelf.{demo_counts}
 use Rattle.sigaudit.specs.Transcript.{Outcome, outcome, ended_by, limited, IsAnswer, IsConfigOutcome, IsDemoOutcome, IsFileOutcome, IsScriptOutcome}
 use Rattle.sigaudit.specs.Run.{World, world, DemoCause, HasFault, LeavesShelf, RunsAs, ScriptCause}
 use Rattle.sigaudit.specs.declared.status.Status.{Status}
 use Rattle.sigaudit.specs.declared.status.Status.TheVariants as outer
-use Rattle.sigaudit.specs.declared.status.Ended.{Ended}
 use Rattle.sigaudit.specs.declared.status.Ended.TheVariants as ended
 use Rattle.sigaudit.proofs.RunFacts.{run_as}
 
@@ -61,12 +61,12 @@ script_found : (files : Files) (c : Settings) (script : Option (List ℕ)) (byte
 script_found files c None bytes there e h = cc
 script_found files c (Some s) bytes there e h = not_ended h.0.refused (ap (λ (o : Outcome). o.ended) h.2)
 
-config_found : (files : Files) (script : List ℕ) (said : Read Settings) (bytes there : List ℕ) → limited 4194304 (files script) ≡ Some there → IsConfigOutcome files script said lines_of (outcome bytes ended.NoFile) → ⊥
+config_found : (files : Files) (script : List ℕ) (said : Read Settings) (bytes there : List ℕ) → limited 4194304 (files script) ≡ Some there → IsConfigOutcome files for_lines script said lines_of (outcome bytes ended.NoFile) → ⊥
 config_found files script (Err e) bytes there s h = let k : ended.NoFile ≡ ended.BadConfig = ap (λ (o : Outcome). o.ended) h in cc
 config_found files script (Ok c) bytes there s h = script_found files c (limited 4194304 (files script)) bytes there s h
 
 file_found : (files : Files) (script : List ℕ) (config : Option (List ℕ)) (bytes first second : List ℕ) → config ≡ Some first → limited 4194304 (files script) ≡ Some second
-    → IsFileOutcome files script config lines_of (outcome bytes ended.NoFile) → ⊥
+    → IsFileOutcome files for_lines script config lines_of (outcome bytes ended.NoFile) → ⊥
 file_found files script None bytes first second e s h = cc
 file_found files script (Some c) bytes first second e s h = config_found files script (config_of c) bytes second s h
 

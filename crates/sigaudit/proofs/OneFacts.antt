@@ -30,16 +30,17 @@ use Rattle.report_text.specs.Measures.{measures_text}
 use Rattle.session.specs.Edits.{Change, step_of}
 use Rattle.sigaudit.proofs.MovedFacts.{moved_once}
 use Rattle.session.specs.Edits as change
-use Rattle.command_line.specs.Words.{Asked, for_run, for_count, for_pack, for_demo}
+use Rattle.command_line.specs.Words.{Asked, for_run, for_pairs, for_count, for_pack, for_demo}
 use Rattle.demonstration.specs.Files.{config_name, demo_files, script_name}
 use Rattle.script_lines.specs.Words.{Said, said}
 use Rattle.script_lines.specs.Words as line
 use Rattle.script_lines.specs.Lines.{lines_of}
+use Rattle.sigaudit.specs.Aims.{for_lines}
 use Rattle.sigaudit.specs.Asked.{asked_of}
 use Rattle.sigaudit.specs.Turns.{Turn, refuses, writes}
 use Rattle.sigaudit.specs.Audit.{AreFailing, AreVerdicts, IsAudited, audit_start, lines_text, verdicts_head}
 use Rattle.sigaudit.specs.Script.{accepts, IsEdited, IsMade, IsFetched, IsMeasured, IsMeasuredOf, IsRead, IsTold, IsTurn, Told, followed, hour_bytes, hour_change, numbers_turn, wanted_for, window_head}
-use Rattle.sigaudit.specs.Transcript.{BeginsWithFirstLines, HaveOneTranscript, IsAnswer, IsConfigOutcome, IsFileOutcome, IsScriptOutcome, Outcome, first_lines, limited, outcome, told_outcome}
+use Rattle.sigaudit.specs.Transcript.{BeginsWithFirstLines, HaveOneTranscript, IsAnswer, IsConfigOutcome, IsFileOutcome, IsScriptOutcome, Outcome, asks_pairs, first_lines, limited, outcome, told_outcome}
 
 -- where some history agrees an hour has one list of lines
 abbrev pub LinesAreOne : Type 0
@@ -186,25 +187,26 @@ one_script laws files c None a b h k = h ∙ sym k
 one_script laws files c (Some script) a b h k =
     h.2 ∙ ap told_outcome (one_told laws files c 1 (lines_of script) (nothing_held c.window.hours) h.0 k.0 h.1 k.1) ∙ sym k.2
 
-one_config : Laws → (files : Files) (script : List ℕ) (said : Read Settings) (a b : Outcome) → IsConfigOutcome files script said lines_of a → IsConfigOutcome files script said lines_of b → a ≡ b
+one_config : Laws → (files : Files) (script : List ℕ) (said : Read Settings) (a b : Outcome) → IsConfigOutcome files for_lines script said lines_of a → IsConfigOutcome files for_lines script said lines_of b → a ≡ b
 one_config laws files script (Err e) a b h k = h ∙ sym k
 one_config laws files script (Ok c) a b h k = one_script laws files c (limited 4194304 (files script)) a b h k
 
-one_file : Laws → (files : Files) (script : List ℕ) (bytes : Option (List ℕ)) (a b : Outcome) → IsFileOutcome files script bytes lines_of a → IsFileOutcome files script bytes lines_of b → a ≡ b
+one_file : Laws → (files : Files) (script : List ℕ) (bytes : Option (List ℕ)) (a b : Outcome) → IsFileOutcome files for_lines script bytes lines_of a → IsFileOutcome files for_lines script bytes lines_of b → a ≡ b
 one_file laws files script None a b h k = h ∙ sym k
 one_file laws files script (Some bytes) a b h k = one_config laws files script (config_of bytes) a b h k
 
-one_answer : Laws → (asked : Option Asked) (files : Files) (a b : Outcome) → IsAnswer asked files lines_of a → IsAnswer asked files lines_of b → a ≡ b
+one_answer : Laws → (asked : Option Asked) (files : Files) (a b : Outcome) → asks_pairs asked ≡ false → IsAnswer asked files lines_of a → IsAnswer asked files lines_of b → a ≡ b
 unfolding IsAnswer
-one_answer laws None files a b h k = h ∙ sym k
-one_answer laws (Some (for_run config script)) files a b h k = one_file laws files script (limited 1048576 (files config)) a b h k
-one_answer laws (Some (for_count file signal day hour)) files a b h k = h ∙ sym k
-one_answer laws (Some (for_pack file signal day hour)) files a b h k = h ∙ sym k
-one_answer laws (Some (for_demo hours)) files a b h k = one_file laws (demo_files hours) script_name (limited 1048576 (demo_files hours config_name)) a b h k
+one_answer laws None files a b e h k = h ∙ sym k
+one_answer laws (Some (for_run config script)) files a b e h k = one_file laws files script (limited 1048576 (files config)) a b h k
+one_answer laws (Some (for_pairs config script rule at)) files a b e h k = absurd (cc)
+one_answer laws (Some (for_count file signal day hour)) files a b e h k = h ∙ sym k
+one_answer laws (Some (for_pack file signal day hour)) files a b e h k = h ∙ sym k
+one_answer laws (Some (for_demo hours)) files a b e h k = one_file laws (demo_files hours) script_name (limited 1048576 (demo_files hours config_name)) a b h k
 
 pub one_transcript : Laws → HaveOneTranscript
-one_transcript laws words files bytes bytes' ended ended' h k =
-    let same = one_answer laws (asked_of words) files (outcome bytes ended) (outcome bytes' ended') h k in
+one_transcript laws words files bytes bytes' ended ended' e h k =
+    let same = one_answer laws (asked_of words) files (outcome bytes ended) (outcome bytes' ended') e h k in
     (ap (λ (o : Outcome). o.bytes) same, ap (λ (o : Outcome). o.ended) same)
 
 -- the bytes of a begin with those of b
@@ -220,21 +222,22 @@ first_script laws files c (Some script) k a b h q =
     let r = first_told laws files c 1 k (lines_of script) (nothing_held c.window.hours) h.0 q.0 h.1 q.1 in
     (r.0, rw (h.2, q.2) r.1)
 
-first_config : Laws → (files : Files) (script : List ℕ) (said : Read Settings) (k : ℕ) (a b : Outcome) → IsConfigOutcome files script said lines_of a → IsConfigOutcome files script said (first_lines k) b → Begins a b
+first_config : Laws → (files : Files) (script : List ℕ) (said : Read Settings) (k : ℕ) (a b : Outcome) → IsConfigOutcome files for_lines script said lines_of a → IsConfigOutcome files for_lines script said (first_lines k) b → Begins a b
 first_config laws files script (Err e) k a b h q = same_begins a b _ h q
 first_config laws files script (Ok c) k a b h q = first_script laws files c (limited 4194304 (files script)) k a b h q
 
-first_file : Laws → (files : Files) (script : List ℕ) (bytes : Option (List ℕ)) (k : ℕ) (a b : Outcome) → IsFileOutcome files script bytes lines_of a → IsFileOutcome files script bytes (first_lines k) b → Begins a b
+first_file : Laws → (files : Files) (script : List ℕ) (bytes : Option (List ℕ)) (k : ℕ) (a b : Outcome) → IsFileOutcome files for_lines script bytes lines_of a → IsFileOutcome files for_lines script bytes (first_lines k) b → Begins a b
 first_file laws files script None k a b h q = same_begins a b _ h q
 first_file laws files script (Some bytes) k a b h q = first_config laws files script (config_of bytes) k a b h q
 
-first_answer : Laws → (asked : Option Asked) (files : Files) (k : ℕ) (a b : Outcome) → IsAnswer asked files lines_of a → IsAnswer asked files (first_lines k) b → Begins a b
+first_answer : Laws → (asked : Option Asked) (files : Files) (k : ℕ) (a b : Outcome) → asks_pairs asked ≡ false → IsAnswer asked files lines_of a → IsAnswer asked files (first_lines k) b → Begins a b
 unfolding IsAnswer
-first_answer laws None files k a b h q = same_begins a b _ h q
-first_answer laws (Some (for_run config script)) files k a b h q = first_file laws files script (limited 1048576 (files config)) k a b h q
-first_answer laws (Some (for_count file signal day hour)) files k a b h q = same_begins a b _ h q
-first_answer laws (Some (for_pack file signal day hour)) files k a b h q = same_begins a b _ h q
-first_answer laws (Some (for_demo hours)) files k a b h q = first_file laws (demo_files hours) script_name (limited 1048576 (demo_files hours config_name)) k a b h q
+first_answer laws None files k a b e h q = same_begins a b _ h q
+first_answer laws (Some (for_run config script)) files k a b e h q = first_file laws files script (limited 1048576 (files config)) k a b h q
+first_answer laws (Some (for_pairs config script rule at)) files k a b e h q = absurd (cc)
+first_answer laws (Some (for_count file signal day hour)) files k a b e h q = same_begins a b _ h q
+first_answer laws (Some (for_pack file signal day hour)) files k a b e h q = same_begins a b _ h q
+first_answer laws (Some (for_demo hours)) files k a b e h q = first_file laws (demo_files hours) script_name (limited 1048576 (demo_files hours config_name)) k a b h q
 
 pub begins_with_first : Laws → BeginsWithFirstLines
-begins_with_first laws words files bytes front ended k h q = first_answer laws (asked_of words) files k (outcome bytes ended) (outcome front q.0) h q.1
+begins_with_first laws words files bytes front ended k e h q = first_answer laws (asked_of words) files k (outcome bytes ended) (outcome front q.0) e h q.1

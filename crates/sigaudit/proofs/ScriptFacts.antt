@@ -126,7 +126,7 @@ cut_first files c lines s0 f0 f n text line old mid new s refused some l on (inr
 pub line_cut : (files : Files) (c : Settings) (lines : List (List ℕ)) (s0 : Store) (n : ℕ) (text line : List ℕ) (old mid new : World) (s s' : Store) (refused : Bool) (e : Stopped)
     → 0 < length text → line ≡ first_line text → mid.counts.failed ≡ old.counts.failed
     → IsOn files c lines s0 old.written mid.written old.faults mid.faults n (lines_of text) s refused
-    → Takes (IsTurn files c n (said c.window line) s) mid new s' (Err e) → TellsAll files c lines s0 old new (Err e)
+    → Takes (IsTurn files c n (said c.window line) s) mid new s' (Err e) → TellsAll files c lines s0 s' old new (Err e)
 line_cut files c lines s0 n text line old mid new s s' refused stopped.Fault some l ef on k =
     (rw (← ef, ← on.same) k.0, cut_first files c lines s0 old.faults mid.faults n text line old mid new s refused some l on k.1)
 line_cut files c lines s0 n text line old mid new s s' refused stopped.Memory some l ef on k =
@@ -138,7 +138,7 @@ cut_caused old mid new stopped.Memory ef eg h = tt
 
 -- no line is left
 pub lines_done : (files : Files) (c : Settings) (lines : List (List ℕ)) (s0 : Store) (n : ℕ) (text : List ℕ) (old new : World) (s : Store) (refused : Bool)
-    → length text ≡ 0 → new.counts.failed ≡ old.counts.failed → IsOn files c lines s0 old.written new.written old.faults new.faults n (lines_of text) s refused → TellsAll files c lines s0 old new (Ok refused)
+    → length text ≡ 0 → new.counts.failed ≡ old.counts.failed → IsOn files c lines s0 old.written new.written old.faults new.faults n (lines_of text) s refused → TellsAll files c lines s0 s old new (Ok refused)
 lines_done files c lines s0 n text old new s refused none ef on =
     let all : lines ≡ on.done = on.all ∙ (rw (lines_over text none, append-nil) refl) in
-    (on.told, rw all on.is_told, on.wrote, (ef, on.same), on.answer)
+    (on.told, rw all on.is_told, on.wrote, (ef, on.same), on.answer, on.store)

@@ -14,7 +14,7 @@ use Rattle.session.specs.Edits.{Change, step_of}
 use Rattle.session.specs.Edits as change
 use Rattle.session.specs.Moved.{Moves, Touches}
 use Rattle.session.specs.Opens.{IsOpened}
-use Rattle.command_line.specs.Words.{Asked, for_run, for_count, for_pack, for_demo}
+use Rattle.command_line.specs.Words.{Asked, for_run, for_pairs, for_count, for_pack, for_demo}
 use Rattle.script_lines.specs.Lines.{lines_of}
 use Rattle.script_lines.specs.Words.{Said, said}
 use Rattle.script_lines.specs.Words as line
@@ -22,6 +22,7 @@ use Rattle.report_text.specs.declared.refusal.Refusal.{Refusal}
 use Rattle.sigaudit.specs.declared.hour_file.Unread.{Unread}
 use Rattle.sigaudit.specs.declared.status.Status.{Status}
 use Rattle.sigaudit.specs.declared.status.Status.TheVariants.{Done, SomeRefused, Usage, BadConfig, Fault, Memory, NoFile}
+use Rattle.sigaudit.specs.Aims.{Aim, for_lines, for_rule}
 use Rattle.sigaudit.specs.HourFile.{hour_said}
 use Rattle.sigaudit.specs.Script.{hour_bytes, hour_change, wanted_for, IsTurn}
 use Rattle.sigaudit.specs.Transcript.{limited}
@@ -90,23 +91,25 @@ abbrev pub AreCounted : (ℕ → ℕ → ℕ → Type 0) → List ℕ → List �
 AreCounted Tally old new =
     (length new ≡ length old) × ((h : ℕ) → h < length old → (m : ℕ) × (k : ℕ) × Tally h m k × IsOpened m (3 * (m + k)) (slice_index old h) (slice_index new h))
 
--- where all lines of a script are such lines
-abbrev pub OpensText : Files → Settings → List ℕ → List ℕ → Option (List ℕ) → Type 0
-OpensText files c old new None = ⊤
-OpensText files c old new (Some script) = ArePlain c.window (lines_of script) → AreCounted (ScriptTally files c (lines_of script) (nothing_held c.window.hours)) old new
+-- where all lines of a script are such lines, and it is carried out for their texts
+abbrev pub OpensText : Files → Settings → Aim → List ℕ → List ℕ → Option (List ℕ) → Type 0
+OpensText files c for_lines old new None = ⊤
+OpensText files c for_lines old new (Some script) = ArePlain c.window (lines_of script) → AreCounted (ScriptTally files c (lines_of script) (nothing_held c.window.hours)) old new
+OpensText files c (for_rule rule at) old new script = ⊤
 
-abbrev pub OpensConfig : Files → List ℕ → List ℕ → List ℕ → Read Settings → Type 0
-OpensConfig files script old new (Err e) = ⊤
-OpensConfig files script old new (Ok c) = OpensText files c old new (limited (4 * 2 ^ 20) (files script))
+abbrev pub OpensConfig : Files → Aim → List ℕ → List ℕ → List ℕ → Read Settings → Type 0
+OpensConfig files aim script old new (Err e) = ⊤
+OpensConfig files aim script old new (Ok c) = OpensText files c aim old new (limited (4 * 2 ^ 20) (files script))
 
-abbrev pub OpensFile : Files → List ℕ → List ℕ → List ℕ → Option (List ℕ) → Type 0
-OpensFile files script old new None = ⊤
-OpensFile files script old new (Some bytes) = OpensConfig files script old new (config_of bytes)
+abbrev pub OpensFile : Files → Aim → List ℕ → List ℕ → List ℕ → Option (List ℕ) → Type 0
+OpensFile files aim script old new None = ⊤
+OpensFile files aim script old new (Some bytes) = OpensConfig files aim script old new (config_of bytes)
 
 -- of a run that the words ask for
 abbrev pub OpensAnswer : Files → List ℕ → List ℕ → Option Asked → Type 0
 OpensAnswer files old new None = ⊤
-OpensAnswer files old new (Some (for_run config script)) = OpensFile files script old new (limited (2 ^ 20) (files config))
+OpensAnswer files old new (Some (for_run config script)) = OpensFile files for_lines script old new (limited (2 ^ 20) (files config))
+OpensAnswer files old new (Some (for_pairs config script rule at)) = ⊤
 OpensAnswer files old new (Some (for_count file signal day hour)) = ⊤
 OpensAnswer files old new (Some (for_pack file signal day hour)) = ⊤
 OpensAnswer files old new (Some (for_demo hours)) = ⊤

@@ -8,6 +8,8 @@ pub mod Audit
 pub mod Points
 pub mod Offsets
 pub mod Script
+pub mod Pairs
+pub mod Aims
 pub mod DemoShelf
 pub mod Transcript
 pub mod Counting

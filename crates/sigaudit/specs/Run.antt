@@ -1,15 +1,16 @@
 -- What a run does to the shelf and the sink.
-use Rattle.std.specs.Prelude.{◌≡◌, ◌≤◌, ◌⊎◌, ℕ, List, [], length, take, Option, Some, None, IsSome, Result, Ok, Err, Bool, false, ⊤}
+use Rattle.std.specs.Prelude.{◌≡◌, ◌≤◌, ◌⊎◌, ℕ, List, [], length, take, Option, Some, None, IsSome, Result, Ok, Err, Bool, ⊤}
 use Rattle.std.specs.Io.KnownBytes.{Appends}
 use Rattle.outside.specs.Counted.{Rose}
 use Rattle.outside.specs.Shelf.{Counts, Files}
 use Rattle.outside.specs.Sink.{AppendsFront, Stops}
-use Rattle.hour_store.specs.Store.{Store}
+use Rattle.hour_store.specs.Store.{Store, nothing_held}
 use Rattle.sig_base.specs.Window.{Span}
 use Rattle.report_text.specs.declared.refusal.Refusal.{Refusal}
 use Rattle.report_text.specs.Refusals.{IsOfWindow}
-use Rattle.command_line.specs.Words.{Asked, for_run, for_count, for_pack, for_demo}
+use Rattle.command_line.specs.Words.{Asked, for_run, for_pairs, for_count, for_pack, for_demo}
 use Rattle.ring_config.specs.Settings.{Settings}
+use Rattle.session.specs.Sessions.{Kept}
 use Rattle.script_lines.specs.Lines.{lines_of}
 use Rattle.sigaudit.specs.Turns.{Turn}
 use Rattle.sigaudit.specs.Script.{Told, IsTold}
@@ -50,6 +51,7 @@ WritesAll bytes old new = Appends old.written new.written bytes × NoFault old n
 abbrev pub AsksRun : Option Asked → Type 0
 AsksRun None = ⊥
 AsksRun (Some (for_run config script)) = ⊤
+AsksRun (Some (for_pairs config script rule at)) = ⊤
 AsksRun (Some (for_count file signal day hour)) = ⊥
 AsksRun (Some (for_pack file signal day hour)) = ⊥
 AsksRun (Some (for_demo hours)) = ⊤
@@ -58,9 +60,10 @@ AsksRun (Some (for_demo hours)) = ⊤
 abbrev pub Ends : ((List ℕ → List (List ℕ)) → Outcome → Type 0) → Ended → World → World → Type 0
 Ends Is e old new = (bytes : List ℕ) × Is lines_of (outcome bytes e) × WritesAll bytes old new
 
--- what was written is a front of the text where the script ends after its first lines, for some number of them
+-- nothing was written, or a front of the text where the script ends after its first lines, for some number of them
 abbrev pub IsCutOff : ((List ℕ → List (List ℕ)) → Outcome → Type 0) → World → World → Type 0
-IsCutOff Is old new = (k : ℕ) × (o : Outcome) × Is (first_lines k) o × AppendsFront old.written new.written o.bytes
+IsCutOff Is old new =
+    Appends old.written new.written [] ⊎ ((k : ℕ) × (o : Outcome) × Is (first_lines k) o × AppendsFront old.written new.written o.bytes)
 
 -- a run ended as the outcome says and wrote all of it, or was cut off by a counted fault or want of memory
 abbrev pub RunsAs : ((List ℕ → List (List ℕ)) → Outcome → Type 0) → World → World → Status → Type 0
@@ -89,6 +92,21 @@ IsRun words files old new BadConfig = WritesTranscript words files ended.BadConf
 IsRun words files old new NoFile = WritesTranscript words files ended.NoFile old new
 IsRun words files old new Fault = HasFault old new × WritesBeginning words files old new
 IsRun words files old new Memory = WritesBeginning words files old new
+
+-- nothing was written, or a front of some bytes that are a transcript of the words and the files
+abbrev pub WritesFront : List (List ℕ) → Files → World → World → Type 0
+WritesFront words files old new =
+    Appends old.written new.written [] ⊎ ((bytes : List ℕ) × (e : Ended) × IsTranscript words files bytes e × AppendsFront old.written new.written bytes)
+
+-- The same where the words ask for what a rule leaves undecided, so that more than one transcript is right: the run ended as one of them does and wrote exactly its bytes; or it was cut off, by a counted fault or want of memory, after a front of one, maybe before anything was written.
+abbrev pub IsPairsRun : List (List ℕ) → Files → World → World → Status → Type 0
+IsPairsRun words files old new Done = WritesTranscript words files ended.Done old new
+IsPairsRun words files old new SomeRefused = WritesTranscript words files ended.SomeRefused old new
+IsPairsRun words files old new Usage = ⊥
+IsPairsRun words files old new BadConfig = WritesTranscript words files ended.BadConfig old new
+IsPairsRun words files old new NoFile = WritesTranscript words files ended.NoFile old new
+IsPairsRun words files old new Fault = HasFault old new × WritesFront words files old new
+IsPairsRun words files old new Memory = WritesFront words files old new
 
 -- why a run that was asked for this ended so, whether or not the files and the bytes are told
 abbrev pub HasCause : Option Asked → World → World → Status → Type 0
@@ -151,11 +169,34 @@ TakesPut t old new before now store (Err stopped.Memory) = (new ≡ old) × (now
 abbrev pub TellsFirst : Files → Settings → List (List ℕ) → Store → World → World → Type 0
 TellsFirst files c lines s old new = (k : ℕ) × (told : Told) × IsTold files c 1 (take k lines) s told × AppendsFront old.written new.written told.text
 
--- all lines of a script were taken, or a front of the text of the first of them was written
-abbrev pub TellsAll : Files → Settings → List (List ℕ) → Store → World → World → Result Bool Stopped → Type 0
-TellsAll files c lines s old new (Ok refused) = (told : Told) × IsTold files c 1 lines s told × Appends old.written new.written told.text × NoFault old new × (refused ≡ told.refused)
-TellsAll files c lines s old new (Err stopped.Fault) = HasFault old new × TellsFirst files c lines s old new
-TellsAll files c lines s old new (Err stopped.Memory) = TellsFirst files c lines s old new
+-- all lines of a script were taken, which left the second store of the first one, or a front of the text of the first of them was written
+abbrev pub TellsAll : Files → Settings → List (List ℕ) → Store → Store → World → World → Result Bool Stopped → Type 0
+TellsAll files c lines s last old new (Ok refused) = (told : Told) × IsTold files c 1 lines s told × Appends old.written new.written told.text × NoFault old new × (refused ≡ told.refused) × (last ≡ told.store)
+TellsAll files c lines s last old new (Err stopped.Fault) = HasFault old new × TellsFirst files c lines s old new
+TellsAll files c lines s last old new (Err stopped.Memory) = TellsFirst files c lines s old new
+
+-- a script was carried out whose lines write nothing: the configuration and the store that it leaves are the session's, and the answer says whether a line was refused
+abbrev pub IsCarriedOut : Files → Settings → List (List ℕ) → Result (Kept × Bool) Stopped → Type 0
+IsCarriedOut files c lines (Ok r) = (told : Told) × IsTold files c 1 lines (nothing_held c.window.hours) told × (r.0 ≡ record { config = c; store = told.store }) × (r.1 ≡ told.refused)
+IsCarriedOut files c lines (Err s) = ⊤
+
+-- why that was cut off, by the shelf's counts
+abbrev pub CountsCarried : {T : Type 0} → Counts → Counts → Result T Stopped → Type 0
+CountsCarried old new (Ok _) = new.failed ≡ old.failed
+CountsCarried old new (Err stopped.Fault) = Rose old.failed new.failed
+CountsCarried old new (Err stopped.Memory) = ⊤
+
+-- none of them has fallen
+pub record CountsGrow (old new : Counts) : Type 0 where
+  pub missing : old.missing ≤ new.missing
+  pub failed : old.failed ≤ new.failed
+  pub long : old.long ≤ new.long
+
+-- a call that writes a text that there may be wrote all of it, or stopped in it by a counted fault, or ran out of memory before it wrote anything
+abbrev pub PutsOne : {T : Type 0} → (List ℕ → Type 0) → Option (List ℕ) → Option (List ℕ) → ℕ → ℕ → Result T Stopped → Type 0
+PutsOne Is old new before now (Ok _) = (text : List ℕ) × Is text × Appends old new text × (now ≡ before)
+PutsOne Is old new before now (Err stopped.Fault) = (text : List ℕ) × Is text × Stops old new before now text
+PutsOne Is old new before now (Err stopped.Memory) = (new ≡ old) × (now ≡ before)
 
 -- an hour file was fetched, or there is a reason why not; of an empty buffer
 abbrev pub FetchesHour : Result (List ℕ) Refusal → List ℕ → Fetched → Type 0

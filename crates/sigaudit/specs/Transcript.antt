@@ -5,6 +5,7 @@ use Rattle.sig_base.specs.HourRows.{Shown}
 use Rattle.sig_base.specs.Window.{Span}
 use Rattle.row_reader.specs.declared.row_error.RowError.{RowError}
 use Rattle.row_reader.specs.Rows.{Wanted, rows_of}
+use Rattle.row_reader.specs.Stamp.{stamp_in}
 use Rattle.report_text.specs.declared.refusal.Refusal.TheVariants.{File}
 use Rattle.report_text.specs.Counts.{count_text}
 use Rattle.report_text.specs.Refusals.{refusal_text}
@@ -12,15 +13,17 @@ use Rattle.hour_pack.specs.Grammar.{packed}
 use Rattle.ring_config.specs.Reading.{Read}
 use Rattle.ring_config.specs.Settings.{Settings, config_of}
 use Rattle.hour_store.specs.Store.{nothing_held}
-use Rattle.command_line.specs.Words.{Asked, for_run, for_count, for_pack, for_demo}
+use Rattle.command_line.specs.Words.{Asked, for_run, for_pairs, for_count, for_pack, for_demo}
 use Rattle.demonstration.specs.Files.{config_name, demo_files, script_name}
 use Rattle.script_lines.specs.Lines.{lines_of}
+use Rattle.sigaudit.specs.Aims.{Aim, for_lines, for_rule}
 use Rattle.sigaudit.specs.Asked.{HourAsked, hour_asked, asked_of}
 use Rattle.sigaudit.specs.ConfigText.{config_text}
 use Rattle.sigaudit.specs.declared.file.Task.{Task}
 use Rattle.sigaudit.specs.declared.file.Task.TheVariants.{Count, Pack}
 use Rattle.sigaudit.specs.declared.hour_file.Unread.{Unread}
 use Rattle.sigaudit.specs.HourFile.{hour_said, unread_text}
+use Rattle.sigaudit.specs.Pairs.{AreFound, place_of}
 use Rattle.sigaudit.specs.Script.{Told, IsTold}
 use Rattle.sigaudit.specs.declared.status.Ended.{Ended}
 use Rattle.sigaudit.specs.declared.status.Ended.TheVariants as ended
@@ -34,7 +37,7 @@ abbrev pub outcome : List ℕ → Ended → Outcome
 outcome bytes ended = record { bytes = bytes; ended = ended }
 
 abbrev pub usage_text : List ℕ
-usage_text = codes "usage: sigaudit --config C --script S | --count F --signal ID --hour H | --pack F --signal ID --hour H | --demo N\n"
+usage_text = codes "usage: sigaudit --config C --script S [--rule K --at T] | --count F --signal ID --hour H | --pack F --signal ID --hour H | --demo N\n"
 
 -- a window of the one hour that is asked for
 abbrev pub window_of : HourAsked → Span
@@ -83,25 +86,38 @@ IsScriptOutcome files c None lines o = o ≡ outcome [] ended.NoFile
 IsScriptOutcome files c (Some script) lines o =
     (told : Told) × IsTold files c 1 (lines script) (nothing_held c.window.hours) told × (o ≡ told_outcome told)
 
+-- of a script whose lines write nothing: what a rule leaves undecided at a stamp in the store that all of its lines leave
+abbrev pub IsRuleOutcome : Files → Settings → ℕ → List ℕ → Option (List ℕ) → Outcome → Type 0
+IsRuleOutcome files c rule at None o = o ≡ outcome [] ended.NoFile
+IsRuleOutcome files c rule at (Some script) o =
+    (told : Told) × IsTold files c 1 (lines_of script) (nothing_held c.window.hours) told
+    × ((text : List ℕ) × AreFound c told.store (place_of c rule (stamp_in c.window at)) text × (o ≡ outcome text (ended_by told.refused)))
+
+-- of a script, by what it is carried out for
+abbrev pub IsAimOutcome : Files → Settings → Aim → Option (List ℕ) → (List ℕ → List (List ℕ)) → Outcome → Type 0
+IsAimOutcome files c for_lines script lines o = IsScriptOutcome files c script lines o
+IsAimOutcome files c (for_rule rule at) script lines o = IsRuleOutcome files c rule at script o
+
 -- of what the configuration says
-abbrev pub IsConfigOutcome : Files → List ℕ → Read Settings → (List ℕ → List (List ℕ)) → Outcome → Type 0
-IsConfigOutcome files script (Err e) lines o = o ≡ outcome (config_text e) ended.BadConfig
-IsConfigOutcome files script (Ok c) lines o = IsScriptOutcome files c (limited (4 * 2 ^ 20) (files script)) lines o
+abbrev pub IsConfigOutcome : Files → Aim → List ℕ → Read Settings → (List ℕ → List (List ℕ)) → Outcome → Type 0
+IsConfigOutcome files aim script (Err e) lines o = o ≡ outcome (config_text e) ended.BadConfig
+IsConfigOutcome files aim script (Ok c) lines o = IsAimOutcome files c aim (limited (4 * 2 ^ 20) (files script)) lines o
 
 -- of the configuration's file, which has a limit of 1 MiB
-abbrev pub IsFileOutcome : Files → List ℕ → Option (List ℕ) → (List ℕ → List (List ℕ)) → Outcome → Type 0
-IsFileOutcome files script None lines o = o ≡ outcome [] ended.NoFile
-IsFileOutcome files script (Some bytes) lines o = IsConfigOutcome files script (config_of bytes) lines o
+abbrev pub IsFileOutcome : Files → Aim → List ℕ → Option (List ℕ) → (List ℕ → List (List ℕ)) → Outcome → Type 0
+IsFileOutcome files aim script None lines o = o ≡ outcome [] ended.NoFile
+IsFileOutcome files aim script (Some bytes) lines o = IsConfigOutcome files aim script (config_of bytes) lines o
 
 -- of a demonstration of so many hours: that of its script over its configuration, both among its own files
 abbrev pub IsDemoOutcome : ℕ → (List ℕ → List (List ℕ)) → Outcome → Type 0
 IsDemoOutcome hours lines o =
-    IsFileOutcome (demo_files hours) script_name (limited (2 ^ 20) (demo_files hours config_name)) lines o
+    IsFileOutcome (demo_files hours) for_lines script_name (limited (2 ^ 20) (demo_files hours config_name)) lines o
 
 -- of what the words ask for, where these lines are taken of a script
 unfoldable pub IsAnswer : Option Asked → Files → (List ℕ → List (List ℕ)) → Outcome → Type 0
 IsAnswer None files lines o = o ≡ outcome usage_text ended.Usage
-IsAnswer (Some (for_run config script)) files lines o = IsFileOutcome files script (limited (2 ^ 20) (files config)) lines o
+IsAnswer (Some (for_run config script)) files lines o = IsFileOutcome files for_lines script (limited (2 ^ 20) (files config)) lines o
+IsAnswer (Some (for_pairs config script rule at)) files lines o = IsFileOutcome files (for_rule rule at) script (limited (2 ^ 20) (files config)) lines o
 IsAnswer (Some (for_count file signal day hour)) files lines o = o ≡ file_outcome Count (hour_asked file signal day hour) (files file)
 IsAnswer (Some (for_pack file signal day hour)) files lines o = o ≡ file_outcome Pack (hour_asked file signal day hour) (files file)
 IsAnswer (Some (for_demo hours)) files lines o = IsDemoOutcome hours lines o
@@ -118,14 +134,23 @@ first_lines k script = take k (lines_of script)
 abbrev pub IsBeginning : ℕ → List (List ℕ) → Files → List ℕ → Type 0
 IsBeginning k words files bytes = (ended : Ended) × IsAnswer (asked_of words) files (first_lines k) (outcome bytes ended)
 
--- the words and the files have one transcript
+-- the words ask for what a rule leaves undecided, of which the pairs that are printed aren't fixed
+abbrev pub asks_pairs : Option Asked → Bool
+asks_pairs None = false
+asks_pairs (Some (for_run config script)) = false
+asks_pairs (Some (for_pairs config script rule at)) = true
+asks_pairs (Some (for_count file signal day hour)) = false
+asks_pairs (Some (for_pack file signal day hour)) = false
+asks_pairs (Some (for_demo hours)) = false
+
+-- the words, unless they ask for pairs, and the files have one transcript
 abbrev pub HaveOneTranscript : Type 0
 HaveOneTranscript =
-    (words : List (List ℕ)) (files : Files) (bytes bytes' : List ℕ) (ended ended' : Ended)
+    (words : List (List ℕ)) (files : Files) (bytes bytes' : List ℕ) (ended ended' : Ended) → asks_pairs (asked_of words) ≡ false
     → IsTranscript words files bytes ended → IsTranscript words files bytes' ended' → (bytes ≡ bytes') × (ended ≡ ended')
 
 -- and it begins with what is written for a script's first lines
 abbrev pub BeginsWithFirstLines : Type 0
 BeginsWithFirstLines =
-    (words : List (List ℕ)) (files : Files) (bytes front : List ℕ) (ended : Ended) (k : ℕ)
+    (words : List (List ℕ)) (files : Files) (bytes front : List ℕ) (ended : Ended) (k : ℕ) → asks_pairs (asked_of words) ≡ false
     → IsTranscript words files bytes ended → IsBeginning k words files front → (rest : List ℕ) × (bytes ≡ front ++ rest)

@@ -1,5 +1,5 @@
 // The whole run.
-ghost use Rattle.std.specs.Prelude.{◌≡◌, ◌≤◌, ◌<◌, Some, [], length, IfSome};
+ghost use Rattle.std.specs.Prelude.{◌≡◌, ◌≤◌, ◌<◌, Some, [], length, IfSome, true, false};
 ghost use Rattle.outside.specs.Shelf.{Counts, Files};
 ghost use Rattle.sig_base.specs.Window.{IsDay};
 ghost use Rattle.session.specs.Sessions.{Grow};
@@ -8,13 +8,18 @@ ghost use Rattle.command_line.specs.Words.{IsReadable, seen};
 ghost use Rattle.sigaudit.specs.Asked.{asked_of};
 ghost use Rattle.sigaudit.specs.ConfigText.{config_text, is_config_memory};
 ghost use Rattle.sigaudit.specs.Status.{status_of_run};
-ghost use Rattle.sigaudit.specs.Transcript.{ended_by, limited, outcome, usage_text, BeginsWithFirstLines, HaveOneTranscript, IsAnswer, IsConfigOutcome, IsDemoOutcome, IsFileOutcome, IsScriptOutcome};
+ghost use Rattle.script_lines.specs.Lines.{lines_of};
+ghost use Rattle.sigaudit.specs.Aims.{aim_of, for_lines};
+ghost use Rattle.sigaudit.specs.Transcript.{asks_pairs, ended_by, limited, outcome, usage_text, BeginsWithFirstLines, HaveOneTranscript, IsAimOutcome, IsAnswer, IsConfigOutcome, IsDemoOutcome, IsFileOutcome, IsScriptOutcome};
 ghost use Rattle.sigaudit.specs.Counting.{OpensAnswer, OpensConfig, OpensFile, OpensText, WhereTaken};
-ghost use Rattle.sigaudit.specs.Run.{world, CountsText, FetchesText, DemoCause, FewBytes, IsRun, LeavesShelf, RunsAs, HasCause, NeedsWords, NeverFall, PutsOutcome, ScriptCause};
+ghost use Rattle.sigaudit.specs.Run.{world, CountsCarried, CountsGrow, CountsText, FetchesText, DemoCause, FewBytes, IsCarriedOut, IsPairsRun, IsRun, LeavesShelf, RunsAs, HasCause, NeedsWords, NeverFall, PutsOutcome, ScriptCause};
 
 use crate::config_text::put_config_error;
 use crate::demo_shelf::DemoShelf;
 use crate::file::{FileAsked, Task, put_file};
+use crate::pairs::put_undecided;
+use crate::purpose::Purpose;
+use crate::quiet_sink::QuietSink;
 use crate::script::run_script;
 use crate::status::{Ended, Status, Stopped, status_of};
 use crate::words::Words;
@@ -29,7 +34,7 @@ use signal_log::some_history_agrees;
 use std::alloc::Global;
 
 const USAGE: &[u8] =
-    b"usage: sigaudit --config C --script S | --count F --signal ID --hour H | --pack F --signal ID --hour H | --demo N\n";
+    b"usage: sigaudit --config C --script S [--rule K --at T] | --count F --signal ID --hour H | --pack F --signal ID --hour H | --demo N\n";
 
 // The most bytes of a configuration, and of a script.
 const CONFIG_LIMIT: u64 = 1_048_576;
@@ -84,9 +89,9 @@ fn show_config_error<K: Sink>(error: ConfigError, sink: &mut K) -> Result<Ended,
     }
 }
 
-// Carries out the lines of a script.
+// Carries out the lines of a script and writes their texts.
 #[tactic(auto, using(crate::proofs::GrowFacts::grow_same))]
-fn run_lines<L, S: Shelf, K: Sink>(
+fn tell_lines<L, S: Shelf, K: Sink>(
     alloc: Global,
     config: Config,
     script: &[u8],
@@ -99,7 +104,8 @@ fn run_lines<L, S: Shelf, K: Sink>(
     ensures cause { ScriptCause (world (S.counts shelf.old) (K.written sink.old) (K.faults sink.old)) (world (S.counts shelf.new) (K.written sink.new) (K.faults sink.new)) (status_of_run result) }
     ensures never_fall { NeverFall (world (S.counts shelf.old) (K.written sink.old) (K.faults sink.old)) (world (S.counts shelf.new) (K.written sink.new) (K.faults sink.new)) }
     ensures opens { (files : Files) → S.files shelf.old ≡ Some files → WhereTaken
-        (status_of_run result) (OpensText files config reads.old reads.new (Some script.now)) }
+        (status_of_run result) (OpensText files config for_lines
+        reads.old reads.new (Some script.now)) }
     ensures grow { Grow reads.old reads.new }
 {
     let mut session = match Session::new(alloc, config) {
@@ -108,6 +114,70 @@ fn run_lines<L, S: Shelf, K: Sink>(
     };
     match run_script(alloc, script, &mut session, shelf, sink, reads) {
         Ok(refused) => Ok(ended_by(refused)),
+        Err(stopped) => Err(stopped),
+    }
+}
+
+// Carries out the lines of a script in a new session, and writes nothing.
+#[tactic(auto, using(crate::proofs::GrowFacts::grow_same))]
+fn carry_out<L, S: Shelf>(
+    alloc: Global,
+    config: Config,
+    script: &[u8],
+    shelf: &mut S,
+    reads: &mut Reads<L>,
+) -> Result<(Session<L>, bool), Stopped>
+    requires { length script.now ≤ 4194304 }
+    ensures told { (files : Files) → S.files shelf.old ≡ Some files
+        → IsCarriedOut files config (lines_of script.now) result }
+    ensures cause { CountsCarried (S.counts shelf.old) (S.counts shelf.new) result }
+    ensures never_fall { CountsGrow (S.counts shelf.old) (S.counts shelf.new) }
+    ensures grow { Grow reads.old reads.new }
+{
+    let mut session = match Session::new(alloc, config) {
+        Ok(session) => session,
+        Err(_) => return Err(Stopped::Memory),
+    };
+    match run_script(alloc, script, &mut session, shelf, &mut QuietSink, reads) {
+        Ok(refused) => Ok((session, refused)),
+        Err(stopped) => Err(stopped),
+    }
+}
+
+// Carries out the lines of a script for this purpose.
+#[tactic(auto, using(crate::proofs::GrowFacts::grow_same))]
+fn run_lines<L, S: Shelf, K: Sink>(
+    alloc: Global,
+    config: Config,
+    script: &[u8],
+    purpose: Purpose<'_>,
+    shelf: &mut S,
+    sink: &mut K,
+    reads: &mut Reads<L>,
+) -> Result<Ended, Stopped>
+    requires { length script.now ≤ 4194304 }
+    ensures told { (files : Files) → S.files shelf.old ≡ Some files
+        → RunsAs (IsAimOutcome files config (aim_of purpose.entry) (Some script.now))
+        (world (S.counts shelf.old) (K.written sink.old) (K.faults sink.old))
+        (world (S.counts shelf.new) (K.written sink.new) (K.faults sink.new))
+        (status_of_run result) }
+    ensures cause { ScriptCause (world (S.counts shelf.old) (K.written sink.old) (K.faults sink.old)) (world (S.counts shelf.new) (K.written sink.new) (K.faults sink.new)) (status_of_run result) }
+    ensures never_fall { NeverFall (world (S.counts shelf.old) (K.written sink.old) (K.faults sink.old)) (world (S.counts shelf.new) (K.written sink.new) (K.faults sink.new)) }
+    ensures opens { (files : Files) → S.files shelf.old ≡ Some files → WhereTaken
+        (status_of_run result) (OpensText files config (aim_of purpose.entry)
+        reads.old reads.new (Some script.now)) }
+    ensures grow { Grow reads.old reads.new }
+{
+    let (rule, at) = match purpose {
+        Purpose::Lines => return tell_lines(alloc, config, script, shelf, sink, reads),
+        Purpose::Undecided(rule, at) => (rule, at),
+    };
+    let (session, refused) = match carry_out(alloc, config, script, shelf, reads) {
+        Ok(done) => done,
+        Err(stopped) => return Err(stopped),
+    };
+    match put_undecided(rule, at, &session, sink, reads) {
+        Ok(()) => Ok(ended_by(refused)),
         Err(stopped) => Err(stopped),
     }
 }
@@ -128,21 +198,22 @@ fn run_script_file<L, S: Shelf, K: Sink>(
     alloc: Global,
     config: Config,
     name: &str,
+    purpose: Purpose<'_>,
     shelf: &mut S,
     sink: &mut K,
     reads: &mut Reads<L>,
 ) -> Result<Ended, Stopped>
-    ensures told { (files : Files) → S.files shelf.old ≡ Some files → RunsAs (IsScriptOutcome files config (limited 4194304 (files name.now))) (world (S.counts shelf.old) (K.written sink.old) (K.faults sink.old)) (world (S.counts shelf.new) (K.written sink.new) (K.faults sink.new)) (status_of_run result) }
+    ensures told { (files : Files) → S.files shelf.old ≡ Some files → RunsAs (IsAimOutcome files config (aim_of purpose.entry) (limited 4194304 (files name.now))) (world (S.counts shelf.old) (K.written sink.old) (K.faults sink.old)) (world (S.counts shelf.new) (K.written sink.new) (K.faults sink.new)) (status_of_run result) }
     ensures cause { ScriptCause (world (S.counts shelf.old) (K.written sink.old) (K.faults sink.old)) (world (S.counts shelf.new) (K.written sink.new) (K.faults sink.new)) (status_of_run result) }
     ensures never_fall { NeverFall (world (S.counts shelf.old) (K.written sink.old) (K.faults sink.old)) (world (S.counts shelf.new) (K.written sink.new) (K.faults sink.new)) }
     ensures opens { (files : Files) → S.files shelf.old ≡ Some files
-        → WhereTaken (status_of_run result) (OpensText files config reads.old reads.new
-        (limited 4194304 (files name.now))) }
+        → WhereTaken (status_of_run result) (OpensText files config (aim_of purpose.entry)
+        reads.old reads.new (limited 4194304 (files name.now))) }
     ensures grow { Grow reads.old reads.new }
 {
     let mut script = Vec::new(alloc);
     match fetch_text(alloc, name, SCRIPT_LIMIT, shelf, &mut script) {
-        Got::Have => run_lines(alloc, config, &script, shelf, sink, reads),
+        Got::Have => run_lines(alloc, config, &script, purpose, shelf, sink, reads),
         Got::Nothing => Ok(Ended::NoFile),
         Got::Stop(stopped) => Err(stopped),
     }
@@ -160,20 +231,21 @@ fn run_config<L, S: Shelf, K: Sink>(
     alloc: Global,
     bytes: &[u8],
     script: &str,
+    purpose: Purpose<'_>,
     shelf: &mut S,
     sink: &mut K,
     reads: &mut Reads<L>,
 ) -> Result<Ended, Stopped>
-    ensures told { (files : Files) → S.files shelf.old ≡ Some files → RunsAs (IsConfigOutcome files script.now (config_of bytes.now)) (world (S.counts shelf.old) (K.written sink.old) (K.faults sink.old)) (world (S.counts shelf.new) (K.written sink.new) (K.faults sink.new)) (status_of_run result) }
+    ensures told { (files : Files) → S.files shelf.old ≡ Some files → RunsAs (IsConfigOutcome files (aim_of purpose.entry) script.now (config_of bytes.now)) (world (S.counts shelf.old) (K.written sink.old) (K.faults sink.old)) (world (S.counts shelf.new) (K.written sink.new) (K.faults sink.new)) (status_of_run result) }
     ensures cause { ScriptCause (world (S.counts shelf.old) (K.written sink.old) (K.faults sink.old)) (world (S.counts shelf.new) (K.written sink.new) (K.faults sink.new)) (status_of_run result) }
     ensures never_fall { NeverFall (world (S.counts shelf.old) (K.written sink.old) (K.faults sink.old)) (world (S.counts shelf.new) (K.written sink.new) (K.faults sink.new)) }
     ensures opens { (files : Files) → S.files shelf.old ≡ Some files
-        → WhereTaken (status_of_run result) (OpensConfig files script.now reads.old reads.new
-        (config_of bytes.now)) }
+        → WhereTaken (status_of_run result) (OpensConfig files (aim_of purpose.entry)
+        script.now reads.old reads.new (config_of bytes.now)) }
     ensures grow { Grow reads.old reads.new }
 {
     match read_config(alloc, bytes) {
-        Ok(config) => run_script_file(alloc, config, script, shelf, sink, reads),
+        Ok(config) => run_script_file(alloc, config, script, purpose, shelf, sink, reads),
         Err(error) => {
             if is_memory(error) {
                 return Err(Stopped::Memory);
@@ -189,21 +261,22 @@ fn run_files<L, S: Shelf, K: Sink>(
     alloc: Global,
     config: &str,
     script: &str,
+    purpose: Purpose<'_>,
     shelf: &mut S,
     sink: &mut K,
     reads: &mut Reads<L>,
 ) -> Result<Ended, Stopped>
-    ensures told { (files : Files) → S.files shelf.old ≡ Some files → RunsAs (IsFileOutcome files script.now (limited 1048576 (files config.now))) (world (S.counts shelf.old) (K.written sink.old) (K.faults sink.old)) (world (S.counts shelf.new) (K.written sink.new) (K.faults sink.new)) (status_of_run result) }
+    ensures told { (files : Files) → S.files shelf.old ≡ Some files → RunsAs (IsFileOutcome files (aim_of purpose.entry) script.now (limited 1048576 (files config.now))) (world (S.counts shelf.old) (K.written sink.old) (K.faults sink.old)) (world (S.counts shelf.new) (K.written sink.new) (K.faults sink.new)) (status_of_run result) }
     ensures cause { ScriptCause (world (S.counts shelf.old) (K.written sink.old) (K.faults sink.old)) (world (S.counts shelf.new) (K.written sink.new) (K.faults sink.new)) (status_of_run result) }
     ensures never_fall { NeverFall (world (S.counts shelf.old) (K.written sink.old) (K.faults sink.old)) (world (S.counts shelf.new) (K.written sink.new) (K.faults sink.new)) }
     ensures opens { (files : Files) → S.files shelf.old ≡ Some files
-        → WhereTaken (status_of_run result) (OpensFile files script.now reads.old reads.new
-        (limited 1048576 (files config.now))) }
+        → WhereTaken (status_of_run result) (OpensFile files (aim_of purpose.entry)
+        script.now reads.old reads.new (limited 1048576 (files config.now))) }
     ensures grow { Grow reads.old reads.new }
 {
     let mut bytes = Vec::new(alloc);
     match fetch_text(alloc, config, CONFIG_LIMIT, shelf, &mut bytes) {
-        Got::Have => run_config(alloc, &bytes, script, shelf, sink, reads),
+        Got::Have => run_config(alloc, &bytes, script, purpose, shelf, sink, reads),
         Got::Nothing => Ok(Ended::NoFile),
         Got::Stop(stopped) => Err(stopped),
     }
@@ -230,7 +303,15 @@ fn run_demo<L, K: Sink>(
         Ok(shelf) => shelf,
         Err(_) => return Err(Stopped::Memory),
     };
-    run_files(alloc, "config", "script", &mut shelf, sink, reads)
+    run_files(
+        alloc,
+        "config",
+        "script",
+        Purpose::Lines,
+        &mut shelf,
+        sink,
+        reads,
+    )
 }
 
 // Does what the words ask for.
@@ -253,7 +334,13 @@ fn run_request<L, S: Shelf, K: Sink>(
     ensures grow { Grow reads.old reads.new }
 {
     match request {
-        Request::Run(config, script) => run_files(alloc, config, script, shelf, sink, reads),
+        Request::Run(config, script) => {
+            run_files(alloc, config, script, Purpose::Lines, shelf, sink, reads)
+        }
+        Request::Pairs(config, script, rule, at) => {
+            let purpose = Purpose::Undecided(rule, at);
+            run_files(alloc, config, script, purpose, shelf, sink, reads)
+        }
         Request::Count(file, signal, day, hour) => {
             let asked = FileAsked {
                 task: Task::Count,
@@ -312,6 +399,8 @@ fn run_to_end<L, S: Shelf, K: Sink>(
 /// how the run ended. Where the shelf tells its files and the sink its bytes, the bytes that this
 /// call adds are the transcript. Where the answer is `Fault` or `Memory` they are a front of what
 /// the transcript begins with: of the text of the script's first lines, for some number of them.
+/// Words that ask for what a rule leaves undecided have as many transcripts as there are ways to
+/// show it; the bytes are one of these, or a front of one.
 pub fn run<L, S: Shelf, K: Sink>(
     alloc: Global,
     words: &Words,
@@ -319,7 +408,10 @@ pub fn run<L, S: Shelf, K: Sink>(
     sink: &mut K,
     reads: &mut Reads<L>,
 ) -> Status
-    ensures headline { IfSome (S.files shelf.old) (λ files. IsRun words.now files (world (S.counts shelf.old) (K.written sink.old) (K.faults sink.old)) (world (S.counts shelf.new) (K.written sink.new) (K.faults sink.new)) result) }
+    ensures headline { IfSome (S.files shelf.old) (λ files. asks_pairs (asked_of words.now) ≡ false → IsRun words.now files (world (S.counts shelf.old) (K.written sink.old) (K.faults sink.old)) (world (S.counts shelf.new) (K.written sink.new) (K.faults sink.new)) result) }
+
+    // Words that ask for what a rule leaves undecided have more than one transcript.
+    ensures pairs { IfSome (S.files shelf.old) (λ files. asks_pairs (asked_of words.now) ≡ true → IsPairsRun words.now files (world (S.counts shelf.old) (K.written sink.old) (K.faults sink.old)) (world (S.counts shelf.new) (K.written sink.new) (K.faults sink.new)) result) }
 
     // Each answer has its cause, whatever the shelf and the sink tell.
     ensures cause { HasCause (asked_of words.now) (world (S.counts shelf.old) (K.written sink.old) (K.faults sink.old)) (world (S.counts shelf.new) (K.written sink.new) (K.faults sink.new)) result }
@@ -342,7 +434,7 @@ pub fn run<L, S: Shelf, K: Sink>(
 }
 
 /// Law: the words and the files have no more than one transcript, and it begins with what is written
-/// for a script's first lines.
+/// for a script's first lines, unless the words ask for what a rule leaves undecided.
 pub fn transcripts_are_one()
     ensures one { HaveOneTranscript }
     ensures begins { BeginsWithFirstLines }

@@ -376,13 +376,14 @@ pub fn run_script<L, S: Shelf, K: Sink>(
 ) -> Result<bool, Stopped>
     requires { length script.now < 2 ^ 32 }
     ensures transcript { (files : Files) → S.files shelf.old ≡ Some files
-        → TellsAll files session.old.config (lines_of script.now) session.old.store (world (S.counts shelf.old) (K.written sink.old) (K.faults sink.old)) (world (S.counts shelf.new) (K.written sink.new) (K.faults sink.new)) result }
+        → TellsAll files session.old.config (lines_of script.now) session.old.store session.new.store (world (S.counts shelf.old) (K.written sink.old) (K.faults sink.old)) (world (S.counts shelf.new) (K.written sink.new) (K.faults sink.new)) result }
     ensures cause { IsCaused (world (S.counts shelf.old) (K.written sink.old) (K.faults sink.old)) (world (S.counts shelf.new) (K.written sink.new) (K.faults sink.new)) result }
     ensures never_fall { NeverFall (world (S.counts shelf.old) (K.written sink.old) (K.faults sink.old)) (world (S.counts shelf.new) (K.written sink.new) (K.faults sink.new)) }
     ensures opens { (files : Files) → S.files shelf.old ≡ Some files
         → ArePlain session.old.config.window (lines_of script.now)
         → OnOk result (AreCounted (ScriptTally files session.old.config (lines_of script.now)
         session.old.store) reads.old reads.new) }
+    ensures config { session.new.config ≡ session.old.config }
     ensures grow { Grow reads.old reads.new }
 {
     let mut rest = script;

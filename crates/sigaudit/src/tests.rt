@@ -6,6 +6,7 @@ mod limits;
 mod measures;
 mod offsets;
 mod packed;
+mod pairs;
 mod points;
 
 use crate::run::run;

@@ -72,7 +72,7 @@ fn faults_missing_files_and_faulty_words(rt: HostRuntime) -> Result<(), Fail> {
     let none = Words::new(alloc);
     let mut shelf = MemShelf::new(alloc);
     shelf.fail_call(2)?;
-    let mut sink = MemSink::new(alloc, 120)?;
+    let mut sink = MemSink::new(alloc, 140)?;
     let mut reads = Reads::new(Mark);
     for (asked, status) in [
         (&words, Status::NoFile),
@@ -87,7 +87,7 @@ fn faults_missing_files_and_faulty_words(rt: HostRuntime) -> Result<(), Fail> {
     }
     assert_eq!(rt;
         sink.bytes(),
-        b"usage: sigaudit --config C --script S | --count F --signal ID --hour H | --pack F --signal ID --hour H | --demo N\n".as_slice()
+        b"usage: sigaudit --config C --script S [--rule K --at T] | --count F --signal ID --hour H | --pack F --signal ID --hour H | --demo N\n".as_slice()
     );
     Ok(())
 }

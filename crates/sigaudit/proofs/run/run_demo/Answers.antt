@@ -1,17 +1,16 @@
-use Rattle.std.proofs.Common.{◌≡◌, ap, refl}
-use Rattle.demonstration.specs.Files.{config_name, demo_files, script_name}
+use Rattle.std.proofs.Common.{ap, refl}
+use Rattle.demonstration.specs.Files.{demo_files}
 use Rattle.sigaudit.specs.DemoShelf.{DemoFiles, demo_counts}
 use Rattle.sigaudit.specs.Run.{world}
 use Rattle.sigaudit.specs.Status.{status_of_run}
-use Rattle.sigaudit.specs.Transcript.{IsDemoOutcome, limited}
+use Rattle.sigaudit.specs.Transcript.{IsDemoOutcome}
 use Rattle.sigaudit.proofs.DemoFacts.{demo_cause, demo_told, same_hours}
-use Rattle.sigaudit.proofs.RunFacts.{file_begun, run-of_nothing}
+use Rattle.sigaudit.proofs.RunFacts.{run-of_nothing}
 use Rattle.sigaudit.proofs.run.run_demo.Goals as goal
 
 pub returns-in-Err-clause-told : goal.returns-in-Err-clause-told
 returns-in-Err-clause-told g c = λ k.
     run-of_nothing (IsDemoOutcome c.args.hours) k (g.K.Sink.written c.args.sink.now) (g.K.Sink.faults c.args.sink.now)
-    (file_begun (demo_files c.args.hours) script_name (limited 1048576 (demo_files c.args.hours config_name)))
 
 pub returns-clause-told : goal.returns-clause-told
 returns-clause-told g c = λ k.

@@ -4,13 +4,17 @@ use Rattle.sigaudit.specs.Run.{world}
 use Rattle.sigaudit.specs.Status.{status_of_run}
 use Rattle.sigaudit.proofs.DemoFacts.{request_demo}
 use Rattle.sigaudit.proofs.GrowFacts.{grow_once}
-use Rattle.sigaudit.proofs.RunFacts.{request_run, request_count, request_pack, day_back}
+use Rattle.sigaudit.proofs.RunFacts.{request_run, request_pairs, request_count, request_pack, day_back}
 use Rattle.sigaudit.proofs.LineFacts.{told_file}
 use Rattle.sigaudit.proofs.run.run_request.Goals as goal
 
 pub returns-in-Run-clause-told : goal.returns-in-Run-clause-told
 returns-in-Run-clause-told g c = λ files told.
     request_run files (seen c.args.request) c.in-Run.config.now c.in-Run.script.now (world (g.S.Shelf.counts c.args.shelf.now) (g.K.Sink.written c.args.sink.now) (g.K.Sink.faults c.args.sink.now)) (world (g.S.Shelf.counts c.run_files.new.shelf) (g.K.Sink.written c.run_files.new.sink) (g.K.Sink.faults c.run_files.new.sink)) (status_of_run c.run_files.result) (ap seen c.in-Run.is) (c.run_files.ensures.told files told)
+
+pub returns-in-Pairs-clause-told : goal.returns-in-Pairs-clause-told
+returns-in-Pairs-clause-told g c = λ files told.
+    request_pairs files (seen c.args.request) c.in-Pairs.config.now c.in-Pairs.script.now c.in-Pairs.rule c.in-Pairs.at.now (world (g.S.Shelf.counts c.args.shelf.now) (g.K.Sink.written c.args.sink.now) (g.K.Sink.faults c.args.sink.now)) (world (g.S.Shelf.counts c.run_files-in-Pairs.new.shelf) (g.K.Sink.written c.run_files-in-Pairs.new.sink) (g.K.Sink.faults c.run_files-in-Pairs.new.sink)) (status_of_run c.run_files-in-Pairs.result) (ap seen c.in-Pairs.is) (c.run_files-in-Pairs.ensures.told files told)
 
 pub returns-in-Count-clause-told : goal.returns-in-Count-clause-told
 returns-in-Count-clause-told g c = λ files told.

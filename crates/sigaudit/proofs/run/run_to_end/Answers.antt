@@ -6,7 +6,7 @@ use Rattle.sigaudit.specs.Status.{status_of_run}
 use Rattle.sigaudit.specs.Transcript.{IsAnswer}
 use Rattle.sigaudit.proofs.DemoFacts.{alone_as}
 use Rattle.sigaudit.proofs.CountFacts.{answer_counted}
-use Rattle.sigaudit.proofs.RunFacts.{answer_begun, run-of_nothing, asked_is, answer_as, cause_as, needs_as, usage_told, usage_cause}
+use Rattle.sigaudit.proofs.RunFacts.{run-of_nothing, asked_is, answer_as, cause_as, needs_as, usage_told, usage_cause}
 use Rattle.sigaudit.proofs.run.run_to_end.Goals as goal
 
 pub returns-in-Ok-parse_words-clause-told : goal.returns-in-Ok-parse_words-clause-told
@@ -35,10 +35,10 @@ returns-in-Err-Usage-clause-cause g c =
     usage_cause c.args.words.now (g.S.Shelf.counts c.args.shelf.now) _ _ _ _ c.show_usage.result asked c.show_usage.ensures
 
 pub returns-in-Err-clause-told : goal.returns-in-Err-clause-told
-returns-in-Err-clause-told g c = λ files told. run-of_nothing (IsAnswer (asked_of c.args.words.now) files) (g.S.Shelf.counts c.args.shelf.now) (g.K.Sink.written c.args.sink.now) (g.K.Sink.faults c.args.sink.now) (answer_begun (asked_of c.args.words.now) files)
+returns-in-Err-clause-told g c = λ files told. run-of_nothing (IsAnswer (asked_of c.args.words.now) files) (g.S.Shelf.counts c.args.shelf.now) (g.K.Sink.written c.args.sink.now) (g.K.Sink.faults c.args.sink.now)
 
 pub returns-clause-told : goal.returns-clause-told
-returns-clause-told g c = λ files told. run-of_nothing (IsAnswer (asked_of c.args.words.now) files) (g.S.Shelf.counts c.args.shelf.now) (g.K.Sink.written c.args.sink.now) (g.K.Sink.faults c.args.sink.now) (answer_begun (asked_of c.args.words.now) files)
+returns-clause-told g c = λ files told. run-of_nothing (IsAnswer (asked_of c.args.words.now) files) (g.S.Shelf.counts c.args.shelf.now) (g.K.Sink.written c.args.sink.now) (g.K.Sink.faults c.args.sink.now)
 
 pub returns-in-Ok-parse_words-clause-alone : goal.returns-in-Ok-parse_words-clause-alone
 returns-in-Ok-parse_words-clause-alone g c =

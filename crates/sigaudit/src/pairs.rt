@@ -1,0 +1,165 @@
+// What keeps and what breaks the lines that a rule leaves undecided.
+ghost use Rattle.std.specs.Prelude.{◌≡◌, ◌*◌, ◌<◌, ◌≤◌, All, IfSome, Some, flat_map, length};
+ghost use Rattle.outside.specs.Sink.{Puts};
+ghost use Rattle.row_reader.specs.Stamp.{stamp_in};
+ghost use Rattle.rule_audit.specs.Rules.{rules_for};
+ghost use Rattle.session.specs.Sessions.{Grow};
+ghost use Rattle.report_text.specs.Pairs.{IsPairIn, pair_text};
+ghost use Rattle.sigaudit.specs.Pairs.{AreFound, found_text, nothing_text, place_of, rule_within, tenth_within};
+ghost use Rattle.sigaudit.specs.Run.{PutsOne};
+
+use crate::status::Stopped;
+use filling_pair::Pair;
+use outside::{PutFailed, Sink};
+use report_text::put_pair;
+use ring_config::Config;
+use row_reader::read_stamp;
+use rule_audit::{AuditLine, Place, Rule};
+use session::Session;
+use sig_base::{Reads, Tenth, Verdict};
+
+// The number, if one of the rules has it.
+fn rule_within(rules: &[Rule], number: u32) -> Option<u16>
+    requires { length rules.now ≤ 1000 }
+    ensures value { result ≡ rule_within (length rules.now) number }
+    ensures first { IfSome result (λ n. 1 ≤ n) }
+    ensures last { IfSome result (λ n. n ≤ length rules.now) }
+{
+    if number == 0 || number as usize > rules.len() {
+        return None;
+    }
+    Some(number as u16)
+}
+
+// The tenth, if a window of so many hours has it.
+fn tenth_within(hours: u32, at: Tenth) -> Option<u32>
+    requires { hours ≤ 744 }
+    ensures value { result ≡ tenth_within hours at }
+    ensures within { IfSome result (λ t. t < 36000 * hours) }
+{
+    match u32::try_from(at) {
+        Ok(at) if at < 36_000 * hours => Some(at),
+        _ => None,
+    }
+}
+
+// The rule of this number and the tenth that a stamp names, where both are there.
+fn place_of(config: &Config, rules: &[Rule], rule: u32, at: &str) -> Option<(u16, u32)>
+    requires { rules.now ≡ rules_for config.now }
+    ensures value { result ≡ place_of config.now rule (stamp_in config.now.window at.now) }
+    ensures first { IfSome result (λ p. 1 ≤ p.0) }
+    ensures last { IfSome result (λ p. p.0 ≤ length rules.now) }
+    ensures within { IfSome result (λ p. p.1 < 36000 * config.now.window.hours) }
+{
+    let hours = config.hours();
+    let at = read_stamp(at.as_bytes(), config.window())?;
+    match (rule_within(rules, rule), tenth_within(hours, at)) {
+        (Some(rule), Some(at)) => Some((rule, at)),
+        _ => None,
+    }
+}
+
+fn put_nothing<K: Sink>(sink: &mut K) -> Result<(), PutFailed>
+    ensures { Puts (K.written sink.old) (K.written sink.new) (K.faults sink.old) (K.faults sink.new)
+        nothing_text result }
+{
+    sink.put(b"nothing undecided\n")
+}
+
+fn put_each<K: Sink>(
+    config: &Config,
+    line: &AuditLine,
+    pairs: &[Pair],
+    sink: &mut K,
+) -> Result<(), PutFailed>
+    requires at { line.now.at < 36000 * config.now.window.hours }
+    requires pairs { All (IsPairIn config.now.window) pairs.now }
+    ensures { Puts (K.written sink.old) (K.written sink.new) (K.faults sink.old) (K.faults sink.new)
+        (flat_map (pair_text config.now line.now.rule line.now.at) pairs.now) result }
+{
+    for pair in pairs {
+        match put_pair(config, line, pair, sink) {
+            Ok(()) => {}
+            Err(failed) => return Err(failed),
+        }
+    }
+    Ok(())
+}
+
+// Writes the pairs of a line, or that there are none.
+fn put_found<K: Sink>(
+    config: &Config,
+    line: &AuditLine,
+    pairs: &[Pair],
+    sink: &mut K,
+) -> Result<(), PutFailed>
+    requires at { line.now.at < 36000 * config.now.window.hours }
+    requires pairs { All (IsPairIn config.now.window) pairs.now }
+    ensures { Puts (K.written sink.old) (K.written sink.new) (K.faults sink.old) (K.faults sink.new)
+        (found_text config.now line.now.rule line.now.at pairs.now) result }
+{
+    if pairs.is_empty() {
+        return put_nothing(sink);
+    }
+    put_each(config, line, pairs, sink)
+}
+
+// Writes the pairs of a rule and a tenth that are there. All of them are found before anything is
+// written.
+#[tactic(auto, using(crate::proofs::GrowFacts::grow_same))]
+fn put_pairs<L, K: Sink>(
+    rule: u16,
+    at: u32,
+    session: &Session<L>,
+    sink: &mut K,
+    reads: &mut Reads<L>,
+) -> Result<(), Stopped>
+    requires first { 1 ≤ rule }
+    requires last { rule ≤ length (rules_for session.now.config) }
+    requires at { at < 36000 * session.now.config.window.hours }
+    ensures text { PutsOne (AreFound session.now.config session.now.store (Some (rule, at)))
+        (K.written sink.old) (K.written sink.new) (K.faults sink.old) (K.faults sink.new) result }
+    ensures grow { Grow reads.old reads.new }
+{
+    let config = session.config();
+    let pairs = match session.pairs(rule, at, reads) {
+        Ok(pairs) => pairs,
+        Err(_) => return Err(Stopped::Memory),
+    };
+    let line = AuditLine {
+        rule,
+        at,
+        place: Place::EndOfTenth,
+        verdict: Verdict::Undecided,
+        window: None,
+    };
+    match put_found(config, &line, pairs.list(), sink) {
+        Ok(()) => Ok(()),
+        Err(_) => Err(Stopped::Fault),
+    }
+}
+
+/// Writes for each line of the audit that says undecided, of the rule of this number at this stamp,
+/// what keeps it and what breaks it, or the one line that there are none. A rule or a tenth that
+/// isn't there has none.
+#[tactic(auto, using(crate::proofs::GrowFacts::grow_same))]
+pub fn put_undecided<L, K: Sink>(
+    rule: u32,
+    at: &str,
+    session: &Session<L>,
+    sink: &mut K,
+    reads: &mut Reads<L>,
+) -> Result<(), Stopped>
+    ensures text { PutsOne (AreFound session.now.config session.now.store
+        (place_of session.now.config rule (stamp_in session.now.config.window at.now)))
+        (K.written sink.old) (K.written sink.new) (K.faults sink.old) (K.faults sink.new) result }
+    ensures grow { Grow reads.old reads.new }
+{
+    if let Some((rule, at)) = place_of(session.config(), session.rules(), rule, at) {
+        return put_pairs(rule, at, session, sink, reads);
+    }
+    match put_nothing(sink) {
+        Ok(()) => Ok(()),
+        Err(_) => Err(Stopped::Fault),
+    }
+}

@@ -5,3 +5,8 @@ pub mod Standing
 pub mod Letters
 pub mod Ranging
 pub mod Told
+pub mod Pointing
+pub mod Halving
+pub mod Placed
+pub mod Coming
+pub mod Stepping

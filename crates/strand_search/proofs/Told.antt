@@ -33,3 +33,6 @@ hour_told s hour o held blanks rows ss is lt entry fits some same rows_is cut =
       fit = subst (λ (x : List Row). AreRowsOf hour x) (sym rows_is) (rows_fit hour o few fits);
       cut = cut_known s hour (rows_at s hour) s.blanks ss (has_hour s hour is lt) (subst (λ (b : Bool). IsCut (known_in b s.blanks) (36000 * hour) (36000 * hour + 36000) ss) held_is (subst (λ (b : List Span). IsCut (known_in held b) (36000 * hour) (36000 * hour + 36000) ss) same cut));
     }
+
+pub has_told : (s : Store) (hour : ℕ) (o : Option (Bor (List Row))) (blanks : List Span) → IsStore s → hour < length s.hours → option_map (λ x. x.now) o ≡ rows_at s hour → blanks ≡ s.blanks → HasHour s hour (option_copied o) blanks
+has_told s hour o blanks is lt entry same = subst (λ (x : Option (List Row)). HasHour s hour x blanks) (sym (copied_map o ∙ entry)) (subst (λ (b : List Span). HasHour s hour (rows_at s hour) b) (sym same) (has_hour s hour is lt))

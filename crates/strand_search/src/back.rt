@@ -1,7 +1,8 @@
 // Back over the hours before that of the place.
-ghost use Rattle.std.specs.Prelude.{◌≡◌, ◌∷◌, [], ◌+◌, ◌<◌, ◌≤◌, ℕ, length, IfOk};
+ghost use Rattle.std.specs.Prelude.{◌≡◌, ◌∷◌, [], ◌+◌, ◌<◌, ◌≤◌, ℕ, pos, ◌-ℤ◌, length, IfOk};
 ghost use Rattle.reach.specs.Past.{Holds};
 ghost use Rattle.board.specs.Channels.{AreSpecs};
+ghost use Rattle.board.specs.Logs.{first_tenth};
 ghost use Rattle.gap_ways.specs.Ways.{state_of};
 ghost use Rattle.strand_search.specs.Crossings.{AddsHoursBack};
 ghost use Rattle.strand_search.specs.Events.{Grow};
@@ -13,7 +14,7 @@ use board::Pasts;
 use channel_tables::Spec;
 use gap_ways::Entered;
 use hour_store::HourStore;
-use sig_base::{Hour, NoMemory, Reads, Row};
+use sig_base::{Hour, NoMemory, Reads, Row, Tenth};
 use std::alloc::Global;
 
 /// A state at an hour point, and the rows that lead on from there, last first.
@@ -21,6 +22,14 @@ use std::alloc::Global;
 pub(crate) struct Back {
     pub(crate) here: Entered,
     pub(crate) rows: Vec<Row>,
+}
+
+// The tenth to which earlier entries are put at the point after the hour.
+fn limit_after(hour: Hour) -> Tenth
+    requires { hour < 744 }
+    ensures { result ≡ (pos (first_tenth (hour + 1)) -ℤ pos 36001) }
+{
+    i64::from(36_000 * (hour + 1)) - 36_001
 }
 
 // Back over one hour, which is opened.
@@ -43,9 +52,10 @@ fn back_over_hour<L>(
         way.rows.items r.rows.items (state_of r.here) (state_of way.here)) }
     ensures grow { Grow reads.old reads.new }
 {
+    let _hours = store.hours();
     let mut way = way;
     let part = hour_part(alloc, store, hour, reads)?;
-    let limit = i64::from(36_000 * (hour + 1)) - 36_001;
+    let limit = limit_after(hour);
     let before = pasts[hour as usize].at(0);
     let here = clamped_back_over(alloc, spec, &part, before, limit, way.here, &mut way.rows)?;
     Ok(Back {

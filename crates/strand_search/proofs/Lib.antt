@@ -10,3 +10,4 @@ pub mod Halving
 pub mod Placed
 pub mod Coming
 pub mod Stepping
+pub mod Whole

@@ -1,12 +1,11 @@
 -- Whether some history comes at the place to a state that answers.
-use Rattle.std.proofs.Common.{◌≡◌, refl, ap, sym, ◌∙◌, subst, inl, inr, ◌↔◌, ℕ, ◌+◌, ◌*◌, ◌/◌, ◌<◌, ◌≤◌, ℤ, pos, ◌+ℤ◌, ◌≤ℤ◌, ◌<ℤ◌, Bool, true, false, ◌&&◌, List, [], ◌∷◌, ◌++◌, length, take, drop, get_or, reverse, Option, Some, None, arith}
+use Rattle.std.proofs.Common.{◌≡◌, refl, ap, sym, subst, ◌↔◌, ℕ, ◌+◌, ◌/◌, ℤ, pos, Bool, true, false, List, [], ◌∷◌, drop, get_or, reverse, Option, Some, None, arith}
 use Rattle.std.specs.Prelude.{is_some, not, option_map}
 use Rattle.std.proofs.lemmas.Bool.{and_parts}
 use Rattle.std.proofs.lemmas.Int.{ints}
 use Rattle.span_set.specs.declared.set.Span.{Span}
 use Rattle.span_set.specs.Spans.{is_member}
 use Rattle.colour_machine.specs.Mask.{Has}
-use Rattle.colour_machine.specs.Rules.{IsMachine, Rules}
 use Rattle.sig_base.specs.declared.values.Row.{Row}
 use Rattle.sig_base.specs.HourRows.{Shown}
 use Rattle.gap_map.specs.declared.stretch.Stretch.{Stretch}
@@ -14,18 +13,16 @@ use Rattle.gap_map.specs.Stretches.{FollowOn, known_at}
 use Rattle.channel_tables.specs.declared.spec.Spec.{Spec}
 use Rattle.channel_tables.specs.Spec.{rules_of}
 use Rattle.reach.specs.Runs.{State}
-use Rattle.reach.specs.Past.{Holds}
-use Rattle.reach.specs.Ahead.{Admits}
 use Rattle.reach.specs.Tests.{InBound}
 use Rattle.reach.specs.declared.seen.Test.{Test}
 use Rattle.lane.specs.Places.{Passes}
 use Rattle.lane.specs.Walks.{Walk}
-use Rattle.hour_store.specs.Store.{IsStore, Store, held_at, is_known, known_rows, rows_at}
+use Rattle.hour_store.specs.Store.{IsStore, Store, held_at, is_known, rows_at}
 use Rattle.board.specs.Channels.{AreSpecs, track}
 use Rattle.board.specs.History.{Track, events_at}
-use Rattle.board.specs.Logs.{HourLog, end_tenth, first_tenth, hour_log, no_row, no_spec}
+use Rattle.board.specs.Logs.{HourLog, end_tenth, first_tenth, hour_log, no_row}
 use Rattle.board.specs.Moves.{RowsIn, count_before, own}
-use Rattle.board.specs.Places.{IsAtPlace, IsPlace, since, upto}
+use Rattle.board.specs.Places.{IsAtPlace, IsPlace, since}
 use Rattle.board.proofs.Bridge.{own_walk}
 use Rattle.board.proofs.Cutting.{from_walk, since_in, to_walk}
 use Rattle.board.proofs.Verdicts.{end_place}
@@ -33,7 +30,7 @@ use Rattle.board.proofs.Within.{end_is_place}
 use Rattle.signal_log.specs.Log.{HasHistory}
 use Rattle.signal_log.specs.Laws.{ViewsTell}
 use Rattle.signal_log.specs.Points.{AreAheadsAt, ArePastsAt, rows_or_none}
-use Rattle.signal_log.specs.States.{AreAlike, MayBeAfter, MayBeAtEndOf}
+use Rattle.signal_log.specs.States.{AreAlike, MayBeAfter}
 use Rattle.signal_log.specs.Views.{IsHourOf}
 use Rattle.signal_log.proofs.Lawful.{meet_same}
 use Rattle.signal_log.proofs.Suiting.{all_count}
@@ -46,10 +43,10 @@ use Rattle.channel_ways.proofs.Running.{walk_late}
 use Rattle.strand_search.specs.declared.cut.Cut.{Cut}
 use Rattle.strand_search.specs.declared.crossing.Crossing.{Crossing}
 use Rattle.strand_search.specs.declared.search.Asked.{Asked}
-use Rattle.strand_search.specs.Crossings.{FitsCut, GoesOn, IsCrossed, IsCrossing, LeadsOn, LeadsTo, rows_to}
+use Rattle.strand_search.specs.Crossings.{FitsCut, IsCrossed, IsCrossing, LeadsOn, LeadsTo, rows_to}
 use Rattle.strand_search.specs.Parts.{IsCutOf, IsHourPart, StandsAlone, moves_over}
 use Rattle.strand_search.specs.Points.{log_alone}
-use Rattle.strand_search.specs.Runs.{IsAsked, IsPlaceAt, MayComeTo, NoneComes, rows_around, rows_before, test_of}
+use Rattle.strand_search.specs.Runs.{IsAsked, IsPlaceAt, MayComeTo, NoneComes, rows_before, test_of}
 use Rattle.strand_search.proofs.Pieces.{piece_in}
 use Rattle.strand_search.proofs.Stepping.{next_here}
 use Rattle.strand_search.proofs.Placed.{hour_is, left_part, left_tells, left_within, place_here, right_part, right_tells, right_within}

@@ -1,7 +1,6 @@
 -- How many rows stand at some tenths.
-use Rattle.std.proofs.Common.{◌≡◌, refl, sym, ap, ◌∙◌, subst, ◌⊎◌, inl, inr, suc, ℕ, ◌+◌, ◌<◌, ◌≤◌, Bool, true, false, ◌&&◌, ◌||◌, nat_le, nat_lt, List, [], ◌∷◌, ◌++◌, length, take, drop, append-nil, ◌-◌, arith}
+use Rattle.std.proofs.Common.{◌≡◌, refl, sym, ap, ◌∙◌, subst, ◌⊎◌, inl, inr, suc, ℕ, ◌+◌, ◌<◌, ◌≤◌, Bool, true, false, ◌&&◌, nat_le, nat_lt, List, [], ◌∷◌, ◌++◌, length, take, drop, append-nil, ◌-◌, arith}
 use Rattle.std.proofs.lemmas.Bool.{cases_Bool, cases_lt, and_parts, or_parts, leb-true, ltb-true}
-use Rattle.colour_machine.specs.Rules.{Rules}
 use Rattle.reach.specs.Runs.{State}
 use Rattle.sig_base.specs.declared.values.Row.{Row}
 use Rattle.gap_map.specs.declared.stretch.Stretch.{Stretch}
@@ -10,9 +9,8 @@ use Rattle.board.specs.History.{Track}
 use Rattle.board.specs.Logs.{first_tenth, end_tenth}
 use Rattle.board.specs.Moves.{RowsIn, count_before, own, stretch_moves}
 use Rattle.board.specs.Places.{since, upto}
-use Rattle.board.proofs.Bridge.{cut_rows, known_here, known_there, late_end, lt_tells}
+use Rattle.board.proofs.Bridge.{cut_rows, known_here, late_end, lt_tells}
 use Rattle.gap_ways.specs.declared.states.Fill.{Fill}
-use Rattle.gap_ways.specs.Ways.{Way}
 use Rattle.channel_ways.specs.Moves.{Filled}
 use Rattle.hour_ways.specs.Fillings.{AreFillRows}
 use Rattle.hour_ways.proofs.Agreeing.{filled_letters, filled_split, no_rows, rows_split, fillings_agree}

@@ -7,7 +7,7 @@ use Rattle.std.proofs.lemmas.List.{take_more}
 use Rattle.event_codes.specs.declared.channels.Channel.{Channel}
 use Rattle.event_codes.specs.declared.channels.Kind.{Kind}
 use Rattle.event_codes.specs.declared.channels.Kind.TheVariants.{Phase, Ped, Overlap, Detector, PedDetector, PreemptInput, PreemptService, Coordination}
-use Rattle.event_codes.specs.Channels.{Line, channel_by, channel_in_table, channel_lines, number_of, numbered_channel}
+use Rattle.event_codes.specs.Channels.{Line, channel_by, channel_lines, number_of, numbered_channel}
 use Rattle.colour_machine.specs.Rules.{Rules}
 use Rattle.sig_base.specs.declared.values.Row.{Row}
 use Rattle.channel_tables.specs.declared.spec.Spec.{Spec}

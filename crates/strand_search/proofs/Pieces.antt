@@ -1,7 +1,6 @@
 -- Runs over some tenths: from one history of what is known to another, joined, and from states that are alike.
-use Rattle.std.proofs.Common.{◌≡◌, refl, sym, ap, ◌∙◌, subst, inl, inr, ℕ, ◌+◌, ◌<◌, ◌≤◌, ℤ, pos, ◌+ℤ◌, Bool, true, false, if◌then◌else◌, List, [], ◌∷◌, ◌++◌, reverse, Some, IsSome, arith}
+use Rattle.std.proofs.Common.{◌≡◌, refl, sym, ap, ◌∙◌, subst, inl, inr, ℕ, ◌<◌, ◌≤◌, pos, Bool, true, false, if◌then◌else◌, List, [], ◌∷◌, ◌++◌, reverse, arith}
 use Rattle.std.proofs.lemmas.Bool.{cases_Bool}
-use Rattle.std.proofs.lemmas.Bool.Decides.{eqb_tells}
 use Rattle.std.proofs.lemmas.List.{reverse-append}
 use Rattle.colour_machine.specs.Rules.{IsMachine}
 use Rattle.reach.specs.Runs.{State}
@@ -17,12 +16,12 @@ use Rattle.signal_log.proofs.Stored.{rows_end, rows_join}
 use Rattle.gap_ways.specs.declared.states.Fill.{Fill}
 use Rattle.gap_ways.specs.declared.states.Entered.{Entered}
 use Rattle.gap_ways.specs.Ways.{state_of}
-use Rattle.channel_ways.specs.Moves.{AddedMoves, AddedAlike, Filled}
+use Rattle.channel_ways.specs.Moves.{AddedMoves, Filled}
 use Rattle.hour_ways.specs.Fillings.{AreFillRows, AreUnknown}
 use Rattle.hour_ways.proofs.Agreeing.{fillings_agree, join_early, join_late, unknown_join}
-use Rattle.strand_search.specs.Events.{AddsLetters, AreFew, AreLetters, NoneKnown}
+use Rattle.strand_search.specs.Events.{AddsLetters, AreLetters}
 use Rattle.strand_search.specs.Parts.{IsPart}
-use Rattle.strand_search.specs.Pieces.{AddsAlike, AddsBack, AddsPiece, Piece, mixed}
+use Rattle.strand_search.specs.Pieces.{AddsBack, AddsPiece, Piece, mixed}
 use Rattle.strand_search.proofs.Counting.{IsApart, few_join, part_few}
 
 -- ---- letters as rows

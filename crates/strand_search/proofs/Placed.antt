@@ -1,28 +1,22 @@
 -- The hour of the place.
-use Rattle.std.proofs.Common.{◌≡◌, refl, ap, sym, ◌∙◌, subst, inl, inr, ℕ, ◌+◌, ◌*◌, ◌/◌, ◌<◌, ◌≤◌, ◌^◌, ℤ, pos, negsuc, ◌-ℤ◌, ◌≤ℤ◌, ◌<ℤ◌, Bool, true, List, [], ◌∷◌, ◌++◌, length, length-take, length-drop, take, drop, get_or, reverse, Option, Some, None, arith}
+use Rattle.std.proofs.Common.{◌≡◌, refl, ap, sym, ◌∙◌, subst, inl, inr, ℕ, ◌+◌, ◌*◌, ◌/◌, ◌<◌, ◌≤◌, ◌^◌, ℤ, pos, true, List, [], length, length-take, length-drop, take, drop, get_or, Option, Some, None, arith}
 use Rattle.std.proofs.lemmas.Int.{ints}
 use Rattle.span_set.specs.declared.set.Span.{Span}
-use Rattle.colour_machine.specs.Rules.{IsMachine}
 use Rattle.sig_base.specs.declared.values.Row.{Row}
 use Rattle.gap_map.specs.declared.stretch.Stretch.{Stretch}
-use Rattle.gap_map.specs.Stretches.{FollowOn, known_at}
+use Rattle.gap_map.specs.Stretches.{known_at}
 use Rattle.gap_map.proofs.Following.{follow, known_at_is}
 use Rattle.channel_tables.specs.declared.spec.Spec.{Spec}
 use Rattle.channel_tables.specs.Spec.{rules_of}
-use Rattle.reach.specs.Runs.{State, state}
-use Rattle.reach.specs.Past.{Holds}
-use Rattle.lane.specs.Walks.{EnteredBefore}
 use Rattle.lane.proofs.Moving.{earlier_low}
 use Rattle.hour_store.specs.Store.{IsStore, Store, is_known, known_rows, rows_at}
-use Rattle.board.specs.Channels.{AreSpecs, track}
+use Rattle.board.specs.Channels.{track}
 use Rattle.board.specs.History.{Event, events_at}
-use Rattle.board.specs.Logs.{IsHour, end_tenth, first_tenth, no_row}
-use Rattle.board.specs.Moves.{RowsIn}
+use Rattle.board.specs.Logs.{IsHour, end_tenth, first_tenth}
 use Rattle.board.specs.Places.{IsPlace, since, upto}
-use Rattle.board.proofs.Bridge.{late_end}
 use Rattle.board.proofs.Tracks.{spec_lettered}
 use Rattle.board.proofs.Within.{end_is_place, known_within, row_place}
-use Rattle.signal_log.specs.Points.{AreAheadsAt, ArePastsAt, rows_or_none}
+use Rattle.signal_log.specs.Points.{AreAheadsAt, ArePastsAt}
 use Rattle.signal_log.proofs.Contradicting.{place_events}
 use Rattle.signal_log.proofs.Hour.{SameIn}
 use Rattle.signal_log.proofs.Runs.{from_same, upto_same}
@@ -35,7 +29,7 @@ use Rattle.strand_search.specs.Crossings.{FitsCut, events_to, rows_to}
 use Rattle.strand_search.specs.Parts.{IsCutOf, IsHourPart, IsPart, IsPartOf, moves_over}
 use Rattle.strand_search.specs.Pieces.{on_from, up_to}
 use Rattle.strand_search.specs.Points.{log_alone}
-use Rattle.strand_search.specs.Runs.{IsAsked, IsPlaceAt, rows_around}
+use Rattle.strand_search.specs.Runs.{IsAsked, IsPlaceAt}
 use Rattle.strand_search.proofs.Counting.{since_alternate, upto_alternate}
 use Rattle.strand_search.proofs.Halving.{later_events, moves_after, since_stretches, takes_from, upto_stretches}
 use Rattle.strand_search.proofs.Pieces.{IsWithin}

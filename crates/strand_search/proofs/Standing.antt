@@ -1,14 +1,12 @@
 -- A state that stands alone, and where moves lead it.
-use Rattle.std.proofs.Common.{◌≡◌, refl, sym, ap, subst, ℕ, ◌+◌, ◌<◌, ◌≤◌, ◌^◌, ℤ, pos, negsuc, ◌<ℤ◌, ◌≤ℤ◌, List, [], ◌∷◌, ◌++◌, reverse, arith}
+use Rattle.std.proofs.Common.{◌≡◌, sym, ap, subst, ℕ, ◌+◌, ◌≤◌, ◌^◌, ℤ, pos, negsuc, ◌≤ℤ◌, List, [], ◌∷◌, ◌++◌, reverse, arith}
 use Rattle.std.proofs.lemmas.Int.{ints}
 use Rattle.std.proofs.lemmas.List.{reverse-append, reverse-reverse}
 use Rattle.colour_machine.specs.Rules.{Rules}
-use Rattle.span_set.specs.declared.set.Span.{Span}
 use Rattle.reach.specs.Runs.{State}
-use Rattle.reach.specs.Past.{Holds}
 use Rattle.lane.specs.declared.moves.Move.{Move}
 use Rattle.lane.specs.declared.moves.Move.TheVariants.{Letter, Gap}
-use Rattle.lane.specs.Walks.{AfterMoves, EnteredBefore, InOrder, limit_after}
+use Rattle.lane.specs.Walks.{AfterMoves, EnteredBefore, InOrder}
 use Rattle.lane.specs.Places.{limit_of}
 use Rattle.lane.proofs.Moving.{walk_early}
 use Rattle.gap_ways.specs.declared.states.Fill.{Fill}

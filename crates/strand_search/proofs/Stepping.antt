@@ -1,11 +1,10 @@
 -- One hour before that of the place, or after it.
-use Rattle.std.proofs.Common.{◌≡◌, refl, ap, sym, ◌∙◌, subst, ◌⊎◌, inl, inr, ◌↔◌, ℕ, ◌+◌, ◌*◌, ◌<◌, ◌≤◌, ◌^◌, ℤ, pos, negsuc, ◌+ℤ◌, ◌-ℤ◌, ◌≤ℤ◌, ◌<ℤ◌, Bool, true, List, [], ◌∷◌, ◌++◌, append_assoc, append-nil, length, get_or, reverse, Option, arith}
+use Rattle.std.proofs.Common.{◌≡◌, refl, ap, sym, ◌∙◌, subst, ◌⊎◌, inl, inr, ℕ, ◌+◌, ◌*◌, ◌<◌, ◌≤◌, ◌^◌, ℤ, pos, negsuc, ◌+ℤ◌, ◌-ℤ◌, ◌≤ℤ◌, ◌<ℤ◌, Bool, true, List, [], ◌∷◌, ◌++◌, append_assoc, append-nil, length, get_or, reverse, Option, arith}
 use Rattle.std.proofs.lemmas.Int.{ints}
 use Rattle.std.proofs.lemmas.List.{reverse-append}
 use Rattle.span_set.specs.declared.set.Span.{Span}
 use Rattle.colour_machine.specs.Rules.{IsMachine}
 use Rattle.sig_base.specs.declared.values.Row.{Row}
-use Rattle.gap_map.specs.declared.stretch.Stretch.{Stretch}
 use Rattle.gap_map.specs.Stretches.{known_at}
 use Rattle.channel_tables.specs.declared.spec.Spec.{Spec}
 use Rattle.channel_tables.specs.Spec.{rules_of}
@@ -14,20 +13,18 @@ use Rattle.reach.specs.Runs.{State, state}
 use Rattle.reach.specs.Past.{Holds}
 use Rattle.reach.specs.Ahead.{Admits}
 use Rattle.reach.proofs.States.{in_sets}
-use Rattle.lane.specs.Walks.{AfterMoves, BeforeMoves}
+use Rattle.lane.specs.Walks.{BeforeMoves}
 use Rattle.hour_store.specs.Store.{IsStore, Store, is_known, known_rows, rows_at}
 use Rattle.board.specs.Channels.{AreSpecs, track}
 use Rattle.board.specs.History.{Agreeing, Event, Track, events_at}
 use Rattle.board.specs.Hours.{Clamped, IsAfterHour}
 use Rattle.board.specs.Logs.{end_tenth, first_tenth}
-use Rattle.board.specs.Moves.{RowsIn, own}
-use Rattle.board.proofs.Alike.{Alike}
 use Rattle.board.proofs.Bridge.{agreeing_join, agreeing_none, own_walk}
 use Rattle.board.proofs.Plain.{after_hour}
 use Rattle.board.proofs.Within.{hour_rows, known_within}
 use Rattle.signal_log.specs.Log.{IsBeforeWindow}
-use Rattle.signal_log.specs.Points.{AreAheadsAt, ArePastsAt, rows_or_none}
-use Rattle.signal_log.proofs.Hour.{SameIn, after_point, cut_tells, reached_colour, run_in}
+use Rattle.signal_log.specs.Points.{AreAheadsAt, ArePastsAt}
+use Rattle.signal_log.proofs.Hour.{SameIn, after_point, cut_tells, run_in}
 use Rattle.signal_log.proofs.Runs.{agreeing_colour, agreeing_early, alike_later}
 use Rattle.gap_ways.specs.declared.states.Entered.{Entered}
 use Rattle.gap_ways.specs.Ways.{state_of}
@@ -35,7 +32,7 @@ use Rattle.channel_ways.specs.Moves.{Alike as Like, ClampedAfter, IsAlone}
 use Rattle.channel_ways.specs.declared.passage.Passing.{Passing}
 use Rattle.strand_search.specs.declared.part.Part.{Part}
 use Rattle.strand_search.specs.Crossings.{AddsHours, AddsHoursBack, GoesOn}
-use Rattle.strand_search.specs.Parts.{GoOn, IsHourPart, IsPart, IsPartOf, StandsAlone, moves_over}
+use Rattle.strand_search.specs.Parts.{GoOn, IsHourPart, IsPartOf, moves_over}
 use Rattle.strand_search.specs.Pieces.{AddsAlike, AddsPiece, Piece}
 use Rattle.strand_search.specs.Points.{log_alone}
 use Rattle.strand_search.proofs.Counting.{point_apart}
@@ -141,10 +138,13 @@ hours_more d s from h to old mid new a b c (qs, e, first) (ps, q, last) = (
 )
 
 like_join : (p : ℤ) (a b c : State) → Like p a b → Like p b c → Like p a c
-like_join p a b c (e, k) (q, l) = (q ∙ e, elim k [
-  | inl same ↦ subst (λ (z : State). (c ≡ z) ⊎ (((z.entry +ℤ pos 36001) ≤ℤ p) × ((c.entry +ℤ pos 36001) ≤ℤ p))) same l
-  | inr (x, y) ↦ elim l [ inl same ↦ inr (x, subst (λ (z : State). (z.entry +ℤ pos 36001) ≤ℤ p) (sym same) y) | inr (z, w) ↦ inr (x, w) ]
-])
+like_join p a b c (e, k) (q, l) = (
+  q ∙ e,
+  elim k [
+    | inl same ↦ subst (λ (z : State). (c ≡ z) ⊎ (((z.entry +ℤ pos 36001) ≤ℤ p) × ((c.entry +ℤ pos 36001) ≤ℤ p))) same l
+    | inr (x, y) ↦ elim l [ inl same ↦ inr (x, subst (λ (z : State). (z.entry +ℤ pos 36001) ≤ℤ p) (sym same) y) | inr (z, w) ↦ inr (x, w) ]
+  ],
+)
 
 -- a state that is held has one of the machine's colours
 pub held_colour : (d : Spec) (s : Store) (k : ℕ) (pasts : List (List (List Span))) (u : State) → ArePastsAt (log_alone d s) k pasts → Holds (get_or pasts 0 []) u → u.colour < (rules_of d).colours
@@ -160,9 +160,12 @@ pub hours_back_more : (d : Spec) (s : Store) (from h to : ℕ) (old mid new : Li
 hours_back_more d s from h to old mid new a b c are le colour (w, like, (qs, e, last)) (z, same, (ps, q, first)) =
     let k = track d in
     let (v, moved, still) = piece_alike k (is_known s) (events_at (known_rows s)) (first_tenth h) (first_tenth to) (reverse qs) b w z (machine_laws d are) (colour, same.0, same.1) last in
-    let later = alike_later k.rules (pos (first_tenth h)) (pos (first_tenth to)) w v (omega (arith, ints)) still in
-    (v, like_join (pos (first_tenth to)) c w v like (later.1, later.2), (
-      qs ++ ps,
-      q ∙ (ap (λ (y : List Row). y ++ ps) e ∙ append_assoc old qs ps),
-      subst (λ (y : List Row). Piece k (is_known s) (events_at (known_rows s)) (first_tenth from) (first_tenth to) y a v) (sym (reverse-append qs ps)) (piece_join k (is_known s) (events_at (known_rows s)) (first_tenth from) (first_tenth h) (first_tenth to) (reverse ps) (reverse qs) a z v (point_apart (is_known s) h) first moved),
-    ))
+    let later = alike_later k.rules (pos (first_tenth h)) (pos (first_tenth to)) w v (omega (arith, ints)) still in (
+      v,
+      like_join (pos (first_tenth to)) c w v like (later.1, later.2),
+      (
+        qs ++ ps,
+        q ∙ (ap (λ (y : List Row). y ++ ps) e ∙ append_assoc old qs ps),
+        subst (λ (y : List Row). Piece k (is_known s) (events_at (known_rows s)) (first_tenth from) (first_tenth to) y a v) (sym (reverse-append qs ps)) (piece_join k (is_known s) (events_at (known_rows s)) (first_tenth from) (first_tenth h) (first_tenth to) (reverse ps) (reverse qs) a z v (point_apart (is_known s) h) first moved),
+      ),
+    )

@@ -1,14 +1,12 @@
 -- The run over the whole window.
-use Rattle.std.proofs.Common.{◌≡◌, ◌≢◌, refl, ap, sym, ◌∙◌, subst, ◌⊎◌, inl, inr, ℕ, ◌+◌, ◌*◌, ◌/◌, ◌<◌, ◌≤◌, ℤ, pos, ◌+ℤ◌, ◌≤ℤ◌, ◌<ℤ◌, Bool, true, false, if◌then◌else◌, List, [], ◌∷◌, ◌++◌, append-nil, length, take, drop, take_all, get_or, reverse, Option, Some, None, arith}
-use Rattle.std.proofs.lemmas.Bool.{cases_Bool, cases_eq}
+use Rattle.std.proofs.Common.{◌≡◌, refl, ap, sym, ◌∙◌, subst, inl, inr, ℕ, ◌+◌, ◌*◌, ◌/◌, ◌<◌, ◌≤◌, pos, Bool, true, false, List, [], ◌∷◌, ◌++◌, length, take, drop, take_all, get_or, reverse, Option, Some, None, arith}
+use Rattle.std.proofs.lemmas.Bool.{cases_eq}
 use Rattle.std.proofs.lemmas.Int.{ints}
 use Rattle.std.proofs.lemmas.List.{reverse-append}
 use Rattle.span_set.specs.declared.set.Span.{Span}
-use Rattle.colour_machine.specs.Rules.{IsMachine}
 use Rattle.std.specs.Prelude.{option_map}
 use Rattle.sig_base.specs.declared.values.Row.{Row}
 use Rattle.sig_base.specs.HourRows.{Shown}
-use Rattle.gap_map.specs.declared.stretch.Stretch.{Stretch}
 use Rattle.channel_tables.specs.declared.spec.Spec.{Spec}
 use Rattle.channel_tables.specs.Spec.{rules_of}
 use Rattle.reach.specs.Runs.{State, Steps, state}
@@ -16,9 +14,8 @@ use Rattle.reach.specs.Past.{Holds}
 use Rattle.hour_store.specs.Store.{IsStore, Store, held_at, is_known, known_rows, rows_at}
 use Rattle.board.specs.Channels.{AreSpecs, track}
 use Rattle.board.specs.History.{Agreeing, Event, Track, events_at, letters}
-use Rattle.board.specs.Logs.{end_tenth, first_tenth, no_row}
-use Rattle.board.specs.Moves.{RowsIn, count_before}
-use Rattle.board.proofs.Alike.{Alike}
+use Rattle.board.specs.Logs.{end_tenth, first_tenth}
+use Rattle.board.specs.Moves.{RowsIn}
 use Rattle.board.proofs.Bridge.{agreeing_same, cut_rows}
 use Rattle.signal_log.specs.Log.{IsBeforeWindow}
 use Rattle.signal_log.specs.Points.{ArePastsAt, rows_or_none}
@@ -34,9 +31,9 @@ use Rattle.strand_search.specs.declared.crossing.Crossing.{Crossing}
 use Rattle.strand_search.specs.declared.search.Asked.{Asked}
 use Rattle.strand_search.specs.declared.search.Found.{Found}
 use Rattle.strand_search.specs.Crossings.{AddsHours, AddsHoursBack, IsCrossed, LeadsOn, LeadsTo, events_to, rows_to}
-use Rattle.strand_search.specs.Pieces.{Piece, mixed, on_from, up_to}
+use Rattle.strand_search.specs.Pieces.{mixed, on_from, up_to}
 use Rattle.strand_search.specs.Points.{ArePastsUpTo, log_alone, past_at}
-use Rattle.strand_search.specs.Runs.{ComesTo, IsAsked, IsFound, IsPlaceAt, Leads, end_of, rows_around, rows_before, stands, start_of, test_of}
+use Rattle.strand_search.specs.Runs.{ComesTo, IsAsked, IsFound, IsPlaceAt, end_of, rows_around, rows_before, stands, start_of, test_of}
 use Rattle.strand_search.proofs.Coming.{answers_same}
 use Rattle.strand_search.proofs.Counting.{few_join, known_apart, point_apart}
 use Rattle.strand_search.proofs.Pieces.{letters_join, piece_alike, piece_given, piece_join}

@@ -1,5 +1,5 @@
 -- A run over the place, hour by hour.
-use Rattle.std.specs.Prelude.{◌≡◌, ℕ, ◌+◌, ◌*◌, ◌/◌, ◌<◌, ◌≤◌, ◌^◌, ℤ, pos, negsuc, ◌≤ℤ◌, Option, Some, None, List, [], ◌∷◌, length, reverse, take, slice_index_or}
+use Rattle.std.specs.Prelude.{◌≡◌, ℕ, ◌+◌, ◌/◌, ◌<◌, ◌≤◌, ◌^◌, ℤ, pos, negsuc, ◌≤ℤ◌, Option, Some, None, List, [], length, reverse, take, slice_index_or}
 use Rattle.span_set.specs.declared.set.Span.{Span}
 use Rattle.sig_base.specs.declared.values.Row.{Row}
 use Rattle.reach.specs.Runs.{State}
@@ -16,7 +16,6 @@ use Rattle.board.specs.Logs.{first_tenth}
 use Rattle.board.specs.Moves.{count_before}
 use Rattle.gap_ways.specs.Choices.{Answers}
 use Rattle.gap_ways.specs.Ways.{NoneOlder, state_of}
-use Rattle.gap_ways.specs.declared.states.Entered.{Entered}
 use Rattle.channel_ways.specs.declared.passage.Passing.{Passing}
 use Rattle.channel_ways.specs.Moves.{IsAlone}
 use Rattle.signal_log.specs.States.{IsCompleted}

@@ -1,5 +1,5 @@
 -- Rows that are letters of a channel.
-use Rattle.std.specs.Prelude.{◌≡◌, ◌+◌, ℕ, suc, ◌<◌, ◌≤◌, ℤ, pos, ◌≤ℤ◌, ◌<ℤ◌, ◌&&◌, nat_le, nat_lt, min, ◌-◌, ◌^◌, Bool, false, if◌then◌else◌, IsSome, List, [], ◌∷◌, ◌++◌, slice_index}
+use Rattle.std.specs.Prelude.{◌≡◌, ℕ, suc, ◌<◌, ◌≤◌, pos, ◌≤ℤ◌, ◌<ℤ◌, ◌&&◌, nat_le, nat_lt, min, ◌-◌, ◌^◌, Bool, false, if◌then◌else◌, IsSome, List, [], ◌∷◌, ◌++◌, slice_index}
 use Rattle.sig_base.specs.declared.values.Row.{Row}
 use Rattle.colour_machine.specs.Rules.{Rules}
 use Rattle.board.specs.History.{Track}

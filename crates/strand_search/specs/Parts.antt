@@ -1,14 +1,12 @@
 -- Some tenths of a store: their rows, and their stretches by what is known.
-use Rattle.std.specs.Prelude.{◌≡◌, ◌↔◌, ℕ, ◌+◌, ◌*◌, ◌<◌, ◌≤◌, ◌^◌, ℤ, pos, negsuc, ◌≤ℤ◌, ◌<ℤ◌, List, Option, length, take, drop}
+use Rattle.std.specs.Prelude.{◌≡◌, ℕ, ◌+◌, ◌*◌, ◌<◌, ◌≤◌, ◌^◌, pos, negsuc, ◌≤ℤ◌, ◌<ℤ◌, List, length, take, drop}
 use Rattle.sig_base.specs.declared.values.Row.{Row}
 use Rattle.sig_base.specs.HourRows.{AreRowsOf}
-use Rattle.span_set.specs.declared.set.Span.{Span}
 use Rattle.colour_machine.specs.Rules.{Rules}
 use Rattle.gap_map.specs.declared.stretch.Stretch.{Stretch}
 use Rattle.gap_map.specs.Stretches.{Alternate, FollowOn, IsCut}
-use Rattle.reach.specs.Runs.{State}
 use Rattle.lane.specs.declared.moves.Move.{Move}
-use Rattle.lane.specs.Walks.{EnteredBefore, InOrder}
+use Rattle.lane.specs.Walks.{InOrder}
 use Rattle.lane.specs.Places.{limit_of}
 use Rattle.hour_store.specs.Store.{Store, is_known, rows_at}
 use Rattle.channel_tables.specs.declared.spec.Spec.{Spec}

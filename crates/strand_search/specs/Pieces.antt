@@ -1,5 +1,5 @@
 -- Runs of one channel over some tenths, with rows put at unknown ones.
-use Rattle.std.specs.Prelude.{◌≡◌, ℕ, ◌+◌, pos, ℤ, ◌+ℤ◌, Bool, true, nat_eq, if◌then◌else◌, List, ◌++◌, reverse, take, drop}
+use Rattle.std.specs.Prelude.{◌≡◌, ℕ, ℤ, Bool, true, nat_eq, if◌then◌else◌, List, ◌++◌, reverse, take, drop}
 use Rattle.sig_base.specs.declared.values.Row.{Row}
 use Rattle.reach.specs.Runs.{State}
 use Rattle.board.specs.History.{Agreeing, Event, Track, events_at}

@@ -1,5 +1,5 @@
 -- One channel's states at the hour points of a window.
-use Rattle.std.specs.Prelude.{◌≡◌, ℕ, ◌+◌, ◌<◌, ◌≤◌, ℤ, List, [], ◌∷◌, Option, length, slice_index_or}
+use Rattle.std.specs.Prelude.{◌≡◌, ℕ, ◌+◌, ◌≤◌, ℤ, List, [], ◌∷◌, Option, length, slice_index_or}
 use Rattle.span_set.specs.declared.set.Span.{Span}
 use Rattle.channel_tables.specs.declared.spec.Spec.{Spec}
 use Rattle.hour_store.specs.Store.{Store}

@@ -1,5 +1,5 @@
 -- Runs of one channel over the whole window of a store.
-use Rattle.std.specs.Prelude.{◌≡◌, ℕ, ◌+◌, ◌*◌, ◌/◌, ◌<◌, pos, Bool, true, Option, Some, None, List, [], ◌∷◌, length, take, slice_index_or}
+use Rattle.std.specs.Prelude.{◌≡◌, ℕ, ◌+◌, ◌*◌, ◌/◌, ◌<◌, pos, true, Option, Some, None, List, [], ◌∷◌, length, take, slice_index_or}
 use Rattle.sig_base.specs.declared.values.Row.{Row}
 use Rattle.reach.specs.Runs.{State, Steps, state}
 use Rattle.reach.specs.declared.seen.Test.{Test}
@@ -9,9 +9,9 @@ use Rattle.hour_store.specs.Store.{Store, is_known, known_rows, rows_at}
 use Rattle.board.specs.Channels.{track}
 use Rattle.board.specs.History.{Agreeing, Event, events_at, letters}
 use Rattle.board.specs.Logs.{no_row}
-use Rattle.board.specs.Moves.{RowsIn, count_before}
+use Rattle.board.specs.Moves.{RowsIn}
 use Rattle.signal_log.specs.Laws.{IsWithinHour}
-use Rattle.signal_log.specs.Log.{IsBeforeWindow, Log, log_of}
+use Rattle.signal_log.specs.Log.{IsBeforeWindow, log_of}
 use Rattle.signal_log.specs.Points.{rows_or_none}
 use Rattle.signal_log.specs.States.{MayBeAfter, MayBeAtEndOf}
 use Rattle.gap_ways.specs.Choices.{Answers}

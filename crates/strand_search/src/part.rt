@@ -64,16 +64,17 @@ fn only(courses: Vec<Course>) -> Course
 }
 
 /// The moves of one channel over the part.
-pub(crate) fn course_of(
-    alloc: Global,
-    spec: &Spec,
-    part: &Part<'_>,
-) -> Result<Course, NoMemory>
+pub(crate) fn course_of(alloc: Global, spec: &Spec, part: &Part<'_>) -> Result<Course, NoMemory>
     requires spec { AreSpecs (spec.now ∷ []) }
     requires few { length part.now.rows.now < 2 ^ 32 }
     ensures { IfOk result (λ c. c
         ≡ own (track spec.now) 0 part.now.rows.now part.now.stretches.items) }
 {
-    let courses = courses_of(alloc, std::slice::from_ref(spec), part.rows, &part.stretches)?;
+    let courses = courses_of(
+        alloc,
+        std::slice::from_ref(spec),
+        part.rows,
+        &part.stretches,
+    )?;
     Ok(only(courses))
 }

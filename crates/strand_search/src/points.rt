@@ -40,11 +40,7 @@ fn next_pasts<L>(
 }
 
 // The states before the window.
-fn first_pasts<L>(
-    alloc: Global,
-    store: &HourStore<L>,
-    spec: &Spec,
-) -> Result<Pasts, NoMemory>
+fn first_pasts<L>(alloc: Global, store: &HourStore<L>, spec: &Spec) -> Result<Pasts, NoMemory>
     requires spec { AreSpecs (spec.now ∷ []) }
     ensures { IfOk result (ArePastsAt (log_alone spec.now store.now) 0) }
 {
@@ -81,11 +77,7 @@ pub(crate) fn pasts_up_to<L>(
 }
 
 // The states that can be completed at the window's end.
-fn last_aheads<L>(
-    alloc: Global,
-    store: &HourStore<L>,
-    spec: &Spec,
-) -> Result<Aheads, NoMemory>
+fn last_aheads<L>(alloc: Global, store: &HourStore<L>, spec: &Spec) -> Result<Aheads, NoMemory>
     requires spec { AreSpecs (spec.now ∷ []) }
     ensures { IfOk result (AreAheadsAt (log_alone spec.now store.now) (length store.now.hours)) }
 {

@@ -1,8 +1,5 @@
-use Rattle.std.proofs.Common.{◌≡◌, ◌+◌, ◌-◌, ◌<◌, ℕ, subst, sym, arith}
-use Rattle.reach.specs.Past.{Holds}
+use Rattle.std.proofs.Common.{◌≡◌, ◌+◌, ◌-◌, arith}
 use Rattle.gap_ways.specs.Ways.{state_of}
-use Rattle.strand_search.specs.Crossings.{AddsHoursBack}
-use Rattle.strand_search.specs.Points.{past_at}
 use Rattle.strand_search.proofs.Growing.{grow_on, grow_same}
 use Rattle.strand_search.proofs.Stepping.{held_colour, hours_back_more, hours_back_none}
 use Rattle.strand_search.proofs.back.back_to_start.Goals as goal

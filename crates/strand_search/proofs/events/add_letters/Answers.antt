@@ -1,6 +1,6 @@
-use Rattle.std.proofs.Common.{rules, arith, pos, ◌≡◌, sym, ap, ◌∙◌, get_or, w64}
+use Rattle.std.proofs.Common.{rules, arith, pos, sym, ap, ◌∙◌, get_or, w64}
 use Rattle.std.specs.Prelude.{FitsSigned}
-use Rattle.std.proofs.lemmas.Int.{ints, to_z-of_z}
+use Rattle.std.proofs.lemmas.Int.{to_z-of_z}
 use Rattle.channel_tables.specs.Spec.{rules_of}
 use Rattle.gap_ways.specs.declared.states.Fill.{Fill}
 use Rattle.board.specs.Channels.{track}

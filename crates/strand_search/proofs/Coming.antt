@@ -1,11 +1,12 @@
 -- Whether some history comes at the place to a state that answers.
-use Rattle.std.proofs.Common.{◌≡◌, refl, ap, sym, subst, ◌↔◌, ℕ, ◌+◌, ◌/◌, ℤ, pos, Bool, true, false, List, [], ◌∷◌, drop, get_or, reverse, Option, Some, None, arith}
+use Rattle.std.proofs.Common.{◌≡◌, refl, ap, sym, subst, ◌⊎◌, inl, inr, ◌↔◌, ℕ, ◌+◌, ◌/◌, ◌≤◌, ℤ, pos, ◌+ℤ◌, ◌≤ℤ◌, Bool, true, false, List, [], ◌∷◌, drop, get_or, reverse, Option, Some, None, arith}
 use Rattle.std.specs.Prelude.{is_some, not, option_map}
 use Rattle.std.proofs.lemmas.Bool.{and_parts}
 use Rattle.std.proofs.lemmas.Int.{ints}
 use Rattle.span_set.specs.declared.set.Span.{Span}
 use Rattle.span_set.specs.Spans.{is_member}
 use Rattle.colour_machine.specs.Mask.{Has}
+use Rattle.colour_machine.specs.Rules.{Rules}
 use Rattle.sig_base.specs.declared.values.Row.{Row}
 use Rattle.sig_base.specs.HourRows.{Shown}
 use Rattle.gap_map.specs.declared.stretch.Stretch.{Stretch}
@@ -14,6 +15,8 @@ use Rattle.channel_tables.specs.declared.spec.Spec.{Spec}
 use Rattle.channel_tables.specs.Spec.{rules_of}
 use Rattle.reach.specs.Runs.{State}
 use Rattle.reach.specs.Tests.{InBound}
+use Rattle.reach.specs.declared.seen.AgeBound.{AgeBound}
+use Rattle.reach.specs.declared.seen.AgeBound.TheVariants.{Any, AtLeast, AtMost}
 use Rattle.reach.specs.declared.seen.Test.{Test}
 use Rattle.lane.specs.Places.{Passes}
 use Rattle.lane.specs.Walks.{Walk}
@@ -32,7 +35,6 @@ use Rattle.signal_log.specs.Laws.{ViewsTell}
 use Rattle.signal_log.specs.Points.{AreAheadsAt, ArePastsAt, rows_or_none}
 use Rattle.signal_log.specs.States.{AreAlike, MayBeAfter}
 use Rattle.signal_log.specs.Views.{IsHourOf}
-use Rattle.signal_log.proofs.Lawful.{meet_same}
 use Rattle.signal_log.proofs.Suiting.{all_count}
 use Rattle.signal_log.proofs.Viewed.{hours_tell}
 use Rattle.gap_ways.specs.Choices.{Answers}
@@ -46,7 +48,7 @@ use Rattle.strand_search.specs.declared.search.Asked.{Asked}
 use Rattle.strand_search.specs.Crossings.{FitsCut, IsCrossed, IsCrossing, LeadsOn, LeadsTo, rows_to}
 use Rattle.strand_search.specs.Parts.{IsCutOf, IsHourPart, StandsAlone, moves_over}
 use Rattle.strand_search.specs.Points.{log_alone}
-use Rattle.strand_search.specs.Runs.{IsAsked, IsPlaceAt, MayComeTo, NoneComes, rows_before, test_of}
+use Rattle.strand_search.specs.Runs.{IsAsked, IsPlaceAt, MayComeTo, NoneComes, rows_before, TellsWithinHour, test_of}
 use Rattle.strand_search.proofs.Pieces.{piece_in}
 use Rattle.strand_search.proofs.Stepping.{next_here}
 use Rattle.strand_search.proofs.Placed.{hour_is, left_part, left_tells, left_within, place_here, right_part, right_tells, right_within}
@@ -64,6 +66,24 @@ stands_here d asked before cut after here fits (((z, held, walk), on), answers, 
 pub answers_same : (met : Bool) (test : Test) (v w : State) → v.colour ≡ w.colour → (InBound test.bound test.at v.entry ↔ InBound test.bound test.at w.entry) → Answers met test v → Answers met test w
 answers_same true test v w same both (has, bound) = (subst (λ (c : ℕ). Has test.colours c) same has, both.0 bound)
 answers_same false test v w same both fails = λ (has, bound). fails (subst (λ (c : ℕ). Has test.colours c) (sym same) has, both.1 bound)
+
+far_least : (p at e : ℤ) (n : ℕ) → (e +ℤ pos 36001) ≤ℤ p → p ≤ℤ at → n ≤ 36001 → (e +ℤ pos n) ≤ℤ at
+far_least p at e n far le few = omega (arith, ints)
+
+far_most : (p at e : ℤ) (n : ℕ) → (e +ℤ pos 36001) ≤ℤ p → p ≤ℤ at → n ≤ 36000 → at ≤ℤ (e +ℤ pos n) → ⊥
+far_most p at e n far le few most = omega (arith, ints)
+
+far_ages : (p at e x : ℤ) (bound : AgeBound) → (e ≡ x) ⊎ (((x +ℤ pos 36001) ≤ℤ p) × ((e +ℤ pos 36001) ≤ℤ p)) → p ≤ℤ at → TellsWithinHour bound → InBound bound at x → InBound bound at e
+far_ages p at e x Any k le few h = tt
+far_ages p at e x (AtLeast n) k le few h = elim k [ inl same ↦ rw same h | inr (a, b) ↦ far_least p at e n b le few ]
+far_ages p at e x (AtMost n) k le few h = elim k [ inl same ↦ rw same h | inr (a, b) ↦ absurd (far_most p at x n a le few h) ]
+
+-- and states that are alike are such
+pub alike_tell : (m : Rules) (p at : ℤ) (v w : State) (bound : AgeBound) → AreAlike m p v w → p ≤ℤ at → TellsWithinHour bound → (v.colour ≡ w.colour) × (InBound bound at v.entry ↔ InBound bound at w.entry)
+alike_tell m p at v w bound (few, same, k) le within =
+    let there : (w.entry ≡ v.entry) ⊎ (((v.entry +ℤ pos 36001) ≤ℤ p) × ((w.entry +ℤ pos 36001) ≤ℤ p)) = elim k [ inl e ↦ inl (ap (λ (z : State). z.entry) e) | inr far ↦ inr far ] in
+    let back : (v.entry ≡ w.entry) ⊎ (((w.entry +ℤ pos 36001) ≤ℤ p) × ((v.entry +ℤ pos 36001) ≤ℤ p)) = elim k [ inl e ↦ inl (sym (ap (λ (z : State). z.entry) e)) | inr (a, b) ↦ inr (b, a) ] in
+    (sym same, (far_ages p at w.entry v.entry bound there le within, far_ages p at v.entry w.entry bound back le within))
 
 some_rows : (o : Option Shown) (rows : List Row) → is_some o ≡ true → rows ≡ rows_or_none (option_map (λ h. h.rows) o) → option_map (λ h. h.rows) o ≡ Some rows
 some_rows None rows e is = absurd (cc)
@@ -130,7 +150,7 @@ module _ (d : Spec) (s : Store) (asked : Asked) (rows : List Row) (ss : List Str
 
     no_alike : (v w : State) → AreAlike (rules_of d) (pos f) v w → IsAtPlace (track d) rows ss f t (get_or pasts 0 []) (get_or aheads 0 []) x n w → Answers asked.met (test_of asked) v → ⊥
     no_alike v w alike here answers =
-        let (colour, bound) = meet_same (rules_of d) (pos f) (pos x) v w asked.bound alike (omega (arith, ints)) ask.bound in
+        let (colour, bound) = alike_tell (rules_of d) (pos f) (pos x) v w asked.bound alike (omega (arith, ints)) ask.bound in
         none w (passes w here) (answers_same asked.met (test_of asked) v w colour bound answers)
 
     none_at : (o : Option ℕ) (v : State) → asked.before ≡ o → IsPlaceAt rows x o → MayComeTo d s x o v → Answers asked.met (test_of asked) v → ⊥

@@ -20,7 +20,6 @@ use Rattle.board.proofs.Bridge.{agreeing_same, cut_rows}
 use Rattle.signal_log.specs.Log.{IsBeforeWindow}
 use Rattle.signal_log.specs.Points.{ArePastsAt, rows_or_none}
 use Rattle.signal_log.proofs.Hour.{reached_colour}
-use Rattle.signal_log.proofs.Lawful.{meet_same}
 use Rattle.signal_log.proofs.Runs.{agreeing_early, alike_later, from_here, from_other, place_join, to_place, upto_here, upto_other}
 use Rattle.signal_log.proofs.Stored.{hour_events, rise_rows, rows_join}
 use Rattle.gap_ways.specs.Choices.{Answers}
@@ -34,7 +33,7 @@ use Rattle.strand_search.specs.Crossings.{AddsHours, AddsHoursBack, IsCrossed, L
 use Rattle.strand_search.specs.Pieces.{mixed, on_from, up_to}
 use Rattle.strand_search.specs.Points.{ArePastsUpTo, log_alone, past_at}
 use Rattle.strand_search.specs.Runs.{ComesTo, IsAsked, IsFound, IsPlaceAt, end_of, rows_around, rows_before, stands, start_of, test_of}
-use Rattle.strand_search.proofs.Coming.{answers_same}
+use Rattle.strand_search.proofs.Coming.{alike_tell, answers_same}
 use Rattle.strand_search.proofs.Counting.{few_join, known_apart, point_apart}
 use Rattle.strand_search.proofs.Pieces.{letters_join, piece_alike, piece_given, piece_join}
 use Rattle.strand_search.proofs.Stepping.{held_colour, machine_laws}
@@ -166,7 +165,7 @@ module _ (d : Spec) (s : Store) (asked : Asked) (is : IsStore s) (ask : IsAsked 
       let left0 = subst (λ (h : ℕ). LeadsTo d s asked (first_tenth h) (reverse way.earlier.items) before here) e crossed.left in
       let right0 = subst (λ (h : ℕ). LeadsOn d s asked (first_tenth (h + 1)) way.later.items here after) e crossed.right in
       let (v, left, alike) = piece_alike k known (up_to base x j) f (x + 1) (reverse way.earlier.items) before here w laws (colour, like.0, like.1) left0 in
-      let (same, bound) = meet_same k.rules (pos f) (pos x) here v asked.bound alike (omega (arith, ints)) ask.bound in
+      let (same, bound) = alike_tell k.rules (pos f) (pos x) here v asked.bound alike (omega (arith, ints)) ask.bound in
       let answers = answers_same asked.met (test_of asked) here v same bound crossed.answers in
       let first2 = piece_given k known base (up_to base x j) (first_tenth 0) f (reverse qs) a w (λ y l1 l2 there. sym (upto_other base x j y (λ z. absurd (omega arith)))) first in
       let lefts = piece_join k known (up_to base x j) (first_tenth 0) f (x + 1) (reverse qs) (reverse way.earlier.items) a w v (point_apart known hour) first2 left in

@@ -1,5 +1,5 @@
 -- Runs of one channel over the whole window of a store.
-use Rattle.std.specs.Prelude.{◌≡◌, ℕ, ◌+◌, ◌*◌, ◌/◌, ◌<◌, pos, true, Option, Some, None, List, [], ◌∷◌, length, take, slice_index_or}
+use Rattle.std.specs.Prelude.{◌≡◌, ℕ, ◌+◌, ◌*◌, ◌/◌, ◌<◌, ◌≤◌, pos, true, Option, Some, None, List, [], ◌∷◌, length, take, slice_index_or}
 use Rattle.sig_base.specs.declared.values.Row.{Row}
 use Rattle.reach.specs.Runs.{State, Steps, state}
 use Rattle.reach.specs.declared.seen.Test.{Test}
@@ -10,7 +10,8 @@ use Rattle.board.specs.Channels.{track}
 use Rattle.board.specs.History.{Agreeing, Event, events_at, letters}
 use Rattle.board.specs.Logs.{no_row}
 use Rattle.board.specs.Moves.{RowsIn}
-use Rattle.signal_log.specs.Laws.{IsWithinHour}
+use Rattle.reach.specs.declared.seen.AgeBound.{AgeBound}
+use Rattle.reach.specs.declared.seen.AgeBound.TheVariants.{Any, AtLeast, AtMost}
 use Rattle.signal_log.specs.Log.{IsBeforeWindow, log_of}
 use Rattle.signal_log.specs.Points.{rows_or_none}
 use Rattle.signal_log.specs.States.{MayBeAfter, MayBeAtEndOf}
@@ -55,12 +56,18 @@ abbrev pub IsPlaceAt : List Row → ℕ → Option ℕ → Type 0
 IsPlaceAt rows x None = Unit {0}
 IsPlaceAt rows x (Some n) = (n < length rows) × ((slice_index_or rows n no_row).at ≡ x)
 
--- the place is one of a known tenth, and no age that is asked for is more than an hour
+-- the bound tells no ages of more than an hour apart
+abbrev pub TellsWithinHour : AgeBound → Type 0
+TellsWithinHour Any = Unit {0}
+TellsWithinHour (AtLeast n) = n ≤ 36001
+TellsWithinHour (AtMost n) = n ≤ 36000
+
+-- the place is one of a known tenth, and no ages of more than an hour are told apart
 pub record IsAsked (s : Store) (asked : Asked) : Type 0 where
   pub within : asked.at < 36000 * length s.hours
   pub is_known : is_known s asked.at ≡ true
   pub place : IsPlaceAt (rows_around s asked.at) asked.at asked.before
-  pub bound : IsWithinHour asked.bound
+  pub bound : TellsWithinHour asked.bound
 
 -- the test of what is asked
 abbrev pub test_of : Asked → Test

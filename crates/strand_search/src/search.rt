@@ -27,7 +27,7 @@ pub struct Asked {
     /// tenth's end.
     pub before: Option<u32>,
     pub colours: Mask,
-    /// At most an hour.
+    /// It tells no ages of more than an hour apart.
     pub bound: AgeBound,
     /// Whether the state is to have one of the colours at such an age, or not.
     pub met: bool,

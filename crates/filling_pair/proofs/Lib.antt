@@ -8,3 +8,5 @@ pub mod Growing
 pub mod Histories
 pub mod Obliged
 pub mod Clauses
+pub mod Replying
+pub mod Holding

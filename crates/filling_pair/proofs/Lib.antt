@@ -10,3 +10,6 @@ pub mod Obliged
 pub mod Clauses
 pub mod Replying
 pub mod Holding
+pub mod Showing
+pub mod Timed
+pub mod Termed

@@ -8,3 +8,8 @@ pub mod Growing
 pub mod Histories
 pub mod Obliged
 pub mod Clauses
+pub mod Replying
+pub mod Holding
+pub mod Showing
+pub mod Timed
+pub mod Termed

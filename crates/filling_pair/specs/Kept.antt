@@ -18,6 +18,7 @@ use Rattle.rule_audit.specs.declared.rules.Rule.TheVariants.{Interval, Conflict,
 use Rattle.rule_audit.specs.Index.{no_rule}
 use Rattle.rule_audit.specs.Judged.{KeepsInterval}
 use Rattle.filling_pair.specs.declared.strands.Strand.{Strand}
+pub use Rattle.strand_search.specs.Events.{Grow}
 use Rattle.filling_pair.specs.Strands.{AreStrands, Leads, events_with}
 
 -- the rows of an hour, none where it isn't held
@@ -103,7 +104,3 @@ KeepLine specs s rows line rule ss = AreKept (log_of specs s) rows line.at line.
 -- these are strands of the line's rule, and with them it is kept at the line's place as said
 abbrev pub AreShown : List Spec → Store → List Rule → AuditLine → List Strand → Bool → Type 0
 AreShown specs s rules line ss kept = AreStrands (log_of specs s) (rule_of rules line) ss × IsAsSaid kept (KeepLine specs s (line_rows s line) line (rule_of rules line) ss)
-
--- no count fell; a count ends at the last value of a u64
-unfoldable pub Grow : List ℕ → List ℕ → Type 0
-Grow old new = (h : ℕ) → min (slice_index old h) (2 ^ 64 - 1) ≤ slice_index new h

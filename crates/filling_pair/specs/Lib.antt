@@ -3,3 +3,4 @@ pub mod Kept
 pub mod Walking
 pub mod Laws
 pub mod Lines
+pub mod Asks

@@ -9,22 +9,27 @@
 //!   window, with the state at a line's place noted on the way.
 //! - `stands`: one strand; `channels`: one for each channel of a rule; `keeps`: what a rule says of
 //!   a channel's state.
-//! - `check`: the call. `laws`: what holds of every log.
+//! - `asks`: what is asked of the channels, and strands that answer; `pair`: the call that finds
+//!   strands of both kinds.
+//! - `check`: the call that judges strands. `laws`: what holds of every log.
 //!
 //! Tenths are tenths of a second from the window's start.
 #![tactic(auto)]
 
+mod asks;
 mod channels;
 mod check;
 mod hours;
 mod keeps;
 mod laws;
+mod pair;
 mod stands;
 mod step;
 mod strands;
 mod walk;
 
 pub use check::check_strands;
+pub use pair::find_pair;
 pub use laws::{kept_by_states, obligations_have_lines, strands_are_of_history};
 pub use strands::{Fill, Fills, Pair, Pairs, Strand, Strands};
 

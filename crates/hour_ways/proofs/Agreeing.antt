@@ -19,18 +19,18 @@ use Rattle.hour_ways.specs.Fillings.{AreFillRows, AreUnknown, FillingsAgree, eve
 use Rattle.hour_ways.proofs.Filling.{way_agrees, way_rows}
 
 -- ---- fills and their rows, in two parts
-filled_split : (m : Rules) (xs ys : List Move) (fs : List Fill) (s u : State) → Filled m (xs ++ ys) fs s u → (hs : List Fill) × (bs : List Fill) × (fs ≡ hs ++ bs) × ((v : State) × Filled m xs hs s v × Filled m ys bs v u)
+pub filled_split : (m : Rules) (xs ys : List Move) (fs : List Fill) (s u : State) → Filled m (xs ++ ys) fs s u → (hs : List Fill) × (bs : List Fill) × (fs ≡ hs ++ bs) × ((v : State) × Filled m xs hs s v × Filled m ys bs v u)
 filled_split m [] ys fs s u w = ([], fs, refl, (s, (refl, refl), w))
 filled_split m (x ∷ xs) ys fs s u (hs, bs, e, (v, a, w)) =
     let (cs, ds, q, (z, p, r)) = filled_split m xs ys bs v u w in
     (hs ++ cs, ds, e ∙ (ap (λ (k : List Fill). hs ++ k) q ∙ sym (append_assoc hs cs ds)), (z, (hs, cs, refl, (v, a, p)), r))
 
-rows_split : (k : Track) (hs bs : List Fill) (rs : List Row) → AreFillRows k (hs ++ bs) rs → (ps : List Row) × (qs : List Row) × (rs ≡ ps ++ qs) × AreFillRows k hs ps × AreFillRows k bs qs
+pub rows_split : (k : Track) (hs bs : List Fill) (rs : List Row) → AreFillRows k (hs ++ bs) rs → (ps : List Row) × (qs : List Row) × (rs ≡ ps ++ qs) × AreFillRows k hs ps × AreFillRows k bs qs
 rows_split k [] bs rs a = ([], rs, refl, tt, a)
 rows_split k (x ∷ hs) bs [] a = absurd a
 rows_split k (x ∷ hs) bs (r ∷ rs) (e, l, a) = let (ps, qs, q, b, c) = rows_split k hs bs rs a in (r ∷ ps, qs, ap (λ (z : List Row). r ∷ z) q, (e, l, b), c)
 
-no_rows : (k : Track) (rs : List Row) → AreFillRows k [] rs → rs ≡ []
+pub no_rows : (k : Track) (rs : List Row) → AreFillRows k [] rs → rs ≡ []
 no_rows k [] a = refl
 no_rows k (r ∷ rs) a = absurd a
 
@@ -39,7 +39,7 @@ with_none : (m : Rules) (o : Option ℕ) (at i : ℕ) (ms : List Move) → ((fs 
 with_none m None at i ms h fs s u w = h fs s u w
 with_none m (Some l) at i ms h fs s u (hs, bs, e, (v, (n, a), w)) = let (q, r) = h bs v u w in (e ∙ (ap (λ (z : List Fill). z ++ bs) n ∙ q), (v, a, r))
 
-filled_letters : (k : Track) (i : ℕ) (rs : List Row) (fs : List Fill) (s u : State) → Filled k.rules (letter_moves k i rs) fs s u → (fs ≡ []) × Walk k.rules (letter_moves k i rs) s u
+pub filled_letters : (k : Track) (i : ℕ) (rs : List Row) (fs : List Fill) (s u : State) → Filled k.rules (letter_moves k i rs) fs s u → (fs ≡ []) × Walk k.rules (letter_moves k i rs) s u
 filled_letters k i [] fs s u w = w
 filled_letters k i (r ∷ rs) fs s u w = with_none k.rules (k.letter r.code r.param) r.at i (letter_moves k (i + 1) rs) (filled_letters k (i + 1) rs) fs s u w
 
@@ -53,18 +53,18 @@ rows_join f m t [] qs le a b mt = rows_low f m t qs le b
 rows_join f m t (r ∷ ps) qs le a b mt = let lt = a.1 in (a.0, omega arith, rows_join r.at m t ps qs (omega arith) a.2 b mt)
 
 -- before the second range there are those of the first alone, and from it on those of the second
-join_early : (f m t x : ℕ) (ps qs : List Row) → RowsIn m t qs → x < m → events_at (ps ++ qs) x ≡ events_at ps x
+pub join_early : (f m t x : ℕ) (ps qs : List Row) → RowsIn m t qs → x < m → events_at (ps ++ qs) x ≡ events_at ps x
 join_early f m t x [] qs b lt = none_at qs m t x b lt
 join_early f m t x (r ∷ ps) qs b lt = elim (eqb_tells r.at x) [
   | inl (e, _) ↦ rw e (ap (λ (z : List Event). event_of r ∷ z) (join_early f m t x ps qs b lt))
   | inr (e, _) ↦ rw e (join_early f m t x ps qs b lt)
 ]
 
-join_late : (f m x : ℕ) (ps qs : List Row) → RowsIn f m ps → m ≤ x → events_at (ps ++ qs) x ≡ events_at qs x
+pub join_late : (f m x : ℕ) (ps qs : List Row) → RowsIn f m ps → m ≤ x → events_at (ps ++ qs) x ≡ events_at qs x
 join_late f m x [] qs a le = refl
 join_late f m x (r ∷ ps) qs a le = let lt = a.1 in event_not_here r (ps ++ qs) x (λ e. absurd (omega arith)) ∙ join_late r.at m x ps qs a.2 le
 
-unknown_join : (known : ℕ → Bool) (ps qs : List Row) → AreUnknown known ps → AreUnknown known qs → AreUnknown known (ps ++ qs)
+pub unknown_join : (known : ℕ → Bool) (ps qs : List Row) → AreUnknown known ps → AreUnknown known qs → AreUnknown known (ps ++ qs)
 unknown_join known [] qs a b = b
 unknown_join known (r ∷ ps) qs (e, a) b = (e, unknown_join known ps qs a b)
 

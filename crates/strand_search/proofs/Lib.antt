@@ -1,0 +1,13 @@
+pub mod Growing
+pub mod Counting
+pub mod Pieces
+pub mod Standing
+pub mod Letters
+pub mod Ranging
+pub mod Told
+pub mod Pointing
+pub mod Halving
+pub mod Placed
+pub mod Coming
+pub mod Stepping
+pub mod Whole

@@ -1,0 +1,20 @@
+use Rattle.std.proofs.Common.{◌≡◌, ◌∙◌, subst, sym, List}
+use Rattle.gap_ways.specs.declared.states.Fill.{Fill}
+use Rattle.channel_tables.specs.Spec.{rules_of}
+use Rattle.strand_search.specs.Events.{AreLettersOf}
+use Rattle.strand_search.specs.Parts.{moves_over}
+use Rattle.strand_search.proofs.Ranging.{letters_fit_turned, on_adds}
+use Rattle.strand_search.proofs.over.on_over.Goals as goal
+
+pub add_letters-requires-clause-letters : goal.add_letters-requires-clause-letters
+add_letters-requires-clause-letters c =
+    let (f, t, is, end) = c.requires.part in
+    let p = c.args.part.now in
+    let same : c.moves.result.now ≡ moves_over c.args.spec.now p = c.moves.ensures ∙ c.in_ok-course.ensures in
+    subst (λ (fs : List Fill). AreLettersOf (rules_of c.args.spec.now) fs) (sym c.deref.ensures.value) (letters_fit_turned c.args.spec.now f t p c.moves.result.now is same c.new-letters.result.items c.way_on.new.letters.items c.new-letters.ensures.items c.reverse.new.self.items c.args.from.now.state c.in_ok-end.end.state c.reverse.ensures.items end c.in_ok-end.ensures.way)
+
+pub returns-clause-way : goal.returns-clause-way
+returns-clause-way c f t is =
+    let p = c.args.part.now in
+    let same : c.moves.result.now ≡ moves_over c.args.spec.now p = c.moves.ensures ∙ c.in_ok-course.ensures in
+    on_adds c.args.spec.now f t p c.moves.result.now is same c.new-letters.result.items c.way_on.new.letters.items c.new-letters.ensures.items c.reverse.new.self.items c.deref.result.now c.args.rows.now.items c.add_letters.new.rows.items c.args.from.now.state c.in_ok-end.end.state c.reverse.ensures.items c.deref.ensures.value c.in_ok-end.ensures.way c.in_ok-add_letters.ensures

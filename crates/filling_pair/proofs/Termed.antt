@@ -1,6 +1,8 @@
 -- Strands that keep a clause, and strands that break it.
-use Rattle.std.proofs.Common.{◌≡◌, ◌≢◌, refl, sym, ◌∙◌, subst, ap, ◌⊎◌, inl, inr, ◌↔◌, ℕ, zero, suc, ◌+◌, ◌<◌, ◌≤◌, pos, Bool, true, false, List, [], ◌∷◌, length, map, get_or, arith}
+use Rattle.std.proofs.Common.{◌≡◌, ◌≢◌, refl, sym, ◌∙◌, subst, ap, ◌⊎◌, inl, inr, ◌↔◌, ℕ, zero, suc, ◌+◌, ◌<◌, ◌≤◌, pos, Bool, true, false, List, [], ◌∷◌, length, map, get_or, Option, Some, None, Result, Ok, Err, arith}
+use Rattle.std.specs.Prelude.{IfOk, MatchOption}
 use Rattle.std.proofs.lemmas.Bool.{cases_eq}
+use Rattle.std.proofs.lemmas.List.{get_or_default}
 use Rattle.sig_base.specs.declared.values.Row.{Row}
 use Rattle.channel_tables.specs.declared.spec.Spec.{Spec}
 use Rattle.channel_tables.proofs.Machines.{spec_machine}
@@ -240,10 +242,23 @@ module _ (specs : List Spec) (s : Store) (line : AuditLine) (terms : List Term) 
         few = have_few specs s line asks ss r.each;
       }
 
-  pub some_holds : (d : Term) → ((k : ℕ) → k < length terms → NoneHolds specs s line (get_or terms k d)) → ⊥
-  some_holds d none =
+  pub keeps_told : {E : Type 0} → (one : Term) (asks : List Ask) → IsTermOf one terms → AreHolding one.spec terms asks → (r : Result (Option (List Strand)) E) → IfOk r (λ o. MatchOption o (LacksReply specs s line asks) (ReplyAll specs s line asks)) → IfOk r (λ o. MatchOption o (NoneHolds specs s line one) (λ ss. (rule : Rule) → IsClauseOf rule terms → Shows specs s line rule true ss))
+  keeps_told one asks is holding (Ok None) h = keeps_lacks one asks is holding h
+  keeps_told one asks is holding (Ok (Some ss)) h = keeps_shows one asks is holding ss h
+  keeps_told one asks is holding (Err e) h = tt
+
+  pub none_more : (i : ℕ) (d c : Term) → i < length terms → c ≡ get_or terms i d → NoneHolds specs s line c → ((k : ℕ) (e : Term) → k < i → NoneHolds specs s line (get_or terms k e)) → (k : ℕ) (e : Term) → k < i + 1 → NoneHolds specs s line (get_or terms k e)
+  none_more i d c lt is here none k e small = elim (cases_eq k i) [
+    | inl same ↦
+        let one : c ≡ get_or terms k e = is ∙ (get_or_default terms i d e lt ∙ ap (λ (j : ℕ). get_or terms j e) (sym same)) in
+        subst (λ (y : Term). NoneHolds specs s line y) one here
+    | inr other ↦ none k e (omega arith)
+  ]
+
+  pub some_holds : ((k : ℕ) (d : Term) → k < length terms → NoneHolds specs s line (get_or terms k d)) → ⊥
+  some_holds none =
       let (v, (h, agrees, ends), keeps) = some.1.0 in
       let (c, is, has) = keeps_term terms v keeps in
-      let (k, lt, at) = term_place terms c d is in
-      let mine = subst (λ (y : Term). NoneHolds specs s line y) at (none k lt) in
+      let (k, lt, at) = term_place terms c c is in
+      let mine = subst (λ (y : Term). NoneHolds specs s line y) at (none k c lt) in
       mine (v c.spec) (h, agrees, ends c.spec (term_within (length specs) terms c within is)) has

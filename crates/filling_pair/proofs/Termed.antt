@@ -29,8 +29,9 @@ use Rattle.rule_audit.specs.declared.rules.Rule.{Rule}
 use Rattle.rule_audit.specs.declared.rules.Rule.TheVariants.{Interval, Conflict, Companion, Parents}
 use Rattle.strand_search.specs.Runs.{TellsWithinHour}
 use Rattle.filling_pair.specs.declared.asks.Ask.{Ask}
+use Rattle.filling_pair.specs.declared.strands.Pair.{Pair}
 use Rattle.filling_pair.specs.declared.strands.Strand.{Strand}
-use Rattle.filling_pair.specs.Asks.{AreHolding, FitAsks, HasAsk, IsAmong, IsClauseOf, IsOpenClause, IsTermOf, LacksReply, MayStand, NoneHolds, NoneStands, Replies, ReplyAll, Shows, failing, test_of}
+use Rattle.filling_pair.specs.Asks.{AreHolding, FitAsks, HasAsk, IsAmong, IsClauseOf, IsOpenClause, IsTermOf, LacksReply, MayStand, NoneHolds, NoneStands, Replies, ReplyAll, Shows, ShowsBoth, failing, test_of}
 use Rattle.filling_pair.specs.Kept.{HoldsIn, IsPlaced, KeepsAt, KeepsBy, StandsAt, StandsAtLine, line_rows}
 use Rattle.filling_pair.specs.Strands.{IsAbout}
 use Rattle.filling_pair.proofs.Showing.{KeepHere, KeepsHere, are_strands, have_few, kept_never, kept_with, stands_once}
@@ -262,3 +263,8 @@ module _ (specs : List Spec) (s : Store) (line : AuditLine) (terms : List Term) 
       let (k, lt, at) = term_place terms c c is in
       let mine = subst (λ (y : Term). NoneHolds specs s line y) at (none k c lt) in
       mine (v c.spec) (h, agrees, ends c.spec (term_within (length specs) terms c within is)) has
+
+-- the pair of the clause's terms is one of the rule
+pub both_told : {E : Type 0} → (specs : List Spec) (s : Store) (line : AuditLine) (terms : List Term) (rule : Rule) → IsClauseOf rule terms → (r : Result Pair E) → IfOk r (λ p. (x : Rule) → IsClauseOf x terms → ShowsBoth specs s line x p) → IfOk r (ShowsBoth specs s line rule)
+both_told specs s line terms rule clause (Ok p) h = h rule clause
+both_told specs s line terms rule clause (Err e) h = tt

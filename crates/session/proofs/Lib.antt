@@ -13,3 +13,4 @@ pub mod MovedLaws
 pub mod LessLaws
 pub mod DiagramLaws
 pub mod WindowLaws
+pub mod PairLaws

@@ -25,6 +25,8 @@ use Rattle.rule_audit.specs.Judged.{IsRuleVerdict}
 use Rattle.rule_audit.specs.Lines.{AreLinesOf, line_of, lines_of}
 use Rattle.decisive.specs.Searches as searches
 use Rattle.decisive.specs.Window.{IsBrokenLine, IsPlaceIn}
+use Rattle.filling_pair.specs.Asks.{IsUndecided}
+use Rattle.filling_pair.specs.Kept.{IsLineOf, IsPlaceOf}
 use Rattle.hour_work.specs.Points.{is_known_before}
 use Rattle.hour_work.specs.Rows.{hour_rows}
 use Rattle.hour_work.specs.Verdicts.{AreAuditLines, HasStoreVerdict, obligations_in, states_in}
@@ -110,6 +112,10 @@ place_in : (rows : List Row) (x : ℕ) (place : Place) → FitPlace rows x place
 place_in rows x (BeforeRow n) h = h
 place_in rows x EndOfTenth h = h
 
+place_of : (rows : List Row) (x : ℕ) (place : Place) → FitPlace rows x place → IsPlaceOf rows x place
+place_of rows x (BeforeRow n) h = h
+place_of rows x EndOfTenth h = tt
+
 module _ (c : Settings) (s : Store) (hour : ℕ) (within : hour < length s.hours) where
   abbrev Placed : Obligation → Type 0
   Placed = IsPlaced (is_known s) c.specs (rules_for c) (hour_rows s hour) (first_tenth hour) (end_tenth hour)
@@ -129,11 +135,30 @@ module _ (c : Settings) (s : Store) (hour : ℕ) (within : hour < length s.hours
         broken = subst (λ (x : Rule). IsRuleVerdict (states_in c s (hour_rows s hour)) c.specs (hour_rows s hour) o.at o.place x Broken) (sym own) h;
       }
 
+  line_is : (o : Obligation) (x : Verdict) → Placed o → IsLineOf s (rules_for c) (line_of o x)
+  line_is o x p =
+      let high = p.high in
+      record {
+        some_rule = p.from_one;
+        last_rule = p.number;
+        placed = record {
+          within = omega arith;
+          is_known = p.is_known;
+          place = subst (λ (h : ℕ). IsPlaceOf (hour_rows s h) o.at o.place) (sym (hour_of o.at p.low p.high)) (place_of (hour_rows s hour) o.at o.place p.place);
+        };
+      }
+
+  undecided_is : (o : Obligation) → Placed o → IsOwn (rules_for c) o → HasStoreVerdict c s hour o Undecided → IsUndecided c.specs s (rules_for c) (line_of o Undecided)
+  undecided_is o p own h =
+      let rule = get_or (rules_for c) (o.number - 1) no_rule in
+      let of_own = subst (λ (x : Rule). IsRuleVerdict (states_in c s (hour_rows s hour)) c.specs (hour_rows s hour) o.at o.place x Undecided) (sym own) h in
+      subst (λ (k : ℕ). IsRuleVerdict (states_in c s (hour_rows s k)) c.specs (hour_rows s k) o.at o.place rule Undecided) (sym (hour_of o.at p.low p.high)) of_own
+
   lines_are : (o : Obligation) (x : Verdict) → Placed o → IsOwn (rules_for c) o → HasStoreVerdict c s hour o x → Each (IsLineIn c s hour) (lines_of o x)
   lines_are o Idle p own h = tt
-  lines_are o Kept p own h = (record { in_hour = hour_of o.at p.low p.high; broken = λ e. absurd (false≢true e) }, tt)
-  lines_are o Broken p own h = (record { in_hour = hour_of o.at p.low p.high; broken = λ e. broken_is o p own h }, tt)
-  lines_are o Undecided p own h = (record { in_hour = hour_of o.at p.low p.high; broken = λ e. absurd (false≢true e) }, tt)
+  lines_are o Kept p own h = (record { in_hour = hour_of o.at p.low p.high; of_rule = line_is o Kept p; broken = λ e. absurd (false≢true e); undecided = λ e. absurd (false≢true e) }, tt)
+  lines_are o Broken p own h = (record { in_hour = hour_of o.at p.low p.high; of_rule = line_is o Broken p; broken = λ e. broken_is o p own h; undecided = λ e. absurd (false≢true e) }, tt)
+  lines_are o Undecided p own h = (record { in_hour = hour_of o.at p.low p.high; of_rule = line_is o Undecided p; broken = λ e. absurd (false≢true e); undecided = λ e. undecided_is o p own h }, tt)
 
   all_are : (os : List Obligation) (lines : List AuditLine) → Each (λ o. Placed o × IsOwn (rules_for c) o) os → AreLinesOf (HasStoreVerdict c s hour) os lines → Each (IsLineIn c s hour) lines
   all_are [] lines h e = subst (λ ls. Each (IsLineIn c s hour) ls) (sym e) tt

@@ -9,12 +9,17 @@ use Rattle.rule_audit.specs.declared.lines.AuditLine.{AuditLine}
 use Rattle.rule_audit.specs.Rules.{rules_for}
 use Rattle.decisive.specs.Window.{IsBrokenLine}
 use Rattle.hour_work.specs.Rows.{hour_rows}
+use Rattle.filling_pair.specs.Asks.{IsUndecided}
+use Rattle.filling_pair.specs.Kept.{IsLineOf}
+use Rattle.session.specs.Pairs.{is_undecided}
 use Rattle.session.specs.Windows.{AreWithWindows, HasWindow, is_broken}
 
--- the line is at a tenth of the hour, and where it says broken its obligation is broken over the whole log
+-- the line is of one of the rules, at a tenth of the hour; where it says broken its obligation is broken over the whole log, and where it says undecided it is undecided
 pub record IsLineIn (c : Settings) (s : Store) (hour : ℕ) (line : AuditLine) : Type 0 where
   pub in_hour : line.at / 36000 ≡ hour
+  pub of_rule : IsLineOf s (rules_for c) line
   pub broken : is_broken line.verdict ≡ true → IsBrokenLine (log_of c.specs s) (rules_for c) (hour_rows s hour) line
+  pub undecided : is_undecided line.verdict ≡ true → IsUndecided c.specs s (rules_for c) line
 
 -- all these lines are of the hour, before which the channels have these states
 pub record AreLinesIn (c : Settings) (s : Store) (hour : ℕ) (before : List (List (List Span))) (lines : List AuditLine) : Type 0 where

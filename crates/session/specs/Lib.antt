@@ -6,5 +6,5 @@ pub mod Links
 pub mod Windows
 pub mod Sessions
 pub mod Renewed
-pub mod HourLines
 pub mod Pairs
+pub mod HourLines

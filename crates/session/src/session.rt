@@ -13,6 +13,7 @@ ghost use Rattle.hour_work.specs.Reports.{IsReport};
 ghost use Rattle.session.specs.Edits.{Change, blank, change_of, load, replace, step_of, unblank, withdraw};
 ghost use Rattle.session.specs.Moved.{AreMoved, KeepParts, Moves, Touches};
 ghost use Rattle.session.specs.Opens.{OpensBy};
+ghost use Rattle.session.specs.Pairs.{ArePairsAt};
 ghost use Rattle.session.specs.Ranges.{SameApart};
 ghost use Rattle.session.specs.Sessions.{AreCounted, Grow, Kept, MayRefuse, Steps, StopsAt, refusal_for};
 ghost use Rattle.session.specs.Windows.{AreHourLines};
@@ -22,9 +23,11 @@ use crate::audit::{lines_of, with_windows};
 use crate::begin::begin;
 use crate::blanks::{reaches_out, with_range, without_range};
 use crate::hours::{exchange, hour_at};
+use crate::pairs::{Asked, pairs_of};
 use crate::points::phase_diagrams;
 use crate::renew::{Worked, adopt, moved, renew};
 use arrival_measures::Diagram;
+use filling_pair::Pairs;
 use hour_store::HourStore;
 use hour_work::{ForwardError, Report};
 use ring_config::Config;
@@ -161,6 +164,29 @@ impl<L> Session<L> {
             phase,
             reads,
         )
+    }
+
+    /// For each line of the audit that says undecided, of the rule of this number and at this
+    /// tenth, strands of the rule's channels with which it is kept there, and strands with which
+    /// it is broken, in the order of the lines. The first rule has number 1. The tenth's hour is
+    /// opened, and for each such line the hours of the window.
+    pub fn pairs(&self, rule: u16, at: u32, reads: &mut Reads<L>) -> Result<Pairs, NoMemory>
+        requires first { 1 ≤ rule }
+        requires last { rule ≤ length (rules_for self.now.config) }
+        requires at { at < 36000 * length self.now.store.hours }
+        ensures pairs { IfOk result (λ p. ArePairsAt self.now.config self.now.store rule at p) }
+        ensures history { HasHistory (log_of self.now.config.specs self.now.store) }
+        ensures store { IsStore self.now.store }
+        ensures grow { Grow reads.old reads.new }
+    {
+        let alloc = self.alloc;
+        let config = &self.config;
+        let rules = &self.rules;
+        let store = &self.store;
+        let hour = at / 36_000;
+        let lines = lines_of(alloc, config, rules, store, &self.worked, hour, reads)?;
+        let asked = Asked { rule, at };
+        pairs_of(alloc, config, rules, store, &lines, asked, reads)
     }
 
     // Holds this of an hour.

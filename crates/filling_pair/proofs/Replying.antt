@@ -1,38 +1,36 @@
 -- What is asked of a channel, and the strand that answers.
-use Rattle.std.proofs.Common.{◌≡◌, ◌≢◌, refl, ap, sym, ◌∙◌, subst, ◌⊎◌, inl, inr, ◌↔◌, ℕ, zero, suc, ◌+◌, ◌*◌, ◌/◌, ◌<◌, ◌≤◌, ℤ, pos, Bool, true, false, List, [], ◌∷◌, ◌++◌, length, take, drop, get_or, Option, Some, None, arith}
+use Rattle.std.proofs.Common.{◌≡◌, refl, ap, sym, ◌∙◌, subst, ◌⊎◌, inl, inr, ◌↔◌, ℕ, zero, suc, ◌+◌, ◌*◌, ◌<◌, ℤ, Bool, true, List, [], ◌∷◌, ◌++◌, length, take, get_or, arith}
 use Rattle.std.proofs.lemmas.Bool.{cases_eq}
-use Rattle.std.proofs.lemmas.List.{get_or_default, take_more}
+use Rattle.std.proofs.lemmas.List.{take_more}
 use Rattle.sig_base.specs.declared.values.Row.{Row}
 use Rattle.channel_tables.specs.declared.spec.Spec.{Spec}
-use Rattle.channel_tables.specs.Spec.{IsSpec, rules_of}
-use Rattle.channel_tables.specs.Letters.{IsNumber}
-use Rattle.reach.specs.Runs.{State, Steps, state}
-use Rattle.hour_store.specs.Store.{IsStore, Store, is_known, known_rows}
+use Rattle.channel_tables.specs.Spec.{rules_of}
+use Rattle.reach.specs.Runs.{State, state}
+use Rattle.hour_store.specs.Store.{Store, is_known}
 use Rattle.board.specs.Channels.{AreSpecs, track}
-use Rattle.board.specs.History.{Track, events_at, letters}
-use Rattle.board.specs.Logs.{no_row, no_spec}
+use Rattle.board.specs.History.{Track}
+use Rattle.board.specs.Logs.{no_spec}
 use Rattle.board.specs.Moves.{RowsIn}
 use Rattle.board.proofs.Cases.{one_spec}
-use Rattle.gap_ways.specs.Choices.{Answers}
 use Rattle.hour_ways.specs.Fillings.{AreUnknown}
-use Rattle.signal_log.specs.Log.{HasHistory, IsBeforeWindow, Log, log_of, track_at, window_end}
-use Rattle.signal_log.specs.States.{IsReached, MayBeAfter, MayBeAtEndOf}
+use Rattle.signal_log.specs.Log.{HasHistory, IsBeforeWindow, log_of}
+use Rattle.signal_log.specs.States.{IsReached, MayBeAfter}
 use Rattle.signal_log.proofs.Joined.{after_events, end_of_one, events_after, history_runs, one_end}
 use Rattle.rule_audit.specs.declared.lines.AuditLine.{AuditLine}
 use Rattle.rule_audit.specs.declared.lines.Place.{Place}
 use Rattle.rule_audit.specs.declared.lines.Place.TheVariants.{BeforeRow, EndOfTenth}
 use Rattle.strand_search.specs.declared.search.Asked.{Asked}
 use Rattle.strand_search.specs.declared.search.Found.{Found}
-use Rattle.strand_search.specs.Events.{AreFew, AreLetters}
+use Rattle.strand_search.specs.Events.{AreLetters}
 use Rattle.strand_search.specs.Points.{log_alone}
 use Rattle.strand_search.specs.Runs.{Leads as AloneLeads}
 use Rattle.strand_search.specs.Runs.{ComesTo, IsAsked, IsFound, IsPlaceAt, MayComeTo, NoneComes, rows_around}
 use Rattle.filling_pair.specs.declared.asks.Ask.{Ask}
 use Rattle.filling_pair.specs.declared.strands.Fill.{Fill}
 use Rattle.filling_pair.specs.declared.strands.Strand.{Strand}
-use Rattle.filling_pair.specs.Asks.{AscendTo, FitAsks, FitsAsk, HasAsk, IsAmong, MayStand, NoneStands, Replies, ReplyEach, ReplyUpTo, row_of_place, test_of}
-use Rattle.filling_pair.specs.Kept.{IsPlaceOf, IsPlaced, StandsAt, StandsAtLine, line_rows, rows_before}
-use Rattle.filling_pair.specs.Strands.{AreFills, Ascend, HasStrand, IsStrand, Leads, events_with, row_of, rows_of, start_of}
+use Rattle.filling_pair.specs.Asks.{AscendTo, FitAsks, FitsAsk, HasAsk, IsAmong, MayStand, NoneStands, Replies, ReplyEach, ReplyUpTo, row_of_place}
+use Rattle.filling_pair.specs.Kept.{IsPlaceOf, IsPlaced, StandsAt, line_rows, rows_before}
+use Rattle.filling_pair.specs.Strands.{AreFills, Ascend, HasStrand, row_of, rows_of, start_of}
 
 -- ---- rows as fills
 pub rows_push : (fs : List Fill) (f : Fill) → rows_of (fs ++ f ∷ []) ≡ rows_of fs ++ row_of f ∷ []

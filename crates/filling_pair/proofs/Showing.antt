@@ -1,5 +1,5 @@
 -- The strands that answer asks are strands of a rule.
-use Rattle.std.proofs.Common.{◌≡◌, refl, sym, ◌∙◌, subst, ap, ◌⊎◌, inl, inr, ◌↔◌, ℕ, ◌+◌, ◌<◌, Bool, true, false, List, [], ◌∷◌, length, take, pos, arith}
+use Rattle.std.proofs.Common.{◌≡◌, refl, sym, ◌∙◌, subst, ap, inl, inr, ◌↔◌, ℕ, ◌+◌, ◌<◌, true, List, [], ◌∷◌, length, take, pos, arith}
 use Rattle.sig_base.specs.declared.values.Row.{Row}
 use Rattle.channel_tables.specs.declared.spec.Spec.{Spec}
 use Rattle.reach.specs.Runs.{Run, State, Steps}

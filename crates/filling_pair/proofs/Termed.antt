@@ -1,5 +1,5 @@
 -- Strands that keep a clause, and strands that break it.
-use Rattle.std.proofs.Common.{◌≡◌, ◌≢◌, refl, sym, ◌∙◌, subst, ap, ◌⊎◌, inl, inr, ◌↔◌, ℕ, zero, suc, ◌+◌, ◌<◌, ◌≤◌, pos, Bool, true, false, List, [], ◌∷◌, length, map, get_or, Option, Some, None, Result, Ok, Err, arith}
+use Rattle.std.proofs.Common.{◌≡◌, refl, sym, ◌∙◌, subst, ap, inl, inr, ◌↔◌, ℕ, zero, suc, ◌+◌, ◌<◌, pos, Bool, true, false, List, [], ◌∷◌, length, map, get_or, Option, Some, None, Result, Ok, Err, arith}
 use Rattle.std.specs.Prelude.{IfOk, MatchOption}
 use Rattle.std.proofs.lemmas.Bool.{cases_eq}
 use Rattle.std.proofs.lemmas.List.{get_or_default}
@@ -8,9 +8,8 @@ use Rattle.channel_tables.specs.declared.spec.Spec.{Spec}
 use Rattle.channel_tables.proofs.Machines.{spec_machine}
 use Rattle.colour_machine.specs.Mask.{Has}
 use Rattle.reach.specs.Runs.{State}
-use Rattle.reach.specs.Tests.{InBound, Meets}
+use Rattle.reach.specs.Tests.{InBound}
 use Rattle.reach.specs.declared.seen.AgeBound.{AgeBound}
-use Rattle.reach.specs.declared.seen.AgeBound.TheVariants.{Any}
 use Rattle.hour_store.specs.Store.{Store}
 use Rattle.board.specs.declared.clause.Term.{Term}
 use Rattle.board.specs.Channels.{AreSpecs}
@@ -34,7 +33,7 @@ use Rattle.filling_pair.specs.declared.strands.Strand.{Strand}
 use Rattle.filling_pair.specs.Asks.{AreHolding, FitAsks, HasAsk, IsAmong, IsClauseOf, IsOpenClause, IsTermOf, LacksReply, MayStand, NoneHolds, NoneStands, Replies, ReplyAll, Shows, ShowsBoth, failing, test_of}
 use Rattle.filling_pair.specs.Kept.{HoldsIn, IsPlaced, KeepsAt, KeepsBy, StandsAt, StandsAtLine, line_rows}
 use Rattle.filling_pair.specs.Strands.{IsAbout}
-use Rattle.filling_pair.proofs.Showing.{KeepHere, KeepsHere, are_strands, have_few, kept_never, kept_with, stands_once}
+use Rattle.filling_pair.proofs.Showing.{KeepsHere, are_strands, have_few, kept_never, kept_with, stands_once}
 
 -- ---- clauses
 same_type : (P : List Term → Type 0) (xs ys : List Term) → xs ≡ ys → P ys ↔ P xs
@@ -163,11 +162,11 @@ module _ (specs : List Spec) (s : Store) (line : AuditLine) (terms : List Term) 
   holds_there : (rule : Rule) (z : Strand) → IsClauseOf rule terms → KeepsHere specs s line rule z ↔ ((v : State) × StandsAtLine specs s line z v × HoldsIn terms z.spec v.colour)
   holds_there rule z clause = (
     (λ kept.
-      let (v, stands, keeps) = subst (λ (p : Place). KeepsAt Of Rows line.at p rule z) some.0 kept in
-      (v, subst (λ (p : Place). StandsAt Of Rows line.at p z v) (sym some.0) stands, (clause_by rule terms specs Rows z.spec v clause).1 keeps)),
+        let (v, stands, keeps) = subst (λ (p : Place). KeepsAt Of Rows line.at p rule z) some.0 kept in
+        (v, subst (λ (p : Place). StandsAt Of Rows line.at p z v) (sym some.0) stands, (clause_by rule terms specs Rows z.spec v clause).1 keeps)),
     λ (v, stands, holds).
-      let stands2 = subst (λ (p : Place). StandsAt Of Rows line.at p z v) some.0 stands in
-      subst (λ (p : Place). KeepsAt Of Rows line.at p rule z) (sym some.0) (v, stands2, (clause_by rule terms specs Rows z.spec v clause).0 holds),
+        let stands2 = subst (λ (p : Place). StandsAt Of Rows line.at p z v) some.0 stands in
+        subst (λ (p : Place). KeepsAt Of Rows line.at p rule z) (sym some.0) (v, stands2, (clause_by rule terms specs Rows z.spec v clause).0 holds),
   )
 
   -- ---- no term holds

@@ -1,5 +1,5 @@
 -- Strands that keep an interval rule, and strands that break it.
-use Rattle.std.proofs.Common.{◌≡◌, refl, sym, ◌∙◌, subst, ap, ◌⊎◌, inl, inr, ◌↔◌, ℕ, ◌+◌, ◌<◌, ◌≤◌, ℤ, pos, ◌+ℤ◌, ◌≤ℤ◌, Bool, true, false, List, [], ◌∷◌, length, get_or, arith}
+use Rattle.std.proofs.Common.{◌≡◌, refl, sym, subst, ◌⊎◌, inl, inr, ◌↔◌, ℕ, ◌<◌, ℤ, pos, ◌+ℤ◌, Bool, true, false, List, [], ◌∷◌, length, get_or, arith}
 use Rattle.std.specs.Prelude.{not}
 use Rattle.std.proofs.lemmas.Int.{ints}
 use Rattle.span_set.proofs.Sets.{int_cases}
@@ -26,9 +26,9 @@ use Rattle.rule_audit.specs.Judged.{IsRuleVerdict, KeepsInterval}
 use Rattle.strand_search.specs.Runs.{TellsWithinHour}
 use Rattle.filling_pair.specs.declared.asks.Ask.{Ask}
 use Rattle.filling_pair.specs.declared.strands.Strand.{Strand}
-use Rattle.filling_pair.specs.Asks.{HasAsk, IsAmong, IsOpen, LacksReply, MayStand, NoneStands, Replies, ReplyAll, Shows, states_over, test_of}
+use Rattle.filling_pair.specs.Asks.{HasAsk, IsAmong, IsOpen, LacksReply, MayStand, NoneStands, Replies, ReplyAll, Shows, states_over}
 use Rattle.filling_pair.specs.Kept.{IsAsSaid, IsPlaceOf, IsPlaced, KeepsAt, StandsAt, line_rows, rows_before}
-use Rattle.filling_pair.proofs.Showing.{KeepHere, KeepsHere, are_strands, have_few, kept_never, kept_with, stands_once}
+use Rattle.filling_pair.proofs.Showing.{KeepHere, are_strands, have_few, kept_never, kept_with, stands_once}
 
 in_or_not : (b : AgeBound) (t e : ℤ) → InBound b t e ⊎ (InBound b t e → ⊥)
 in_or_not Any t e = inl tt

@@ -287,5 +287,12 @@ pub fn find_pair<L>(
     ensures grow { Grow reads.old reads.new }
 {
     let specs = config.specs();
-    pair_of(alloc, specs, store, line, &rules[line.rule as usize - 1], reads)
+    pair_of(
+        alloc,
+        specs,
+        store,
+        line,
+        &rules[line.rule as usize - 1],
+        reads,
+    )
 }

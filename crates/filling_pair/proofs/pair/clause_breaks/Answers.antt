@@ -1,4 +1,4 @@
-use Rattle.std.proofs.Common.{◌≡◌, refl, sym, ◌∙◌, subst, List}
+use Rattle.std.proofs.Common.{sym, ◌∙◌, subst, List}
 use Rattle.filling_pair.specs.declared.asks.Ask.{Ask}
 use Rattle.filling_pair.specs.Asks.{FitAsks, LacksReply, ReplyAll}
 use Rattle.filling_pair.proofs.Termed.{breaks_lacks, breaks_shows, failing_fit}

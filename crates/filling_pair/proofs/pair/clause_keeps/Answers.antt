@@ -1,4 +1,4 @@
-use Rattle.std.proofs.Common.{◌≡◌, sym, subst, arith, ◌<◌, length}
+use Rattle.std.proofs.Common.{sym, subst, arith}
 use Rattle.board.specs.declared.clause.Term.{Term}
 use Rattle.filling_pair.specs.Asks.{IsTermOf}
 use Rattle.filling_pair.proofs.Growing.{grow_on}

@@ -1,4 +1,4 @@
-use Rattle.std.proofs.Common.{◌≡◌, refl}
+use Rattle.std.proofs.Common.{refl}
 use Rattle.filling_pair.proofs.Holding.{holding_more}
 use Rattle.filling_pair.proofs.pair.holding_asks.Goals as goal
 

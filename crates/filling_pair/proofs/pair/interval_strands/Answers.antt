@@ -1,4 +1,3 @@
-use Rattle.std.proofs.Common.{◌≡◌, refl}
 use Rattle.rule_audit.proofs.Judging.{one_colour}
 use Rattle.filling_pair.proofs.Timed.{interval_lacks, interval_shows}
 use Rattle.filling_pair.proofs.pair.interval_strands.Goals as goal

@@ -1,4 +1,4 @@
-use Rattle.std.proofs.Common.{◌≡◌, refl}
+use Rattle.std.proofs.Common.{refl}
 use Rattle.filling_pair.proofs.Termed.{both_told}
 use Rattle.filling_pair.proofs.pair.pair_of.Goals as goal
 

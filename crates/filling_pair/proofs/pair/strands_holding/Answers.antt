@@ -1,6 +1,6 @@
-use Rattle.std.proofs.Common.{◌≡◌, sym, subst, List}
+use Rattle.std.proofs.Common.{sym, subst, List}
 use Rattle.filling_pair.specs.declared.asks.Ask.{Ask}
-use Rattle.filling_pair.specs.Asks.{AreHolding, FitAsks}
+use Rattle.filling_pair.specs.Asks.{AreHolding}
 use Rattle.filling_pair.proofs.Termed.{holding_fit, keeps_told}
 use Rattle.filling_pair.proofs.pair.strands_holding.Goals as goal
 

@@ -49,8 +49,8 @@ pairs_of_in c s (l ∷ ls) [] le h = absurd h
 pairs_of_in c s (l ∷ ls) (p ∷ ps) le h =
     All-cons (IsPairIn c.window) p ps
     (record {
-      keeps = strands_in c.window (log_of c.specs s) p.keeps le h.0.keeps.shown.0.each;
-      breaks = strands_in c.window (log_of c.specs s) p.breaks le h.0.breaks.shown.0.each;
+      keeps = strands_in c.window (log_of c.specs s) p.keeps le h.0.keeps.strands.each;
+      breaks = strands_in c.window (log_of c.specs s) p.breaks le h.0.breaks.strands.each;
     })
     (pairs_of_in c s ls ps le h.1)
 

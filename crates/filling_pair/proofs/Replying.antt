@@ -1,5 +1,5 @@
 -- What is asked of a channel, and the strand that answers.
-use Rattle.std.proofs.Common.{◌≡◌, refl, ap, sym, ◌∙◌, subst, ◌⊎◌, inl, inr, ◌↔◌, ℕ, zero, suc, ◌+◌, ◌*◌, ◌<◌, ℤ, Bool, true, List, [], ◌∷◌, ◌++◌, length, take, get_or, arith}
+use Rattle.std.proofs.Common.{Option, ◌≡◌, refl, ap, sym, ◌∙◌, subst, ◌⊎◌, inl, inr, ◌↔◌, ℕ, zero, suc, ◌+◌, ◌*◌, ◌<◌, ℤ, Bool, true, List, [], ◌∷◌, ◌++◌, length, take, get_or, arith}
 use Rattle.std.proofs.lemmas.Bool.{cases_eq}
 use Rattle.std.proofs.lemmas.List.{take_more}
 use Rattle.sig_base.specs.declared.values.Row.{Row}
@@ -33,7 +33,7 @@ use Rattle.filling_pair.specs.Kept.{IsPlaceOf, IsPlaced, StandsAt, line_rows, ro
 use Rattle.filling_pair.specs.Strands.{AreFills, Ascend, HasStrand, row_of, rows_of, start_of}
 
 -- ---- rows as fills
-pub rows_push : (fs : List Fill) (f : Fill) → rows_of (fs ++ f ∷ []) ≡ rows_of fs ++ row_of f ∷ []
+rows_push : (fs : List Fill) (f : Fill) → rows_of (fs ++ f ∷ []) ≡ rows_of fs ++ row_of f ∷ []
 rows_push [] f = refl
 rows_push (x ∷ fs) f = ap (λ (rs : List Row). row_of x ∷ rs) (rows_push fs f)
 
@@ -54,7 +54,7 @@ pub ask_fits : (specs : List Spec) (asks : List Ask) (a : Ask) → FitAsks specs
 ask_fits specs [] a fit among = absurd among
 ask_fits specs (x ∷ xs) a (fits, fit) among = elim among [ inl e ↦ rw e fits | inr rest ↦ ask_fits specs xs a fit rest ]
 
-pub has_ask : (asks : List Ask) (a : Ask) → IsAmong a asks → HasAsk a.spec asks
+has_ask : (asks : List Ask) (a : Ask) → IsAmong a asks → HasAsk a.spec asks
 has_ask [] a among = among
 has_ask (x ∷ xs) a among = elim among [ inl e ↦ inl (rw e refl) | inr rest ↦ inr (has_ask xs a rest) ]
 
@@ -88,12 +88,15 @@ place_at : (rows : List Row) (x : ℕ) (place : Place) → IsPlaceOf rows x plac
 place_at rows x (BeforeRow n) p = p
 place_at rows x EndOfTenth p = tt
 
-module _ (specs : List Spec) (s : Store) (line : AuditLine) (ask : Ask) (asked : Asked) (same : asked ≡ record { at = line.at; before = row_of_place line.place; colours = ask.colours; bound = ask.bound; met = ask.met }) (placed : IsPlaced s line) (fits : FitsAsk specs ask) where
-  pub is_asked : IsAsked s asked
+module _ (specs : List Spec) (s : Store) (line : AuditLine) (ask : Ask) (before : Option ℕ) (same : before ≡ row_of_place line.place) (placed : IsPlaced s line) (fits : FitsAsk specs ask) where
+  abbrev asked_from : Option ℕ → Asked
+  asked_from b = record { at = line.at; before = b; colours = ask.colours; bound = ask.bound; met = ask.met }
+
+  pub is_asked : IsAsked s (asked_from before)
   is_asked = rw same (record { within = placed.within; is_known = placed.is_known; place = place_at (line_rows s line) line.at line.place placed.place; bound = fits.1 })
 
-  pub none_stands : AreSpecs specs → NoneComes (get_or specs ask.spec no_spec) s asked → NoneStands specs s line ask
-  none_stands are none v may answers = (subst (λ (z : Asked). NoneComes (get_or specs ask.spec no_spec) s z) same none) v (may_come specs s ask.spec line.at (line_rows s line) line.place v are fits.0 placed.within placed.is_known refl may) answers
+  pub none_stands : AreSpecs specs → NoneComes (get_or specs ask.spec no_spec) s (asked_from before) → NoneStands specs s line ask
+  none_stands are none v may answers = (subst (λ (b : Option ℕ). NoneComes (get_or specs ask.spec no_spec) s (asked_from b)) same none) v (may_come specs s ask.spec line.at (line_rows s line) line.place v are fits.0 placed.within placed.is_known refl may) answers
 
   are_fills : (k : Track) (known : ℕ → Bool) (low end : ℕ) (fs : List Fill) → RowsIn low end (rows_of fs) → AreUnknown known (rows_of fs) → AreLetters k (rows_of fs) → AreFills k known low end fs
   are_fills k known low end [] h u l = tt
@@ -103,10 +106,10 @@ module _ (specs : List Spec) (s : Store) (line : AuditLine) (ask : Ask) (asked :
   comes_stands (BeforeRow n) z v e (b, first, last) = rw e (b, first, last)
   comes_stands EndOfTenth z v e run = rw e run
 
-  pub found_replies : (found : Found) (z : Strand) → IsFound (get_or specs ask.spec no_spec) s asked found → z.spec ≡ ask.spec → z.colour ≡ found.colour → z.entry ≡ found.entry → rows_of z.fills ≡ found.fills.items → Replies specs s line ask z
+  pub found_replies : (found : Found) (z : Strand) → IsFound (get_or specs ask.spec no_spec) s (asked_from before) found → z.spec ≡ ask.spec → z.colour ≡ found.colour → z.entry ≡ found.entry → rows_of z.fills ≡ found.fills.items → Replies specs s line ask z
   found_replies found z is spec colour entry fills =
       let d = get_or specs ask.spec no_spec in
-      let here = subst (λ (y : Asked). IsFound d s y found) same is in
+      let here = subst (λ (b : Option ℕ). IsFound d s (asked_from b) found) same is in
       let start : state z.colour z.entry ≡ state found.colour found.entry = ap (λ (c : ℕ). state c z.entry) colour ∙ ap (λ (e : ℤ). state found.colour e) entry in
       let (u, run) = here.legal in
       let (v, comes, answers) = here.answer in

@@ -206,7 +206,7 @@ module _ (specs : List Spec) (s : Store) (line : AuditLine) (terms : List Term) 
       let few = machine.few_colours in
       (v i, may, omega arith)
 
-  pub keeps_lacks : (one : Term) (asks : List Ask) → IsTermOf one terms → AreHolding one.spec terms asks → LacksReply specs s line asks → NoneHolds specs s line one
+  keeps_lacks : (one : Term) (asks : List Ask) → IsTermOf one terms → AreHolding one.spec terms asks → LacksReply specs s line asks → NoneHolds specs s line one
   keeps_lacks one asks is holding (a, among, none) v may has =
       let (c, is_term, fits) = holding_term one.spec terms asks a holding among in
       let spec : a.spec ≡ c.spec = fits.0.0 in
@@ -232,7 +232,7 @@ module _ (specs : List Spec) (s : Store) (line : AuditLine) (terms : List Term) 
       let holds : HoldsIn terms c.spec v.colour = term_holds terms c v.colour is_term (subst (λ (m : ℕ). Has m v.colour) colours has) in
       (holds_there rule z clause).1 (v, stands, subst (λ (i : ℕ). HoldsIn terms i v.colour) (sym spec) holds)
 
-  pub keeps_shows : (one : Term) (asks : List Ask) → IsTermOf one terms → AreHolding one.spec terms asks → (ss : List Strand) → ReplyAll specs s line asks ss → (rule : Rule) → IsClauseOf rule terms → Shows specs s line rule true ss
+  keeps_shows : (one : Term) (asks : List Ask) → IsTermOf one terms → AreHolding one.spec terms asks → (ss : List Strand) → ReplyAll specs s line asks ss → (rule : Rule) → IsClauseOf rule terms → Shows specs s line rule true ss
   keeps_shows one asks is holding ss r rule clause =
       let here = λ (i : ℕ). holding_has one.spec terms asks i holding in
       let has : HasAsk one.spec asks = (here one.spec).1 (term_spec terms one is) in

@@ -56,7 +56,7 @@ module _ (specs : List Spec) (log : Log) (same : log.specs ≡ specs) (rows : Li
       let unfit = (other (pos t) v.entry).0 out in
       broken (λ (same, leaves). absurd (unfit (rw placed.1 at (keeps (is, leaves)))))
 
-  pub never_lacks : (place : Place) (met : Bool) → IsPlaceOf rows t place → Open place → ((v : State) → MayStand log rows item.spec t place v → Answers met asked v → ⊥) → ⊥
+  never_lacks : (place : Place) (met : Bool) → IsPlaceOf rows t place → Open place → ((v : State) → MayStand log rows item.spec t place v → Answers met asked v → ⊥) → ⊥
   never_lacks EndOfTenth met placed some none = some
   never_lacks (BeforeRow n) true placed ((v, may, keeps), (w, may2, broken)) none =
       let may3 = subst (λ (x : ℕ). MayBeAfter log item.spec x (rows_before rows n) w) placed.1 may2 in
@@ -65,11 +65,11 @@ module _ (specs : List Spec) (log : Log) (same : log.specs ≡ specs) (rows : Li
       let may3 = subst (λ (x : ℕ). MayBeAfter log item.spec x (rows_before rows n) v) placed.1 may in
       none v may3 (λ meets. breaks_met n v w placed broken meets keeps)
 
-  pub keeps_there : (place : Place) (z : Strand) (v : State) → IsPlaceOf rows t place → Open place → item.spec ≡ z.spec → StandsAt log rows t place z v → Answers false asked v → KeepsAt log rows t place (Interval item) z
+  keeps_there : (place : Place) (z : Strand) (v : State) → IsPlaceOf rows t place → Open place → item.spec ≡ z.spec → StandsAt log rows t place z v → Answers false asked v → KeepsAt log rows t place (Interval item) z
   keeps_there EndOfTenth z v placed some is stands none = absurd some
   keeps_there (BeforeRow n) z v placed some is stands none = (v, stands, (is, rw same (keeps_unmet n v placed none)))
 
-  pub breaks_there : (place : Place) (z : Strand) (v : State) → IsPlaceOf rows t place → Open place → StandsAt log rows t place z v → Answers true asked v → KeepsAt log rows t place (Interval item) z → ⊥
+  breaks_there : (place : Place) (z : Strand) (v : State) → IsPlaceOf rows t place → Open place → StandsAt log rows t place z v → Answers true asked v → KeepsAt log rows t place (Interval item) z → ⊥
   breaks_there EndOfTenth z v placed some stands meets kept = some
   breaks_there (BeforeRow n) z v placed ((y, may, keeps), (w, may2, broken)) stands meets (u, there, (is, kept)) =
       let one : u ≡ v = stands_once log rows t (BeforeRow n) z u v there stands in

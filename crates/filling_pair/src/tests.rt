@@ -1,14 +1,19 @@
 // A green with a short gap in it, which is long enough only without a second start in the gap; and
 // two phases that conflict.
-ghost use Rattle.std.specs.Prelude.{IsTrue};
+ghost use Rattle.std.specs.Prelude.{◌≡◌, ◌≤◌, length, IsTrue};
+ghost use Rattle.board.specs.Channels.{AreSpecs};
+ghost use Rattle.strand_search.specs.Runs.{TellsWithinHour};
 ghost use Rattle.filling_pair.specs.Kept.{IsLineOf, IsPlaceOf};
 
+use crate::asks::{Ask, replies};
 use crate::hours::rows_of_hour;
 use crate::stands::is_known;
 use crate::{Fill, Fills, Pair, Pairs, Strand, Strands, check_strands};
-use channel_tables::colour_named;
+use channel_tables::{Spec, colour_named};
+use colour_machine::Mask;
 use event_codes::Kind;
 use hour_store::HourStore;
+use reach::AgeBound;
 use ring_config::{Config, read_config};
 use rule_audit::{AuditLine, Place, Rule, rules_of};
 use sig_base::{HourRows, Reads, Row, Verdict};
@@ -44,6 +49,8 @@ side = 2
 
 #[derive(Drop)]
 struct Mark;
+
+const GREEN: u8 = 2;
 
 // Green of phase 2 from 1000 to 1200, where the tenths from 1050 up to 1070 are blanked.
 fn green_with_a_gap(alloc: Global) -> Result<HourStore<Mark>, Fail> {
@@ -205,6 +212,62 @@ fn two_phases_that_conflict(rt: HostRuntime) -> Result<(), Fail> {
         let said = checks(rt.alloc(), RING, 1000, Place::EndOfTenth, strands, kept)?;
         assert_eq!(rt; said, wanted);
     }
+    Ok(())
+}
+
+// The channels of the configuration.
+fn specs_of(config: &Config) -> &[Spec]
+    ensures specs { AreSpecs result.now }
+    ensures few { length result.now ≤ 225 }
+{
+    config.specs()
+}
+
+// A strand with which the green that ends at 1200 has an age in the bound, or hasn't: whether it
+// breaks the first rule, or keeps it.
+fn answers(alloc: Global, bound: AgeBound, met: bool) -> Result<Option<bool>, Fail>
+    requires { TellsWithinHour bound }
+{
+    let config: Config = read_config(alloc, CONFIG)?;
+    let rules = rules_of(alloc, &config)?;
+    let store = green_with_a_gap(alloc)?;
+    let line = AuditLine {
+        rule: 1,
+        at: 1200,
+        place: Place::BeforeRow(1),
+        verdict: Verdict::Undecided,
+        window: None,
+    };
+    let mut reads = Reads::new(Mark);
+    let rules = rules.as_slice();
+    if !is_line(rules, &store, &line, &mut reads) {
+        return Err(Fail::from("line"));
+    }
+    let specs = specs_of(&config);
+    if specs.is_empty() {
+        return Err(Fail::from("channel"));
+    }
+    let ask = Ask {
+        spec: 0,
+        colours: Mask::none().with(GREEN),
+        bound,
+        met,
+    };
+    let Some(strands) = replies(alloc, specs, &store, &line, &[ask], &mut reads)? else {
+        return Ok(None);
+    };
+    Ok(Some(check_strands(&config, rules, &store, &line, &strands, !met, &mut reads)))
+}
+
+// The green may have begun anew from 1050 on.
+#[test]
+fn strands_that_answer(rt: HostRuntime) -> Result<(), Fail> {
+    let young = answers(rt.alloc(), AgeBound::AtMost(149), true)?;
+    assert!(rt; young == Some(true));
+    let old = answers(rt.alloc(), AgeBound::AtMost(149), false)?;
+    assert!(rt; old == Some(true));
+    let younger = answers(rt.alloc(), AgeBound::AtMost(130), true)?;
+    assert!(rt; younger.is_none());
     Ok(())
 }
 

@@ -18,26 +18,26 @@ use Rattle.hour_ways.proofs.Filling.{way_rows}
 use Rattle.strand_search.specs.Events.{AreFew, NoneKnown, count_within}
 
 -- ---- the rows of two lists
-pub count_join : (a b : ℕ) (xs ys : List Row) → count_within a b (xs ++ ys) ≡ count_within a b xs + count_within a b ys
+count_join : (a b : ℕ) (xs ys : List Row) → count_within a b (xs ++ ys) ≡ count_within a b xs + count_within a b ys
 count_join a b [] ys = omega arith
 count_join a b (r ∷ xs) ys = elim (cases_Bool (nat_le a r.at && nat_lt r.at b)) [
   | inl t ↦ rw (t, count_join a b xs ys) (omega arith)
   | inr f ↦ rw (f, count_join a b xs ys) refl
 ]
 
-pub count_most : (a b : ℕ) (xs : List Row) → count_within a b xs ≤ length xs
+count_most : (a b : ℕ) (xs : List Row) → count_within a b xs ≤ length xs
 count_most a b [] = omega arith
 count_most a b (r ∷ xs) = let q = count_most a b xs in elim (cases_Bool (nat_le a r.at && nat_lt r.at b)) [ inl t ↦ rw t (omega arith) | inr f ↦ rw f (omega arith) ]
 
 -- rows of other tenths don't count
-pub none_low : (a b f t : ℕ) (xs : List Row) → b ≤ f → RowsIn f t xs → count_within a b xs ≡ 0
+none_low : (a b f t : ℕ) (xs : List Row) → b ≤ f → RowsIn f t xs → count_within a b xs ≡ 0
 none_low a b f t [] le h = refl
 none_low a b f t (r ∷ xs) le h = let low = h.0 in elim (cases_Bool (nat_le a r.at && nat_lt r.at b)) [
   | inl both ↦ let lt = ltb-true r.at b (and_parts (nat_le a r.at) (nat_lt r.at b) both).1 in absurd (omega arith)
   | inr other ↦ rw other (none_low a b r.at t xs (omega arith) h.2)
 ]
 
-pub none_high : (a b f t : ℕ) (xs : List Row) → t ≤ a → RowsIn f t xs → count_within a b xs ≡ 0
+none_high : (a b f t : ℕ) (xs : List Row) → t ≤ a → RowsIn f t xs → count_within a b xs ≡ 0
 none_high a b f t [] le h = refl
 none_high a b f t (r ∷ xs) le h = let high = h.1 in elim (cases_Bool (nat_le a r.at && nat_lt r.at b)) [
   | inl both ↦ let at_least = leb-true a r.at (and_parts (nat_le a r.at) (nat_lt r.at b) both).0 in absurd (omega arith)

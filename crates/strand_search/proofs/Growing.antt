@@ -18,7 +18,7 @@ set_more (c ∷ cs) zero (suc h) x p = omega arith
 set_more (c ∷ cs) (suc i) zero x p = omega arith
 set_more (c ∷ cs) (suc i) (suc h) x p = set_more cs i h x (λ e. p (ap suc e))
 
-pub grow_raised : (counts : List ℕ) (hour : ℕ) → Grow counts (raised counts hour)
+grow_raised : (counts : List ℕ) (hour : ℕ) → Grow counts (raised counts hour)
 unfolding Grow
 grow_raised counts hour h = set_more counts hour h (one_more (get_or counts hour 0)) (λ e. rw e (omega arith))
 

@@ -41,7 +41,7 @@ fill_rows_join k [] ys (r ∷ ps) qs a b = absurd a
 fill_rows_join k (x ∷ xs) ys [] qs a b = absurd a
 fill_rows_join k (x ∷ xs) ys (r ∷ ps) qs (e, l, a) b = (e, l, fill_rows_join k xs ys ps qs a b)
 
-pub fill_rows_reverse : (k : Track) (xs : List Fill) (ps : List Row) → AreFillRows k xs ps → AreFillRows k (reverse xs) (reverse ps)
+fill_rows_reverse : (k : Track) (xs : List Fill) (ps : List Row) → AreFillRows k xs ps → AreFillRows k (reverse xs) (reverse ps)
 fill_rows_reverse k [] [] a = tt
 fill_rows_reverse k [] (r ∷ ps) a = absurd a
 fill_rows_reverse k (x ∷ xs) [] a = absurd a
@@ -50,7 +50,7 @@ fill_rows_reverse k (x ∷ xs) (r ∷ ps) (e, l, a) =
     subst (λ (z : List Fill). AreFillRows k z (reverse (r ∷ ps))) (sym (reverse-append (x ∷ []) xs)) (subst (λ (z : List Row). AreFillRows k (reverse xs ++ x ∷ []) z) (sym (reverse-append (r ∷ []) ps)) all)
 
 -- ---- the letters of a part's gaps
-pub piece_of : (k : Track) (f t : ℕ) (rows fills : List Row) (ss : List Stretch) (fs : List Fill) (s u : State) → IsPart f t rows ss → AreFillRows k fs fills → Filled k.rules (own k 0 rows ss) fs s u → Piece k (known_at ss) (events_at rows) f t fills s u
+piece_of : (k : Track) (f t : ℕ) (rows fills : List Row) (ss : List Stretch) (fs : List Fill) (s u : State) → IsPart f t rows ss → AreFillRows k fs fills → Filled k.rules (own k 0 rows ss) fs s u → Piece k (known_at ss) (events_at rows) f t fills s u
 piece_of k f t rows fills ss fs s u p a w =
     let (order, unknown, run) = fillings_agree k f t 0 rows fills ss fs s u p.follow p.rows_in a w in
     record {
@@ -110,10 +110,10 @@ piece_given k known G given f t fills a b same p = record {
 mixed_rows : (known : ℕ → Bool) (given : ℕ → List Event) (xs ys : List Row) (x : ℕ) → events_at xs x ≡ events_at ys x → mixed known given xs x ≡ mixed known given ys x
 mixed_rows known given xs ys x e = rw e refl
 
-pub early_run : (k : Track) (known : ℕ → Bool) (given : ℕ → List Event) (f m t : ℕ) (xs ys : List Row) (a c : State) → RowsIn m t ys → Agreeing k (λ x. true) (mixed known given xs) f m a c → Agreeing k (λ x. true) (mixed known given (xs ++ ys)) f m a c
+early_run : (k : Track) (known : ℕ → Bool) (given : ℕ → List Event) (f m t : ℕ) (xs ys : List Row) (a c : State) → RowsIn m t ys → Agreeing k (λ x. true) (mixed known given xs) f m a c → Agreeing k (λ x. true) (mixed known given (xs ++ ys)) f m a c
 early_run k known given f m t xs ys a c late run = agreeing_same k (λ x. true) (λ x. true) (mixed known given xs) (mixed known given (xs ++ ys)) f m a c (λ x l1 l2. refl) (λ x l1 l2. mixed_rows known given xs (xs ++ ys) x (sym (join_early f m t x xs ys late l2))) run
 
-pub late_run : (k : Track) (known : ℕ → Bool) (given : ℕ → List Event) (f m t : ℕ) (xs ys : List Row) (c b : State) → RowsIn f m xs → Agreeing k (λ x. true) (mixed known given ys) m t c b → Agreeing k (λ x. true) (mixed known given (xs ++ ys)) m t c b
+late_run : (k : Track) (known : ℕ → Bool) (given : ℕ → List Event) (f m t : ℕ) (xs ys : List Row) (c b : State) → RowsIn f m xs → Agreeing k (λ x. true) (mixed known given ys) m t c b → Agreeing k (λ x. true) (mixed known given (xs ++ ys)) m t c b
 late_run k known given f m t xs ys c b early run = agreeing_same k (λ x. true) (λ x. true) (mixed known given ys) (mixed known given (xs ++ ys)) m t c b (λ x l1 l2. refl) (λ x l1 l2. mixed_rows known given ys (xs ++ ys) x (sym (join_late f m x xs ys early l1))) run
 
 pub piece_join : (k : Track) (known : ℕ → Bool) (given : ℕ → List Event) (f m t : ℕ) (xs ys : List Row) (a c b : State) → IsApart known m → Piece k known given f m xs a c → Piece k known given m t ys c b → Piece k known given f t (xs ++ ys) a b

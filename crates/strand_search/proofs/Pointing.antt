@@ -24,9 +24,6 @@ module _ (d : Spec) (s : Store) where
   pub past_here : (n k : ℕ) (pasts : List (List (List (List Span)))) (one : List (List (List Span))) → k ≤ n → ArePastsUpTo d s n pasts → one ≡ get_or pasts k one → ArePastsAt (log_alone d s) k one
   past_here n k pasts one le (size, at) e = subst (λ (p : List (List (List Span))). ArePastsAt (log_alone d s) k p) (sym (e ∙ get_or_default pasts k one [] (omega arith))) (at k le)
 
-  pub aheads_first : (new : List (List (List (Option ℤ)))) (first : List (List (Option ℤ))) → new ≡ first ∷ [] → AreAheadsAt (log_alone d s) (length s.hours) first → AreAheadsBack d s 0 new
-  aheads_first new first e at = rw e (omega arith, λ i k le sum. let same : i ≡ 0 = omega arith in let point : k ≡ length s.hours = omega arith in rw (same, point) at)
-
   pub aheads_more : (n k : ℕ) (old new : List (List (List (Option ℤ)))) (one : List (List (Option ℤ))) → n + 1 + k ≡ length s.hours → new ≡ old ++ one ∷ [] → AreAheadsBack d s n old → AreAheadsAt (log_alone d s) k one → AreAheadsBack d s (n + 1) new
   aheads_more n k old new one point e (size, at) next = rw e (
     (let l = length-append old (one ∷ []) in omega arith),

@@ -18,10 +18,10 @@ use Rattle.channel_ways.proofs.Running.{walk_late}
 use Rattle.strand_search.specs.Events.{AreLettersOf}
 use Rattle.strand_search.specs.Parts.{GoOn, StandsAlone}
 
-pub alone_before : (m : Rules) (low : ℕ) (here : Passing) → StandsAlone m low here → EnteredBefore here.only low
+alone_before : (m : Rules) (low : ℕ) (here : Passing) → StandsAlone m low here → EnteredBefore here.only low
 alone_before m low here one s h = let e : s.entry ≡ here.state.entry = ap (λ (x : State). x.entry) ((one.alone s).0 h) in let lt = one.early in omega (arith, ints)
 
-pub alone_older : (m : Rules) (low : ℕ) (here : Passing) → StandsAlone m low here → NoneOlder here.only
+alone_older : (m : Rules) (low : ℕ) (here : Passing) → StandsAlone m low here → NoneOlder here.only
 alone_older m low here one s h = let e : s.entry ≡ here.state.entry = ap (λ (x : State). x.entry) ((one.alone s).0 h) in let le = one.late in omega (arith, ints)
 
 pub ends_late : (m : Rules) (low : ℕ) (here : Passing) (xs : List Move) (u : State) → StandsAlone m low here → AfterMoves m here.only xs u → negsuc (2 ^ 39) ≤ℤ u.entry

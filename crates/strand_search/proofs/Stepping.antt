@@ -118,7 +118,7 @@ module _ (d : Spec) (s : Store) (hour : ℕ) (p : Part) (is : IsStore s) (within
       ]
 
 -- ---- one hour after another
-pub piece_none : (k : Track) (known : ℕ → Bool) (given : ℕ → List Event) (f : ℕ) (a : State) → Piece k known given f f [] a a
+piece_none : (k : Track) (known : ℕ → Bool) (given : ℕ → List Event) (f : ℕ) (a : State) → Piece k known given f f [] a a
 piece_none k known given f a = record {
   order = omega arith;
   unknown = tt;

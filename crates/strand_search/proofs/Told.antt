@@ -20,7 +20,7 @@ some_copied : (o : Option (Bor (List Row))) → is_some o ≡ is_some (option_co
 some_copied None = refl
 some_copied (Some r) = refl
 
-pub has_hour : (s : Store) (hour : ℕ) → IsStore s → hour < length s.hours → HasHour s hour (rows_at s hour) s.blanks
+has_hour : (s : Store) (hour : ℕ) → IsStore s → hour < length s.hours → HasHour s hour (rows_at s hour) s.blanks
 has_hour s hour is lt = record { is_store = is; within = lt; held = refl; known = λ t low high. sym (known_hour s hour t (rows_at s hour) refl low (omega arith)) }
 
 pub hour_told : (s : Store) (hour : ℕ) (o : Option (Bor (List Row))) (held : Bool) (blanks : List Span) (rows : List Row) (ss : List Stretch) → IsStore s → hour < length s.hours → option_map (λ x. x.now) o ≡ rows_at s hour → IfSome o (λ x. AreRowsOf hour x.now) → held ≡ is_some o → blanks ≡ s.blanks → rows ≡ rows_or_none (option_copied o) → IsCut (known_in held blanks) (36000 * hour) (36000 * hour + 36000) ss → IsHourPart s hour rows ss

@@ -39,7 +39,7 @@ use Rattle.strand_search.proofs.Pieces.{letters_join, piece_alike, piece_given, 
 use Rattle.strand_search.proofs.Stepping.{held_colour, machine_laws}
 
 -- a state with which a window starts
-pub start_before : (d : Spec) (s : Store) (pasts : List (List (List Span))) (u : State) → AreSpecs (d ∷ []) → ArePastsAt (log_alone d s) 0 pasts → Holds (get_or pasts 0 []) u → IsBeforeWindow (rules_of d) u
+start_before : (d : Spec) (s : Store) (pasts : List (List (List Span))) (u : State) → AreSpecs (d ∷ []) → ArePastsAt (log_alone d s) 0 pasts → Holds (get_or pasts 0 []) u → IsBeforeWindow (rules_of d) u
 start_before d s pasts u are at held = elim ((at.states 0 (omega arith) u).0 held) [
   | inl ((a, before, run), _) ↦
       let colour = reached_colour (track d) (is_known s) (events_at (known_rows s)) (first_tenth 0) u (machine_laws d are) (a, before, run) in

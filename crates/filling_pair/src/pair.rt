@@ -94,7 +94,7 @@ fn interval_pair<L>(
 }
 
 // No term is to hold.
-fn failing_asks(alloc: Global, terms: &[Term]) -> Result<Vec<Ask>, NoMemory>
+pub(crate) fn failing_asks(alloc: Global, terms: &[Term]) -> Result<Vec<Ask>, NoMemory>
     ensures { IfOk result (λ v. v.items ≡ map failing terms.now) }
 {
     let mut asks = Vec::new(alloc);
@@ -121,7 +121,7 @@ fn colours_for(term: Term, spec: u16) -> Mask
 }
 
 // The term of the channel is to hold.
-fn holding_asks(alloc: Global, terms: &[Term], spec: u16) -> Result<Vec<Ask>, NoMemory>
+pub(crate) fn holding_asks(alloc: Global, terms: &[Term], spec: u16) -> Result<Vec<Ask>, NoMemory>
     ensures { IfOk result (λ v. AreHolding spec terms.now v.items) }
 {
     let mut asks = Vec::new(alloc);

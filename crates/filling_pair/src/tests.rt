@@ -1,14 +1,20 @@
 // A green with a short gap in it, which is long enough only without a second start in the gap; and
 // two phases that conflict.
-ghost use Rattle.std.specs.Prelude.{◌≡◌, ◌≤◌, length, IsTrue};
+ghost use Rattle.std.specs.Prelude.{◌≡◌, ◌≤◌, length, All, IfOk, IsTrue};
 ghost use Rattle.board.specs.Channels.{AreSpecs};
+ghost use Rattle.board.specs.Verdicts.{AreWithin};
+ghost use Rattle.rule_audit.specs.Pass.{FitsRule};
+ghost use Rattle.rule_audit.specs.Rules.{rules_for};
 ghost use Rattle.strand_search.specs.Runs.{TellsWithinHour};
+ghost use Rattle.filling_pair.specs.Asks.{FitAsks};
 ghost use Rattle.filling_pair.specs.Kept.{IsLineOf, IsPlaceOf};
 
 use crate::asks::{Ask, replies};
 use crate::hours::rows_of_hour;
+use crate::pair::{failing_asks, holding_asks};
 use crate::stands::is_known;
 use crate::{Fill, Fills, Pair, Pairs, Strand, Strands, check_strands};
+use board::Term;
 use channel_tables::{Spec, colour_named};
 use colour_machine::Mask;
 use event_codes::Kind;
@@ -16,7 +22,7 @@ use hour_store::HourStore;
 use reach::AgeBound;
 use ring_config::{Config, read_config};
 use rule_audit::{AuditLine, Place, Rule, rules_of};
-use sig_base::{HourRows, Reads, Row, Verdict};
+use sig_base::{HourRows, NoMemory, Reads, Row, Verdict};
 use span_set::SpanSet;
 use std::alloc::Global;
 use std::test::Fail;
@@ -219,8 +225,57 @@ fn two_phases_that_conflict(rt: HostRuntime) -> Result<(), Fail> {
 fn specs_of(config: &Config) -> &[Spec]
     ensures specs { AreSpecs result.now }
     ensures few { length result.now ≤ 225 }
+    ensures rules { All (FitsRule result.now) (rules_for config.now) }
 {
     config.specs()
+}
+
+// What is asked of the clause's channels: that one's term holds, or that none does.
+fn asks_of(
+    alloc: Global,
+    specs: &[Spec],
+    terms: &[Term],
+    held: Option<u16>,
+) -> Result<Vec<Ask>, NoMemory>
+    requires { AreWithin (length specs.now) terms.now }
+    ensures { IfOk result (λ v. FitAsks specs.now v.items) }
+{
+    if let Some(spec) = held {
+        let holding = holding_asks(alloc, terms, spec)?;
+        return Ok(holding);
+    }
+    let failing = failing_asks(alloc, terms)?;
+    Ok(failing)
+}
+
+// Whether strands with which the channel's term of the clause holds keep it at the end of the tenth,
+// or those with which none does break it.
+fn clause_answers(alloc: Global, at: u32, held: Option<u16>) -> Result<Option<bool>, Fail> {
+    let config: Config = read_config(alloc, RING)?;
+    let rules = rules_of(alloc, &config)?;
+    let store = green_with_a_gap(alloc)?;
+    let line = AuditLine {
+        rule: 1,
+        at,
+        place: Place::EndOfTenth,
+        verdict: Verdict::Undecided,
+        window: None,
+    };
+    let mut reads = Reads::new(Mark);
+    let rules = rules.as_slice();
+    if !is_line(rules, &store, &line, &mut reads) {
+        return Err(Fail::from("line"));
+    }
+    let specs = specs_of(&config);
+    let Rule::Conflict(_, _, clause) = &rules[0] else {
+        return Err(Fail::from("rule"));
+    };
+    let asks = asks_of(alloc, specs, clause.terms(), held)?;
+    let Some(strands) = replies(alloc, specs, &store, &line, &asks, &mut reads)? else {
+        return Ok(None);
+    };
+    let kept = held.is_some();
+    Ok(Some(check_strands(&config, rules, &store, &line, &strands, kept, &mut reads)))
 }
 
 // A strand with which the green that ends at 1200 has an age in the bound, or hasn't: whether it
@@ -268,6 +323,21 @@ fn strands_that_answer(rt: HostRuntime) -> Result<(), Fail> {
     assert!(rt; old == Some(true));
     let younger = answers(rt.alloc(), AgeBound::AtMost(130), true)?;
     assert!(rt; younger.is_none());
+    Ok(())
+}
+
+// Phase 2 is green from 1000 on, and may be red before. Nothing is known of phase 4.
+#[test]
+fn strands_of_a_clause(rt: HostRuntime) -> Result<(), Fail> {
+    for (at, held, wanted) in [
+        (1000, None, Some(true)),
+        (1000, Some(1), Some(true)),
+        (1000, Some(0), None),
+        (999, Some(0), Some(true)),
+    ] {
+        let said = clause_answers(rt.alloc(), at, held)?;
+        assert!(rt; said == wanted);
+    }
     Ok(())
 }
 

@@ -248,8 +248,8 @@ fn asks_of(
     Ok(failing)
 }
 
-// Whether strands with which the channel's term of the clause holds keep it at the end of the tenth,
-// or those with which none does break it.
+// Whether strands with which the channel's term of the clause holds keep it at the end of the
+// tenth, or those with which none does break it.
 fn clause_answers(alloc: Global, at: u32, held: Option<u16>) -> Result<Option<bool>, Fail> {
     let config: Config = read_config(alloc, RING)?;
     let rules = rules_of(alloc, &config)?;

@@ -24,8 +24,8 @@ use reach::{Ahead, Past, Test};
 use sig_base::{NoMemory, Reads, Row};
 use std::alloc::Global;
 
-/// A way over the hour of the place: the state before it, its rows up to the place, last first, those
-/// from there on, and the state after it.
+/// A way over the hour of the place: the state before it, its rows up to the place, last first,
+/// those from there on, and the state after it.
 #[derive(Drop)]
 pub(crate) struct Crossing {
     pub(crate) before: Entered,

@@ -23,8 +23,8 @@ use reach::{Ahead, Past};
 use sig_base::{NoMemory, Row, Tenth};
 use std::alloc::Global;
 
-/// A state before the part from which letters at its unknown tenths lead to the target, which is one
-/// after it. They are added as rows, last first.
+/// A state before the part from which letters at its unknown tenths lead to the target, which is
+/// one after it. They are added as rows, last first.
 pub(crate) fn back_over(
     alloc: Global,
     spec: &Spec,

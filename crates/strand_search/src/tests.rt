@@ -1,5 +1,5 @@
-// A green from 1000 on with a short gap in it, and yellow from 1200 on, in the first of two hours, of
-// which the second isn't held.
+// A green from 1000 on with a short gap in it, and yellow from 1200 on, in the first of two hours,
+// of which the second isn't held.
 ghost use Rattle.std.specs.Prelude.{◌≡◌, ◌∷◌, [], ◌/◌, ◌<◌, length, IfOk, IsTrue};
 ghost use Rattle.hour_store.specs.Store.{is_known};
 ghost use Rattle.board.specs.Channels.{AreSpecs};

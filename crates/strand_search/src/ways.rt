@@ -139,8 +139,8 @@ fn states_after(
     Ok(past)
 }
 
-/// On from a state that stands alone, over the moves, to one that can be completed and stands alone.
-/// The letters in their gaps are added last first.
+/// On from a state that stands alone, over the moves, to one that can be completed and stands
+/// alone. The letters in their gaps are added last first.
 pub(crate) fn way_on(
     alloc: Global,
     spec: &Spec,

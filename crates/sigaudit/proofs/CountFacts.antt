@@ -68,13 +68,16 @@ pub same_tally : (T U : ℕ → ℕ → ℕ → Type 0) (a b : List ℕ) → ((h
 same_tally T U a b f (size, each) = (size, λ h lt. let (m, k, tally, opened) = each h lt in (m, k, f h m k tally, opened))
 
 made_counted : (c : Settings) (s new : Store) (ch : Change) (a : Applied) (old now : List ℕ) → Moves c s new ch a → AreOpened a.from a.to 1 3 old now → AreCounted (MadeTally c s ch (Ok new)) old now
-made_counted c s new ch a old now moves opens = (opens.size, λ h lt. elim (cases_lt h a.from) [
-  | inl before ↦ (0, 0, inl (a, moves, sym (within_not a.from a.to h (inl before)), refl), opened_not (slice_index old h) (slice_index now h) (opens.outside h (inl before)))
-  | inr low ↦ elim (cases_lt h a.to) [
-    | inl high ↦ (1, 0, inl (a, moves, sym (within_is a.from a.to h low high), refl), opens.within h lt low high)
-    | inr past ↦ (0, 0, inl (a, moves, sym (within_not a.from a.to h (inr past)), refl), opened_not (slice_index old h) (slice_index now h) (opens.outside h (inr past)))
-  ]
-])
+made_counted c s new ch a old now moves opens = (
+  opens.size,
+  λ h lt. elim (cases_lt h a.from) [
+    | inl before ↦ (0, 0, inl (a, moves, sym (within_not a.from a.to h (inl before)), refl), opened_not (slice_index old h) (slice_index now h) (opens.outside h (inl before)))
+    | inr low ↦ elim (cases_lt h a.to) [
+      | inl high ↦ (1, 0, inl (a, moves, sym (within_is a.from a.to h low high), refl), opens.within h lt low high)
+      | inr past ↦ (0, 0, inl (a, moves, sym (within_not a.from a.to h (inr past)), refl), opened_not (slice_index old h) (slice_index now h) (opens.outside h (inr past)))
+    ]
+  ],
+)
 
 pub edit_counted : (c : Settings) (s new : Store) (ch : Change) (a : Applied) (old now : List ℕ) → Steps c (step_of s ch) s new (Ok a) → Moves c s new ch a → OpensBy ch old now (Ok a) → AreCounted (EditTally c s ch) old now
 unfolding OpensBy
@@ -90,14 +93,16 @@ stopped_counted c s new ch row old now steps (first, last, touches, opens) =
     let to = row.at / 36000 + 1 in
     let (_, (t, is, contradicts, _)) = steps in
     let same : t ≡ new = cc in
-    let at = rw same at contradicts in
-    (opens.size, λ h lt. elim (cases_lt h first) [
-      | inl before ↦ (0, 0, inr (row, first, last, at, touches, refl, sym (within_not first to h (inl before))), opened_not (slice_index old h) (slice_index now h) (opens.outside h (inl before)))
-      | inr low ↦ elim (cases_lt h to) [
-        | inl high ↦ (0, 1, inr (row, first, last, at, touches, refl, sym (within_is first to h low high)), opened_wider 1 1 0 3 (slice_index old h) (slice_index now h) (omega arith) (omega arith) (opens.within h lt low high))
-        | inr past ↦ (0, 0, inr (row, first, last, at, touches, refl, sym (within_not first to h (inr past))), opened_not (slice_index old h) (slice_index now h) (opens.outside h (inr past)))
-      ]
-    ])
+    let at = rw same at contradicts in (
+      opens.size,
+      λ h lt. elim (cases_lt h first) [
+        | inl before ↦ (0, 0, inr (row, first, last, at, touches, refl, sym (within_not first to h (inl before))), opened_not (slice_index old h) (slice_index now h) (opens.outside h (inl before)))
+        | inr low ↦ elim (cases_lt h to) [
+          | inl high ↦ (0, 1, inr (row, first, last, at, touches, refl, sym (within_is first to h low high)), opened_wider 1 1 0 3 (slice_index old h) (slice_index now h) (omega arith) (omega arith) (opens.within h lt low high))
+          | inr past ↦ (0, 0, inr (row, first, last, at, touches, refl, sym (within_not first to h (inr past))), opened_not (slice_index old h) (slice_index now h) (opens.outside h (inr past)))
+        ]
+      ],
+    )
 
 pub refusal_counted : (c : Settings) (s new : Store) (ch : Change) (to : Result Store EditError) (e : EditError) (old now : List ℕ) → is_edit_memory e ≡ false → Steps c to s new (Err e) → OpensBy ch old now (Err e) → AreCounted (MadeTally c s ch to) old now
 unfolding OpensBy
@@ -225,11 +230,14 @@ tally_more files c n at (x ∷ xs) l s mid last t h m1 k1 m2 k2 e (u, first, (a,
 
 -- two openings one after another, by tallies that add up
 counted_on : (T U V : ℕ → ℕ → ℕ → Type 0) (a b d : List ℕ) → ((h m k m' k' : ℕ) → T h m k → U h m' k' → V h (m + m') (k + k')) → AreCounted T a b → AreCounted U b d → AreCounted V a d
-counted_on T U V a b d join (size, each) (size', each') = (size' ∙ size, λ h lt.
-    let (m, k, tally, opened) = each h lt in
-    let (m', k', tally', opened') = each' h (rw size lt) in
-    let both = opened_on m (3 * (m + k)) m' (3 * (m' + k')) (slice_index a h) (slice_index b h) (slice_index d h) opened opened' in
-    (m + m', k + k', join h m k m' k' tally tally', opened_wider (m + m') (3 * (m + k) + 3 * (m' + k')) (m + m') (3 * ((m + m') + (k + k'))) (slice_index a h) (slice_index d h) (omega arith) (omega arith) both))
+counted_on T U V a b d join (size, each) (size', each') = (
+  size' ∙ size,
+  λ h lt.
+      let (m, k, tally, opened) = each h lt in
+      let (m', k', tally', opened') = each' h (rw size lt) in
+      let both = opened_on m (3 * (m + k)) m' (3 * (m' + k')) (slice_index a h) (slice_index b h) (slice_index d h) opened opened' in
+      (m + m', k + k', join h m k m' k' tally tally', opened_wider (m + m') (3 * (m + k) + 3 * (m' + k')) (m + m') (3 * ((m + m') + (k + k'))) (slice_index a h) (slice_index d h) (omega arith) (omega arith) both),
+)
 
 -- the lines before line n were taken, these are left, and hours were opened so
 pub record IsCountedOn (files : Files) (c : Settings) (lines : List (List ℕ)) (s0 : Store) (n : ℕ) (rest : List (List ℕ)) (s : Store) (old now : List ℕ) : Type 0 where

@@ -24,9 +24,9 @@ returns-clause-pairs g c =
     let lines = c.deref-3.result.now in
     let are : AreAuditLines cfg s (c.args.at / 36000) lines = rw c.deref-3.ensures.value c.in_ok-lines.ensures.lines in
     let whole = IfOk-weaker c.pairs_of.result
-        (λ p. ArePairsOf cfg s (filter (is_open_at c.args.rule c.args.at) lines) p)
-        (λ p. ArePairsAt cfg s c.args.rule c.args.at p)
-        (λ p h. (lines, are, h)) c.pairs_of.ensures.pairs in
+    (λ p. ArePairsOf cfg s (filter (is_open_at c.args.rule c.args.at) lines) p)
+    (λ p. ArePairsAt cfg s c.args.rule c.args.at p)
+    (λ p h. (lines, are, h)) c.pairs_of.ensures.pairs in
     rw (← c.self.view_is) whole
 
 pub returns-clause-grow : goal.returns-clause-grow

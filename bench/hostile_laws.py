@@ -26,7 +26,7 @@ KEY = r"(signal|start|hours|coordination|" + TABLE + r"|number|ring|side|parents
       r"|at_most|name|advance|stop_bar|high_num|high_den|\?)"
 CONFIG = re.compile(r"config refused: (not toml|(missing|bad value|unknown|repeated|too many) (top|(" + TABLE
                     + r")\[\d+\])\." + KEY + r")\n")
-USAGE = ("usage: sigaudit --config C --script S | --count F --signal ID --hour H | --pack F --signal ID --hour H"
+USAGE = ("usage: sigaudit --config C --script S [--rule K --at T] | --count F --signal ID --hour H | --pack F --signal ID --hour H"
          " | --demo N\n")
 COUNT = re.compile(r"rows \d+ repeats \d+\n(code \d+ [^\n]* \d+\n)*|refused " + FILE_TEXT + "\n")
 REFUSED_FILE = re.compile("refused " + FILE_TEXT + "\n")

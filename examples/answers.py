@@ -53,6 +53,7 @@ class Session:
                 self.sections.append(Section(words, (set(held), list(blanks))))
         if answered != asked or answers[-1]:
             sys.exit("%s: not the whole answer to %s" % (answer, script))
+        self.known = held, blanks
 
     def edit(self, words, held, blanks):
         if words[0] in ("load", "replace"):
@@ -85,9 +86,9 @@ class Session:
         found = {int(s.words[1]): s for s in self.sections if s.words[0] == kind and len(s.words) == 2}
         return sorted(found.items())
 
-    def unknown(self, section):
-        """The stretches of the window that weren't known at a section: from and up to, in order."""
-        held, blanks = section.known
+    def unknown(self, section=None):
+        """The stretches of the window that weren't known at a section, or at the end: from and up to, in order."""
+        held, blanks = (section or self).known
         cuts = [(self.start + h * logs.HOUR, self.start + (h + 1) * logs.HOUR)
                 for h in range(self.config["hours"]) if h not in held]
         merged = []

@@ -1,3 +1,5 @@
+ghost use Rattle.std.specs.Prelude.{◌≡◌, [], ◌∷◌, negsuc, IfOk};
+
 use crate::approaches::put_approaches;
 use crate::{put_diagram, put_pair, put_shifts};
 use arrival_measures::{ArrivalSum, Diagram, Point, Points};
@@ -169,17 +171,16 @@ fn lines_of_no_shifts(rt: HostRuntime) -> Result<(), Fail> {
 }
 
 // The phase comes in red, as old as a colour can be there at the least, and then has these fills.
-fn from_red(alloc: Global, fills: &[Fill]) -> Result<Strands, NoMemory> {
-    let mut own = Fills::new(alloc);
-    for fill in fills {
-        own.push(*fill)?;
-    }
+fn from_red(alloc: Global, fills: Fills) -> Result<Strands, NoMemory>
+    ensures { IfOk result (λ ss. ss ≡
+        record { spec = 0; colour = 0; entry = negsuc 0; fills = fills } ∷ []) }
+{
     let mut strands = Strands::new(alloc);
     strands.push(Strand {
         spec: 0,
         colour: 0,
         entry: -1,
-        fills: own,
+        fills,
     })?;
     Ok(strands)
 }
@@ -191,6 +192,7 @@ fn lines_of_a_pair(rt: HostRuntime) -> Result<(), Fail> {
         assert!(rt; false);
         return Ok(());
     };
+    assert_eq!(rt; config.hours(), 2);
     let ends = Fill {
         at: 1050,
         code: 7,
@@ -201,9 +203,12 @@ fn lines_of_a_pair(rt: HostRuntime) -> Result<(), Fail> {
         code: 1,
         param: 2,
     };
+    let mut fills = Fills::new(alloc);
+    fills.push(ends)?;
+    fills.push(begins)?;
     let pair = Pair {
-        keeps: from_red(alloc, &[])?,
-        breaks: from_red(alloc, &[ends, begins])?,
+        keeps: from_red(alloc, Fills::new(alloc))?,
+        breaks: from_red(alloc, fills)?,
     };
     let line = AuditLine {
         rule: 1,

@@ -36,7 +36,8 @@ impl Chain {
 
 // The chain that has the row.
 fn chain_of(row: &Row) -> Option<Chain>
-    ensures { MatchOption result ((c : Chain) → number_of c < 256 → is_in c row.now ≡ false) (λ own. IsOnlyIn row.now own) }
+    ensures { MatchOption result ((c : Chain) → number_of c < 256
+        → is_in c row.now ≡ false) (λ own. IsOnlyIn row.now own) }
 {
     if row.param > 255 {
         return None;
@@ -121,7 +122,8 @@ impl<'a> Chains<'a> {
     /// has none.
     pub(crate) fn next(&self, place: usize) -> usize
         requires { place < length self.now }
-        ensures { (c : Chain) → number_of c < 256 → is_in c (slice_index_or self.now place no_row) ≡ true → IsNext (is_in c) self.now (place + 1) result }
+        ensures { (c : Chain) → number_of c < 256 → is_in c (slice_index_or self.now place no_row)
+            ≡ true → IsNext (is_in c) self.now (place + 1) result }
     {
         self.next[place] as usize
     }

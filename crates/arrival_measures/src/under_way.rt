@@ -14,7 +14,8 @@ use sig_base::Row;
 
 /// The first tenth of the hour with these stretches.
 pub(crate) fn first_of(stretches: &[Stretch]) -> u32
-    ensures { (known : ℕ → Bool) (a b : ℕ) → AreStretches known a b stretches.now → a < b → result ≡ a }
+    ensures { (known : ℕ → Bool) (a b : ℕ) → AreStretches known a b stretches.now → a < b
+        → result ≡ a }
 {
     match stretches.first() {
         Some(stretch) => stretch.from,
@@ -33,8 +34,10 @@ fn rows_between(rows: &[Row], from: u32, to: u32) -> &[Row]
 
 // The cycle up to tenth `to`, from the cycle up to tenth `at`.
 fn follow(begun: Open, phase: u8, detector: u8, rows: &[Row], at: u32, to: u32) -> Open
-    ensures { (a b : ℕ) (earlier : List Row) → AreOrdered a b rows.now → at ≤ to → begun ≡ open_at phase detector begun.from at earlier → begun.from ≤ at → All (λ x. x.at < at) earlier
-        → result ≡ open_at phase detector begun.from to (earlier ++ rows_within at to rows.now) }
+    ensures { (a b : ℕ) (earlier : List Row) → AreOrdered a b rows.now → at ≤ to
+        → begun ≡ open_at phase detector begun.from at earlier → begun.from ≤ at
+        → All (λ x. x.at < at) earlier → result ≡ open_at phase detector begun.from to
+        (earlier ++ rows_within at to rows.now) }
 {
     begun.over(phase, detector, rows_between(rows, at, to), at, to)
 }
@@ -50,7 +53,9 @@ pub(crate) fn cycle_given(
     from: u32,
     to: u32,
 ) -> Open
-    ensures { (known : ℕ → Bool) (before : List Row) (end : ℕ) → IsUnderWay known phase detector before rows.now first end begun from to → result ≡ open_at phase detector from to (before ++ known_rows known rows.now) }
+    ensures { (known : ℕ → Bool) (before : List Row) (end : ℕ)
+        → IsUnderWay known phase detector before rows.now first end begun from to
+        → result ≡ open_at phase detector from to (before ++ known_rows known rows.now) }
 {
     match begun {
         Some(begun) if from < first => follow(begun, phase, detector, rows, first, to),

@@ -80,7 +80,8 @@ impl Aheads {
     /// that were entered earlier. It answers yes only where of each channel both admit the same
     /// states at all, or one state alone is possible and both admit it.
     pub fn same_for(&self, pasts: &Pasts, other: &Aheads) -> bool
-        requires shape { (specs : List Spec) × AreBefore specs pasts.now × AreAheadsOf specs self.now × AreAheadsOf specs other.now }
+        requires shape { (specs : List Spec) × AreBefore specs pasts.now
+            × AreAheadsOf specs self.now × AreAheadsOf specs other.now }
         ensures { IsTrue result → AreSameFor pasts.now self.now other.now }
     {
         for i in 0..self.aheads.len() {
@@ -114,7 +115,8 @@ fn ahead_end(spec: &Spec, point: Tenth) -> Ahead
     requires low { negsuc (2 ^ 39) ≤ℤ point }
     requires high { point ≤ℤ pos (2 ^ 39) }
     ensures colours { length result ≡ (rules_of spec.now).colours }
-    ensures states { (s : State) → Admits result s ↔ ((s.colour < (rules_of spec.now).colours) × (s.entry <ℤ point)) }
+    ensures states { (s : State) → Admits result s ↔ ((s.colour < (rules_of spec.now).colours)
+        × (s.entry <ℤ point)) }
 {
     let machine = machine_of(spec);
     Ahead::end(machine.colours(), point)
@@ -148,7 +150,8 @@ pub fn aheads_hour(
     requires hour { (h : ℕ) × IsHour h rows.now stretches.now }
     requires after { AreAheadsOf specs.now after.now }
     ensures shape { IfOk result (λ a. AreAheadsOf specs.now a) }
-    ensures before { IfOk result (λ a. AreAheadsBefore specs.now rows.now stretches.now after.now a) }
+    ensures before { IfOk result (λ a. AreAheadsBefore specs.now rows.now stretches.now after.now
+        a) }
 {
     let courses = courses_of(alloc, specs, rows, stretches)?;
     let first = first_of(stretches);
@@ -174,7 +177,8 @@ fn ahead_before(spec: &Spec, after: &Ahead, moves: &[Move], first: u32) -> Ahead
     requires fits { IsSpec spec.now }
     requires order { InOrder (rules_of spec.now) 0 moves.now }
     requires colours { length after.now ≡ (rules_of spec.now).colours }
-    ensures before { (s : State) → Admits result s ↔ ((EntersBefore moves.now s × BeforeMoves (rules_of spec.now) after.now moves.now s) × (s.entry <ℤ pos first)) }
+    ensures before { (s : State) → Admits result s ↔ ((EntersBefore moves.now s
+        × BeforeMoves (rules_of spec.now) after.now moves.now s) × (s.entry <ℤ pos first)) }
     ensures colours { length result ≡ length after.now }
 {
     let machine = machine_of(spec);
@@ -185,7 +189,8 @@ fn ahead_before(spec: &Spec, after: &Ahead, moves: &[Move], first: u32) -> Ahead
 }
 
 fn lower_before(ahead: &mut Ahead, first: u32)
-    ensures states { (s : State) → Admits ahead.new s ↔ (Admits ahead.old s × (s.entry <ℤ pos first)) }
+    ensures states { (s : State) → Admits ahead.new s ↔ (Admits ahead.old s
+        × (s.entry <ℤ pos first)) }
     ensures colours { length ahead.new ≡ length ahead.old }
 {
     ahead.lower(i64::from(first) - 1);

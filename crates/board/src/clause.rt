@@ -85,7 +85,8 @@ fn has_spec(terms: &[Term], spec: u16) -> bool
 /// clause at the end of the known tenth; never `Idle`.
 pub fn clause_verdict(view: &HourView, at: u32, clause: &Clause) -> Verdict
     requires { AreWithin (length view.now.specs) clause.now }
-    ensures { known_at view.now.stretches at ≡ true → ((w : ℕ → State) × PassStates view.now at w) → IsVerdict result (PassStates view.now at) (Keeps clause.now) }
+    ensures { known_at view.now.stretches at ≡ true → ((w : ℕ → State) × PassStates view.now at w)
+        → IsVerdict result (PassStates view.now at) (Keeps clause.now) }
 {
     let _channels = view.channels();
     let terms = clause.terms();
@@ -106,7 +107,9 @@ pub fn clause_verdict(view: &HourView, at: u32, clause: &Clause) -> Verdict
 // What the runs of the term's channel say of it at the end of the tenth.
 fn term_seen(view: &HourView, at: u32, term: Term) -> Seen
     requires spec { term.spec < length view.now.specs }
-    ensures { known_at view.now.stretches at ≡ true → (IsTrue result.some_true ↔ SomeIn (MayPass view.now at) term) × (IsTrue result.some_false ↔ SomeNot (MayPass view.now at) term) }
+    ensures { known_at view.now.stretches at ≡ true → (IsTrue result.some_true
+        ↔ SomeIn (MayPass view.now at) term) × (IsTrue result.some_false
+        ↔ SomeNot (MayPass view.now at) term) }
 {
     let test = Test {
         colours: term.colours,

@@ -78,7 +78,8 @@ pub fn courses_of(
 }
 
 fn empty(alloc: Global, count: usize) -> Result<Vec<Course>, NoMemory>
-    ensures { IfOk result (λ v. (length v.items ≡ count) × ((i : ℕ) → slice_index_or v.items i [] ≡ [])) }
+    ensures { IfOk result (λ v. (length v.items ≡ count)
+        × ((i : ℕ) → slice_index_or v.items i [] ≡ [])) }
 {
     let mut courses = Vec::new(alloc);
     for _course in 0..count {
@@ -102,7 +103,9 @@ fn add_stretch(
     requires few { length rows.now < 2 ^ 32 }
     requires next { next ≤ length rows.now }
     ensures next { IfOk result (λ n. n ≡ next + count_before stretch.to (drop next rows.now)) }
-    ensures added { OnOk result ((d : Spec) → AreAdded courses.old courses.new (λ i. stretch_moves (track (slice_index_or specs.now i d)) next (take (count_before stretch.to (drop next rows.now)) (drop next rows.now)) stretch)) }
+    ensures added { OnOk result ((d : Spec) → AreAdded courses.old courses.new
+        (λ i. stretch_moves (track (slice_index_or specs.now i d)) next
+        (take (count_before stretch.to (drop next rows.now)) (drop next rows.now)) stretch)) }
 {
     let (_done, rest) = rows.split_at(next);
     let count = until(rest, stretch.to);
@@ -149,7 +152,8 @@ fn add_rows(
     requires table { IsTable specs.now table.now }
     requires same { length courses.old ≡ length specs.now }
     requires few { first + length rows.now < 2 ^ 32 }
-    ensures { OnOk result ((d : Spec) → AreAdded courses.old courses.new (λ i. letter_moves (track (slice_index_or specs.now i d)) first rows.now)) }
+    ensures { OnOk result ((d : Spec) → AreAdded courses.old courses.new
+        (λ i. letter_moves (track (slice_index_or specs.now i d)) first rows.now)) }
 {
     let mut number = first;
     for row in rows {
@@ -170,7 +174,9 @@ fn add_row(
     requires specs { AreSpecs specs.now }
     requires table { IsTable specs.now table.now }
     requires same { length courses.old ≡ length specs.now }
-    ensures { OnOk result ((d : Spec) → AreAdded courses.old courses.new (λ i. with_letter (letter_in (slice_index_or specs.now i d) row.code row.param) row.at number [])) }
+    ensures { OnOk result ((d : Spec) → AreAdded courses.old courses.new
+        (λ i. with_letter (letter_in (slice_index_or specs.now i d) row.code row.param) row.at
+        number [])) }
 {
     let Some((i, letter)) = find(specs, table, row.code, row.param) else {
         return Ok(());
@@ -186,7 +192,9 @@ fn add_row(
 // The place of the spec to whose channel the event belongs, and its letter.
 fn find(specs: &[Spec], table: &SpecTable, code: u8, param: u16) -> Option<(usize, u8)>
     requires table { IsTable specs.now table.now }
-    ensures { MatchOption result ((i : ℕ) (d : Spec) → i < length specs.now → letter_in (slice_index_or specs.now i d) code param ≡ None) (λ p. (p.0 < length specs.now) × ((d : Spec) → letter_in (slice_index_or specs.now p.0 d) code param ≡ Some p.1)) }
+    ensures { MatchOption result ((i : ℕ) (d : Spec) → i < length specs.now
+        → letter_in (slice_index_or specs.now i d) code param ≡ None) (λ p. (p.0 < length specs.now)
+        × ((d : Spec) → letter_in (slice_index_or specs.now p.0 d) code param ≡ Some p.1)) }
 {
     let channel = channel_of(code, param)?;
     let letter = letter_of(code, param)?;
@@ -198,7 +206,9 @@ fn find(specs: &[Spec], table: &SpecTable, code: u8, param: u16) -> Option<(usiz
 
 fn place_of_channel(specs: &[Spec], table: &SpecTable, channel: Channel) -> Option<usize>
     requires table { IsTable specs.now table.now }
-    ensures { MatchOption result ((i : ℕ) (d : Spec) → i < length specs.now → (slice_index_or specs.now i d).channel ≢ channel) (λ p. (p < length specs.now) × ((d : Spec) → (slice_index_or specs.now p d).channel ≡ channel)) }
+    ensures { MatchOption result ((i : ℕ) (d : Spec) → i < length specs.now
+        → (slice_index_or specs.now i d).channel ≢ channel) (λ p. (p < length specs.now)
+        × ((d : Spec) → (slice_index_or specs.now p d).channel ≡ channel)) }
 {
     match table.place_of(channel) {
         Some(place) => Some(place as usize),

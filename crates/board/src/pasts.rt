@@ -146,12 +146,14 @@ pub fn pasts_hour(
     stretches: &[Stretch],
 ) -> Result<Pasts, PastsError>
     requires specs { AreSpecs specs.now }
-    requires hour { (h : ℕ) × IsHour h rows.now stretches.now × AllEarly (first_tenth h) before.now }
+    requires hour { (h : ℕ) × IsHour h rows.now stretches.now
+        × AllEarly (first_tenth h) before.now }
     requires before { AreBefore specs.now before.now }
     ensures pasts { IfOk result (λ p. ArePastsOf specs.now rows.now stretches.now before.now p) }
     ensures stop { IfErr result (NamesStop specs.now rows.now stretches.now before.now) }
     ensures shape { IfOk result (λ p. AreBefore specs.now p) }
-    ensures early { IfOk result (λ p. (h : ℕ) → IsHour h rows.now stretches.now → AllEarly (end_tenth h) p) }
+    ensures early { IfOk result (λ p. (h : ℕ) → IsHour h rows.now stretches.now
+        → AllEarly (end_tenth h) p) }
 {
     let after = pasts_walked(alloc, specs, before, rows, stretches)?;
     match after.stop {
@@ -196,12 +198,16 @@ fn pasts_walked(
     stretches: &[Stretch],
 ) -> Result<After, NoMemory>
     requires specs { AreSpecs specs.now }
-    requires hour { (h : ℕ) × IsHour h rows.now stretches.now × AllEarly (first_tenth h) before.now }
+    requires hour { (h : ℕ) × IsHour h rows.now stretches.now
+        × AllEarly (first_tenth h) before.now }
     requires before { AreBefore specs.now before.now }
     ensures count { IfOk result (λ a. length a.pasts ≡ length specs.now) }
-    ensures colours { IfOk result (λ a. (i : ℕ) (d : Spec) → i < length specs.now → length (slice_index_or a.pasts i []) ≡ (rules_at specs.now i d).colours) }
-    ensures stop { IfOk result (λ a. IsFirstStop specs.now rows.now stretches.now before.now (length specs.now) a.stop) }
-    ensures pasts { IfOk result (λ a. a.stop ≡ None → AreAfter specs.now rows.now stretches.now before.now (length specs.now) a.pasts) }
+    ensures colours { IfOk result (λ a. (i : ℕ) (d : Spec) → i < length specs.now
+        → length (slice_index_or a.pasts i []) ≡ (rules_at specs.now i d).colours) }
+    ensures stop { IfOk result (λ a. IsFirstStop specs.now rows.now stretches.now before.now
+        (length specs.now) a.stop) }
+    ensures pasts { IfOk result (λ a. a.stop ≡ None → AreAfter specs.now rows.now stretches.now
+        before.now (length specs.now) a.pasts) }
 {
     let courses = courses_of(alloc, specs, rows, stretches)?;
     let mut pasts = Vec::new(alloc);
@@ -226,10 +232,14 @@ fn walk_spec(
     moves: &[Move],
 ) -> Result<Option<u32>, NoMemory>
     requires fits { IsSpec spec.now }
-    requires order { (low : ℕ) × EnteredBefore past.old low × InOrder (rules_of spec.now) low moves.now }
+    requires order { (low : ℕ) × EnteredBefore past.old low
+        × InOrder (rules_of spec.now) low moves.now }
     requires colours { length past.old ≡ (rules_of spec.now).colours }
     requires some { (s : State) × Holds past.old s }
-    ensures after { IfOk result (λ r. MatchOption r (((u : State) → Holds past.new u ↔ AfterMoves (rules_of spec.now) past.old moves.now u) × Survives (rules_of spec.now) past.old moves.now) (λ x. StopRow (rules_of spec.now) past.old moves.now x)) }
+    ensures after { IfOk result (λ r. MatchOption r (((u : State) → Holds past.new u
+        ↔ AfterMoves (rules_of spec.now) past.old moves.now u)
+        × Survives (rules_of spec.now) past.old moves.now)
+        (λ x. StopRow (rules_of spec.now) past.old moves.now x)) }
     ensures colours { length past.new ≡ length past.old }
 {
     let machine = machine_of(spec);
@@ -242,10 +252,14 @@ fn walk_moves<M: Machine>(
     past: &mut Past,
     moves: &[Move],
 ) -> Result<Option<u32>, NoMemory>
-    requires order { (low : ℕ) × EnteredBefore past.old low × InOrder (M.rules machine.now) low moves.now }
+    requires order { (low : ℕ) × EnteredBefore past.old low
+        × InOrder (M.rules machine.now) low moves.now }
     requires colours { length past.old ≡ (M.rules machine.now).colours }
     requires some { (s : State) × Holds past.old s }
-    ensures after { IfOk result (λ r. MatchOption r (((u : State) → Holds past.new u ↔ AfterMoves (M.rules machine.now) past.old moves.now u) × Survives (M.rules machine.now) past.old moves.now) (λ x. StopRow (M.rules machine.now) past.old moves.now x)) }
+    ensures after { IfOk result (λ r. MatchOption r (((u : State) → Holds past.new u
+        ↔ AfterMoves (M.rules machine.now) past.old moves.now u)
+        × Survives (M.rules machine.now) past.old moves.now)
+        (λ x. StopRow (M.rules machine.now) past.old moves.now x)) }
     ensures colours { length past.new ≡ length past.old }
 {
     match walk_past(alloc, machine, past, moves)? {

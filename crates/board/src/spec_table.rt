@@ -42,7 +42,10 @@ impl SpecTable {
 
     /// The place of the channel among the specs of the table.
     pub fn place_of(&self, channel: Channel) -> Option<u16>
-        ensures { (specs : List Spec) → IsTable specs self.now → MatchOption result ((i : ℕ) → i < length specs → (slice_index_or specs i no_spec).channel ≢ channel) (λ p. (p < length specs) × ((slice_index_or specs p no_spec).channel ≡ channel)) }
+        ensures { (specs : List Spec) → IsTable specs self.now
+            → MatchOption result ((i : ℕ) → i < length specs
+            → (slice_index_or specs i no_spec).channel ≢ channel) (λ p. (p < length specs)
+            × ((slice_index_or specs p no_spec).channel ≡ channel)) }
     {
         let cell = cell_of(channel);
         if cell >= self.cells.len() {

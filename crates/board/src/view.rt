@@ -43,9 +43,11 @@ impl Model for HourView {
 
     ghost Value = { HourLog };
 
-    ghost view = { λ v. hour_log v.hour v.specs.items v.rows.items v.stretches.items v.before.value v.after.value };
+    ghost view = { λ v. hour_log v.hour v.specs.items v.rows.items v.stretches.items v.before.value
+        v.after.value };
 
-    ghost invariant = { λ v. IsView (hour_log v.hour v.specs.items v.rows.items v.stretches.items v.before.value v.after.value) v.lines.items };
+    ghost invariant = { λ v. IsView (hour_log v.hour v.specs.items v.rows.items v.stretches.items
+        v.before.value v.after.value) v.lines.items };
 }
 
 // The hour of the stretches.
@@ -67,10 +69,13 @@ impl HourView {
         stretches: &[Stretch],
         after: &Aheads,
     ) -> Result<HourView, NoMemory>
-        requires log { (hour : ℕ) × IsLog (hour_log hour specs.now rows.now stretches.now before.now after.now) }
+        requires log { (hour : ℕ) × IsLog (hour_log hour specs.now rows.now stretches.now before.now
+            after.now) }
         requires before { AreBefore specs.now before.now }
         requires after { AreAheadsOf specs.now after.now }
-        ensures { IfOk result (λ v. (hour : ℕ) → IsLog (hour_log hour specs.now rows.now stretches.now before.now after.now) → v ≡ hour_log hour specs.now rows.now stretches.now before.now after.now) }
+        ensures { IfOk result (λ v. (hour : ℕ) → IsLog (hour_log hour specs.now rows.now
+            stretches.now before.now after.now) → v ≡ hour_log hour specs.now rows.now stretches.now
+            before.now after.now) }
     {
         let hour = hour_of(stretches);
         HourView::of_hour(alloc, hour, specs, before, rows, stretches, after)
@@ -89,7 +94,8 @@ impl HourView {
         requires log { IsLog (hour_log hour specs.now rows.now stretches.now before.now after.now) }
         requires before { AreBefore specs.now before.now }
         requires after { AreAheadsOf specs.now after.now }
-        ensures { IfOk result (λ v. v ≡ hour_log hour specs.now rows.now stretches.now before.now after.now) }
+        ensures { IfOk result (λ v. v ≡ hour_log hour specs.now rows.now stretches.now before.now
+            after.now) }
     {
         let courses = courses_of(alloc, specs, rows, stretches)?;
         let mut lines = Vec::new(alloc);
@@ -125,7 +131,8 @@ impl HourView {
     /// What happens to the channel with this place among the specs, from 0.
     pub fn moves(&self, spec: u16) -> &[Move]
         requires spec { spec < length self.now.specs }
-        ensures moves { (d : Spec) → result.now ≡ moves_at self.now.specs self.now.rows self.now.stretches spec d }
+        ensures moves { (d : Spec) → result.now ≡ moves_at self.now.specs self.now.rows
+            self.now.stretches spec d }
         ensures log { IsLog self.now }
     {
         self.lines[spec as usize].moves()
@@ -137,7 +144,10 @@ impl HourView {
         requires spec { spec < length self.now.specs }
         requires low { negsuc (2 ^ 39) ≤ℤ test.now.at }
         requires high { test.now.at ≤ℤ pos (2 ^ 39) }
-        ensures { index < length self.now.rows → known_at self.now.stretches (slice_index_or self.now.rows index no_row).at ≡ true → test.now.at ≡ pos (slice_index_or self.now.rows index no_row).at → SeesRow self.now index spec test.now result }
+        ensures { index < length self.now.rows → known_at self.now.stretches
+            (slice_index_or self.now.rows index no_row).at ≡ true
+            → test.now.at ≡ pos (slice_index_or self.now.rows index no_row).at
+            → SeesRow self.now index spec test.now result }
     {
         let line = &self.lines[spec as usize];
         let place = place_of(line.moves(), test.at, Some(index));
@@ -164,10 +174,12 @@ fn line_of(
     after: &Ahead,
 ) -> Result<Line<AnyMachine>, NoMemory>
     requires fits { IsSpec spec.now }
-    requires order { (low : ℕ) × EnteredBefore before.now low × InOrder (rules_of spec.now) low moves.now }
+    requires order { (low : ℕ) × EnteredBefore before.now low
+        × InOrder (rules_of spec.now) low moves.now }
     requires colours { length before.now ≡ (rules_of spec.now).colours }
     requires ahead { length after.now ≡ (rules_of spec.now).colours }
-    ensures { IfOk result (λ l. (any_rules l.machine ≡ rules_of spec.now) × (l.before ≡ before.now) × (l.moves ≡ moves.now) × (l.after ≡ after.now)) }
+    ensures { IfOk result (λ l. (any_rules l.machine ≡ rules_of spec.now) × (l.before ≡ before.now)
+        × (l.moves ≡ moves.now) × (l.after ≡ after.now)) }
 {
     let machine = machine_of(spec);
     let own = Vec::from_slice(alloc, moves)?;

@@ -21,7 +21,8 @@ use event_codes::{Kind, channel_of};
 pub fn letter_of(code: u8, param: u16) -> Option<u8>
     ensures letter { result ≡ letter_in_table code param }
     ensures there { IsSome result ↔ IsSome (channel_in_table code param) }
-    ensures within { (channel : Channel) → channel_in_table code param ≡ Some channel → IfSome result (λ l. l < length (table_of channel.kind).signs) }
+    ensures within { (channel : Channel) → channel_in_table code param ≡ Some channel
+        → IfSome result (λ l. l < length (table_of channel.kind).signs) }
 {
     match channel_of(code, param) {
         Some(channel) => letter_in(channel.kind, code, param),

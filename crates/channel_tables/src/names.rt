@@ -39,7 +39,8 @@ fn is_name(kind: Kind, colour: u8, name: &str) -> bool
 /// The name of a colour, counted from 0, of a channel of this kind; `None` where there is no such
 /// colour.
 pub fn colour_name(kind: Kind, colour: u8) -> Option<&'static str>
-    ensures { MatchOption result (slice_get (table_of kind).names colour ≡ None) (λ name. HasName kind colour name.now) }
+    ensures { MatchOption result (slice_get (table_of kind).names colour
+        ≡ None) (λ name. HasName kind colour name.now) }
 {
     match kind {
         Kind::Phase => phase_name(colour),
@@ -54,7 +55,8 @@ pub fn colour_name(kind: Kind, colour: u8) -> Option<&'static str>
 
 // The name of a phase's colour.
 fn phase_name(colour: u8) -> Option<&'static str>
-    ensures { MatchOption result (slice_get phase_table.names colour ≡ None) (λ name. slice_get phase_table.names colour ≡ Some name.now) }
+    ensures { MatchOption result (slice_get phase_table.names colour
+        ≡ None) (λ name. slice_get phase_table.names colour ≡ Some name.now) }
 {
     match colour {
         0 => Some("Red"),
@@ -71,7 +73,8 @@ fn phase_name(colour: u8) -> Option<&'static str>
 
 // The name of a pedestrian signal's colour.
 fn ped_name(colour: u8) -> Option<&'static str>
-    ensures { MatchOption result (slice_get ped_table.names colour ≡ None) (λ name. slice_get ped_table.names colour ≡ Some name.now) }
+    ensures { MatchOption result (slice_get ped_table.names colour
+        ≡ None) (λ name. slice_get ped_table.names colour ≡ Some name.now) }
 {
     match colour {
         0 => Some("DontWalk"),
@@ -84,7 +87,8 @@ fn ped_name(colour: u8) -> Option<&'static str>
 
 // The name of an overlap's colour.
 fn overlap_name(colour: u8) -> Option<&'static str>
-    ensures { MatchOption result (slice_get overlap_table.names colour ≡ None) (λ name. slice_get overlap_table.names colour ≡ Some name.now) }
+    ensures { MatchOption result (slice_get overlap_table.names colour
+        ≡ None) (λ name. slice_get overlap_table.names colour ≡ Some name.now) }
 {
     match colour {
         0 => Some("Off"),
@@ -99,7 +103,8 @@ fn overlap_name(colour: u8) -> Option<&'static str>
 
 // The name of a detector's colour.
 fn detector_name(colour: u8) -> Option<&'static str>
-    ensures { MatchOption result (slice_get detector_table.names colour ≡ None) (λ name. slice_get detector_table.names colour ≡ Some name.now) }
+    ensures { MatchOption result (slice_get detector_table.names colour
+        ≡ None) (λ name. slice_get detector_table.names colour ≡ Some name.now) }
 {
     match colour {
         0 => Some("Off"),
@@ -111,7 +116,8 @@ fn detector_name(colour: u8) -> Option<&'static str>
 
 // The name of a switch's colour.
 fn switch_name(colour: u8) -> Option<&'static str>
-    ensures { MatchOption result (slice_get ped_detector_table.names colour ≡ None) (λ name. slice_get ped_detector_table.names colour ≡ Some name.now) }
+    ensures { MatchOption result (slice_get ped_detector_table.names colour
+        ≡ None) (λ name. slice_get ped_detector_table.names colour ≡ Some name.now) }
 {
     match colour {
         0 => Some("Off"),
@@ -122,7 +128,8 @@ fn switch_name(colour: u8) -> Option<&'static str>
 
 // The name of a colour of a preempt's service.
 fn preempt_name(colour: u8) -> Option<&'static str>
-    ensures { MatchOption result (slice_get preempt_table.names colour ≡ None) (λ name. slice_get preempt_table.names colour ≡ Some name.now) }
+    ensures { MatchOption result (slice_get preempt_table.names colour
+        ≡ None) (λ name. slice_get preempt_table.names colour ≡ Some name.now) }
 {
     match colour {
         0 => Some("Rest"),
@@ -135,7 +142,8 @@ fn preempt_name(colour: u8) -> Option<&'static str>
 
 // The name of the coordination's colour.
 fn coordination_name(colour: u8) -> Option<&'static str>
-    ensures { MatchOption result (slice_get coordination_table.names colour ≡ None) (λ name. slice_get coordination_table.names colour ≡ Some name.now) }
+    ensures { MatchOption result (slice_get coordination_table.names colour
+        ≡ None) (λ name. slice_get coordination_table.names colour ≡ Some name.now) }
 {
     match colour {
         0 => Some("0"),

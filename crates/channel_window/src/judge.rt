@@ -20,9 +20,12 @@ fn ending<M: Machine>(
     past: &mut Past,
     moves: &[Move],
 ) -> Result<Option<usize>, NoMemory>
-    requires order { (low : ℕ) × EnteredBefore past.old low × InOrder (M.rules machine.now) low moves.now }
+    requires order { (low : ℕ) × EnteredBefore past.old low
+        × InOrder (M.rules machine.now) low moves.now }
     requires colours { length past.old ≡ (M.rules machine.now).colours }
-    ensures { IfOk result (λ r. MatchOption r ((u : State) × AfterMoves (M.rules machine.now) past.old moves.now u) (λ n. IsEnding (M.rules machine.now) past.old moves.now n)) }
+    ensures { IfOk result (λ r. MatchOption r ((u : State)
+        × AfterMoves (M.rules machine.now) past.old moves.now u)
+        (λ n. IsEnding (M.rules machine.now) past.old moves.now n)) }
 {
     if !past_is_some(past) {
         return Ok(Some(0));
@@ -37,7 +40,8 @@ fn ending<M: Machine>(
 fn keep_states(past: &mut Past, keep: Keep, at: u32) -> Result<(), NoMemory>
     requires few { length past.old ≤ 16 }
     requires keep { FitsKeep (length past.old) keep }
-    ensures states { OnOk result ((s : State) → Holds past.new s ↔ (Holds past.old s × KeepsBy keep (pos at) s)) }
+    ensures states { OnOk result ((s : State) → Holds past.new s
+        ↔ (Holds past.old s × KeepsBy keep (pos at) s)) }
     ensures colours { length past.new ≡ length past.old }
 {
     match keep {
@@ -56,11 +60,13 @@ fn keep_after<M: Machine>(
     keep: Keep,
     at: u32,
 ) -> Result<bool, NoMemory>
-    requires order { (low : ℕ) × EnteredBefore past.old low × InOrder (M.rules machine.now) low to.now }
+    requires order { (low : ℕ) × EnteredBefore past.old low
+        × InOrder (M.rules machine.now) low to.now }
     requires colours { length past.old ≡ (M.rules machine.now).colours }
     requires keep { FitsKeep (M.rules machine.now).colours keep }
     requires some { (s : State) × Holds past.old s }
-    ensures states { IfOk result (λ b. AreKept (M.rules machine.now) past.old to.now (KeepsBy keep (pos at)) past.new b) }
+    ensures states { IfOk result (λ b. AreKept (M.rules machine.now) past.old to.now
+        (KeepsBy keep (pos at)) past.new b) }
     ensures colours { length past.new ≡ length past.old }
 {
     match walk_past(alloc, machine, past, to)? {
@@ -83,11 +89,14 @@ pub fn moves_to_end<M: Machine>(
     at: u32,
     after: &[Move],
 ) -> Result<Option<usize>, NoMemory>
-    requires order { (low : ℕ) × EnteredBefore before.now low × InOrder (M.rules machine.now) low (to.now ++ after.now) }
+    requires order { (low : ℕ) × EnteredBefore before.now low
+        × InOrder (M.rules machine.now) low (to.now ++ after.now) }
     requires colours { length before.now ≡ (M.rules machine.now).colours }
     requires keep { FitsKeep (M.rules machine.now).colours keep }
     requires some { (s : State) × Holds before.now s }
-    ensures { IfOk result (λ r. MatchOption r (NoneKeeps (M.rules machine.now) before.now to.now (KeepsBy keep (pos at)) after.now → ⊥) (λ n. IsEnd (M.rules machine.now) before.now to.now (KeepsBy keep (pos at)) after.now n)) }
+    ensures { IfOk result (λ r. MatchOption r (NoneKeeps (M.rules machine.now) before.now to.now
+        (KeepsBy keep (pos at)) after.now → ⊥) (λ n. IsEnd (M.rules machine.now) before.now to.now
+        (KeepsBy keep (pos at)) after.now n)) }
 {
     let mut kept = before.copy()?;
     if !keep_after(alloc, machine, &mut kept, to, keep, at)? {
@@ -99,7 +108,8 @@ pub fn moves_to_end<M: Machine>(
 // The states in which the tenth may begin where nothing before it is known.
 #[tactic(auto, using(crate::proofs::Nowhere::free_first, crate::proofs::Nowhere::free_after))]
 fn free_at<M: Machine>(alloc: Global, machine: &M, from: u32) -> Result<Past, NoMemory>
-    ensures states { IfOk result (λ p. (u : State) → Holds p u ↔ IsFreeAt (M.rules machine.now) from u) }
+    ensures states { IfOk result (λ p. (u : State) → Holds p u
+        ↔ IsFreeAt (M.rules machine.now) from u) }
     ensures colours { IfOk result (λ p. length p ≡ (M.rules machine.now).colours) }
 {
     let mut past = Past::start(alloc, machine.colours())?;
@@ -123,7 +133,8 @@ pub fn is_broken_from<M: Machine>(
 ) -> Result<bool, NoMemory>
     requires order { InOrder (M.rules machine.now) from (to.now ++ after.now) }
     requires keep { FitsKeep (M.rules machine.now).colours keep }
-    ensures { IfOk result (λ b. IsTrue b ↔ NoneKeepsFrom (M.rules machine.now) from to.now (KeepsBy keep (pos at)) after.now) }
+    ensures { IfOk result (λ b. IsTrue b ↔ NoneKeepsFrom (M.rules machine.now) from to.now
+        (KeepsBy keep (pos at)) after.now) }
 {
     let past = free_at(alloc, machine, from)?;
     match moves_to_end(alloc, machine, &past, to, keep, at, after)? {
@@ -142,11 +153,13 @@ pub fn is_broken_after<M: Machine>(
     at: u32,
     after: &[Move],
 ) -> Result<bool, NoMemory>
-    requires order { (low : ℕ) × EnteredBefore before.now low × InOrder (M.rules machine.now) low (to.now ++ after.now) }
+    requires order { (low : ℕ) × EnteredBefore before.now low
+        × InOrder (M.rules machine.now) low (to.now ++ after.now) }
     requires colours { length before.now ≡ (M.rules machine.now).colours }
     requires keep { FitsKeep (M.rules machine.now).colours keep }
     requires some { (s : State) × Holds before.now s }
-    ensures { IfOk result (λ b. IsTrue b ↔ NoneKeeps (M.rules machine.now) before.now to.now (KeepsBy keep (pos at)) after.now) }
+    ensures { IfOk result (λ b. IsTrue b ↔ NoneKeeps (M.rules machine.now) before.now to.now
+        (KeepsBy keep (pos at)) after.now) }
 {
     match moves_to_end(alloc, machine, before, to, keep, at, after)? {
         Some(_) => Ok(true),

@@ -34,7 +34,8 @@ pub fn after_through<M: Machine>(machine: &M, from: Mask, via: Mask) -> Mask
 // The colours of `reached`, and those that one change reaches from a colour of `from`, or of both
 // `via` and `reached`.
 fn after_one<M: Machine>(machine: &M, from: Mask, via: Mask, reached: Mask) -> Mask
-    ensures { (d : ℕ) → Has result d ↔ (Has reached d ⊎ ReachedOne (M.rules machine.now) from via reached d) }
+    ensures { (d : ℕ) → Has result d ↔ (Has reached d ⊎ ReachedOne (M.rules machine.now) from via
+        reached d) }
 {
     let mut next = reached;
     for colour in 0..machine.colours() {
@@ -54,7 +55,8 @@ fn with_changes_if<M: Machine>(
     mask: Mask,
 ) -> Mask
     requires { colour < (M.rules machine.now).colours }
-    ensures { (d : ℕ) → Has result d ↔ (Has mask d ⊎ ((Has from colour ⊎ (Has via colour × Has reached colour)) × Change (M.rules machine.now) colour d)) }
+    ensures { (d : ℕ) → Has result d ↔ (Has mask d ⊎ ((Has from colour
+        ⊎ (Has via colour × Has reached colour)) × Change (M.rules machine.now) colour d)) }
 {
     if from.has(colour) {
         return with_changes(machine, colour, mask);
@@ -81,7 +83,8 @@ fn with_changes<M: Machine>(machine: &M, colour: u8, mask: Mask) -> Mask
 fn with_change<M: Machine>(machine: &M, colour: u8, letter: u8, mask: Mask) -> Mask
     requires colour { colour < (M.rules machine.now).colours }
     requires letter { letter < (M.rules machine.now).letters }
-    ensures { (d : ℕ) → Has result d ↔ (Has mask d ⊎ (Goes (M.rules machine.now) colour letter d × (d ≢ colour))) }
+    ensures { (d : ℕ) → Has result d ↔ (Has mask d ⊎ (Goes (M.rules machine.now) colour letter d
+        × (d ≢ colour))) }
 {
     match machine.step(colour, letter) {
         Some(to) if to != colour => mask.with(to),

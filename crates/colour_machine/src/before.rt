@@ -25,7 +25,8 @@ pub fn before_through<M: Machine>(machine: &M, to: Mask, via: Mask) -> Mask
 // The colours of `reached`, and those from which one change leads to a colour of `to`, or of both
 // `via` and `reached`.
 fn before_one<M: Machine>(machine: &M, to: Mask, via: Mask, reached: Mask) -> Mask
-    ensures { (c : ℕ) → Has result c ↔ (Has reached c ⊎ LeadsOne (M.rules machine.now) to via reached c) }
+    ensures { (c : ℕ) → Has result c ↔ (Has reached c ⊎ LeadsOne (M.rules machine.now) to via
+        reached c) }
 {
     let mut next = reached;
     for colour in 0..machine.colours() {
@@ -45,7 +46,8 @@ fn with_colour_if<M: Machine>(
     mask: Mask,
 ) -> Mask
     requires { colour < (M.rules machine.now).colours }
-    ensures { (c : ℕ) → Has result c ↔ (Has mask c ⊎ ((c ≡ colour) × LeadsOne (M.rules machine.now) to via reached c)) }
+    ensures { (c : ℕ) → Has result c ↔ (Has mask c ⊎ ((c ≡ colour)
+        × LeadsOne (M.rules machine.now) to via reached c)) }
 {
     if leads_one(machine, colour, to, via, reached) {
         return mask.with(colour);

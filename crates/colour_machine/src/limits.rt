@@ -34,7 +34,8 @@ pub fn legal_letters<M: Machine>(machine: &M, colour: u8) -> u32
 fn with_letter_if<M: Machine>(machine: &M, colour: u8, letter: u8, letters: u32) -> u32
     requires colour { colour < (M.rules machine.now).colours }
     requires letter { letter < (M.rules machine.now).letters }
-    ensures { (l : ℕ) → (bit_at result l ≡ 1) ↔ ((bit_at letters l ≡ 1) ⊎ ((l ≡ letter) × IsLegal (M.rules machine.now) colour l)) }
+    ensures { (l : ℕ) → (bit_at result l ≡ 1) ↔ ((bit_at letters l ≡ 1)
+        ⊎ ((l ≡ letter) × IsLegal (M.rules machine.now) colour l)) }
 {
     match machine.step(colour, letter) {
         Some(_) => letters | 1 << letter,

@@ -39,8 +39,10 @@ impl Open {
     /// The cycle of the phase up to tenth `to`, from the cycle up to tenth `at`: these are the rows
     /// between, by their tenths. Arrivals are rows 82 of the detector.
     pub fn over(self, phase: u8, detector: u8, rows: &[Row], at: u32, to: u32) -> Open
-        ensures { (earlier : List Row) → AreOrdered at to rows.now → self ≡ open_at phase detector self.from at earlier → self.from ≤ at → All (λ x. x.at < at) earlier
-            → result ≡ open_at phase detector self.from to (earlier ++ rows.now) }
+        ensures { (earlier : List Row) → AreOrdered at to rows.now
+            → self ≡ open_at phase detector self.from at earlier → self.from ≤ at
+            → All (λ x. x.at < at) earlier → result ≡ open_at phase detector self.from to
+            (earlier ++ rows.now) }
     {
         let mut now = InTenth {
             cycle: self,

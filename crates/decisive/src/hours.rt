@@ -49,7 +49,9 @@ pub(crate) fn hour_told<L>(
     reads: &mut Reads<L>,
 ) -> Result<HoursTold, NoMemory>
     requires { hour < length store.now.hours }
-    ensures tells { IfOk result (λ t. (specs : List Spec) → TellsOf (log_of specs store.now) t.rows.items t.stretches.items (first_tenth hour) (first_tenth (hour + 1))) }
+    ensures tells { IfOk result (λ t. (specs : List Spec)
+        → TellsOf (log_of specs store.now) t.rows.items t.stretches.items (first_tenth hour)
+        (first_tenth (hour + 1))) }
     ensures rows { IfOk result (λ t. t.rows.items ≡ rows_or_none (rows_at store.now hour)) }
     ensures few { IfOk result (λ t. length t.rows.items ≤ 400000) }
     ensures grow { Grow reads.old reads.new }
@@ -67,7 +69,8 @@ pub(crate) fn hour_told<L>(
 /// Adds what is told of the hours after these.
 pub(crate) fn append(told: &mut HoursTold, more: &HoursTold) -> Result<(), NoMemory>
     ensures rows { OnOk result (told.new.rows.items ≡ told.old.rows.items ++ more.now.rows.items) }
-    ensures stretches { OnOk result (told.new.stretches.items ≡ told.old.stretches.items ++ more.now.stretches.items) }
+    ensures stretches { OnOk result (told.new.stretches.items ≡ told.old.stretches.items
+        ++ more.now.stretches.items) }
 {
     told.rows.extend_from_slice(&more.rows)?;
     told.stretches.extend_from_slice(&more.stretches)?;
@@ -83,8 +86,10 @@ pub(crate) fn add_hour<L>(
     reads: &mut Reads<L>,
 ) -> Result<(), NoMemory>
     requires { hour < length store.now.hours }
-    ensures placed { OnOk result ((f k x n : ℕ) → ArePlaced store.now told.old f (first_tenth hour) k x n → ArePlaced store.now told.new f (first_tenth (hour + 1)) (k + 1) x n) }
-    ensures rank { OnOk result ((f k x n : ℕ) → ArePlaced store.now told.old f (first_tenth hour) k x n → rank told.new x n ≡ rank told.old x n) }
+    ensures placed { OnOk result ((f k x n : ℕ) → ArePlaced store.now told.old f (first_tenth hour)
+        k x n → ArePlaced store.now told.new f (first_tenth (hour + 1)) (k + 1) x n) }
+    ensures rank { OnOk result ((f k x n : ℕ) → ArePlaced store.now told.old f (first_tenth hour) k
+        x n → rank told.new x n ≡ rank told.old x n) }
     ensures grow { Grow reads.old reads.new }
 {
     let more = hour_told(alloc, store, hour, reads)?;
@@ -101,8 +106,12 @@ pub(crate) fn hour_before<L>(
 ) -> Result<Placed, NoMemory>
     requires within { hour < length store.now.hours }
     requires few { placed.now.place + 400000 < 2 ^ 32 }
-    ensures placed { IfOk result (λ p. (t k x : ℕ) → ArePlaced store.now placed.now.told (first_tenth (hour + 1)) t k x placed.now.place → ArePlaced store.now p.told (first_tenth hour) t (k + 1) x p.place) }
-    ensures rank { IfOk result (λ p. (t k x : ℕ) → ArePlaced store.now placed.now.told (first_tenth (hour + 1)) t k x placed.now.place → rank p.told x p.place ≡ rank placed.now.told x placed.now.place) }
+    ensures placed { IfOk result (λ p. (t k x : ℕ) → ArePlaced store.now placed.now.told
+        (first_tenth (hour + 1)) t k x placed.now.place
+        → ArePlaced store.now p.told (first_tenth hour) t (k + 1) x p.place) }
+    ensures rank { IfOk result (λ p. (t k x : ℕ) → ArePlaced store.now placed.now.told
+        (first_tenth (hour + 1)) t k x placed.now.place
+        → rank p.told x p.place ≡ rank placed.now.told x placed.now.place) }
     ensures grow { Grow reads.old reads.new }
 {
     let mut first = hour_told(alloc, store, hour, reads)?;

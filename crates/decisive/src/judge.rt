@@ -109,7 +109,8 @@ fn course_of(
 ) -> Result<Vec<Course>, NoMemory>
     requires spec { AreSpecs (spec.now ∷ []) }
     requires few { length rows.now < 2 ^ 32 }
-    ensures { IfOk result (λ v. (length v.items ≡ 1) × (slice_index_or v.items 0 [] ≡ own (track spec.now) 0 rows.now stretches.now)) }
+    ensures { IfOk result (λ v. (length v.items ≡ 1) × (slice_index_or v.items 0 []
+        ≡ own (track spec.now) 0 rows.now stretches.now)) }
 {
     courses_of(alloc, std::slice::from_ref(spec), rows, stretches)
 }
@@ -126,8 +127,10 @@ fn walk_breaks(
 ) -> Result<bool, NoMemory>
     requires are { AreSpecs question.now.specs.now }
     requires part { FitsPart question.now.specs.now part }
-    requires start { (f : ℕ) × FitsStart start.now question.now.specs.now f × InOrder (track_of question.now.specs.now part.spec).rules f (to.now ++ on.now) }
-    ensures { IfOk result (λ b. IsTrue b ↔ Breaks start.now question.now.specs.now question.now.at part to.now on.now) }
+    requires start { (f : ℕ) × FitsStart start.now question.now.specs.now f
+        × InOrder (track_of question.now.specs.now part.spec).rules f (to.now ++ on.now) }
+    ensures { IfOk result (λ b. IsTrue b ↔ Breaks start.now question.now.specs.now question.now.at
+        part to.now on.now) }
 {
     let machine = machine_of(&question.specs[part.spec as usize]);
     match start {
@@ -149,8 +152,12 @@ fn part_breaks(
 ) -> Result<bool, NoMemory>
     requires are { AreSpecs question.now.specs.now }
     requires part { FitsPart question.now.specs.now part }
-    requires cut { (f t : ℕ) × FitsStart start.now question.now.specs.now f × IsCutAtPlace cut.now f question.now.at t }
-    ensures { IfOk result (λ b. IsTrue b ↔ Breaks start.now question.now.specs.now question.now.at part (own (track_of question.now.specs.now part.spec) 0 cut.now.rows_to.now cut.now.to.items) (own (track_of question.now.specs.now part.spec) 0 cut.now.rows_on.now cut.now.on.items)) }
+    requires cut { (f t : ℕ) × FitsStart start.now question.now.specs.now f
+        × IsCutAtPlace cut.now f question.now.at t }
+    ensures { IfOk result (λ b. IsTrue b ↔ Breaks start.now question.now.specs.now question.now.at
+        part (own (track_of question.now.specs.now part.spec) 0 cut.now.rows_to.now
+        cut.now.to.items) (own (track_of question.now.specs.now part.spec) 0 cut.now.rows_on.now
+        cut.now.on.items)) }
 {
     let spec = &question.specs[part.spec as usize];
     let to = course_of(alloc, spec, cut.rows_to, &cut.to)?;
@@ -166,8 +173,15 @@ fn cut_breaks(
     cut: &Cut<'_>,
 ) -> Result<bool, NoMemory>
     requires parts { FitsParts question.now.specs.now question.now.parts.now }
-    requires cut { (f t : ℕ) × FitsStart start.now question.now.specs.now f × IsCutAtPlace cut.now f question.now.at t }
-    ensures { IfOk result (λ b. IsTrue b ↔ ((k : ℕ) → k < length question.now.parts.now → Breaks start.now question.now.specs.now question.now.at (slice_index_or question.now.parts.now k no_part) (own (track_of question.now.specs.now (slice_index_or question.now.parts.now k no_part).spec) 0 cut.now.rows_to.now cut.now.to.items) (own (track_of question.now.specs.now (slice_index_or question.now.parts.now k no_part).spec) 0 cut.now.rows_on.now cut.now.on.items))) }
+    requires cut { (f t : ℕ) × FitsStart start.now question.now.specs.now f
+        × IsCutAtPlace cut.now f question.now.at t }
+    ensures { IfOk result (λ b. IsTrue b ↔ ((k : ℕ) → k < length question.now.parts.now
+        → Breaks start.now question.now.specs.now question.now.at
+        (slice_index_or question.now.parts.now k no_part)
+        (own (track_of question.now.specs.now (slice_index_or question.now.parts.now k
+        no_part).spec) 0 cut.now.rows_to.now cut.now.to.items)
+        (own (track_of question.now.specs.now (slice_index_or question.now.parts.now k
+        no_part).spec) 0 cut.now.rows_on.now cut.now.on.items))) }
 {
     for i in 0..question.parts.len() {
         if !part_breaks(alloc, question, question.parts[i], start, cut)? {
@@ -189,8 +203,10 @@ pub(crate) fn breaks(
 ) -> Result<bool, NoMemory>
     requires parts { FitsParts question.now.specs.now question.now.parts.now }
     requires few { length rows.now < 2 ^ 32 }
-    requires place { (f t : ℕ) × FitsStart start.now question.now.specs.now f × IsPlace f t rows.now stretches.now question.now.at place }
-    ensures { IfOk result (λ b. IsTrue b ↔ AllBreak start.now question.now.specs.now question.now.parts.now question.now.at rows.now stretches.now place) }
+    requires place { (f t : ℕ) × FitsStart start.now question.now.specs.now f
+        × IsPlace f t rows.now stretches.now question.now.at place }
+    ensures { IfOk result (λ b. IsTrue b ↔ AllBreak start.now question.now.specs.now
+        question.now.parts.now question.now.at rows.now stretches.now place) }
 {
     let (rows_to, rows_on) = rows.split_at(place);
     let cut = Cut {

@@ -30,8 +30,12 @@ pub(crate) fn ends_by(
     requires parts { FitsParts question.now.specs.now question.now.parts.now }
     requires few { length told.now.rows.now < 2 ^ 32 }
     requires late { question.now.at ≤ tenth }
-    requires place { (f t : ℕ) × FitsStart start.now question.now.specs.now f × IsPlace f t told.now.rows.now told.now.stretches.now question.now.at told.now.place × (tenth < t) }
-    ensures { IfOk result (λ b. IsTrue b ↔ EndsBy start.now question.now.specs.now question.now.parts.now question.now.at told.now.rows.now told.now.stretches.now told.now.place tenth) }
+    requires place { (f t : ℕ) × FitsStart start.now question.now.specs.now f
+        × IsPlace f t told.now.rows.now told.now.stretches.now question.now.at told.now.place
+        × (tenth < t) }
+    ensures { IfOk result (λ b. IsTrue b ↔ EndsBy start.now question.now.specs.now
+        question.now.parts.now question.now.at told.now.rows.now told.now.stretches.now
+        told.now.place tenth) }
 {
     let count = rows_before(told.rows, tenth as u64 + 1);
     let (rows, _later) = told.rows.split_at(count);
@@ -49,8 +53,10 @@ pub(crate) fn begins_by(
     requires parts { FitsParts question.now.specs.now question.now.parts.now }
     requires few { length told.now.rows.now < 2 ^ 32 }
     requires early { tenth ≤ question.now.at }
-    requires place { (f t : ℕ) × (f ≤ tenth) × IsPlace f t told.now.rows.now told.now.stretches.now question.now.at told.now.place }
-    ensures { IfOk result (λ b. IsTrue b ↔ BeginsBy question.now.specs.now question.now.parts.now question.now.at told.now.rows.now told.now.stretches.now told.now.place tenth) }
+    requires place { (f t : ℕ) × (f ≤ tenth) × IsPlace f t told.now.rows.now told.now.stretches.now
+        question.now.at told.now.place }
+    ensures { IfOk result (λ b. IsTrue b ↔ BeginsBy question.now.specs.now question.now.parts.now
+        question.now.at told.now.rows.now told.now.stretches.now told.now.place tenth) }
 {
     let count = rows_before(told.rows, tenth as u64);
     let (_earlier, rows) = told.rows.split_at(count);
@@ -69,7 +75,11 @@ pub(crate) fn begins_by(
 fn candidate(question: &Question<'_>, told: &Told<'_>, i: usize) -> Option<u32>
     requires parts { FitsParts question.now.specs.now question.now.parts.now }
     requires within { i < length told.now.rows.now }
-    ensures { MatchOption result (IsOwnRow question.now.specs.now question.now.parts.now told.now.rows.now told.now.stretches.now i → ⊥) (λ w. (w ≡ (slice_index_or told.now.rows.now i no_row).at) × IsOwnRow question.now.specs.now question.now.parts.now told.now.rows.now told.now.stretches.now i) }
+    ensures { MatchOption result (IsOwnRow question.now.specs.now question.now.parts.now
+        told.now.rows.now told.now.stretches.now i → ⊥)
+        (λ w. (w ≡ (slice_index_or told.now.rows.now i no_row).at)
+        × IsOwnRow question.now.specs.now question.now.parts.now told.now.rows.now
+        told.now.stretches.now i) }
 {
     let row = told.rows[i];
     if !is_known(told.stretches, row.at) {
@@ -93,8 +103,17 @@ fn ends_at_row(
     requires few { length told.now.rows.now < 2 ^ 32 }
     requires low { told.now.place ≤ i }
     requires within { i < length told.now.rows.now }
-    requires place { (f t : ℕ) × FitsStart start.now question.now.specs.now f × IsPlace f t told.now.rows.now told.now.stretches.now question.now.at told.now.place }
-    ensures { IfOk result (λ r. MatchOption r (IsOwnRow question.now.specs.now question.now.parts.now told.now.rows.now told.now.stretches.now i → EndsBy start.now question.now.specs.now question.now.parts.now question.now.at told.now.rows.now told.now.stretches.now told.now.place (slice_index_or told.now.rows.now i no_row).at → ⊥) (λ w. (w ≡ (slice_index_or told.now.rows.now i no_row).at) × IsOwnRow question.now.specs.now question.now.parts.now told.now.rows.now told.now.stretches.now i × EndsBy start.now question.now.specs.now question.now.parts.now question.now.at told.now.rows.now told.now.stretches.now told.now.place w)) }
+    requires place { (f t : ℕ) × FitsStart start.now question.now.specs.now f
+        × IsPlace f t told.now.rows.now told.now.stretches.now question.now.at told.now.place }
+    ensures { IfOk result (λ r. MatchOption r (IsOwnRow question.now.specs.now
+        question.now.parts.now told.now.rows.now told.now.stretches.now i
+        → EndsBy start.now question.now.specs.now question.now.parts.now question.now.at
+        told.now.rows.now told.now.stretches.now told.now.place
+        (slice_index_or told.now.rows.now i no_row).at → ⊥)
+        (λ w. (w ≡ (slice_index_or told.now.rows.now i no_row).at)
+        × IsOwnRow question.now.specs.now question.now.parts.now told.now.rows.now
+        told.now.stretches.now i × EndsBy start.now question.now.specs.now question.now.parts.now
+        question.now.at told.now.rows.now told.now.stretches.now told.now.place w)) }
 {
     match candidate(question, told, i) {
         None => Ok(None),
@@ -117,8 +136,16 @@ fn begins_at_row(
     requires parts { FitsParts question.now.specs.now question.now.parts.now }
     requires few { length told.now.rows.now < 2 ^ 32 }
     requires high { i < told.now.place }
-    requires place { (f t : ℕ) × IsPlace f t told.now.rows.now told.now.stretches.now question.now.at told.now.place }
-    ensures { IfOk result (λ r. MatchOption r (IsOwnRow question.now.specs.now question.now.parts.now told.now.rows.now told.now.stretches.now i → BeginsBy question.now.specs.now question.now.parts.now question.now.at told.now.rows.now told.now.stretches.now told.now.place (slice_index_or told.now.rows.now i no_row).at → ⊥) (λ u. (u ≡ (slice_index_or told.now.rows.now i no_row).at) × IsOwnRow question.now.specs.now question.now.parts.now told.now.rows.now told.now.stretches.now i × BeginsBy question.now.specs.now question.now.parts.now question.now.at told.now.rows.now told.now.stretches.now told.now.place u)) }
+    requires place { (f t : ℕ) × IsPlace f t told.now.rows.now told.now.stretches.now
+        question.now.at told.now.place }
+    ensures { IfOk result (λ r. MatchOption r (IsOwnRow question.now.specs.now
+        question.now.parts.now told.now.rows.now told.now.stretches.now i
+        → BeginsBy question.now.specs.now question.now.parts.now question.now.at told.now.rows.now
+        told.now.stretches.now told.now.place (slice_index_or told.now.rows.now i no_row).at
+        → ⊥) (λ u. (u ≡ (slice_index_or told.now.rows.now i no_row).at)
+        × IsOwnRow question.now.specs.now question.now.parts.now told.now.rows.now
+        told.now.stretches.now i × BeginsBy question.now.specs.now question.now.parts.now
+        question.now.at told.now.rows.now told.now.stretches.now told.now.place u)) }
 {
     match candidate(question, told, i) {
         None => Ok(None),
@@ -140,8 +167,13 @@ pub(crate) fn first_end(
 ) -> Result<Option<u32>, NoMemory>
     requires parts { FitsParts question.now.specs.now question.now.parts.now }
     requires few { length told.now.rows.now < 2 ^ 32 }
-    requires place { (f t : ℕ) × FitsStart start.now question.now.specs.now f × IsPlace f t told.now.rows.now told.now.stretches.now question.now.at told.now.place }
-    ensures { IfOk result (λ r. MatchOption r (NoneEnds start.now question.now.specs.now question.now.parts.now question.now.at told.now.rows.now told.now.stretches.now told.now.place (length told.now.rows.now)) (λ w. IsFirstEnd start.now question.now.specs.now question.now.parts.now question.now.at told.now.rows.now told.now.stretches.now told.now.place w)) }
+    requires place { (f t : ℕ) × FitsStart start.now question.now.specs.now f
+        × IsPlace f t told.now.rows.now told.now.stretches.now question.now.at told.now.place }
+    ensures { IfOk result (λ r. MatchOption r (NoneEnds start.now question.now.specs.now
+        question.now.parts.now question.now.at told.now.rows.now told.now.stretches.now
+        told.now.place (length told.now.rows.now)) (λ w. IsFirstEnd start.now question.now.specs.now
+        question.now.parts.now question.now.at told.now.rows.now told.now.stretches.now
+        told.now.place w)) }
 {
     for i in told.place..told.rows.len() {
         match ends_at_row(alloc, question, start, told, i)? {
@@ -160,8 +192,12 @@ pub(crate) fn last_begin(
 ) -> Result<Option<u32>, NoMemory>
     requires parts { FitsParts question.now.specs.now question.now.parts.now }
     requires few { length told.now.rows.now < 2 ^ 32 }
-    requires place { (f t : ℕ) × IsPlace f t told.now.rows.now told.now.stretches.now question.now.at told.now.place }
-    ensures { IfOk result (λ r. MatchOption r (NoneBegins question.now.specs.now question.now.parts.now question.now.at told.now.rows.now told.now.stretches.now told.now.place 0) (λ u. IsLastBegin question.now.specs.now question.now.parts.now question.now.at told.now.rows.now told.now.stretches.now told.now.place u)) }
+    requires place { (f t : ℕ) × IsPlace f t told.now.rows.now told.now.stretches.now
+        question.now.at told.now.place }
+    ensures { IfOk result (λ r. MatchOption r (NoneBegins question.now.specs.now
+        question.now.parts.now question.now.at told.now.rows.now told.now.stretches.now
+        told.now.place 0) (λ u. IsLastBegin question.now.specs.now question.now.parts.now
+        question.now.at told.now.rows.now told.now.stretches.now told.now.place u)) }
 {
     for back in 0..told.place {
         let i = told.place - 1 - back;

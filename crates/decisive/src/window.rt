@@ -36,8 +36,10 @@ fn placed_in<L>(
     requires high { at < first_tenth (hour + 1) }
     requires is_known { is_known store.now at ≡ true }
     requires place { IsPlaceIn (hour_rows store.now hour) at place }
-    ensures placed { IfOk result (λ p. ArePlaced store.now p.told (first_tenth hour) (first_tenth (hour + 1)) (hour + 1) at p.place) }
-    ensures rank { IfOk result (λ p. rank p.told at p.place ≡ rank_in (hour_rows store.now hour) at place) }
+    ensures placed { IfOk result (λ p. ArePlaced store.now p.told (first_tenth hour)
+        (first_tenth (hour + 1)) (hour + 1) at p.place) }
+    ensures rank { IfOk result (λ p. rank p.told at p.place
+        ≡ rank_in (hour_rows store.now hour) at place) }
     ensures grow { Grow reads.old reads.new }
 {
     let told = hour_told(alloc, store, hour, reads)?;
@@ -55,7 +57,10 @@ fn placed_in<L>(
 
 // What is told up to the tenth.
 fn cut_at(alloc: Global, placed: &Placed, tenth: u32) -> Result<Placed, NoMemory>
-    ensures { IfOk result (λ p. (s : Store) (f t k x : ℕ) → ArePlaced s placed.now.told f t k x placed.now.place → x ≤ tenth → tenth < t → ArePlaced s p.told f (tenth + 1) k x p.place × (rank p.told x p.place ≡ rank placed.now.told x placed.now.place)) }
+    ensures { IfOk result (λ p. (s : Store) (f t k x : ℕ)
+        → ArePlaced s placed.now.told f t k x placed.now.place → x ≤ tenth → tenth < t
+        → ArePlaced s p.told f (tenth + 1) k x p.place × (rank p.told x p.place
+        ≡ rank placed.now.told x placed.now.place)) }
 {
     let count = rows_before(&placed.told.rows, tenth as u64 + 1);
     let (first, _later) = placed.told.rows.split_at(count);
@@ -81,8 +86,11 @@ fn window_of<L>(
     requires parts { FitsParts question.now.specs.now question.now.parts.now }
     requires within { hour < length store.now.hours }
     requires start { FitsStart start.now question.now.specs.now (first_tenth hour) }
-    requires place { ArePlaced store.now first.told (first_tenth hour) (first_tenth (hour + 1)) (hour + 1) question.now.at first.place }
-    ensures found { IfOk result (λ w. AreFound start.now store.now question.now.specs.now question.now.parts.now hour question.now.at (rank first.told question.now.at first.place) w.0 w.1) }
+    requires place { ArePlaced store.now first.told (first_tenth hour) (first_tenth (hour + 1))
+        (hour + 1) question.now.at first.place }
+    ensures found { IfOk result (λ w. AreFound start.now store.now question.now.specs.now
+        question.now.parts.now hour question.now.at (rank first.told question.now.at first.place)
+        w.0 w.1) }
     ensures grow { Grow reads.old reads.new }
 {
     let _hours = store.hours();
@@ -110,7 +118,8 @@ pub fn decisive_window<L>(
     requires rules { rules.now ≡ rules_for config.now }
     requires history { HasHistory (log_of config.now.specs store.now) }
     requires line { IsBrokenIn config.now store.now rules.now line.now }
-    requires before { ArePastsAt (log_of config.now.specs store.now) (line.now.at / 36000) before.now }
+    requires before { ArePastsAt (log_of config.now.specs store.now) (line.now.at / 36000)
+        before.now }
     ensures window { IfOk result (λ w. IsWindowIn config.now store.now rules.now line.now w.0 w.1) }
     ensures grow { Grow reads.old reads.new }
 {

@@ -23,8 +23,13 @@ fn end_within(
     requires parts { FitsParts question.now.specs.now question.now.parts.now }
     requires few { length told.now.rows.now < 2 ^ 32 }
     requires late { question.now.at ≤ last }
-    requires place { (f t : ℕ) × FitsStart start.now question.now.specs.now f × IsPlace f t told.now.rows.now told.now.stretches.now question.now.at told.now.place × (last < t) }
-    ensures { IfOk result (λ r. MatchOption r (NoEnd start.now question.now.specs.now question.now.parts.now question.now.at told.now.rows.now told.now.stretches.now told.now.place last) (λ w. IsEndAt start.now question.now.specs.now question.now.parts.now question.now.at told.now.rows.now told.now.stretches.now told.now.place w)) }
+    requires place { (f t : ℕ) × FitsStart start.now question.now.specs.now f
+        × IsPlace f t told.now.rows.now told.now.stretches.now question.now.at told.now.place
+        × (last < t) }
+    ensures { IfOk result (λ r. MatchOption r (NoEnd start.now question.now.specs.now
+        question.now.parts.now question.now.at told.now.rows.now told.now.stretches.now
+        told.now.place last) (λ w. IsEndAt start.now question.now.specs.now question.now.parts.now
+        question.now.at told.now.rows.now told.now.stretches.now told.now.place w)) }
 {
     if !ends_by(alloc, question, start, told, last)? {
         return Ok(None);
@@ -45,8 +50,12 @@ fn begin_within(
     requires parts { FitsParts question.now.specs.now question.now.parts.now }
     requires few { length told.now.rows.now < 2 ^ 32 }
     requires early { first ≤ question.now.at }
-    requires place { (f t : ℕ) × (f ≤ first) × IsPlace f t told.now.rows.now told.now.stretches.now question.now.at told.now.place }
-    ensures { IfOk result (λ r. MatchOption r (NoBegin question.now.specs.now question.now.parts.now question.now.at told.now.rows.now told.now.stretches.now told.now.place first) (λ u. IsBeginAt question.now.specs.now question.now.parts.now question.now.at told.now.rows.now told.now.stretches.now told.now.place u)) }
+    requires place { (f t : ℕ) × (f ≤ first) × IsPlace f t told.now.rows.now told.now.stretches.now
+        question.now.at told.now.place }
+    ensures { IfOk result (λ r. MatchOption r (NoBegin question.now.specs.now question.now.parts.now
+        question.now.at told.now.rows.now told.now.stretches.now told.now.place first)
+        (λ u. IsBeginAt question.now.specs.now question.now.parts.now question.now.at
+        told.now.rows.now told.now.stretches.now told.now.place u)) }
 {
     if !begins_by(alloc, question, told, first)? {
         return Ok(None);
@@ -68,8 +77,14 @@ fn end_in(
     requires parts { FitsParts question.now.specs.now question.now.parts.now }
     requires few { length placed.now.told.rows.items < 2 ^ 32 }
     requires late { question.now.at ≤ last }
-    requires place { (f t : ℕ) × FitsStart start.now question.now.specs.now f × IsPlace f t placed.now.told.rows.items placed.now.told.stretches.items question.now.at placed.now.place × (last < t) }
-    ensures { IfOk result (λ r. MatchOption r (NoEnd start.now question.now.specs.now question.now.parts.now question.now.at placed.now.told.rows.items placed.now.told.stretches.items placed.now.place last) (λ w. IsEndAt start.now question.now.specs.now question.now.parts.now question.now.at placed.now.told.rows.items placed.now.told.stretches.items placed.now.place w)) }
+    requires place { (f t : ℕ) × FitsStart start.now question.now.specs.now f
+        × IsPlace f t placed.now.told.rows.items placed.now.told.stretches.items question.now.at
+        placed.now.place × (last < t) }
+    ensures { IfOk result (λ r. MatchOption r (NoEnd start.now question.now.specs.now
+        question.now.parts.now question.now.at placed.now.told.rows.items
+        placed.now.told.stretches.items placed.now.place last)
+        (λ w. IsEndAt start.now question.now.specs.now question.now.parts.now question.now.at
+        placed.now.told.rows.items placed.now.told.stretches.items placed.now.place w)) }
 {
     let told = Told {
         rows: &placed.told.rows,
@@ -88,8 +103,12 @@ fn begin_in(
     requires parts { FitsParts question.now.specs.now question.now.parts.now }
     requires few { length placed.now.told.rows.items < 2 ^ 32 }
     requires early { first ≤ question.now.at }
-    requires place { (f t : ℕ) × (f ≤ first) × IsPlace f t placed.now.told.rows.items placed.now.told.stretches.items question.now.at placed.now.place }
-    ensures { IfOk result (λ r. MatchOption r (NoBegin question.now.specs.now question.now.parts.now question.now.at placed.now.told.rows.items placed.now.told.stretches.items placed.now.place first) (λ u. IsBeginAt question.now.specs.now question.now.parts.now question.now.at placed.now.told.rows.items placed.now.told.stretches.items placed.now.place u)) }
+    requires place { (f t : ℕ) × (f ≤ first) × IsPlace f t placed.now.told.rows.items
+        placed.now.told.stretches.items question.now.at placed.now.place }
+    ensures { IfOk result (λ r. MatchOption r (NoBegin question.now.specs.now question.now.parts.now
+        question.now.at placed.now.told.rows.items placed.now.told.stretches.items placed.now.place
+        first) (λ u. IsBeginAt question.now.specs.now question.now.parts.now question.now.at
+        placed.now.told.rows.items placed.now.told.stretches.items placed.now.place u)) }
 {
     let told = Told {
         rows: &placed.told.rows,
@@ -112,8 +131,11 @@ pub(crate) fn search_end<L>(
     requires parts { FitsParts question.now.specs.now question.now.parts.now }
     requires within { hour < length store.now.hours }
     requires start { FitsStart start.now question.now.specs.now (first_tenth hour) }
-    requires place { ArePlaced store.now first.told (first_tenth hour) (first_tenth (hour + 1)) (hour + 1) question.now.at first.place }
-    ensures found { IfOk result (λ r. IsEndFound start.now store.now question.now.specs.now question.now.parts.now hour question.now.at (rank first.told question.now.at first.place) r.0 r.1) }
+    requires place { ArePlaced store.now first.told (first_tenth hour) (first_tenth (hour + 1))
+        (hour + 1) question.now.at first.place }
+    ensures found { IfOk result (λ r. IsEndFound start.now store.now question.now.specs.now
+        question.now.parts.now hour question.now.at (rank first.told question.now.at first.place)
+        r.0 r.1) }
     ensures grow { Grow reads.old reads.new }
 {
     let mut placed = first;
@@ -143,8 +165,11 @@ pub(crate) fn search_begin<L>(
 ) -> Result<u32, NoMemory>
     requires parts { FitsParts question.now.specs.now question.now.parts.now }
     requires within { hour < length store.now.hours }
-    requires place { (v : ℕ) × ArePlaced store.now last.told (first_tenth hour) (v + 1) 744 question.now.at last.place }
-    ensures found { IfOk result (λ u. (v : ℕ) → ArePlaced store.now last.told (first_tenth hour) (v + 1) 744 question.now.at last.place → IsBeginFound store.now question.now.specs.now question.now.parts.now question.now.at (rank last.told question.now.at last.place) v u) }
+    requires place { (v : ℕ) × ArePlaced store.now last.told (first_tenth hour) (v + 1) 744
+        question.now.at last.place }
+    ensures found { IfOk result (λ u. (v : ℕ) → ArePlaced store.now last.told (first_tenth hour)
+        (v + 1) 744 question.now.at last.place → IsBeginFound store.now question.now.specs.now
+        question.now.parts.now question.now.at (rank last.told question.now.at last.place) v u) }
     ensures grow { Grow reads.old reads.new }
 {
     let _hours = store.hours();

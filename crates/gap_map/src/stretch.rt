@@ -29,8 +29,11 @@ pub fn stretches(
     blanked: &SpanSet,
 ) -> Result<Vec<Stretch>, NoMemory>
     requires { hour < 744 }
-    ensures cut { IfOk result (λ v. IsCut (known_in held blanked.now) (36000 * hour) (36000 * hour + 36000) v.items) }
-    ensures only { IfOk result (λ v. (ss : List Stretch) → IsCut (known_in held blanked.now) (36000 * hour) (36000 * hour + 36000) ss → ss ≡ v.items) }
+    ensures cut { IfOk result (λ v. IsCut (known_in held blanked.now) (36000 * hour)
+        (36000 * hour + 36000) v.items) }
+    ensures only { IfOk result (λ v. (ss : List Stretch)
+        → IsCut (known_in held blanked.now) (36000 * hour) (36000 * hour + 36000) ss
+        → ss ≡ v.items) }
 {
     let from = 36_000 * hour;
     let to = from + 36_000;
@@ -99,7 +102,8 @@ fn known_and_blanked(
 fn pass(out: &mut Vec<Stretch>, at: u32, to: u32, blanked: Span) -> Result<u32, NoMemory>
     requires { at ≤ to }
     ensures place { IfOk result (λ next. (at ≤ next) × (next ≤ to)) }
-    ensures out { IfOk result (λ next. (ss : List Span) → out.new.items ++ cut_of next to ss ≡ out.old.items ++ cut_of at to (blanked ∷ ss)) }
+    ensures out { IfOk result (λ next. (ss : List Span)
+        → out.new.items ++ cut_of next to ss ≡ out.old.items ++ cut_of at to (blanked ∷ ss)) }
 {
     let first = clip(blanked.from, at, to);
     let last = clip(blanked.to, at, to);

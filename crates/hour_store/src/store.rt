@@ -27,7 +27,8 @@ impl<L> Model for HourStore<L> {
 
     ghost view = { λ s. record { hours = s.hours.items; blanks = s.blanks } };
 
-    ghost invariant = { λ s. IsStore (record { hours = s.hours.items; blanks = s.blanks }) × (s.count ≡ sum_by count_in s.hours.items) };
+    ghost invariant = { λ s. IsStore (record { hours = s.hours.items; blanks = s.blanks })
+        × (s.count ≡ sum_by count_in s.hours.items) };
 }
 
 // How many rows these are.

@@ -131,7 +131,9 @@ pub fn track_hour<T: Track>(
     rows: &[Row],
     stretches: &[Stretch],
 ) -> Result<Tracked<T, T::Out>, NoMemory>
-    ensures { IfOk result (λ t. t ≡ swept (tracking_after T.step T.out_by) (tracking_cleared T.clear) stretches.now rows.now (record { parts = parts.now; outs = [] })) }
+    ensures { IfOk result (λ t. t ≡ swept (tracking_after T.step T.out_by)
+        (tracking_cleared T.clear) stretches.now rows.now
+        (record { parts = parts.now; outs = [] })) }
 {
     let mut tracked = Tracked {
         parts: parts.iter().copied().collect(alloc)?,

@@ -34,7 +34,14 @@ impl Model for Carry {
 
     ghost Value = { Carried };
 
-    ghost view = { λ c. record { pasts = c.pasts; known = c.known; cuts = c.cuts; splits = c.splits; others = c.others; arrivals = c.arrivals } };
+    ghost view = { λ c. record {
+      pasts = c.pasts;
+      known = c.known;
+      cuts = c.cuts;
+      splits = c.splits;
+      others = c.others;
+      arrivals = c.arrivals;
+    } };
 }
 
 impl Carry {
@@ -79,7 +86,9 @@ impl Carry {
 
     // Whether both say the same of all but the states.
     fn same_under_way(&self, other: &Carry) -> bool
-        ensures { IsTrue result ↔ ((self.now.known ≡ other.now.known) × (self.now.cuts ≡ other.now.cuts) × (self.now.splits ≡ other.now.splits) × (self.now.others ≡ other.now.others) × (self.now.arrivals ≡ other.now.arrivals)) }
+        ensures { IsTrue result ↔ ((self.now.known ≡ other.now.known)
+            × (self.now.cuts ≡ other.now.cuts) × (self.now.splits ≡ other.now.splits)
+            × (self.now.others ≡ other.now.others) × (self.now.arrivals ≡ other.now.arrivals)) }
     {
         self.known == other.known
             && self.cuts.same(&other.cuts)
@@ -108,7 +117,8 @@ impl Future {
     /// At the window's end: any state.
     pub fn end(alloc: Global, config: &Config) -> Result<Future, NoMemory>
         ensures fit { IfOk result (AreAheadsOf config.now.specs) }
-        ensures future { IfOk result (λ f. (s : Store) → length s.hours ≡ config.now.window.hours → IsFutureAt config.now s (length s.hours) f) }
+        ensures future { IfOk result (λ f. (s : Store) → length s.hours ≡ config.now.window.hours
+            → IsFutureAt config.now s (length s.hours) f) }
     {
         let point = 36_000 * i64::from(config.window().hours());
         let aheads = Aheads::end(alloc, config.specs(), point)?;
@@ -119,7 +129,8 @@ impl Future {
     /// their colours that were entered earlier. It answers yes only where of each channel both admit
     /// the same states at all, or one state alone is possible and both admit it.
     pub fn same_for(&self, carry: &Carry, other: &Future) -> bool
-        requires shape { (specs : List Spec) × AreBefore specs carry.now.pasts × AreAheadsOf specs self.now × AreAheadsOf specs other.now }
+        requires shape { (specs : List Spec) × AreBefore specs carry.now.pasts
+            × AreAheadsOf specs self.now × AreAheadsOf specs other.now }
         ensures { IsTrue result → AreSameFor carry.now.pasts self.now other.now }
     {
         self.aheads.same_for(&carry.pasts, &other.aheads)

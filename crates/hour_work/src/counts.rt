@@ -52,7 +52,8 @@ fn count_line(counts: &mut [RuleCount], line: &AuditLine)
     requires low { 1 ≤ line.now.rule }
     requires high { line.now.rule ≤ length counts.old }
     requires few { All (FitsCount 1) counts.old }
-    ensures { (d : RuleCount) → counts.new ≡ slice_set counts.old (line.now.rule - 1) (counted (slice_index_or counts.old (line.now.rule - 1) d) line.now.verdict) }
+    ensures { (d : RuleCount) → counts.new ≡ slice_set counts.old (line.now.rule - 1)
+        (counted (slice_index_or counts.old (line.now.rule - 1) d) line.now.verdict) }
 {
     let place = line.rule as usize - 1;
     counts[place] = with_verdict(counts[place], line.verdict);

@@ -40,8 +40,10 @@ pub fn partial(
     requires in_range { hour < 744 }
     requires of_hour { IfSome rows (λ r. AreRowsOf hour r.now) }
     requires rules { rules.now ≡ rules_for config.now }
-    requires agrees { (s : Store) × IsHourBetween config.now s hour before.now (option_copied rows) blanked.now after.now }
-    ensures value { IfOk result (λ p. (s : Store) → IsHourBetween config.now s hour before.now (option_copied rows.entry) blanked.now after.now → IsHourPart config.now s hour p) }
+    requires agrees { (s : Store) × IsHourBetween config.now s hour before.now (option_copied rows)
+        blanked.now after.now }
+    ensures value { IfOk result (λ p. (s : Store) → IsHourBetween config.now s hour before.now
+        (option_copied rows.entry) blanked.now after.now → IsHourPart config.now s hour p) }
     ensures small { IfOk result (FitHours 1) }
 {
     match rows {
@@ -65,8 +67,11 @@ pub fn audit_lines(
     requires in_range { hour < 744 }
     requires of_hour { IfSome rows (λ r. AreRowsOf hour r.now) }
     requires rules { rules.now ≡ rules_for config.now }
-    requires agrees { (s : Store) × IsHourBetween config.now s hour before.now (option_copied rows) blanked.now after.now }
-    ensures { IfOk result (λ v. (s : Store) → IsHourBetween config.now s hour before.now (option_copied rows.entry) blanked.now after.now → AreAuditLines config.now s hour v.items) }
+    requires agrees { (s : Store) × IsHourBetween config.now s hour before.now (option_copied rows)
+        blanked.now after.now }
+    ensures { IfOk result (λ v. (s : Store) → IsHourBetween config.now s hour before.now
+        (option_copied rows.entry) blanked.now after.now
+        → AreAuditLines config.now s hour v.items) }
 {
     match rows {
         Some(rows) => held_lines(alloc, config, rules, hour, before, rows, blanked, after),
@@ -120,8 +125,10 @@ fn held_part(
 ) -> Result<Partial, NoMemory>
     requires of_hour { AreRowsOf hour rows.now }
     requires rules { rules.now ≡ rules_for config.now }
-    requires agrees { (s : Store) × IsHourBetween config.now s hour before.now (Some rows.now) blanked.now after.now }
-    ensures value { IfOk result (λ p. (s : Store) → IsHourBetween config.now s hour before.now (Some rows.now) blanked.now after.now → IsHourPart config.now s hour p) }
+    requires agrees { (s : Store) × IsHourBetween config.now s hour before.now (Some rows.now)
+        blanked.now after.now }
+    ensures value { IfOk result (λ p. (s : Store) → IsHourBetween config.now s hour before.now
+        (Some rows.now) blanked.now after.now → IsHourPart config.now s hour p) }
     ensures small { IfOk result (FitHours 1) }
 {
     let (parts, view) = seen_hour(alloc, config, hour, before, rows, blanked, after)?;
@@ -153,8 +160,10 @@ fn held_lines(
 ) -> Result<Vec<AuditLine>, NoMemory>
     requires of_hour { AreRowsOf hour rows.now }
     requires rules { rules.now ≡ rules_for config.now }
-    requires agrees { (s : Store) × IsHourBetween config.now s hour before.now (Some rows.now) blanked.now after.now }
-    ensures { IfOk result (λ v. (s : Store) → IsHourBetween config.now s hour before.now (Some rows.now) blanked.now after.now → AreAuditLines config.now s hour v.items) }
+    requires agrees { (s : Store) × IsHourBetween config.now s hour before.now (Some rows.now)
+        blanked.now after.now }
+    ensures { IfOk result (λ v. (s : Store) → IsHourBetween config.now s hour before.now
+        (Some rows.now) blanked.now after.now → AreAuditLines config.now s hour v.items) }
 {
     let (parts, view) = seen_hour(alloc, config, hour, before, rows, blanked, after)?;
     audit_seen(alloc, config, rules, hour, before, rows, &parts, &view)

@@ -28,25 +28,39 @@ ghost use Rattle.hour_work.specs.Moved.{CarriesAreOne, FuturesAreOne};
 /// Law: where some history agrees with a store, it has one report, and each hour has one list of
 /// audit lines.
 pub fn reports_are_one()
-    ensures lines { (c : Settings) (s : Store) (hour : ℕ) (a b : List AuditLine) → HasHistory (log_of c.specs s) → AreAuditLines c s hour a → AreAuditLines c s hour b → a ≡ b }
-    ensures report { (c : Settings) (s : Store) (a b : List Numbers) → HasHistory (log_of c.specs s) → IsReport c s a → IsReport c s b → a ≡ b }
+    ensures lines { (c : Settings) (s : Store) (hour : ℕ) (a b : List AuditLine)
+        → HasHistory (log_of c.specs s) → AreAuditLines c s hour a → AreAuditLines c s hour b
+        → a ≡ b }
+    ensures report { (c : Settings) (s : Store) (a b : List Numbers) → HasHistory (log_of c.specs s)
+        → IsReport c s a → IsReport c s b → a ≡ b }
 {}
 
 /// Law: the services, cycles, delays, entries, exits and arrivals of the hours, one hour after
 /// another, are those of the whole log. Each service and each cycle is in the hour of its last row.
 pub fn hours_make_up_the_log()
-    ensures services { (c : Settings) (s : Store) → IsStore s → over_hours (services_in c s) (length s.hours) ≡ services_from (is_known s) c.phases [] (known_rows s) }
-    ensures cycles { (c : Settings) (s : Store) → IsStore s → over_hours (cycles_in c s) (length s.hours) ≡ cycles_from (is_known s) c.phases [] (known_rows s) }
-    ensures delays { (c : Settings) (s : Store) → IsStore s → over_hours (λ hour. delays_from (is_known s) c (earlier_rows s hour) (own_rows s hour)) (length s.hours) ≡ delays_from (is_known s) c [] (known_rows s) }
-    ensures events { (c : Settings) (s : Store) → IsStore s → over_hours (λ hour. events_from (is_known s) c (earlier_rows s hour) (own_rows s hour)) (length s.hours) ≡ events_from (is_known s) c [] (known_rows s) }
+    ensures services { (c : Settings) (s : Store) → IsStore s
+        → over_hours (services_in c s) (length s.hours)
+        ≡ services_from (is_known s) c.phases [] (known_rows s) }
+    ensures cycles { (c : Settings) (s : Store) → IsStore s
+        → over_hours (cycles_in c s) (length s.hours) ≡ cycles_from (is_known s) c.phases []
+        (known_rows s) }
+    ensures delays { (c : Settings) (s : Store) → IsStore s
+        → over_hours (λ hour. delays_from (is_known s) c (earlier_rows s hour) (own_rows s hour))
+        (length s.hours) ≡ delays_from (is_known s) c [] (known_rows s) }
+    ensures events { (c : Settings) (s : Store) → IsStore s
+        → over_hours (λ hour. events_from (is_known s) c (earlier_rows s hour) (own_rows s hour))
+        (length s.hours) ≡ events_from (is_known s) c [] (known_rows s) }
     ensures points { (c : Settings) (s : Store) (p : ℕ) → IsStore s
         → over_hours (λ hour. points_from (is_known s) c p (earlier_rows s hour) (own_rows s hour))
         (length s.hours) ≡ points_from (is_known s) c p [] (known_rows s) }
-    ensures ordered { (s : Store) → IsStore s → AreOrdered 0 (first_tenth (length s.hours)) (known_rows s) }
+    ensures ordered { (s : Store) → IsStore s → AreOrdered 0 (first_tenth (length s.hours))
+        (known_rows s) }
     ensures own_services { (c : Settings) (s : Store) (hour : ℕ) → IsStore s → hour < length s.hours
-        → filter (service_is_in (first_tenth hour) (first_tenth (hour + 1))) (services_from (is_known s) c.phases [] (known_rows s)) ≡ services_in c s hour }
+        → filter (service_is_in (first_tenth hour) (first_tenth (hour + 1)))
+        (services_from (is_known s) c.phases [] (known_rows s)) ≡ services_in c s hour }
     ensures own_cycles { (c : Settings) (s : Store) (hour : ℕ) → IsStore s → hour < length s.hours
-        → filter (cycle_is_in (first_tenth hour) (first_tenth (hour + 1))) (cycles_from (is_known s) c.phases [] (known_rows s)) ≡ cycles_in c s hour }
+        → filter (cycle_is_in (first_tenth hour) (first_tenth (hour + 1)))
+        (cycles_from (is_known s) c.phases [] (known_rows s)) ≡ cycles_in c s hour }
 {}
 
 /// Law: the sums over the hours of a report are the numbers of the whole log. For phases they are
@@ -55,34 +69,41 @@ pub fn hours_make_up_the_log()
 /// Tenths of states, and judged arrivals and actuations, are no part of this law.
 pub fn totals_are_of_the_log()
     ensures splits { (c : Settings) (s : Store) (all : List Numbers) → IsStore s → IsReport c s all
-        → (total_of all).splits ≡ phase_sums c.phases (services_from (is_known s) c.phases [] (known_rows s)) (cycles_from (is_known s) c.phases [] (known_rows s)) }
+        → (total_of all).splits ≡ phase_sums c.phases (services_from (is_known s) c.phases []
+        (known_rows s)) (cycles_from (is_known s) c.phases [] (known_rows s)) }
     ensures others { (c : Settings) (s : Store) (all : List Numbers) → IsStore s → IsReport c s all
         → AreNumbers (is_known s) c [] (known_rows s) (total_of all).others }
-    ensures arrivals { (c : Settings) (s : Store) (all : List Numbers) → IsStore s → IsReport c s all
-        → HaveCycles (is_known s) c [] (known_rows s) (total_of all).arrivals }
+    ensures arrivals { (c : Settings) (s : Store) (all : List Numbers) → IsStore s
+        → IsReport c s all → HaveCycles (is_known s) c [] (known_rows s) (total_of all).arrivals }
 {}
 
 /// Law: in a whole cycle the rows alone say what its phase shows. At the end of each of its tenths
 /// it is green by the rows exactly where it is green in all histories that agree with the store,
 /// and not green by them exactly where it is green in none.
 pub fn cycles_show_green()
-    ensures green { (c : Settings) (s : Store) (hour n i t : ℕ) (d : Cycle) → AreSpecs c.specs → IsStore s → HasHistory (log_of c.specs s) → hour < length s.hours → n < length (cycles_in c s hour)
-        → let x = slice_index_or (cycles_in c s hour) n d in
-        spec_place c.specs (phase_channel x.phase) ≡ Some i → x.from ≤ t → t < x.to
-        → (shows_green x.phase x.from (earlier_rows s hour ++ own_rows s hour) t ≡ true) ↔ AllPass is_green (MayBeIn c s i t) }
-    ensures not_green { (c : Settings) (s : Store) (hour n i t : ℕ) (d : Cycle) → AreSpecs c.specs → IsStore s → HasHistory (log_of c.specs s) → hour < length s.hours → n < length (cycles_in c s hour)
-        → let x = slice_index_or (cycles_in c s hour) n d in
-        spec_place c.specs (phase_channel x.phase) ≡ Some i → x.from ≤ t → t < x.to
-        → (shows_green x.phase x.from (earlier_rows s hour ++ own_rows s hour) t ≡ false) ↔ NonePass is_green (MayBeIn c s i t) }
+    ensures green { (c : Settings) (s : Store) (hour n i t : ℕ) (d : Cycle) → AreSpecs c.specs
+        → IsStore s → HasHistory (log_of c.specs s) → hour < length s.hours
+        → n < length (cycles_in c s hour) → let x = slice_index_or (cycles_in c s hour) n d
+        in spec_place c.specs (phase_channel x.phase) ≡ Some i → x.from ≤ t → t < x.to
+        → (shows_green x.phase x.from (earlier_rows s hour ++ own_rows s hour) t ≡ true)
+        ↔ AllPass is_green (MayBeIn c s i t) }
+    ensures not_green { (c : Settings) (s : Store) (hour n i t : ℕ) (d : Cycle) → AreSpecs c.specs
+        → IsStore s → HasHistory (log_of c.specs s) → hour < length s.hours
+        → n < length (cycles_in c s hour) → let x = slice_index_or (cycles_in c s hour) n d
+        in spec_place c.specs (phase_channel x.phase) ≡ Some i → x.from ≤ t → t < x.to
+        → (shows_green x.phase x.from (earlier_rows s hour ++ own_rows s hour) t ≡ false)
+        ↔ NonePass is_green (MayBeIn c s i t) }
 {}
 
 /// Law: where some history agrees with a store, no whole cycle of it has its last begin of green
 /// after its last begin of yellow, since a phase that is yellow doesn't begin green.
 pub fn green_before_yellow()
-    ensures cycles { (c : Settings) (s : Store) → IsSound c → IsStore s → HasHistory (log_of c.specs s)
-        → All (λ x. x.green ≤ x.yellow) (cycles_from (is_known s) c.phases [] (known_rows s)) }
-    ensures diagrams { (c : Settings) (s : Store) (p : ℕ) → IsSound c → IsStore s → HasHistory (log_of c.specs s)
-        → All (λ d. d.cycle.green ≤ d.cycle.yellow) (diagrams_of (is_known s) c p (known_rows s)) }
+    ensures cycles { (c : Settings) (s : Store) → IsSound c → IsStore s
+        → HasHistory (log_of c.specs s) → All (λ x. x.green
+        ≤ x.yellow) (cycles_from (is_known s) c.phases [] (known_rows s)) }
+    ensures diagrams { (c : Settings) (s : Store) (p : ℕ) → IsSound c → IsStore s
+        → HasHistory (log_of c.specs s) → All (λ d. d.cycle.green ≤ d.cycle.yellow)
+        (diagrams_of (is_known s) c p (known_rows s)) }
 {}
 
 /// Law: what a store says up to an hour point is one value but for the ranges in which its states

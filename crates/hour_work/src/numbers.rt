@@ -29,7 +29,16 @@ impl Model for Partial {
 
     ghost Value = { Numbers };
 
-    ghost view = { λ p. record { held_hours = p.held_hours; held_rows = p.held_rows; known_tenths = p.known_tenths; rules = p.rules.items; splits = p.splits.phases; failures = p.splits.approaches; others = p.others; arrivals = p.arrivals } };
+    ghost view = { λ p. record {
+      held_hours = p.held_hours;
+      held_rows = p.held_rows;
+      known_tenths = p.known_tenths;
+      rules = p.rules.items;
+      splits = p.splits.phases;
+      failures = p.splits.approaches;
+      others = p.others;
+      arrivals = p.arrivals;
+    } };
 }
 
 impl Partial {
@@ -129,7 +138,8 @@ pub(crate) fn add(total: &mut Partial, part: &Partial) -> Result<(), NoMemory>
 
 // Adds rule by rule.
 fn add_counts(total: &mut Vec<RuleCount>, more: &[RuleCount]) -> Result<(), NoMemory>
-    requires { (m n : ℕ) × All (FitsCount m) total.old.items × All (FitsCount n) more.now × (m + n ≤ 744) }
+    requires { (m n : ℕ) × All (FitsCount m) total.old.items × All (FitsCount n) more.now
+        × (m + n ≤ 744) }
     ensures { OnOk result (total.new.items ≡ merged count_sum total.old.items more.now) }
 {
     for i in 0..more.len() {

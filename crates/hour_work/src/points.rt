@@ -37,7 +37,8 @@ pub fn phase_points(
 ) -> Result<Points, NoMemory>
     requires in_range { hour < 744 }
     requires of_hour { IfSome rows (λ r. AreRowsOf hour r.now) }
-    requires agrees { (s : Store) × IsHourBetween config.now s hour before.now (option_copied rows) blanked.now after.now }
+    requires agrees { (s : Store) × IsHourBetween config.now s hour before.now (option_copied rows)
+        blanked.now after.now }
     ensures { IfOk result (λ p. (s : Store) → HasHour s hour (option_copied rows.entry) blanked.now
         → IsCarryAt config.now s hour before.now
         → p ≡ points_from (is_known s) config.now phase (earlier_rows s hour) (own_rows s hour)) }
@@ -60,7 +61,8 @@ fn held_points(
     after: &Future,
 ) -> Result<Points, NoMemory>
     requires of_hour { AreRowsOf hour rows.now }
-    requires agrees { (s : Store) × IsHourBetween config.now s hour before.now (Some rows.now) blanked.now after.now }
+    requires agrees { (s : Store) × IsHourBetween config.now s hour before.now (Some rows.now)
+        blanked.now after.now }
     ensures { IfOk result (λ p. (s : Store) → HasHour s hour (Some rows.now) blanked.now
         → IsCarryAt config.now s hour before.now
         → p ≡ points_from (is_known s) config.now phase (earlier_rows s hour) (own_rows s hour)) }
@@ -82,7 +84,9 @@ pub fn phase_cycles(
 ) -> Result<Vec<Cycle>, NoMemory>
     requires in_range { hour < 744 }
     requires of_hour { IfSome rows (λ r. AreRowsOf hour r.now) }
-    ensures { IfOk result (λ v. (s : Store) → HasHour s hour (option_copied rows.entry) blanked.now → IsCarryAt config.now s hour before.now → v.items ≡ own (λ x. x.phase) phase (cycles_in config.now s hour)) }
+    ensures { IfOk result (λ v. (s : Store) → HasHour s hour (option_copied rows.entry) blanked.now
+        → IsCarryAt config.now s hour before.now → v.items
+        ≡ own (λ x. x.phase) phase (cycles_in config.now s hour)) }
 {
     let parts = stretches(alloc, hour, rows.is_some(), blanked)?;
     let mut carry = before.cuts.copy()?;

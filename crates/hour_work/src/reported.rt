@@ -162,7 +162,9 @@ fn blocks_with(
     requires order { first ≤ end }
     requires last { 27 * end ≤ length hours.now + 26 }
     ensures size { IfOk result (λ v. first + length v.items ≡ end) }
-    ensures each { IfOk result (λ v. (i : ℕ) (d : Numbers) → i < length v.items → slice_index_or v.items i d ≡ total_of (block (first + i) (patched hours.now from parts.now))) }
+    ensures each { IfOk result (λ v. (i : ℕ) (d : Numbers) → i < length v.items
+        → slice_index_or v.items i d ≡ total_of (block (first + i)
+        (patched hours.now from parts.now))) }
 {
     let mut blocks = Vec::new(alloc);
     for place in first..end {
@@ -179,8 +181,10 @@ fn total_over(
     fresh: &[Partial],
 ) -> Result<Partial, NoMemory>
     requires room { first + length fresh.now ≤ length kept.now }
-    requires blocks { (hours : List Numbers) × (length hours ≤ 744) × All (FitHours 1) hours × AreBlocks hours (patched kept.now first fresh.now) }
-    ensures { IfOk result (λ t. (hours : List Numbers) → length hours ≤ 744 → All (FitHours 1) hours → AreBlocks hours (patched kept.now first fresh.now) → t ≡ total_of hours) }
+    requires blocks { (hours : List Numbers) × (length hours ≤ 744) × All (FitHours 1) hours
+        × AreBlocks hours (patched kept.now first fresh.now) }
+    ensures { IfOk result (λ t. (hours : List Numbers) → length hours ≤ 744 → All (FitHours 1) hours
+        → AreBlocks hours (patched kept.now first fresh.now) → t ≡ total_of hours) }
 {
     let mut total = Partial::nothing(alloc);
     for place in 0..kept.len() {

@@ -41,9 +41,13 @@ pub(crate) fn seen_hour(
     after: &Future,
 ) -> Result<(Vec<Stretch>, HourView), NoMemory>
     requires of_hour { AreRowsOf hour rows.now }
-    requires agrees { (s : Store) × IsHourBetween config.now s hour before.now (Some rows.now) blanked.now after.now }
-    ensures cut { IfOk result (λ v. IsCut (known_in true blanked.now) (36000 * hour) (36000 * hour + 36000) v.0.items) }
-    ensures seen { IfOk result (λ v. (s : Store) → IsHourBetween config.now s hour before.now (Some rows.now) blanked.now after.now → IsHourSeen config.now s hour before.now rows.now v.0.items v.1) }
+    requires agrees { (s : Store) × IsHourBetween config.now s hour before.now (Some rows.now)
+        blanked.now after.now }
+    ensures cut { IfOk result (λ v. IsCut (known_in true blanked.now) (36000 * hour)
+        (36000 * hour + 36000) v.0.items) }
+    ensures seen { IfOk result (λ v. (s : Store) → IsHourBetween config.now s hour before.now
+        (Some rows.now) blanked.now after.now → IsHourSeen config.now s hour before.now rows.now
+        v.0.items v.1) }
 {
     let parts = stretches(alloc, hour, true, blanked)?;
     let view = HourView::new(
@@ -69,8 +73,10 @@ pub(crate) fn audit_seen(
     view: &HourView,
 ) -> Result<Vec<AuditLine>, NoMemory>
     requires rules { rules.now ≡ rules_for config.now }
-    requires seen { (s : Store) × IsHourSeen config.now s hour before.now rows.now parts.now view.now }
-    ensures { IfOk result (λ v. (s : Store) → IsHourSeen config.now s hour before.now rows.now parts.now view.now → AreAuditLines config.now s hour v.items) }
+    requires seen { (s : Store) × IsHourSeen config.now s hour before.now rows.now parts.now
+        view.now }
+    ensures { IfOk result (λ v. (s : Store) → IsHourSeen config.now s hour before.now rows.now
+        parts.now view.now → AreAuditLines config.now s hour v.items) }
 {
     audit_rows(alloc, config, rules, view, rows, parts, before.known)
 }
@@ -86,8 +92,11 @@ pub(crate) fn cut_seen(
     view: &HourView,
 ) -> Result<(SplitSums, ArrivalSums), NoMemory>
     requires in_range { hour < 744 }
-    requires seen { (s : Store) × IsHourSeen config.now s hour before.now rows.now parts.now view.now }
-    ensures splits { IfOk result (λ v. (s : Store) → IsHourSeen config.now s hour before.now rows.now parts.now view.now → v.0.phases ≡ phase_sums config.now.phases (services_in config.now s hour) (cycles_in config.now s hour)) }
+    requires seen { (s : Store) × IsHourSeen config.now s hour before.now rows.now parts.now
+        view.now }
+    ensures splits { IfOk result (λ v. (s : Store) → IsHourSeen config.now s hour before.now
+        rows.now parts.now view.now → v.0.phases ≡ phase_sums config.now.phases
+        (services_in config.now s hour) (cycles_in config.now s hour)) }
     ensures verdicts { IfOk result (λ v. (s : Store)
         → IsHourSeen config.now s hour before.now rows.now parts.now view.now
         → AreSplitSums (log_of config.now.specs s) config.now hour
@@ -96,7 +105,9 @@ pub(crate) fn cut_seen(
         → IsHourSeen config.now s hour before.now rows.now parts.now view.now
         → AreAllJudged (MayBeIn config.now s) (is_known s) config.now (earlier_rows s hour)
         (own_rows s hour) hour v.1) }
-    ensures cycles { IfOk result (λ v. (s : Store) → IsHourSeen config.now s hour before.now rows.now parts.now view.now → HaveCycles (is_known s) config.now (earlier_rows s hour) (own_rows s hour) v.1) }
+    ensures cycles { IfOk result (λ v. (s : Store) → IsHourSeen config.now s hour before.now
+        rows.now parts.now view.now → HaveCycles (is_known s) config.now (earlier_rows s hour)
+        (own_rows s hour) v.1) }
 {
     let mut cut_carry = before.cuts.copy()?;
     let cuts = cut_hour(alloc, config.phases(), &mut cut_carry, rows, parts)?;
@@ -116,9 +127,14 @@ pub(crate) fn others_seen(
     parts: &[Stretch],
     view: &HourView,
 ) -> Result<OtherSums, NoMemory>
-    requires seen { (s : Store) × IsHourSeen config.now s hour before.now rows.now parts.now view.now }
-    ensures numbers { IfOk result (λ v. (s : Store) → IsHourSeen config.now s hour before.now rows.now parts.now view.now → AreNumbers (is_known s) config.now (earlier_rows s hour) (own_rows s hour) v) }
-    ensures states { IfOk result (λ v. (s : Store) → IsHourSeen config.now s hour before.now rows.now parts.now view.now → AreStates (MeetsIn config.now s) (first_tenth hour) config.now v) }
+    requires seen { (s : Store) × IsHourSeen config.now s hour before.now rows.now parts.now
+        view.now }
+    ensures numbers { IfOk result (λ v. (s : Store) → IsHourSeen config.now s hour before.now
+        rows.now parts.now view.now → AreNumbers (is_known s) config.now (earlier_rows s hour)
+        (own_rows s hour) v) }
+    ensures states { IfOk result (λ v. (s : Store) → IsHourSeen config.now s hour before.now
+        rows.now parts.now view.now → AreStates (MeetsIn config.now s) (first_tenth hour) config.now
+        v) }
 {
     let mut carry = before.others.copy()?;
     others_hour(alloc, config, &mut carry, view, rows, parts)

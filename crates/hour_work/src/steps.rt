@@ -74,8 +74,12 @@ pub fn forward(
     requires of_hour { IfSome rows (λ r. AreRowsOf hour r.now) }
     requires fit { FitPoint config.now hour before.now }
     ensures fit { IfOk result (FitPoint config.now (hour + 1)) }
-    ensures carry { IfOk result (λ c. (s : Store) → HasHour s hour (option_copied rows.entry) blanked.now → IsCarryAt config.now s hour before.now → IsCarryAt config.now s (hour + 1) c) }
-    ensures stop { IfErr result (λ e. (s : Store) → HasHour s hour (option_copied rows.entry) blanked.now → IsCarryAt config.now s hour before.now → NamesRow (log_of config.now.specs s) e) }
+    ensures carry { IfOk result (λ c. (s : Store) → HasHour s hour (option_copied rows.entry)
+        blanked.now → IsCarryAt config.now s hour before.now
+        → IsCarryAt config.now s (hour + 1) c) }
+    ensures stop { IfErr result (λ e. (s : Store) → HasHour s hour (option_copied rows.entry)
+        blanked.now → IsCarryAt config.now s hour before.now
+        → NamesRow (log_of config.now.specs s) e) }
     ensures over { IfOk result (λ c. ArePastsOver config.now.specs hour (option_copied rows.entry)
         blanked.now before.now.pasts c.pasts) }
     ensures stop_over { IfErr result (NamesStop config.now.specs hour (option_copied rows.entry)
@@ -110,9 +114,14 @@ fn pasts_over(
     requires in_range { hour < 744 }
     requires of_hour { IfSome rows (λ r. AreRowsOf hour r.now) }
     requires fit { FitPoint config.now hour before.now }
-    ensures shape { IfOk result (λ p. AreBefore config.now.specs p × AllEarly (first_tenth (hour + 1)) p) }
-    ensures pasts { IfOk result (λ p. (s : Store) → HasHour s hour (option_copied rows.entry) blanked.now → IsCarryAt config.now s hour before.now → ArePastsAt (log_of config.now.specs s) (hour + 1) p) }
-    ensures stop { IfErr result (λ e. (s : Store) → HasHour s hour (option_copied rows.entry) blanked.now → IsCarryAt config.now s hour before.now → NamesRow (log_of config.now.specs s) e) }
+    ensures shape { IfOk result (λ p. AreBefore config.now.specs p
+        × AllEarly (first_tenth (hour + 1)) p) }
+    ensures pasts { IfOk result (λ p. (s : Store) → HasHour s hour (option_copied rows.entry)
+        blanked.now → IsCarryAt config.now s hour before.now
+        → ArePastsAt (log_of config.now.specs s) (hour + 1) p) }
+    ensures stop { IfErr result (λ e. (s : Store) → HasHour s hour (option_copied rows.entry)
+        blanked.now → IsCarryAt config.now s hour before.now
+        → NamesRow (log_of config.now.specs s) e) }
     ensures over { IfOk result (λ p. ArePastsOver config.now.specs hour (option_copied rows.entry)
         blanked.now before.now.pasts p) }
     ensures stop_over { IfErr result (NamesStop config.now.specs hour (option_copied rows.entry)
@@ -145,13 +154,23 @@ fn under_way(
     requires in_range { hour < 744 }
     requires of_hour { IfSome rows (λ r. AreRowsOf hour r.now) }
     requires shape { AreBefore config.now.specs before.now.pasts }
-    ensures cuts { IfOk result (λ u. (s : Store) → HasHour s hour (option_copied rows.entry) blanked.now → IsCut (is_known s) config.now.phases (earlier_rows s hour) hour before.now.cuts → IsCut (is_known s) config.now.phases (earlier_rows s (hour + 1)) (hour + 1) u.cuts) }
-    ensures splits { IfOk result (λ u. (s : Store) → HasHour s hour (option_copied rows.entry) blanked.now
-        → IsCarryAt config.now s hour before.now
+    ensures cuts { IfOk result (λ u. (s : Store) → HasHour s hour (option_copied rows.entry)
+        blanked.now → IsCut (is_known s) config.now.phases (earlier_rows s hour) hour
+        before.now.cuts → IsCut (is_known s) config.now.phases (earlier_rows s (hour + 1))
+        (hour + 1) u.cuts) }
+    ensures splits { IfOk result (λ u. (s : Store) → HasHour s hour (option_copied rows.entry)
+        blanked.now → IsCarryAt config.now s hour before.now
         → AreAtBars (log_of config.now.specs s) config.now (earlier_rows s (hour + 1)) (hour + 1)
         u.splits) }
-    ensures others { IfOk result (λ u. (s : Store) → HasHour s hour (option_copied rows.entry) blanked.now → IsCrossing (is_known s) config.now (earlier_rows s hour) hour before.now.others → IsCrossing (is_known s) config.now (earlier_rows s (hour + 1)) (hour + 1) u.others) }
-    ensures arrivals { IfOk result (λ u. (s : Store) → HasHour s hour (option_copied rows.entry) blanked.now → IsCut (is_known s) config.now.phases (earlier_rows s hour) hour before.now.cuts → AreOpen (is_known s) config.now (earlier_rows s hour) hour before.now.arrivals → AreOpen (is_known s) config.now (earlier_rows s (hour + 1)) (hour + 1) u.arrivals) }
+    ensures others { IfOk result (λ u. (s : Store) → HasHour s hour (option_copied rows.entry)
+        blanked.now → IsCrossing (is_known s) config.now (earlier_rows s hour) hour
+        before.now.others → IsCrossing (is_known s) config.now (earlier_rows s (hour + 1))
+        (hour + 1) u.others) }
+    ensures arrivals { IfOk result (λ u. (s : Store) → HasHour s hour (option_copied rows.entry)
+        blanked.now → IsCut (is_known s) config.now.phases (earlier_rows s hour) hour
+        before.now.cuts → AreOpen (is_known s) config.now (earlier_rows s hour) hour
+        before.now.arrivals → AreOpen (is_known s) config.now (earlier_rows s (hour + 1)) (hour + 1)
+        u.arrivals) }
 {
     let held = held_rows(rows);
     let parts = stretches(alloc, hour, rows.is_some(), blanked)?;
@@ -194,7 +213,9 @@ pub fn backward(
     requires of_hour { IfSome rows (λ r. AreRowsOf hour r.now) }
     requires fit { AreAheadsOf config.now.specs after.now }
     ensures fit { IfOk result (AreAheadsOf config.now.specs) }
-    ensures future { IfOk result (λ f. (s : Store) → HasHour s hour (option_copied rows.entry) blanked.now → IsFutureAt config.now s (hour + 1) after.now → IsFutureAt config.now s hour f) }
+    ensures future { IfOk result (λ f. (s : Store) → HasHour s hour (option_copied rows.entry)
+        blanked.now → IsFutureAt config.now s (hour + 1) after.now
+        → IsFutureAt config.now s hour f) }
 {
     let aheads = aheads_before(alloc, config.specs(), hour, &after.aheads, rows, blanked)?;
     Ok(Future { aheads })

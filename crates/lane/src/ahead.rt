@@ -23,7 +23,8 @@ use std::alloc::Global;
 pub fn walk_ahead<M: Machine>(machine: &M, ahead: &mut Ahead, moves: &[Move])
     requires order { InOrder (M.rules machine.now) 0 moves.now }
     requires colours { length ahead.old ≡ (M.rules machine.now).colours }
-    ensures before { (s : State) → Admits ahead.new s ↔ (EntersBefore moves.now s × BeforeMoves (M.rules machine.now) ahead.old moves.now s) }
+    ensures before { (s : State) → Admits ahead.new s ↔ (EntersBefore moves.now s
+        × BeforeMoves (M.rules machine.now) ahead.old moves.now s) }
     ensures colours { length ahead.new ≡ length ahead.old }
 {
     for turn in 0..moves.len() {
@@ -34,7 +35,8 @@ pub fn walk_ahead<M: Machine>(machine: &M, ahead: &mut Ahead, moves: &[Move])
 fn move_ahead<M: Machine>(machine: &M, ahead: &mut Ahead, one: Move)
     requires fits { IsMove (M.rules machine.now) one }
     requires colours { length ahead.old ≡ (M.rules machine.now).colours }
-    ensures before { (s : State) → Admits ahead.new s ↔ ((s.entry <ℤ pos (limit_before one)) × BeforeMove (M.rules machine.now) ahead.old one s) }
+    ensures before { (s : State) → Admits ahead.new s ↔ ((s.entry <ℤ pos (limit_before one))
+        × BeforeMove (M.rules machine.now) ahead.old one s) }
     ensures colours { length ahead.new ≡ length ahead.old }
 {
     match one {

@@ -32,9 +32,16 @@ impl<M: Machine> Model for Line<M> {
 
     ghost Value = { LineLog M };
 
-    ghost view = { λ l. record { machine = l.machine.value; before = l.before.value; moves = l.moves.items; after = l.after.value } };
+    ghost view = { λ l. record {
+      machine = l.machine.value;
+      before = l.before.value;
+      moves = l.moves.items;
+      after = l.after.value;
+    } };
 
-    ghost invariant = { λ l. KeepsPlaces (M.rules l.machine.value) l.before.value l.after.value l.moves.items l.pasts.pasts.items l.pasts.runs.items l.aheads.aheads.items l.aheads.numbers.items };
+    ghost invariant = { λ l. KeepsPlaces (M.rules l.machine.value) l.before.value l.after.value
+        l.moves.items l.pasts.pasts.items l.pasts.runs.items l.aheads.aheads.items
+        l.aheads.numbers.items };
 }
 
 impl<M: Machine> Line<M> {
@@ -46,10 +53,16 @@ impl<M: Machine> Line<M> {
         moves: Vec<Move>,
         after: &Ahead,
     ) -> Result<Line<M>, NoMemory>
-        requires order { (low : ℕ) × EnteredBefore before.now low × InOrder (M.rules machine.now) low moves.items }
+        requires order { (low : ℕ) × EnteredBefore before.now low
+            × InOrder (M.rules machine.now) low moves.items }
         requires colours { length before.now ≡ (M.rules machine.now).colours }
         requires ahead { length after.now ≡ (M.rules machine.now).colours }
-        ensures { IfOk result (λ l. l ≡ record { machine = machine.now; before = before.now; moves = moves.items; after = after.now }) }
+        ensures { IfOk result (λ l. l ≡ record {
+          machine = machine.now;
+          before = before.now;
+          moves = moves.items;
+          after = after.now;
+        }) }
     {
         let pasts = pasts_of(alloc, machine, before, moves.as_slice())?;
         let aheads = aheads_of(alloc, machine, after, moves.as_slice(), &pasts)?;
@@ -75,7 +88,12 @@ impl<M: Machine> Line<M> {
         requires place { place ≤ length self.now.moves }
         requires low { negsuc (2 ^ 39) ≤ℤ test.now.at }
         requires high { test.now.at ≤ℤ pos (2 ^ 39) }
-        ensures { (low at : ℕ) → EnteredBefore self.now.before low → InOrder (M.rules self.now.machine) low self.now.moves → limit_of low (take place self.now.moves) ≤ at + 1 → TakesFrom (at + 1) (drop place self.now.moves) → test.now.at ≡ pos at → SeesPassing (M.rules self.now.machine) self.now.before self.now.after (take place self.now.moves) (drop place self.now.moves) test.now result }
+        ensures { (low at : ℕ) → EnteredBefore self.now.before low
+            → InOrder (M.rules self.now.machine) low self.now.moves
+            → limit_of low (take place self.now.moves) ≤ at + 1
+            → TakesFrom (at + 1) (drop place self.now.moves) → test.now.at ≡ pos at
+            → SeesPassing (M.rules self.now.machine) self.now.before self.now.after
+            (take place self.now.moves) (drop place self.now.moves) test.now result }
     {
         let run = self.pasts.runs[place] as usize;
         let number = self.aheads.numbers[self.moves.len() - place] as usize;

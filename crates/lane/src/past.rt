@@ -22,10 +22,14 @@ pub fn walk_past<M: Machine>(
     past: &mut Past,
     moves: &[Move],
 ) -> Result<Option<usize>, NoMemory>
-    requires order { (low : ℕ) × EnteredBefore past.old low × InOrder (M.rules machine.now) low moves.now }
+    requires order { (low : ℕ) × EnteredBefore past.old low
+        × InOrder (M.rules machine.now) low moves.now }
     requires colours { length past.old ≡ (M.rules machine.now).colours }
     requires some { (s : State) × Holds past.old s }
-    ensures after { IfOk result (λ r. MatchOption r (((u : State) → Holds past.new u ↔ AfterMoves (M.rules machine.now) past.old moves.now u) × ((u : State) × Holds past.new u)) (λ j. StopsAt (M.rules machine.now) past.old moves.now j)) }
+    ensures after { IfOk result (λ r. MatchOption r (((u : State) → Holds past.new u
+        ↔ AfterMoves (M.rules machine.now) past.old moves.now u)
+        × ((u : State) × Holds past.new u)) (λ j. StopsAt (M.rules machine.now) past.old moves.now
+        j)) }
     ensures colours { length past.new ≡ length past.old }
 {
     let mut holes = Vec::new(alloc);
@@ -73,8 +77,10 @@ fn move_past<M: Machine>(machine: &M, past: &mut Past, one: Move) -> Result<bool
     requires fits { IsMove (M.rules machine.now) one }
     requires place { EnteredBefore past.old (limit_before one) }
     requires colours { length past.old ≡ (M.rules machine.now).colours }
-    ensures after { OnOk result ((u : State) → Holds past.new u ↔ AfterMove (M.rules machine.now) past.old one u) }
-    ensures some { ((s : State) × Holds past.old s) → IfOk result (λ b. IsTrue b ↔ ((u : State) × Holds past.new u)) }
+    ensures after { OnOk result ((u : State) → Holds past.new u
+        ↔ AfterMove (M.rules machine.now) past.old one u) }
+    ensures some { ((s : State) × Holds past.old s) → IfOk result (λ b. IsTrue b
+        ↔ ((u : State) × Holds past.new u)) }
     ensures colours { length past.new ≡ length past.old }
 {
     match one {
@@ -94,7 +100,8 @@ fn gap_past<M: Machine>(machine: &M, past: &mut Past, from: u32, to: u32) -> Res
     requires some { from < to }
     requires place { EnteredBefore past.old from }
     requires colours { length past.old ≡ (M.rules machine.now).colours }
-    ensures after { OnOk result ((u : State) → Holds past.new u ↔ AfterGap (M.rules machine.now) past.old (pos from) (pos to) u) }
+    ensures after { OnOk result ((u : State) → Holds past.new u
+        ↔ AfterGap (M.rules machine.now) past.old (pos from) (pos to) u) }
     ensures colours { length past.new ≡ length past.old }
 {
     past_gap(machine, past, i64::from(from), i64::from(to))

@@ -33,7 +33,9 @@ impl Watch for CodeCount {
 
 /// The number of the hour's known rows of this code.
 pub(crate) fn rows_of(code: u8, rows: &[Row], stretches: &[Stretch]) -> Result<u64, NoMemory>
-    ensures { IfOk result (λ n. (known : ℕ → Bool) (hour : ℕ) → IsHour known hour rows.now stretches.now → n ≡ rows_with code (known_rows known rows.now)) }
+    ensures { IfOk result (λ n. (known : ℕ → Bool) (hour : ℕ)
+        → IsHour known hour rows.now stretches.now → n ≡ rows_with code
+        (known_rows known rows.now)) }
 {
     let mut counted = CodeCount { code, count: 0 };
     sweep(&mut counted, rows, stretches)?;

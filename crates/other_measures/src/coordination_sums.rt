@@ -44,7 +44,10 @@ fn state_tenths(config: &Config, view: &HourView, from: u32) -> [u64; 7]
     requires view { length view.now.specs ≡ length config.now.specs }
     requires on { config.now.coordination ≡ true }
     ensures size { length result ≡ 7 }
-    ensures tenths { (log : HourLog) (rows : List Row) (ss : List Stretch) → IsSeen config.now view.now rows ss log → from ≡ first_tenth log.hour → (q : ℕ) → q < 7 → HasTenths (MeetsAt log) (first_tenth log.hour) config.now coordination (Colour q) (slice_index_or result q 0) }
+    ensures tenths { (log : HourLog) (rows : List Row) (ss : List Stretch)
+        → IsSeen config.now view.now rows ss log → from ≡ first_tenth log.hour → (q : ℕ) → q < 7
+        → HasTenths (MeetsAt log) (first_tenth log.hour) config.now coordination (Colour q)
+        (slice_index_or result q 0) }
 {
     let mut all = [0; 7];
     for state in 0..7u8 {
@@ -62,8 +65,12 @@ pub(crate) fn coordination_of(
     stretches: &[Stretch],
 ) -> Result<CoordSum, NoMemory>
     requires view { length view.now.specs ≡ length config.now.specs }
-    ensures rows { IfOk result (λ s. config.now.coordination ≡ true → (known : ℕ → Bool) (hour : ℕ) → IsHour known hour rows.now stretches.now → HasRows (known_rows known rows.now) s) }
-    ensures states { IfOk result (λ s. config.now.coordination ≡ true → (log : HourLog) (rs : List Row) (ss : List Stretch) → IsSeen config.now view.now rs ss log → from ≡ first_tenth log.hour → HasCoordination (MeetsAt log) (first_tenth log.hour) config.now s) }
+    ensures rows { IfOk result (λ s. config.now.coordination ≡ true → (known : ℕ → Bool) (hour : ℕ)
+        → IsHour known hour rows.now stretches.now → HasRows (known_rows known rows.now) s) }
+    ensures states { IfOk result (λ s. config.now.coordination ≡ true
+        → (log : HourLog) (rs : List Row) (ss : List Stretch) → IsSeen config.now view.now rs ss log
+        → from ≡ first_tenth log.hour → HasCoordination (MeetsAt log) (first_tenth log.hour)
+        config.now s) }
     ensures off { IfOk result (λ s. config.now.coordination ≡ false → s ≡ no_coordination) }
 {
     if !config.coordination() {

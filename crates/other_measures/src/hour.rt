@@ -44,7 +44,11 @@ impl Model for OtherSums {
 
     ghost Value = { OtherNumbers };
 
-    ghost view = { λ s. record { peds = s.peds.items; preempts = s.preempts.items; coordination = s.coordination } };
+    ghost view = { λ s. record {
+      peds = s.peds.items;
+      preempts = s.preempts.items;
+      coordination = s.coordination;
+    } };
 }
 
 impl OtherSums {
@@ -61,8 +65,10 @@ impl OtherSums {
 
     /// The numbers of an hour of which no tenth is known.
     pub fn none(alloc: Global, config: &Config) -> Result<OtherSums, NoMemory>
-        ensures numbers { IfOk result (λ sums. (known : ℕ → Bool) (before : List Row) → AreNumbers known config.now before [] sums) }
-        ensures states { IfOk result (λ sums. (from : ℕ) → AreStates (λ _ _ _. ⊥) from config.now sums) }
+        ensures numbers { IfOk result (λ sums. (known : ℕ → Bool) (before : List Row)
+            → AreNumbers known config.now before [] sums) }
+        ensures states { IfOk result (λ sums. (from : ℕ)
+            → AreStates (λ _ _ _. ⊥) from config.now sums) }
     {
         let peds = no_peds(alloc, config)?;
         let preempts = no_preempts(alloc, config)?;
@@ -110,8 +116,11 @@ impl OtherSums {
 fn ped_sum(config: &Config, view: &HourView, from: u32, ped: u8, delays: &PedSum) -> PedSum
     requires view { length view.now.specs ≡ length config.now.specs }
     requires ped { has_number config.now.peds ped ≡ true }
-    ensures delays { result ≡ with_detector delays.now result.detector_on result.detector_undecided }
-    ensures detector { (log : HourLog) (rows : List Row) (ss : List Stretch) → IsSeen config.now view.now rows ss log → from ≡ first_tenth log.hour → HasDetector (MeetsAt log) (first_tenth log.hour) config.now ped result }
+    ensures delays { result ≡ with_detector delays.now result.detector_on
+        result.detector_undecided }
+    ensures detector { (log : HourLog) (rows : List Row) (ss : List Stretch)
+        → IsSeen config.now view.now rows ss log → from ≡ first_tenth log.hour
+        → HasDetector (MeetsAt log) (first_tenth log.hour) config.now ped result }
 {
     let detector = Channel {
         kind: Kind::PedDetector,
@@ -135,7 +144,9 @@ fn preempt_sum(
     requires view { length view.now.specs ≡ length config.now.specs }
     requires preempt { has_number config.now.preempts preempt ≡ true }
     ensures events { result ≡ with_states events.now result }
-    ensures states { (log : HourLog) (rows : List Row) (ss : List Stretch) → IsSeen config.now view.now rows ss log → from ≡ first_tenth log.hour → HasStates (MeetsAt log) (first_tenth log.hour) config.now preempt result }
+    ensures states { (log : HourLog) (rows : List Row) (ss : List Stretch)
+        → IsSeen config.now view.now rows ss log → from ≡ first_tenth log.hour
+        → HasStates (MeetsAt log) (first_tenth log.hour) config.now preempt result }
 {
     let input = Channel {
         kind: Kind::PreemptInput,
@@ -165,8 +176,12 @@ fn ped_sums(
     delays: &[Delay],
 ) -> Result<Vec<PedSum>, NoMemory>
     requires view { length view.now.specs ≡ length config.now.specs }
-    ensures delays { IfOk result (λ v. EachOf (has_number config.now.peds) (HasDelays delays.now) 17 v.items) }
-    ensures detector { IfOk result (λ v. (log : HourLog) (rows : List Row) (ss : List Stretch) → IsSeen config.now view.now rows ss log → from ≡ first_tenth log.hour → EachOf (has_number config.now.peds) (HasDetector (MeetsAt log) (first_tenth log.hour) config.now) 17 v.items) }
+    ensures delays { IfOk result (λ v. EachOf (has_number config.now.peds) (HasDelays delays.now) 17
+        v.items) }
+    ensures detector { IfOk result (λ v. (log : HourLog) (rows : List Row) (ss : List Stretch)
+        → IsSeen config.now view.now rows ss log → from ≡ first_tenth log.hour
+        → EachOf (has_number config.now.peds) (HasDetector (MeetsAt log) (first_tenth log.hour)
+        config.now) 17 v.items) }
 {
     let table = ped_table(delays);
     let mut sums = Vec::new(alloc);
@@ -186,8 +201,12 @@ fn preempt_sums(
     events: &[PreemptEvent],
 ) -> Result<Vec<PreemptSum>, NoMemory>
     requires view { length view.now.specs ≡ length config.now.specs }
-    ensures events { IfOk result (λ v. EachOf (has_number config.now.preempts) (HasEvents events.now) 17 v.items) }
-    ensures states { IfOk result (λ v. (log : HourLog) (rows : List Row) (ss : List Stretch) → IsSeen config.now view.now rows ss log → from ≡ first_tenth log.hour → EachOf (has_number config.now.preempts) (HasStates (MeetsAt log) (first_tenth log.hour) config.now) 17 v.items) }
+    ensures events { IfOk result (λ v. EachOf (has_number config.now.preempts)
+        (HasEvents events.now) 17 v.items) }
+    ensures states { IfOk result (λ v. (log : HourLog) (rows : List Row) (ss : List Stretch)
+        → IsSeen config.now view.now rows ss log → from ≡ first_tenth log.hour
+        → EachOf (has_number config.now.preempts) (HasStates (MeetsAt log) (first_tenth log.hour)
+        config.now) 17 v.items) }
 {
     let table = preempt_table(events);
     let mut sums = Vec::new(alloc);
@@ -272,7 +291,9 @@ pub fn others_hour(
     ensures numbers { IfOk result (λ sums. (known : ℕ → Bool) (before : List Row) (hour : ℕ)
         → IsHour known hour rows.now stretches.now → IsCarry known config.now before hour carry.old
         → AreNumbers known config.now before (known_rows known rows.now) sums) }
-    ensures states { IfOk result (λ sums. (log : HourLog) → IsSeen config.now view.now rows.now stretches.now log → AreStates (MeetsAt log) (first_tenth log.hour) config.now sums) }
+    ensures states { IfOk result (λ sums. (log : HourLog)
+        → IsSeen config.now view.now rows.now stretches.now log
+        → AreStates (MeetsAt log) (first_tenth log.hour) config.now sums) }
     ensures carry { IfOk result (λ _. (known : ℕ → Bool) (before : List Row) (hour : ℕ)
         → IsHour known hour rows.now stretches.now → IsCarry known config.now before hour carry.old
         → IsCarry known config.now (before ++ known_rows known rows.now) (hour + 1) carry.new) }

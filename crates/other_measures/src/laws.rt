@@ -13,14 +13,19 @@ ghost use Rattle.other_measures.specs.Hours.{delays_from, events_from};
 /// The delays, entries and exits of two parts of a log, one after the other, are those of the
 /// whole, wherever it is cut between two tenths.
 pub fn hours_add_up()
-    ensures delays { (known : ℕ → Bool) (c : Settings) (t b : ℕ) (before rows : List Row) → AreOrdered 0 t before → AreOrdered t b rows
-        → delays_from known c [] (before ++ rows) ≡ delays_from known c [] before ++ delays_from known c before rows }
-    ensures events { (known : ℕ → Bool) (c : Settings) (t b : ℕ) (before rows : List Row) → AreOrdered 0 t before → AreOrdered t b rows
-        → events_from known c [] (before ++ rows) ≡ events_from known c [] before ++ events_from known c before rows }
+    ensures delays { (known : ℕ → Bool) (c : Settings) (t b : ℕ) (before rows : List Row)
+        → AreOrdered 0 t before → AreOrdered t b rows → delays_from known c [] (before ++ rows)
+        ≡ delays_from known c [] before ++ delays_from known c before rows }
+    ensures events { (known : ℕ → Bool) (c : Settings) (t b : ℕ) (before rows : List Row)
+        → AreOrdered 0 t before → AreOrdered t b rows → events_from known c [] (before ++ rows)
+        ≡ events_from known c [] before ++ events_from known c before rows }
 {}
 
 /// The numbers of two such parts add up to those of the whole.
 pub fn numbers_add_up()
-    ensures delays { (p : ℕ) (ds more : List Delay) → ped_sum_of (delays_of p (ds ++ more)) ≡ ped_added (ped_sum_of (delays_of p ds)) (ped_sum_of (delays_of p more)) }
-    ensures events { (p : ℕ) (es more : List PreemptEvent) → preempt_sum_of (events_of p (es ++ more)) ≡ preempt_added (preempt_sum_of (events_of p es)) (preempt_sum_of (events_of p more)) }
+    ensures delays { (p : ℕ) (ds more : List Delay) → ped_sum_of (delays_of p (ds ++ more))
+        ≡ ped_added (ped_sum_of (delays_of p ds)) (ped_sum_of (delays_of p more)) }
+    ensures events { (p : ℕ) (es more : List PreemptEvent)
+        → preempt_sum_of (events_of p (es ++ more)) ≡ preempt_added
+        (preempt_sum_of (events_of p es)) (preempt_sum_of (events_of p more)) }
 {}

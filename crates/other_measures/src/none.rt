@@ -63,8 +63,10 @@ fn no_preempt(config: &Config, preempt: u8) -> PreemptSum
 
 /// The numbers of each pedestrian signal.
 pub(crate) fn no_peds(alloc: Global, config: &Config) -> Result<Vec<PedSum>, NoMemory>
-    ensures delays { IfOk result (λ v. EachOf (has_number config.now.peds) (HasDelays []) 17 v.items) }
-    ensures detector { IfOk result (λ v. (from : ℕ) → EachOf (has_number config.now.peds) (HasDetector (λ _ _ _. ⊥) from config.now) 17 v.items) }
+    ensures delays { IfOk result (λ v. EachOf (has_number config.now.peds) (HasDelays []) 17
+        v.items) }
+    ensures detector { IfOk result (λ v. (from : ℕ) → EachOf (has_number config.now.peds)
+        (HasDetector (λ _ _ _. ⊥) from config.now) 17 v.items) }
 {
     let mut sums = Vec::new(alloc);
     for ped in 0..17u8 {
@@ -77,8 +79,10 @@ pub(crate) fn no_peds(alloc: Global, config: &Config) -> Result<Vec<PedSum>, NoM
 
 /// The numbers of each preempt.
 pub(crate) fn no_preempts(alloc: Global, config: &Config) -> Result<Vec<PreemptSum>, NoMemory>
-    ensures events { IfOk result (λ v. EachOf (has_number config.now.preempts) (HasEvents []) 17 v.items) }
-    ensures states { IfOk result (λ v. (from : ℕ) → EachOf (has_number config.now.preempts) (HasStates (λ _ _ _. ⊥) from config.now) 17 v.items) }
+    ensures events { IfOk result (λ v. EachOf (has_number config.now.preempts) (HasEvents []) 17
+        v.items) }
+    ensures states { IfOk result (λ v. (from : ℕ) → EachOf (has_number config.now.preempts)
+        (HasStates (λ _ _ _. ⊥) from config.now) 17 v.items) }
 {
     let mut sums = Vec::new(alloc);
     for preempt in 0..17u8 {
@@ -92,7 +96,8 @@ pub(crate) fn no_preempts(alloc: Global, config: &Config) -> Result<Vec<PreemptS
 /// The numbers of the coordination.
 pub(crate) fn no_states(config: &Config) -> CoordSum
     ensures none { result ≡ no_coordination }
-    ensures states { config.now.coordination ≡ true → (from : ℕ) → HasCoordination (λ _ _ _. ⊥) from config.now result }
+    ensures states { config.now.coordination ≡ true → (from : ℕ)
+        → HasCoordination (λ _ _ _. ⊥) from config.now result }
 {
     if config.coordination() {
         no_tenths(config, COORDINATION);

@@ -26,7 +26,13 @@ pub(crate) fn nothing() -> PedSum
 
 // The numbers of a walk whose delay is whole.
 fn of_wait(wait: u32) -> PedSum
-    ensures { result ≡ record no_ped_sum { walks = 1; delays = 1; sum = capped wait; greatest = Some wait } }
+    ensures { result ≡ record no_ped_sum {
+      walks = 1;
+      delays = 1;
+      sum = capped wait;
+      greatest = Some
+          wait;
+    } }
 {
     PedSum {
         walks: 1,
@@ -57,7 +63,8 @@ fn of_delay(delay: &Delay) -> PedSum
 
 // Adds to the numbers of this pedestrian signal.
 fn note(sums: &mut [PedSum], ped: u8, more: &PedSum)
-    ensures { sums.new ≡ slice_set sums.old ped (ped_added (slice_index_or sums.old ped no_ped_sum) more.now) }
+    ensures { sums.new ≡ slice_set sums.old ped (ped_added (slice_index_or sums.old ped no_ped_sum)
+        more.now) }
 {
     let place = usize::from(ped);
     if place < sums.len() {

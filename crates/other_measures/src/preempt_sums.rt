@@ -76,7 +76,8 @@ fn of_event(event: &PreemptEvent) -> PreemptSum
 
 // Adds to the numbers of this preempt.
 fn note(sums: &mut [PreemptSum], preempt: u8, more: &PreemptSum)
-    ensures { sums.new ≡ slice_set sums.old preempt (preempt_added (slice_index_or sums.old preempt no_preempt_sum) more.now) }
+    ensures { sums.new ≡ slice_set sums.old preempt (preempt_added
+        (slice_index_or sums.old preempt no_preempt_sum) more.now) }
 {
     let place = usize::from(preempt);
     if place < sums.len() {
@@ -85,8 +86,10 @@ fn note(sums: &mut [PreemptSum], preempt: u8, more: &PreemptSum)
 }
 
 fn add_events(sums: &mut [PreemptSum], events: &[PreemptEvent])
-    requires empty { AreSums (λ e. e.preempt) (λ p es. preempt_sum_of es) (length sums.old) [] sums.old }
-    ensures { AreSums (λ e. e.preempt) (λ p es. preempt_sum_of es) (length sums.old) events.now sums.new }
+    requires empty { AreSums (λ e. e.preempt) (λ p es. preempt_sum_of es) (length sums.old) []
+        sums.old }
+    ensures { AreSums (λ e. e.preempt) (λ p es. preempt_sum_of es) (length sums.old) events.now
+        sums.new }
 {
     for event in events {
         note(sums, event.preempt, &of_event(event));

@@ -46,7 +46,9 @@ pub(crate) fn tenths(
     requires view { length view.now.specs ≡ length config.now.specs }
     requires tracked { is_tracked config.now channel ≡ true }
     requires asked { IsAsked asked }
-    ensures { (log : HourLog) (rows : List Row) (ss : List Stretch) → IsSeen config.now view.now rows ss log → from ≡ first_tenth log.hour → HasTenths (MeetsAt log) (first_tenth log.hour) config.now channel asked result }
+    ensures { (log : HourLog) (rows : List Row) (ss : List Stretch)
+        → IsSeen config.now view.now rows ss log → from ≡ first_tenth log.hour
+        → HasTenths (MeetsAt log) (first_tenth log.hour) config.now channel asked result }
 {
     match config.spec_of(channel) {
         Some(spec) => u64::from(tenths_of(view, spec, asked, from)),

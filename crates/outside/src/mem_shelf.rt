@@ -32,7 +32,12 @@ impl Model for MemShelf {
 
     ghost Value = { Held };
 
-    ghost view = { λ s. record { files = named_of s.files.items; failing = s.failing.items; calls = s.calls; counts = record { missing = s.missing; failed = s.failed; long = s.long } } };
+    ghost view = { λ s. record {
+      files = named_of s.files.items;
+      failing = s.failing.items;
+      calls = s.calls;
+      counts = record { missing = s.missing; failed = s.failed; long = s.long };
+    } };
 }
 
 // The bytes of the newest file of this name.
@@ -67,7 +72,10 @@ impl MemShelf {
 
     /// Puts a file on the shelf. It stands in the place of an earlier one with an equal name.
     pub fn add(&mut self, name: &str, bytes: &[u8]) -> Result<(), NoMemory>
-        ensures ok { OnOk result (self.new ≡ record self.old { files = (name.now, bytes.now) ∷ self.old.files }) }
+        ensures ok { OnOk result (self.new ≡ record self.old {
+          files = (name.now, bytes.now)
+              ∷ self.old.files;
+        }) }
         ensures err { OnErr result (self.new ≡ self.old) }
     {
         let file = MemFile {
@@ -80,7 +88,10 @@ impl MemShelf {
 
     /// After it the fetch of this number fails, counted from 1.
     pub fn fail_call(&mut self, number: u64) -> Result<(), NoMemory>
-        ensures ok { OnOk result (self.new ≡ record self.old { failing = self.old.failing ++ number ∷ [] }) }
+        ensures ok { OnOk result (self.new ≡ record self.old {
+          failing = self.old.failing ++ number
+              ∷ [];
+        }) }
         ensures err { OnErr result (self.new ≡ self.old) }
     {
         self.failing.push(number)?;
@@ -103,11 +114,13 @@ impl Shelf for MemShelf {
         ensures stay { self.new.files ≡ self.old.files }
         ensures counted { IsCounted self.old.counts self.new.counts result }
         ensures appended { IsFetched limit into.old.items into.new.items result }
-        ensures content { IsFetch (file_at self.old.files name.now) limit into.old.items into.new.items result }
+        ensures content { IsFetch (file_at self.old.files name.now) limit into.old.items
+            into.new.items result }
 
         // The fetches that were told to fail are those that do.
         ensures calls { self.new.calls ≡ one_more self.old.calls }
-        ensures failing { IsErrOf result FetchError.Failed ↔ Contains self.old.failing (one_more self.old.calls) }
+        ensures failing { IsErrOf result FetchError.Failed
+            ↔ Contains self.old.failing (one_more self.old.calls) }
         ensures told { self.new.failing ≡ self.old.failing }
     {
         self.calls = self.calls.saturating_add(1);

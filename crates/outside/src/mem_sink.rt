@@ -24,7 +24,13 @@ impl Model for MemSink {
 
     ghost Value = { SinkState };
 
-    ghost view = { λ s. record { bytes = s.bytes.items; room = s.room; puts = s.calls; failing = s.failing; faults = s.faults } };
+    ghost view = { λ s. record {
+      bytes = s.bytes.items;
+      room = s.room;
+      puts = s.calls;
+      failing = s.failing;
+      faults = s.faults;
+    } };
 
     ghost invariant = { λ s. (vec_len s.bytes ≤ s.room) × (s.room ≤ vec_capacity s.bytes) };
 }
@@ -32,7 +38,13 @@ impl Model for MemSink {
 impl MemSink {
     /// A sink for at most so many bytes. Its memory is all taken here.
     pub fn new(alloc: Global, room: usize) -> Result<Self, NoMemory>
-        ensures { IfOk result (λ s. s ≡ record { bytes = []; room = room; puts = 0; failing = 0; faults = 0 }) }
+        ensures { IfOk result (λ s. s ≡ record {
+          bytes = [];
+          room = room;
+          puts = 0;
+          failing = 0;
+          faults = 0;
+        }) }
     {
         let bytes = Vec::with_capacity(alloc, room)?;
         Ok(MemSink {
@@ -65,7 +77,8 @@ impl Sink for MemSink {
     ghost faults = { λ s. s.faults };
 
     fn put(&mut self, bytes: &[u8]) -> Result<(), PutFailed>
-        ensures puts { Puts (Some self.old.bytes) (Some self.new.bytes) self.old.faults self.new.faults bytes.now result }
+        ensures puts { Puts (Some self.old.bytes) (Some self.new.bytes) self.old.faults
+            self.new.faults bytes.now result }
 
         // The puts that fail are those that were told to, and those that pass the room.
         ensures exact { IsPut self.old self.new bytes.now result }

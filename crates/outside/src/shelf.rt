@@ -36,5 +36,6 @@ pub trait Shelf {
         ensures stay { files self.new ≡ files self.old }
         ensures counted { IsCounted (counts self.old) (counts self.new) result }
         ensures appended { IsFetched limit into.old.items into.new.items result }
-        ensures content { IfSome (files self.old) (λ told. IsFetch (told name.now) limit into.old.items into.new.items result) };
+        ensures content { IfSome (files self.old) (λ told. IsFetch (told name.now) limit
+            into.old.items into.new.items result) };
 }

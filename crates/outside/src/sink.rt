@@ -15,5 +15,6 @@ pub trait Sink {
 
     /// Takes all the bytes, or fails after a front of them and raises its count of faults.
     fn put(&mut self, bytes: &[u8]) -> Result<(), PutFailed>
-        ensures { Puts (written self.old) (written self.new) (faults self.old) (faults self.new) bytes.now result };
+        ensures { Puts (written self.old) (written self.new) (faults self.old) (faults self.new)
+            bytes.now result };
 }

@@ -34,7 +34,8 @@ impl Ahead {
         requires low { negsuc (2 ^ 39) ≤ℤ point }
         requires high { point ≤ℤ pos (2 ^ 39) }
         ensures colours { length result ≡ colours }
-        ensures states { (s : State) → Admits result s ↔ ((s.colour < colours) × (s.entry <ℤ point)) }
+        ensures states { (s : State) → Admits result s ↔ ((s.colour < colours)
+            × (s.entry <ℤ point)) }
     {
         let mut latest = [None; 16];
         for colour in 0..colours {
@@ -56,7 +57,8 @@ impl Ahead {
     /// Whether both have equally many colours and admit the same states.
     pub fn same(&self, other: &Ahead) -> bool
         ensures value { IsTrue result ↔ (self.now ≡ other.now) }
-        ensures states { IsTrue result ↔ ((length self.now ≡ length other.now) × ((s : State) → Admits self.now s ↔ Admits other.now s)) }
+        ensures states { IsTrue result ↔ ((length self.now ≡ length other.now)
+            × ((s : State) → Admits self.now s ↔ Admits other.now s)) }
     {
         same_entries(
             &self.latest[..self.colours as usize],
@@ -66,7 +68,8 @@ impl Ahead {
 
     /// Leaves only entries up to the limit.
     pub fn lower(&mut self, limit: Tenth)
-        ensures states { (s : State) → Admits self.new s ↔ (Admits self.old s × (s.entry ≤ℤ limit)) }
+        ensures states { (s : State) → Admits self.new s
+            ↔ (Admits self.old s × (s.entry ≤ℤ limit)) }
         ensures colours { length self.new ≡ length self.old }
     {
         self.latest = lower_all(&self.latest, limit);

@@ -17,7 +17,8 @@ pub fn ahead_gap<M: Machine>(machine: &M, ahead: &mut Ahead, from: Tenth, to: Te
     requires some { from <ℤ to }
     requires high { to ≤ℤ pos (2 ^ 39) }
     requires colours { length ahead.old ≡ (M.rules machine.now).colours }
-    ensures before { (s : State) → Admits ahead.new s ↔ ((s.entry <ℤ from) × BeforeGap (M.rules machine.now) ahead.old from to s) }
+    ensures before { (s : State) → Admits ahead.new s ↔ ((s.entry <ℤ from)
+        × BeforeGap (M.rules machine.now) ahead.old from to s) }
     ensures colours { length ahead.new ≡ length ahead.old }
 {
     let entries = latest_entries(machine, &ahead.latest, from, to);
@@ -78,7 +79,9 @@ fn later_one<M: Machine>(
     requires high { to ≤ℤ pos (2 ^ 39) }
     requires colour { colour < (M.rules machine.now).colours }
     requires all { length latest.now ≡ 16 }
-    ensures { (e : ℤ) → NotLater result e ↔ (NotLater (entry_of latest.now colour) e ⊎ LeftBelow (M.rules machine.now) from to latest.now colour (M.rules machine.now).letters e) }
+    ensures { (e : ℤ) → NotLater result e ↔ (NotLater (entry_of latest.now colour) e
+        ⊎ LeftBelow (M.rules machine.now) from to latest.now colour (M.rules machine.now).letters
+        e) }
 {
     let entry = latest[colour as usize];
     if is_last(entry, machine.floor(colour), to) {
@@ -112,7 +115,9 @@ fn later_letters<M: Machine>(
     requires high { to ≤ℤ pos (2 ^ 39) }
     requires colour { colour < (M.rules machine.now).colours }
     requires all { length latest.now ≡ 16 }
-    ensures { (e : ℤ) → NotLater result e ↔ (NotLater (entry_of latest.now colour) e ⊎ LeftBelow (M.rules machine.now) from to latest.now colour (M.rules machine.now).letters e) }
+    ensures { (e : ℤ) → NotLater result e ↔ (NotLater (entry_of latest.now colour) e
+        ⊎ LeftBelow (M.rules machine.now) from to latest.now colour (M.rules machine.now).letters
+        e) }
 {
     let mut entry = latest[colour as usize];
     for letter in 0..machine.letters() {
@@ -136,7 +141,8 @@ fn later_by<M: Machine>(
     requires colour { colour < (M.rules machine.now).colours }
     requires letter { letter < (M.rules machine.now).letters }
     requires all { length latest.now ≡ 16 }
-    ensures { (e : ℤ) → NotLater result e ↔ (NotLater so_far e ⊎ LeftBy (M.rules machine.now) from to latest.now colour letter e) }
+    ensures { (e : ℤ) → NotLater result e ↔ (NotLater so_far e
+        ⊎ LeftBy (M.rules machine.now) from to latest.now colour letter e) }
 {
     match machine.step(colour, letter) {
         Some(next) if next != colour => {

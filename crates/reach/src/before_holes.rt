@@ -47,7 +47,8 @@ pub fn ahead_in<M: Machine>(
     requires colours { length ahead.now ≡ (M.rules machine.now).colours }
     requires low { (c : ℕ) → IfSome (entry_of last.now c) (λ x. negsuc (2 ^ 39) ≤ℤ x) }
     requires none { (c : ℕ) → (M.rules machine.now).colours ≤ c → entry_of last.now c ≡ None }
-    ensures states { (s : State) → Admits result s ↔ StaysOrLeaves (M.rules machine.now) ahead.now last.now place s }
+    ensures states { (s : State) → Admits result s ↔ StaysOrLeaves (M.rules machine.now) ahead.now
+        last.now place s }
     ensures colours { length result ≡ length ahead.now }
 {
     let latest = entries_at(machine, &ahead.latest, last, place);
@@ -64,7 +65,8 @@ fn entries_at<M: Machine>(
     place: Tenth,
 ) -> [Option<Tenth>; 16]
     requires low { (c : ℕ) → IfSome (entry_of last.now c) (λ x. negsuc (2 ^ 39) ≤ℤ x) }
-    ensures { AreEntriesAt (M.rules machine.now) latest.now last.now place result (M.rules machine.now).colours }
+    ensures { AreEntriesAt (M.rules machine.now) latest.now last.now place result
+        (M.rules machine.now).colours }
 {
     let mut new = *latest;
     for colour in 0..machine.colours() {
@@ -161,7 +163,8 @@ fn last_letters<M: Machine>(
     requires all_last { length last.now ≡ 16 }
     requires holes { AreHoles from to holes.now }
     requires last { (c : ℕ) → InHoles holes.now (entry_of last.now c) }
-    ensures { IsLaterIn (M.rules machine.now) latest.now holes.now last.now colour (M.rules machine.now).letters result }
+    ensures { IsLaterIn (M.rules machine.now) latest.now holes.now last.now colour
+        (M.rules machine.now).letters result }
 {
     let mut hole = last[colour as usize];
     for letter in 0..machine.letters() {
@@ -190,7 +193,8 @@ fn last_by<M: Machine>(
     requires last { (c : ℕ) → InHoles holes.now (entry_of last.now c) }
     requires so_far { InHoles holes.now so_far }
     ensures hole { InHoles holes.now result }
-    ensures left { (y : ℤ) → Member holes.now y → NotLater result y ↔ (NotLater so_far y ⊎ LeftIn (M.rules machine.now) latest.now last.now colour letter y) }
+    ensures left { (y : ℤ) → Member holes.now y → NotLater result y
+        ↔ (NotLater so_far y ⊎ LeftIn (M.rules machine.now) latest.now last.now colour letter y) }
 {
     match machine.step(colour, letter) {
         Some(next) if next != colour => {
@@ -223,7 +227,8 @@ fn enter_by(
     requires holes { AreHoles from to holes.now }
     requires leave { InHoles holes.now leave }
     ensures hole { InHoles holes.now result }
-    ensures enter { (y : ℤ) → Member holes.now y → NotLater result y ↔ (NotLater stay y ⊎ NotLater leave (y +ℤ pos floor)) }
+    ensures enter { (y : ℤ) → Member holes.now y → NotLater result y
+        ↔ (NotLater stay y ⊎ NotLater leave (y +ℤ pos floor)) }
 {
     prev_of(holes, best_of(stay, sooner(leave, floor, holes, from, to)))
 }
@@ -288,7 +293,8 @@ fn begun_by(holes: &[Span], tenth: Tenth) -> usize
     requires { AreRanges holes.now }
     ensures within { result ≤ length holes.now }
     ensures begun { (k : ℕ) (d : Span) → k < result → (slice_index_or holes.now k d).from ≤ℤ tenth }
-    ensures next { (k : ℕ) (d : Span) → result ≤ k → k < length holes.now → tenth <ℤ (slice_index_or holes.now k d).from }
+    ensures next { (k : ℕ) (d : Span) → result ≤ k → k < length holes.now
+        → tenth <ℤ (slice_index_or holes.now k d).from }
 {
     holes.partition_point(|hole| hole.from <= tenth)
 }

@@ -15,7 +15,8 @@ pub fn ahead_row<M: Machine>(machine: &M, ahead: &mut Ahead, at: Tenth, letter: 
     requires high { at ≤ℤ pos (2 ^ 39) }
     requires letter { letter < (M.rules machine.now).letters }
     requires colours { length ahead.old ≡ (M.rules machine.now).colours }
-    ensures before { (s : State) → Admits ahead.new s ↔ ((s.entry ≤ℤ at) × BeforeRow (M.rules machine.now) ahead.old at letter s) }
+    ensures before { (s : State) → Admits ahead.new s ↔ ((s.entry ≤ℤ at)
+        × BeforeRow (M.rules machine.now) ahead.old at letter s) }
     ensures colours { length ahead.new ≡ length ahead.old }
 {
     ahead.latest = row_latest(machine, &ahead.latest, at, letter);
@@ -30,7 +31,8 @@ fn row_latest<M: Machine>(
     requires low { negsuc (2 ^ 39) ≤ℤ at }
     requires high { at ≤ℤ pos (2 ^ 39) }
     requires letter { letter < (M.rules machine.now).letters }
-    ensures before { (s : State) → Admits result s ↔ ((s.entry ≤ℤ at) × BeforeRow (M.rules machine.now) latest.now at letter s) }
+    ensures before { (s : State) → Admits result s ↔ ((s.entry ≤ℤ at)
+        × BeforeRow (M.rules machine.now) latest.now at letter s) }
     ensures none { (c : ℕ) → (M.rules machine.now).colours ≤ c → entry_of result c ≡ None }
 {
     let mut new = [None; 16];
@@ -52,7 +54,8 @@ fn row_one<M: Machine>(
     requires letter { letter < (M.rules machine.now).letters }
     requires colour { colour < (M.rules machine.now).colours }
     requires all { length latest.now ≡ 16 }
-    ensures { (e : ℤ) → NotLater result e ↔ ((e ≤ℤ at) × BeforeRow (M.rules machine.now) latest.now at letter (state colour e)) }
+    ensures { (e : ℤ) → NotLater result e ↔ ((e ≤ℤ at) × BeforeRow (M.rules machine.now) latest.now
+        at letter (state colour e)) }
 {
     match machine.step(colour, letter) {
         Some(next) if next == colour => lowered(latest[colour as usize], at),

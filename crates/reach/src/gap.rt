@@ -26,7 +26,8 @@ pub fn past_gap<M: Machine>(
     requires high { to ≤ℤ pos (2 ^ 39) }
     requires colours { length past.old ≡ (M.rules machine.now).colours }
     requires place { NoneLater past.old from }
-    ensures after { OnOk result ((u : State) → Holds past.new u ↔ AfterGap (M.rules machine.now) past.old from to u) }
+    ensures after { OnOk result ((u : State) → Holds past.new u
+        ↔ AfterGap (M.rules machine.now) past.old from to u) }
     ensures colours { length past.new ≡ length past.old }
     ensures late { NoneLater past.new (to -ℤ pos 1) }
     ensures err { OnErr result (past.new ≡ past.old) }
@@ -53,7 +54,8 @@ fn stays<M: Machine>(machine: &M, one: Single, from: Tenth, to: Tenth) -> bool
     requires high { to ≤ℤ pos (2 ^ 39) }
     requires colours { one.colours ≡ (M.rules machine.now).colours }
     requires place { one.entry ≤ℤ from }
-    ensures { IsTrue result → (u : State) → Holds (sets_of one) u ↔ AfterGap (M.rules machine.now) (sets_of one) from to u }
+    ensures { IsTrue result → (u : State) → Holds (sets_of one) u
+        ↔ AfterGap (M.rules machine.now) (sets_of one) from to u }
 {
     if to <= one.entry + i64::from(machine.floor(one.colour)) {
         return true;
@@ -73,7 +75,8 @@ fn gap_sets<M: Machine>(
     requires high { to ≤ℤ pos (2 ^ 39) }
     requires colours { length sets.old ≡ (M.rules machine.now).colours }
     requires place { NoneLater sets.old from }
-    ensures after { OnOk result ((u : State) → Holds sets.new u ↔ AfterGap (M.rules machine.now) sets.old from to u) }
+    ensures after { OnOk result ((u : State) → Holds sets.new u
+        ↔ AfterGap (M.rules machine.now) sets.old from to u) }
     ensures colours { length sets.new ≡ length sets.old }
     ensures late { NoneLater sets.new (to -ℤ pos 1) }
     ensures err { OnErr result (sets.new ≡ sets.old) }
@@ -90,7 +93,9 @@ fn departures<M: Machine>(machine: &M, sets: &[SpanSet], from: Tenth, to: Tenth)
     requires some { from <ℤ to }
     requires high { to ≤ℤ pos (2 ^ 39) }
     requires colours { length sets.now ≡ (M.rules machine.now).colours }
-    ensures { (c : ℕ) → c < (M.rules machine.now).colours → IsFirst (slice_index_or sets.now c []) ((M.rules machine.now).floor c) from to (at result c) }
+    ensures { (c : ℕ) → c < (M.rules machine.now).colours
+        → IsFirst (slice_index_or sets.now c []) ((M.rules machine.now).floor c) from to
+        (at result c) }
 {
     let mut new = [to; 16];
     for colour in 0..machine.colours() {
@@ -128,7 +133,9 @@ fn arrivals<M: Machine>(
     requires some { from <ℤ to }
     requires high { to ≤ℤ pos (2 ^ 39) }
     requires colours { length sets.now ≡ (M.rules machine.now).colours }
-    requires first { (c : ℕ) → c < (M.rules machine.now).colours → IsFirst (slice_index_or sets.now c []) ((M.rules machine.now).floor c) from to (at departure.now c) }
+    requires first { (c : ℕ) → c < (M.rules machine.now).colours
+        → IsFirst (slice_index_or sets.now c []) ((M.rules machine.now).floor c) from to
+        (at departure.now c) }
     ensures { IsArrival (M.rules machine.now) sets.now from to result }
 {
     let mut arrival = [to; 16];
@@ -145,7 +152,9 @@ fn arrivals<M: Machine>(
 // For each colour the first tenth at which it may be left, after an old entry or an arrival.
 fn leaves<M: Machine>(machine: &M, departure: &[Tenth; 16], arrival: &[Tenth; 16]) -> [Tenth; 16]
     requires { (c : ℕ) → c < 16 → at arrival.now c ≤ℤ pos (2 ^ 39) }
-    ensures { (c : ℕ) → c < (M.rules machine.now).colours → IsLeave (at departure.now c) (at arrival.now c) ((M.rules machine.now).floor c) (at result c) }
+    ensures { (c : ℕ) → c < (M.rules machine.now).colours
+        → IsLeave (at departure.now c) (at arrival.now c) ((M.rules machine.now).floor c)
+        (at result c) }
 {
     let mut new = [0; 16];
     for colour in 0..machine.colours() {
@@ -167,7 +176,8 @@ fn leave_one(departure: Tenth, arrival: Tenth, floor: u32) -> Tenth
 // of them is after the end.
 pub fn relax<M: Machine>(machine: &M, leave: &[Tenth; 16], to: Tenth, arrival: &mut [Tenth; 16])
     requires { (d : ℕ) → d < 16 → at arrival.old d ≤ℤ to }
-    ensures { IsLowered arrival.old arrival.new (ByColours (M.rules machine.now) (M.rules machine.now).colours leave.now) }
+    ensures { IsLowered arrival.old arrival.new (ByColours (M.rules machine.now)
+        (M.rules machine.now).colours leave.now) }
 {
     for colour in 0..machine.colours() {
         relax_early(machine, colour, leave[colour as usize], to, arrival);
@@ -184,7 +194,8 @@ fn relax_early<M: Machine>(
 )
     requires colour { colour < (M.rules machine.now).colours }
     requires bound { (d : ℕ) → d < 16 → at arrival.old d ≤ℤ to }
-    ensures { IsLowered arrival.old arrival.new (ByLetters (M.rules machine.now) colour (M.rules machine.now).letters leave) }
+    ensures { IsLowered arrival.old arrival.new (ByLetters (M.rules machine.now) colour
+        (M.rules machine.now).letters leave) }
 {
     if leave < to {
         relax_colour(machine, colour, leave, arrival);
@@ -193,7 +204,8 @@ fn relax_early<M: Machine>(
 
 fn relax_colour<M: Machine>(machine: &M, colour: u8, leave: Tenth, arrival: &mut [Tenth; 16])
     requires { colour < (M.rules machine.now).colours }
-    ensures { IsLowered arrival.old arrival.new (ByLetters (M.rules machine.now) colour (M.rules machine.now).letters leave) }
+    ensures { IsLowered arrival.old arrival.new (ByLetters (M.rules machine.now) colour
+        (M.rules machine.now).letters leave) }
 {
     for letter in 0..machine.letters() {
         relax_letter(machine, colour, letter, leave, arrival);
@@ -209,7 +221,8 @@ fn relax_letter<M: Machine>(
 )
     requires colour { colour < (M.rules machine.now).colours }
     requires letter { letter < (M.rules machine.now).letters }
-    ensures { IsLowered arrival.old arrival.new (ByLetter (M.rules machine.now) colour letter leave) }
+    ensures { IsLowered arrival.old arrival.new (ByLetter (M.rules machine.now) colour letter
+        leave) }
 {
     match machine.step(colour, letter) {
         Some(next) if next != colour => lower_at(arrival, next, leave),

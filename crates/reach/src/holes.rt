@@ -54,7 +54,9 @@ fn departures<M: Machine>(
     requires high { to ≤ℤ pos (2 ^ 39) }
     requires colours { length past.now ≡ (M.rules machine.now).colours }
     requires holes { AreHoles from to holes.now }
-    ensures { (c : ℕ) → c < (M.rules machine.now).colours → IsFirstIn (slice_index_or past.now c []) ((M.rules machine.now).floor c) holes.now from to (at result c) }
+    ensures { (c : ℕ) → c < (M.rules machine.now).colours
+        → IsFirstIn (slice_index_or past.now c []) ((M.rules machine.now).floor c) holes.now from to
+        (at result c) }
 {
     let mut new = [to; 16];
     for colour in 0..machine.colours() {
@@ -84,7 +86,9 @@ fn first_leave(past: &Past, colour: u8, floor: u32, holes: &[Span], from: Tenth,
 // The least entry of the colour.
 fn least_of(past: &Past, colour: u8) -> Option<Tenth>
     requires { colour < length past.now }
-    ensures { MatchOption result ((e : ℤ) → Member (slice_index_or past.now colour []) e → ⊥) (λ m. Member (slice_index_or past.now colour []) m × ((e : ℤ) → Member (slice_index_or past.now colour []) e → m ≤ℤ e)) }
+    ensures { MatchOption result ((e : ℤ) → Member (slice_index_or past.now colour []) e
+        → ⊥) (λ m. Member (slice_index_or past.now colour []) m
+        × ((e : ℤ) → Member (slice_index_or past.now colour []) e → m ≤ℤ e)) }
 {
     match past.one {
         None => past.sets[colour as usize].least(),
@@ -94,7 +98,9 @@ fn least_of(past: &Past, colour: u8) -> Option<Tenth>
 
 fn least_single(one: Single, colour: u8) -> Option<Tenth>
     requires { IsSingle one }
-    ensures { MatchOption result ((e : ℤ) → Member (slice_index_or (sets_of one) colour []) e → ⊥) (λ m. Member (slice_index_or (sets_of one) colour []) m × ((e : ℤ) → Member (slice_index_or (sets_of one) colour []) e → m ≤ℤ e)) }
+    ensures { MatchOption result ((e : ℤ) → Member (slice_index_or (sets_of one) colour []) e
+        → ⊥) (λ m. Member (slice_index_or (sets_of one) colour []) m
+        × ((e : ℤ) → Member (slice_index_or (sets_of one) colour []) e → m ≤ℤ e)) }
 {
     if colour == one.colour {
         return Some(one.entry);
@@ -134,7 +140,8 @@ fn ended_by(holes: &[Span], tenth: Tenth) -> usize
     requires { AreRanges holes.now }
     ensures within { result ≤ length holes.now }
     ensures ended { (k : ℕ) (d : Span) → k < result → (slice_index_or holes.now k d).to ≤ℤ tenth }
-    ensures next { (k : ℕ) (d : Span) → result ≤ k → k < length holes.now → tenth <ℤ (slice_index_or holes.now k d).to }
+    ensures next { (k : ℕ) (d : Span) → result ≤ k → k < length holes.now
+        → tenth <ℤ (slice_index_or holes.now k d).to }
 {
     holes.partition_point(|hole| hole.to <= tenth)
 }
@@ -153,7 +160,9 @@ fn arrivals<M: Machine>(
     requires high { to ≤ℤ pos (2 ^ 39) }
     requires colours { length past.now ≡ (M.rules machine.now).colours }
     requires holes { AreHoles from to holes.now }
-    requires first { (c : ℕ) → c < (M.rules machine.now).colours → IsFirstIn (slice_index_or past.now c []) ((M.rules machine.now).floor c) holes.now from to (at departure.now c) }
+    requires first { (c : ℕ) → c < (M.rules machine.now).colours
+        → IsFirstIn (slice_index_or past.now c []) ((M.rules machine.now).floor c) holes.now from to
+        (at departure.now c) }
     ensures earliest { AreEarliest (M.rules machine.now) past.now holes.now from to result }
     ensures bounded { AreBounded (M.rules machine.now).colours from to result }
 {
@@ -181,7 +190,9 @@ fn leaves<M: Machine>(
     requires bound { (c : ℕ) → c < 16 → at arrival.now c ≤ℤ pos (2 ^ 39) }
     requires end { (c : ℕ) → c < (M.rules machine.now).colours → at departure.now c ≤ℤ to }
     requires holes { AreHoles from to holes.now }
-    ensures { (c : ℕ) → c < (M.rules machine.now).colours → IsLeaveIn holes.now (at departure.now c) (at arrival.now c) ((M.rules machine.now).floor c) (at result c) }
+    ensures { (c : ℕ) → c < (M.rules machine.now).colours
+        → IsLeaveIn holes.now (at departure.now c) (at arrival.now c)
+        ((M.rules machine.now).floor c) (at result c) }
 {
     let mut new = [0; 16];
     for colour in 0..machine.colours() {

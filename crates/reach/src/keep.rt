@@ -19,7 +19,8 @@ pub fn past_keep(past: &mut Past, colour: u8, bound: AgeBound, at: Tenth) -> Res
     requires colour { colour < length past.old }
     requires low { negsuc (2 ^ 39) ≤ℤ at }
     requires high { at ≤ℤ pos (2 ^ 39) }
-    ensures states { OnOk result ((s : State) → Holds past.new s ↔ (Holds past.old s × (s.colour ≡ colour → InBound bound at s.entry))) }
+    ensures states { OnOk result ((s : State) → Holds past.new s
+        ↔ (Holds past.old s × (s.colour ≡ colour → InBound bound at s.entry))) }
     ensures colours { length past.new ≡ length past.old }
 {
     match past.one {
@@ -36,7 +37,8 @@ pub fn past_keep(past: &mut Past, colour: u8, bound: AgeBound, at: Tenth) -> Res
 /// Leaves only the states whose colours are among these.
 pub fn past_only(past: &mut Past, colours: Mask) -> Result<(), NoMemory>
     requires { length past.old ≤ 16 }
-    ensures states { OnOk result ((s : State) → Holds past.new s ↔ (Holds past.old s × Has colours s.colour)) }
+    ensures states { OnOk result ((s : State) → Holds past.new s
+        ↔ (Holds past.old s × Has colours s.colour)) }
     ensures colours { length past.new ≡ length past.old }
 {
     match past.one {
@@ -68,7 +70,8 @@ fn keep_sets(sets: &mut [SpanSet], colour: u8, bound: AgeBound, at: Tenth) -> Re
     requires colour { colour < length sets.old }
     requires low { negsuc (2 ^ 39) ≤ℤ at }
     requires high { at ≤ℤ pos (2 ^ 39) }
-    ensures states { OnOk result ((s : State) → Holds sets.new s ↔ (Holds sets.old s × (s.colour ≡ colour → InBound bound at s.entry))) }
+    ensures states { OnOk result ((s : State) → Holds sets.new s
+        ↔ (Holds sets.old s × (s.colour ≡ colour → InBound bound at s.entry))) }
     ensures colours { length sets.new ≡ length sets.old }
 {
     keep_ages(&mut sets[colour as usize], bound, at)

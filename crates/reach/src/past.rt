@@ -46,7 +46,8 @@ impl Past {
         requires some { 1 ≤ colours }
         requires few { colours ≤ 16 }
         ensures colours { IfOk result (λ p. length p ≡ colours) }
-        ensures states { IfOk result (λ p. (s : State) → Holds p s ↔ ((s.colour < colours) × Within (span (negsuc 36000) (pos 0)) s.entry)) }
+        ensures states { IfOk result (λ p. (s : State) → Holds p s
+            ↔ ((s.colour < colours) × Within (span (negsuc 36000) (pos 0)) s.entry)) }
     {
         let mut sets = Vec::new(alloc);
         for _colour in 0..colours {
@@ -82,7 +83,8 @@ impl Past {
     /// Whether both have equally many colours and the same states.
     pub fn same(&self, other: &Past) -> bool
         ensures value { IsTrue result ↔ (self.now ≡ other.now) }
-        ensures states { IsTrue result ↔ ((length self.now ≡ length other.now) × ((s : State) → Holds self.now s ↔ Holds other.now s)) }
+        ensures states { IsTrue result ↔ ((length self.now ≡ length other.now)
+            × ((s : State) → Holds self.now s ↔ Holds other.now s)) }
     {
         match (self.one, other.one) {
             (None, None) => same_sets(&self.sets, &other.sets),
@@ -226,7 +228,8 @@ fn state_of(colours: u8, colour: u8, entry: Tenth) -> Option<Single>
 pub(crate) fn is_single(sets: &[SpanSet], one: Single) -> bool
     requires { IsSingle one }
     ensures value { IsTrue result ↔ (sets.now ≡ sets_of one) }
-    ensures states { IsTrue result ↔ ((length sets.now ≡ length (sets_of one)) × ((s : State) → Holds sets.now s ↔ Holds (sets_of one) s)) }
+    ensures states { IsTrue result ↔ ((length sets.now ≡ length (sets_of one))
+        × ((s : State) → Holds sets.now s ↔ Holds (sets_of one) s)) }
 {
     if sets.len() != one.colours as usize {
         return false;
@@ -274,7 +277,8 @@ fn is_empty(set: &SpanSet) -> bool
 }
 
 fn same_single(a: Single, b: Single) -> bool
-    ensures { IsTrue result ↔ ((a.colours ≡ b.colours) × (a.colour ≡ b.colour) × (a.entry ≡ b.entry)) }
+    ensures { IsTrue result ↔ ((a.colours ≡ b.colours) × (a.colour ≡ b.colour)
+        × (a.entry ≡ b.entry)) }
 {
     if a.colours == b.colours && a.colour == b.colour {
         return a.entry == b.entry;
@@ -314,7 +318,8 @@ fn start_set(alloc: Global) -> Result<SpanSet, NoMemory>
 
 fn same_sets(a: &[SpanSet], b: &[SpanSet]) -> bool
     ensures value { IsTrue result ↔ (a.now ≡ b.now) }
-    ensures states { IsTrue result ↔ ((length a.now ≡ length b.now) × ((s : State) → Holds a.now s ↔ Holds b.now s)) }
+    ensures states { IsTrue result ↔ ((length a.now ≡ length b.now)
+        × ((s : State) → Holds a.now s ↔ Holds b.now s)) }
 {
     if a.len() != b.len() {
         return false;

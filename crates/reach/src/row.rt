@@ -28,7 +28,8 @@ pub fn past_row<M: Machine>(
     requires letter { letter < (M.rules machine.now).letters }
     requires colours { length past.old ≡ (M.rules machine.now).colours }
     requires place { NoneLater past.old at }
-    ensures after { OnOk result ((u : State) → Holds past.new u ↔ AfterRow (M.rules machine.now) past.old at letter u) }
+    ensures after { OnOk result ((u : State) → Holds past.new u
+        ↔ AfterRow (M.rules machine.now) past.old at letter u) }
     ensures some { IfOk result (λ b. IsTrue b ↔ ((u : State) × Holds past.new u)) }
     ensures colours { length past.new ≡ length past.old }
     ensures late { NoneLater past.new at }
@@ -67,7 +68,8 @@ fn row_single<M: Machine>(machine: &M, one: Single, at: Tenth, letter: u8) -> Op
     ensures single { IfSome result (λ o. IsSingle o) }
     ensures colours { IfSome result (λ o. o.colours ≡ one.colours) }
     ensures place { IfSome result (λ o. o.entry ≤ℤ at) }
-    ensures after { IfSome result (λ o. (u : State) → Holds (sets_of o) u ↔ AfterRow (M.rules machine.now) (sets_of one) at letter u) }
+    ensures after { IfSome result (λ o. (u : State) → Holds (sets_of o) u
+        ↔ AfterRow (M.rules machine.now) (sets_of one) at letter u) }
 {
     match machine.step(one.colour, letter) {
         Some(next) if next == one.colour => Some(one),
@@ -82,7 +84,9 @@ fn left_single(one: Single, next: u8, floor: u32, at: Tenth) -> Option<Single>
     requires low { negsuc (2 ^ 39) ≤ℤ at }
     requires high { at ≤ℤ pos (2 ^ 39) }
     requires floor { floor ≤ 36000 }
-    ensures { MatchOption result (at <ℤ (one.entry +ℤ pos floor)) (λ o. ((one.entry +ℤ pos floor) ≤ℤ at) × (o.colours ≡ one.colours) × (o.colour ≡ next) × (o.entry ≡ at)) }
+    ensures { MatchOption result (at <ℤ (one.entry +ℤ pos floor))
+        (λ o. ((one.entry +ℤ pos floor) ≤ℤ at) × (o.colours ≡ one.colours) × (o.colour ≡ next)
+        × (o.entry ≡ at)) }
 {
     if one.entry + i64::from(floor) <= at {
         return Some(Single {
@@ -106,7 +110,8 @@ fn row_sets<M: Machine>(
     requires letter { letter < (M.rules machine.now).letters }
     requires colours { length sets.old ≡ (M.rules machine.now).colours }
     requires place { NoneLater sets.old at }
-    ensures after { OnOk result ((u : State) → Holds sets.new u ↔ AfterRow (M.rules machine.now) sets.old at letter u) }
+    ensures after { OnOk result ((u : State) → Holds sets.new u
+        ↔ AfterRow (M.rules machine.now) sets.old at letter u) }
     ensures some { IfOk result (λ b. IsTrue b ↔ ((u : State) × Holds sets.new u)) }
     ensures colours { length sets.new ≡ length sets.old }
     ensures late { NoneLater sets.new at }
@@ -181,7 +186,8 @@ fn leaving_if<M: Machine>(machine: &M, sets: &[SpanSet], at: Tenth, colour: u8, 
     requires high { at ≤ℤ pos (2 ^ 39) }
     requires colours { length sets.now ≡ (M.rules machine.now).colours }
     requires colour { colour < (M.rules machine.now).colours }
-    ensures { (c : ℕ) → Has result c ↔ (Has mask c ⊎ ((c ≡ colour) × HasOld (slice_index_or sets.now colour []) ((M.rules machine.now).floor colour) at)) }
+    ensures { (c : ℕ) → Has result c ↔ (Has mask c ⊎ ((c ≡ colour)
+        × HasOld (slice_index_or sets.now colour []) ((M.rules machine.now).floor colour) at)) }
 {
     let floor = machine.floor(colour);
     if has_old(&sets[colour as usize], floor, at) {
@@ -205,7 +211,8 @@ fn kept<M: Machine>(machine: &M, letter: u8) -> Mask
 fn kept_if<M: Machine>(machine: &M, letter: u8, colour: u8, mask: Mask) -> Mask
     requires letter { letter < (M.rules machine.now).letters }
     requires colour { colour < (M.rules machine.now).colours }
-    ensures { (c : ℕ) → Has result c ↔ (Has mask c ⊎ ((c ≡ colour) × Goes (M.rules machine.now) c letter c)) }
+    ensures { (c : ℕ) → Has result c ↔ (Has mask c ⊎ ((c ≡ colour)
+        × Goes (M.rules machine.now) c letter c)) }
 {
     if machine.step(colour, letter) == Some(colour) {
         return mask.with(colour);
@@ -216,7 +223,8 @@ fn kept_if<M: Machine>(machine: &M, letter: u8, colour: u8, mask: Mask) -> Mask
 // The colours that the letter enters from one of the mask.
 fn entered<M: Machine>(machine: &M, letter: u8, leave: Mask) -> Mask
     requires letter { letter < (M.rules machine.now).letters }
-    ensures { (d : ℕ) → Has result d ↔ ((c : ℕ) × Has leave c × Goes (M.rules machine.now) c letter d × (d ≢ c)) }
+    ensures { (d : ℕ) → Has result d ↔ ((c : ℕ) × Has leave c
+        × Goes (M.rules machine.now) c letter d × (d ≢ c)) }
 {
     let mut mask = Mask::none();
     for colour in 0..machine.colours() {
@@ -228,7 +236,8 @@ fn entered<M: Machine>(machine: &M, letter: u8, leave: Mask) -> Mask
 fn entered_if<M: Machine>(machine: &M, letter: u8, leave: Mask, colour: u8, mask: Mask) -> Mask
     requires letter { letter < (M.rules machine.now).letters }
     requires colour { colour < (M.rules machine.now).colours }
-    ensures { (d : ℕ) → Has result d ↔ (Has mask d ⊎ (Has leave colour × Goes (M.rules machine.now) colour letter d × (d ≢ colour))) }
+    ensures { (d : ℕ) → Has result d ↔ (Has mask d ⊎ (Has leave colour
+        × Goes (M.rules machine.now) colour letter d × (d ≢ colour))) }
 {
     if leave.has(colour) {
         return with_change(machine, letter, colour, mask);
@@ -239,7 +248,8 @@ fn entered_if<M: Machine>(machine: &M, letter: u8, leave: Mask, colour: u8, mask
 fn with_change<M: Machine>(machine: &M, letter: u8, colour: u8, mask: Mask) -> Mask
     requires letter { letter < (M.rules machine.now).letters }
     requires colour { colour < (M.rules machine.now).colours }
-    ensures { (d : ℕ) → Has result d ↔ (Has mask d ⊎ (Goes (M.rules machine.now) colour letter d × (d ≢ colour))) }
+    ensures { (d : ℕ) → Has result d ↔ (Has mask d ⊎ (Goes (M.rules machine.now) colour letter d
+        × (d ≢ colour))) }
 {
     match machine.step(colour, letter) {
         Some(to) if to != colour => mask.with(to),

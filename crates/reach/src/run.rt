@@ -25,7 +25,8 @@ pub fn past_run<M: Machine>(
     requires high { to ≤ℤ pos (2 ^ 39) }
     requires colours { length past.old ≡ (M.rules machine.now).colours }
     requires holes { AreHoles from to holes.now }
-    ensures after { OnOk result ((u : State) → Holds past.new u ↔ AfterGaps (M.rules machine.now) past.old holes.now u) }
+    ensures after { OnOk result ((u : State) → Holds past.new u
+        ↔ AfterGaps (M.rules machine.now) past.old holes.now u) }
     ensures colours { length past.new ≡ length past.old }
 {
     let arrival = past_holes(machine, past, holes, from, to);
@@ -44,7 +45,8 @@ fn fill_past(
     requires high { to ≤ℤ pos (2 ^ 39) }
     requires holes { AreHoles from to holes.now }
     requires arrival { AreBounded (length past.old) from to arrival.now }
-    ensures after { OnOk result ((u : State) → Holds past.new u ↔ HeldOrEntered past.old holes.now to arrival.now to u) }
+    ensures after { OnOk result ((u : State) → Holds past.new u
+        ↔ HeldOrEntered past.old holes.now to arrival.now to u) }
     ensures colours { length past.new ≡ length past.old }
 {
     match past.one {
@@ -103,7 +105,8 @@ fn fill_set(
     requires low { negsuc (2 ^ 39) ≤ℤ from }
     requires high { to ≤ℤ pos (2 ^ 39) }
     requires holes { AreHoles from to holes.now }
-    ensures { OnOk result ((e : ℤ) → Member set.new e ↔ (Member set.old e ⊎ ((start ≤ℤ e) × Member holes.now e))) }
+    ensures { OnOk result ((e : ℤ) → Member set.new e ↔ (Member set.old e
+        ⊎ ((start ≤ℤ e) × Member holes.now e))) }
 {
     for i in 0..holes.len() {
         add_hole(set, start, holes[i])?;
@@ -115,7 +118,8 @@ fn add_hole(set: &mut SpanSet, start: Tenth, hole: Span) -> Result<(), NoMemory>
     requires low { negsuc (2 ^ 39) ≤ℤ hole.from }
     requires some { hole.from <ℤ hole.to }
     requires high { hole.to ≤ℤ pos (2 ^ 39) }
-    ensures { OnOk result ((e : ℤ) → Member set.new e ↔ (Member set.old e ⊎ ((start ≤ℤ e) × Within hole e))) }
+    ensures { OnOk result ((e : ℤ) → Member set.new e ↔ (Member set.old e
+        ⊎ ((start ≤ℤ e) × Within hole e))) }
 {
     if start < hole.to {
         set.add(hole.from.max(start), hole.to)?;

@@ -107,7 +107,8 @@ fn is_there(latest: Option<Tenth>, entry: Tenth, at: Tenth) -> bool
 
 fn is_met(one: Single, test: &Test) -> bool
     requires { IsSingle one }
-    ensures { IsTrue result ↔ (Has test.now.colours one.colour × InBound test.now.bound test.now.at one.entry) }
+    ensures { IsTrue result ↔ (Has test.now.colours one.colour
+        × InBound test.now.bound test.now.at one.entry) }
 {
     if test.colours.has(one.colour) {
         return is_in(test.bound, test.at, one.entry);
@@ -222,7 +223,8 @@ fn any_fails(set: &SpanSet, limit: Tenth, bound: AgeBound, at: Tenth) -> bool
     requires limit { limit ≤ℤ at }
     requires low { negsuc (2 ^ 39) ≤ℤ at }
     requires high { at ≤ℤ pos (2 ^ 39) }
-    ensures { IsTrue result ↔ ((e : ℤ) × Member set.now e × (e ≤ℤ limit) × (InBound bound at e → ⊥)) }
+    ensures { IsTrue result ↔ ((e : ℤ) × Member set.now e × (e ≤ℤ limit)
+        × (InBound bound at e → ⊥)) }
 {
     match bound {
         AgeBound::Any => false,

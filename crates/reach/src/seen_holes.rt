@@ -41,7 +41,8 @@ pub fn seen_crossing<M: Machine>(
     requires last { AreLast (M.rules machine.now) ahead.now holes.now from to last.now }
     requires low { (c : ℕ) → IfSome (entry_of last.now c) (λ x. negsuc (2 ^ 39) ≤ℤ x) }
     requires none { (c : ℕ) → (M.rules machine.now).colours ≤ c → entry_of last.now c ≡ None }
-    ensures { SeesCrossing (M.rules machine.now) past.now ahead.now holes.now from place to test.now result }
+    ensures { SeesCrossing (M.rules machine.now) past.now ahead.now holes.now from place to test.now
+        result }
 {
     let here = ahead_in(machine, ahead, last, place);
     possible_in_holes(past, arrival, holes, from, to, place, &here, test)
@@ -64,7 +65,8 @@ pub fn possible_in_holes(
     requires place { place ≤ℤ to }
     requires low { negsuc (2 ^ 39) ≤ℤ test.now.at }
     requires high { test.now.at ≤ℤ pos (2 ^ 39) }
-    ensures { SeesOf (IsPossibleIn past.now holes.now to arrival.now place ahead.now test.now.at) test.now result }
+    ensures { SeesOf (IsPossibleIn past.now holes.now to arrival.now place ahead.now test.now.at)
+        test.now result }
 {
     let old = possible(past, ahead, test);
     let new = seen_entered(
@@ -96,7 +98,8 @@ fn seen_entered(
     requires place { place ≤ℤ to }
     requires low { negsuc (2 ^ 39) ≤ℤ test.now.at }
     requires high { test.now.at ≤ℤ pos (2 ^ 39) }
-    ensures { SeesOf (IsEntered holes.now to arrival.now place latest.now test.now.at) test.now result }
+    ensures { SeesOf (IsEntered holes.now to arrival.now place latest.now test.now.at) test.now
+        result }
 {
     let mut seen = Seen {
         some_true: false,
@@ -206,7 +209,8 @@ fn any_meets_in(
     requires end { end ≤ℤ to }
     requires low { negsuc (2 ^ 39) ≤ℤ at }
     requires high { at ≤ℤ pos (2 ^ 39) }
-    ensures { IsTrue result ↔ ((e : ℤ) × Member holes.now e × (first ≤ℤ e) × (e <ℤ end) × InBound bound at e) }
+    ensures { IsTrue result ↔ ((e : ℤ) × Member holes.now e × (first ≤ℤ e) × (e <ℤ end)
+        × InBound bound at e) }
 {
     match bound {
         AgeBound::Any => any_hole(holes, from, to, first, end),
@@ -234,7 +238,8 @@ fn any_fails_in(
     requires end { end ≤ℤ to }
     requires low { negsuc (2 ^ 39) ≤ℤ at }
     requires high { at ≤ℤ pos (2 ^ 39) }
-    ensures { IsTrue result ↔ ((e : ℤ) × Member holes.now e × (first ≤ℤ e) × (e <ℤ end) × (InBound bound at e → ⊥)) }
+    ensures { IsTrue result ↔ ((e : ℤ) × Member holes.now e × (first ≤ℤ e) × (e <ℤ end)
+        × (InBound bound at e → ⊥)) }
 {
     match bound {
         AgeBound::Any => false,

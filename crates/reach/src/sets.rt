@@ -58,7 +58,8 @@ fn first_free(set: &SpanSet, start: Tenth) -> Tenth
 fn add_from(set: &mut SpanSet, first: Tenth, to: Tenth) -> Result<(), NoMemory>
     requires low { negsuc (2 ^ 39) ≤ℤ first }
     requires high { to ≤ℤ pos (2 ^ 39 + 1) }
-    ensures ok { OnOk result ((e : ℤ) → Member set.new e ↔ (Member set.old e ⊎ ((first ≤ℤ e) × (e <ℤ to)))) }
+    ensures ok { OnOk result ((e : ℤ) → Member set.new e
+        ↔ (Member set.old e ⊎ ((first ≤ℤ e) × (e <ℤ to)))) }
     ensures err { OnErr result (set.new ≡ set.old) }
 {
     if first < to {
@@ -110,7 +111,8 @@ pub fn settle_each(sets: &mut [SpanSet], keep: Mask, enter: Mask, tenth: Tenth)
     requires low { negsuc (2 ^ 39) ≤ℤ tenth }
     requires high { tenth ≤ℤ pos (2 ^ 39) }
     requires last { (c : ℕ) (e : ℤ) → Member (slice_index_or sets.old c []) e → e ≤ℤ tenth }
-    requires entered { (c : ℕ) → c < length sets.old → Has enter c → Member (slice_index_or sets.old c []) tenth }
+    requires entered { (c : ℕ) → c < length sets.old → Has enter c
+        → Member (slice_index_or sets.old c []) tenth }
     ensures { IsRebuilt sets.old keep enter tenth sets.new (length sets.old) }
 {
     for colour in 0..sets.len() {
@@ -124,7 +126,8 @@ fn settle(set: &mut SpanSet, kept: bool, entered: bool, tenth: Tenth)
     requires high { tenth ≤ℤ pos (2 ^ 39) }
     requires last { (e : ℤ) → Member set.old e → e ≤ℤ tenth }
     requires entered { IsTrue entered → Member set.old tenth }
-    ensures { (e : ℤ) → Member set.new e ↔ ((IsTrue kept × Member set.old e) ⊎ (IsTrue entered × (e ≡ tenth))) }
+    ensures { (e : ℤ) → Member set.new e ↔ ((IsTrue kept × Member set.old e)
+        ⊎ (IsTrue entered × (e ≡ tenth))) }
 {
     if kept {
         return;

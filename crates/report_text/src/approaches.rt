@@ -10,7 +10,8 @@ use ring_config::{Approach, Config};
 use split_measures::SplitSum;
 
 fn put_counts<K: Sink>(name: &[u8], sums: &ArrivalSum, sink: &mut K) -> Result<(), PutFailed>
-    ensures { Puts (K.written sink.old) (K.written sink.new) (K.faults sink.old) (K.faults sink.new) (arrival_counts name.now sums.now) result }
+    ensures { Puts (K.written sink.old) (K.written sink.new) (K.faults sink.old) (K.faults sink.new)
+        (arrival_counts name.now sums.now) result }
 {
     let mut arrivals = Buffer::new();
     let mut green = Buffer::new();
@@ -46,7 +47,8 @@ fn put_fraction<K: Sink>(
     denominator: u128,
     sink: &mut K,
 ) -> Result<(), PutFailed>
-    ensures { Puts (K.written sink.old) (K.written sink.new) (K.faults sink.old) (K.faults sink.new) (word.now ++ fraction numerator denominator) result }
+    ensures { Puts (K.written sink.old) (K.written sink.new) (K.faults sink.old) (K.faults sink.new)
+        (word.now ++ fraction numerator denominator) result }
 {
     if denominator == 0 {
         return put_parts(sink, &[word, b"-"]);
@@ -77,7 +79,8 @@ fn put_share<K: Sink>(sums: &ArrivalSum, sink: &mut K) -> Result<(), PutFailed>
 // The counts of a u64 are multiplied in a u128, which has room for each product.
 fn put_platoon<K: Sink>(sums: &ArrivalSum, sink: &mut K) -> Result<(), PutFailed>
     ensures { Puts (K.written sink.old) (K.written sink.new) (K.faults sink.old) (K.faults sink.new)
-        (codes " platoon " ++ fraction (sums.now.cycle_green * sums.now.cycle_tenths) (sums.now.cycle_arrivals * sums.now.green_tenths)) result }
+        (codes " platoon " ++ fraction (sums.now.cycle_green * sums.now.cycle_tenths)
+        (sums.now.cycle_arrivals * sums.now.green_tenths)) result }
 {
     let came = u128::from(sums.cycle_green) * u128::from(sums.cycle_tenths);
     let even = u128::from(sums.cycle_arrivals) * u128::from(sums.green_tenths);
@@ -85,7 +88,8 @@ fn put_platoon<K: Sink>(sums: &ArrivalSum, sink: &mut K) -> Result<(), PutFailed
 }
 
 fn put_shares<K: Sink>(sums: &ArrivalSum, sink: &mut K) -> Result<(), PutFailed>
-    ensures { Puts (K.written sink.old) (K.written sink.new) (K.faults sink.old) (K.faults sink.new) (arrival_shares sums.now) result }
+    ensures { Puts (K.written sink.old) (K.written sink.new) (K.faults sink.old) (K.faults sink.new)
+        (arrival_shares sums.now) result }
 {
     match put_share(sums, sink) {
         Ok(()) => {}
@@ -99,7 +103,8 @@ fn put_shares<K: Sink>(sums: &ArrivalSum, sink: &mut K) -> Result<(), PutFailed>
 }
 
 fn put_arrivals<K: Sink>(name: &[u8], sums: &ArrivalSum, sink: &mut K) -> Result<(), PutFailed>
-    ensures { Puts (K.written sink.old) (K.written sink.new) (K.faults sink.old) (K.faults sink.new) (arrivals_line name.now sums.now) result }
+    ensures { Puts (K.written sink.old) (K.written sink.new) (K.faults sink.old) (K.faults sink.new)
+        (arrivals_line name.now sums.now) result }
 {
     match put_counts(name, sums, sink) {
         Ok(()) => {}
@@ -109,7 +114,8 @@ fn put_arrivals<K: Sink>(name: &[u8], sums: &ArrivalSum, sink: &mut K) -> Result
 }
 
 fn put_actuations<K: Sink>(name: &[u8], sums: &ArrivalSum, sink: &mut K) -> Result<(), PutFailed>
-    ensures { Puts (K.written sink.old) (K.written sink.new) (K.faults sink.old) (K.faults sink.new) (actuations_line name.now sums.now) result }
+    ensures { Puts (K.written sink.old) (K.written sink.new) (K.faults sink.old) (K.faults sink.new)
+        (actuations_line name.now sums.now) result }
 {
     let mut actuations = Buffer::new();
     let mut red = Buffer::new();
@@ -142,7 +148,8 @@ fn put_advance<K: Sink>(
     sums: &ArrivalSum,
     sink: &mut K,
 ) -> Result<(), PutFailed>
-    ensures { Puts (K.written sink.old) (K.written sink.new) (K.faults sink.old) (K.faults sink.new) (line_if (is_some approach.now.advance) (arrivals_line approach.now.name sums.now)) result }
+    ensures { Puts (K.written sink.old) (K.written sink.new) (K.faults sink.old) (K.faults sink.new)
+        (line_if (is_some approach.now.advance) (arrivals_line approach.now.name sums.now)) result }
 {
     if approach.advance.is_some() {
         put_arrivals(approach.name.bytes(), sums, sink)

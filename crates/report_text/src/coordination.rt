@@ -7,7 +7,8 @@ use other_measures::CoordSum;
 use outside::{PutFailed, Sink, put_parts};
 
 fn put_states<K: Sink>(sums: &CoordSum, sink: &mut K) -> Result<(), PutFailed>
-    ensures { Puts (K.written sink.old) (K.written sink.new) (K.faults sink.old) (K.faults sink.new) (coordination_states sums.now) result }
+    ensures { Puts (K.written sink.old) (K.written sink.new) (K.faults sink.old) (K.faults sink.new)
+        (coordination_states sums.now) result }
 {
     let mut state0 = Buffer::new();
     let mut state1 = Buffer::new();
@@ -38,7 +39,8 @@ fn put_states<K: Sink>(sums: &CoordSum, sink: &mut K) -> Result<(), PutFailed>
 }
 
 fn put_rows<K: Sink>(sums: &CoordSum, sink: &mut K) -> Result<(), PutFailed>
-    ensures { Puts (K.written sink.old) (K.written sink.new) (K.faults sink.old) (K.faults sink.new) (coordination_rows sums.now) result }
+    ensures { Puts (K.written sink.old) (K.written sink.new) (K.faults sink.old) (K.faults sink.new)
+        (coordination_rows sums.now) result }
 {
     let mut undecided = Buffer::new();
     let mut patterns = Buffer::new();
@@ -64,7 +66,8 @@ fn put_rows<K: Sink>(sums: &CoordSum, sink: &mut K) -> Result<(), PutFailed>
 }
 
 fn put_line<K: Sink>(sums: &CoordSum, sink: &mut K) -> Result<(), PutFailed>
-    ensures { Puts (K.written sink.old) (K.written sink.new) (K.faults sink.old) (K.faults sink.new) (coordination_line sums.now) result }
+    ensures { Puts (K.written sink.old) (K.written sink.new) (K.faults sink.old) (K.faults sink.new)
+        (coordination_line sums.now) result }
 {
     match put_states(sums, sink) {
         Ok(()) => {}
@@ -79,7 +82,8 @@ pub(crate) fn put_coordination<K: Sink>(
     sums: &CoordSum,
     sink: &mut K,
 ) -> Result<(), PutFailed>
-    ensures { Puts (K.written sink.old) (K.written sink.new) (K.faults sink.old) (K.faults sink.new) (coordination_text on sums.now) result }
+    ensures { Puts (K.written sink.old) (K.written sink.new) (K.faults sink.old) (K.faults sink.new)
+        (coordination_text on sums.now) result }
 {
     if on { put_line(sums, sink) } else { Ok(()) }
 }

@@ -32,7 +32,8 @@ pub(crate) trait Numbered {
 
     /// Writes the line.
     fn put_line<K: Sink>(&self, number: u8, sink: &mut K) -> Result<(), PutFailed>
-        ensures { Puts (K.written sink.old) (K.written sink.new) (K.faults sink.old) (K.faults sink.new) (line number self.now) result };
+        ensures { Puts (K.written sink.old) (K.written sink.new) (K.faults sink.old)
+            (K.faults sink.new) (line number self.now) result };
 }
 
 /// Writes a line for each number, ascending. The sums stand by their numbers.
@@ -41,7 +42,8 @@ pub(crate) fn put_lines<T: Numbered, K: Sink>(
     sums: &[T],
     sink: &mut K,
 ) -> Result<(), PutFailed>
-    ensures { Puts (K.written sink.old) (K.written sink.new) (K.faults sink.old) (K.faults sink.new) (each_line T.line (numbers_of (T.has config.now)) sums.now) result }
+    ensures { Puts (K.written sink.old) (K.written sink.new) (K.faults sink.old) (K.faults sink.new)
+        (each_line T.line (numbers_of (T.has config.now)) sums.now) result }
 {
     let mut rest = sums;
     for number in 0..17u8 {

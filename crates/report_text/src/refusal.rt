@@ -26,7 +26,8 @@ pub enum Refusal {
 }
 
 fn put_head<K: Sink>(line: Option<u32>, sink: &mut K) -> Result<(), PutFailed>
-    ensures { Puts (K.written sink.old) (K.written sink.new) (K.faults sink.old) (K.faults sink.new) (refused line) result }
+    ensures { Puts (K.written sink.old) (K.written sink.new) (K.faults sink.old) (K.faults sink.new)
+        (refused line) result }
 {
     let Some(line) = line else {
         return sink.put(b"refused ");
@@ -41,7 +42,8 @@ pub(crate) fn put_refused<K: Sink>(
     reason: &[&[u8]],
     sink: &mut K,
 ) -> Result<(), PutFailed>
-    ensures { Puts (K.written sink.old) (K.written sink.new) (K.faults sink.old) (K.faults sink.new) (refused line ++ texts reason.now) result }
+    ensures { Puts (K.written sink.old) (K.written sink.new) (K.faults sink.old) (K.faults sink.new)
+        (refused line ++ texts reason.now) result }
 {
     match put_head(line, sink) {
         Ok(()) => {}
@@ -55,7 +57,8 @@ pub(crate) fn put_reason<K: Sink>(
     reason: &[u8],
     sink: &mut K,
 ) -> Result<(), PutFailed>
-    ensures { Puts (K.written sink.old) (K.written sink.new) (K.faults sink.old) (K.faults sink.new) (refused line ++ line_of (reason.now ∷ [])) result }
+    ensures { Puts (K.written sink.old) (K.written sink.new) (K.faults sink.old) (K.faults sink.new)
+        (refused line ++ line_of (reason.now ∷ [])) result }
 {
     put_refused(line, &[reason, b"\n"], sink)
 }
@@ -66,7 +69,8 @@ fn put_record<K: Sink>(
     test: &[u8],
     sink: &mut K,
 ) -> Result<(), PutFailed>
-    ensures { Puts (K.written sink.old) (K.written sink.new) (K.faults sink.old) (K.faults sink.new) (refused line ++ record_reason number test.now) result }
+    ensures { Puts (K.written sink.old) (K.written sink.new) (K.faults sink.old) (K.faults sink.new)
+        (refused line ++ record_reason number test.now) result }
 {
     let mut buffer = Buffer::new();
     put_refused(
@@ -81,7 +85,8 @@ fn put_file_refusal<K: Sink>(
     error: RowError,
     sink: &mut K,
 ) -> Result<(), PutFailed>
-    ensures { Puts (K.written sink.old) (K.written sink.new) (K.faults sink.old) (K.faults sink.new) (file_text line error) result }
+    ensures { Puts (K.written sink.old) (K.written sink.new) (K.faults sink.old) (K.faults sink.new)
+        (file_text line error) result }
 {
     match error {
         RowError::TooManyRows => put_reason(line, b"too many rows", sink),
@@ -102,7 +107,8 @@ fn put_contradiction<K: Sink>(
     sink: &mut K,
 ) -> Result<(), PutFailed>
     requires { row.at < 36000 * window.now.hours }
-    ensures { Puts (K.written sink.old) (K.written sink.new) (K.faults sink.old) (K.faults sink.new) (edit_text window.now line (EditError.Contradiction row)) result }
+    ensures { Puts (K.written sink.old) (K.written sink.new) (K.faults sink.old) (K.faults sink.new)
+        (edit_text window.now line (EditError.Contradiction row)) result }
 {
     let stamp = window.stamp(row.at);
     let mut code = Buffer::new();
@@ -129,7 +135,8 @@ fn put_edit_refusal<K: Sink>(
     sink: &mut K,
 ) -> Result<(), PutFailed>
     requires { NamesRowIn window.now error }
-    ensures { Puts (K.written sink.old) (K.written sink.new) (K.faults sink.old) (K.faults sink.new) (edit_text window.now line error) result }
+    ensures { Puts (K.written sink.old) (K.written sink.new) (K.faults sink.old) (K.faults sink.new)
+        (edit_text window.now line error) result }
 {
     match error {
         EditError::OutOfWindow => put_reason(line, b"out of window", sink),
@@ -152,7 +159,8 @@ pub fn put_refusal<K: Sink>(
     sink: &mut K,
 ) -> Result<(), PutFailed>
     requires { IsOfWindow window.now refusal.now }
-    ensures { Puts (K.written sink.old) (K.written sink.new) (K.faults sink.old) (K.faults sink.new) (refusal_text window.now line refusal.now) result }
+    ensures { Puts (K.written sink.old) (K.written sink.new) (K.faults sink.old) (K.faults sink.new)
+        (refusal_text window.now line refusal.now) result }
 {
     match *refusal {
         Refusal::BadLine => put_reason(line, b"bad line", sink),

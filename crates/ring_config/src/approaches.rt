@@ -90,7 +90,8 @@ fn travel_with(advance: Option<u8>, value: &Value) -> Option<u32>
 // The travel time to the stop bar, or 0 where it isn't there; it is bad without a detector ahead.
 #[tactic(auto, unfolding(crate::specs::Reading::defaulted))]
 fn travel(advance: Option<u8>, entry: &Entry<'_>) -> Result<u32, ConfigError>
-    ensures { Gives (λ n. n) result (defaulted 0 (travel_with advance) KeyName.Travel (entry_seen entry.now)) }
+    ensures { Gives (λ n. n) result (defaulted 0 (travel_with advance) KeyName.Travel
+        (entry_seen entry.now)) }
 {
     match value_at(KeyName::Travel, entry) {
         None => Ok(0),

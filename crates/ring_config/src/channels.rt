@@ -68,7 +68,8 @@ fn push_if_numbered(
     numbers: &[u8],
     channels: &mut Vec<Channel>,
 ) -> Result<(), AllocError>
-    ensures { OnOk result (channels.new.items ≡ channels.old.items ++ (if has_number numbers.now channel.number then channel ∷ [] else [])) }
+    ensures { OnOk result (channels.new.items ≡ channels.old.items
+        ++ (if has_number numbers.now channel.number then channel ∷ [] else [])) }
 {
     if has_number(numbers, channel.number) {
         channels.push(channel)?;
@@ -85,7 +86,8 @@ fn push_numbered(
     channels: &mut Vec<Channel>,
 ) -> Result<(), AllocError>
     requires { most ≤ 128 }
-    ensures { OnOk result (channels.new.items ≡ channels.old.items ++ numbered kind most numbers.now) }
+    ensures { OnOk result (channels.new.items ≡ channels.old.items
+        ++ numbered kind most numbers.now) }
 {
     for number in 1..most + 1 {
         push_if_numbered(Channel { kind, number }, numbers, channels)?;
@@ -132,7 +134,8 @@ pub(crate) fn all_channels(
     approaches: &[Approach],
     coordination: bool,
 ) -> Result<Vec<Channel>, AllocError>
-    ensures value { IfOk result (λ v. v.items ≡ all_channels (layout_seen layout.now) approaches.now coordination) }
+    ensures value { IfOk result (λ v. v.items ≡ all_channels (layout_seen layout.now) approaches.now
+        coordination) }
     ensures few { IfOk result (λ v. length v.items ≤ 225) }
 {
     let mut channels = signal_channels(alloc, layout)?;
@@ -150,7 +153,8 @@ fn is_floor(floor: &FloorItem, spec: u16, colour: u8) -> bool
 }
 
 fn find_floor(floors: &[FloorItem], spec: u16, colour: u8) -> Option<&FloorItem>
-    ensures { option_map (λ f. f.now) result ≡ find (λ f. f.spec == spec && f.colour == colour) floors.now }
+    ensures { option_map (λ f. f.now) result ≡ find (λ f. f.spec == spec && f.colour == colour)
+        floors.now }
 {
     floors.iter().find(|floor| is_floor(floor, spec, colour))
 }

@@ -110,9 +110,12 @@ fn conflict_by(conflicts: &[Pair], allows: &[Pair], phases: &[PhaseItem], a: u8,
 impl Config {
     /// The configuration of all tables.
     pub(crate) fn settled(alloc: Global, parts: Parts) -> Result<Config, AllocError>
-        requires sound { let p = parts_seen parts in IsSound (settings_of p.top p.layout p.details) }
-        requires names { NoneRepeats (λ a b. bytes_eq a.name b.name) parts.details.approaches.items }
-        ensures { IfOk result (λ c. let p = parts_seen parts in c ≡ settings_of p.top p.layout p.details) }
+        requires sound { let p = parts_seen parts in IsSound
+            (settings_of p.top p.layout p.details) }
+        requires names { NoneRepeats (λ a b. bytes_eq a.name b.name)
+            parts.details.approaches.items }
+        ensures { IfOk result (λ c. let p = parts_seen parts in c
+            ≡ settings_of p.top p.layout p.details) }
     {
         let Parts {
             head,

@@ -31,7 +31,8 @@ pub(crate) fn read_details(
     layout: &Layout,
     tables: &DetailTables<'_>,
 ) -> Result<Details, ConfigError>
-    ensures { Gives details_seen result (details_of (layout_seen layout.now) (detail_tables_seen tables.now)) }
+    ensures { Gives details_seen result (details_of (layout_seen layout.now)
+        (detail_tables_seen tables.now)) }
 {
     let phases = layout.phases.as_slice();
     let channels = signal_channels(alloc, layout)?;

@@ -77,7 +77,8 @@ fn required_window(first: (i64, u8), entry: &Entry<'_>) -> Result<Window, Config
 
 #[tactic(auto, unfolding(crate::specs::Reading::defaulted))]
 fn coordination(entry: &Entry<'_>) -> Result<bool, ConfigError>
-    ensures { Gives (λ b. b) result (defaulted false yes_or_no KeyName.Coordination (entry_seen entry.now)) }
+    ensures { Gives (λ b. b) result (defaulted false yes_or_no KeyName.Coordination
+        (entry_seen entry.now)) }
 {
     match value_at(KeyName::Coordination, entry) {
         None => Ok(false),
@@ -106,7 +107,8 @@ fn tables_in<'a>(
     at: KeyAt,
     items: &'a [Value],
 ) -> Result<Vec<&'a Table>, ConfigError>
-    ensures { Gives (λ v. map (λ t. table_view t.now) v.items) result (good at (tables_from [] (items_view items.entry.now))) }
+    ensures { Gives (λ v. map (λ t. table_view t.now) v.items) result
+        (good at (tables_from [] (items_view items.entry.now))) }
 {
     let mut tables = Vec::new(alloc);
     for item in items {
@@ -120,7 +122,8 @@ fn tables_in<'a>(
 
 #[tactic(auto, unfolding(crate::specs::Values::tables))]
 fn tables<'a>(alloc: Global, at: KeyAt, value: &'a Value) -> Result<Vec<&'a Table>, ConfigError>
-    ensures { Gives (λ v. map (λ t. table_view t.now) v.items) result (good at (tables (view value.entry.now))) }
+    ensures { Gives (λ v. map (λ t. table_view t.now) v.items) result
+        (good at (tables (view value.entry.now))) }
 {
     match value.as_array() {
         Some(items) => tables_in(alloc, at, items.as_slice()),
@@ -131,7 +134,8 @@ fn tables<'a>(alloc: Global, at: KeyAt, value: &'a Value) -> Result<Vec<&'a Tabl
 // The tables of an array, none where the document hasn't got it.
 #[tactic(auto, unfolding(crate::specs::Reading::defaulted))]
 fn array<'a>(alloc: Global, key: KeyName, entry: &Entry<'a>) -> Result<Vec<&'a Table>, ConfigError>
-    ensures { Gives (λ v. map (λ t. table_view t.now) v.items) result (defaulted [] tables key (entry_seen entry.now)) }
+    ensures { Gives (λ v. map (λ t. table_view t.now) v.items) result
+        (defaulted [] tables key (entry_seen entry.now)) }
 {
     match value_at(key, entry) {
         None => Ok(Vec::new(alloc)),

@@ -14,7 +14,8 @@ pub(crate) fn by_name(
 ) -> Result<IndexMap<Vec<u8>, Approach>, AllocError>
     requires { NoneRepeats (λ a b. bytes_eq a.name b.name) approaches.items }
     ensures values { IfOk result (λ m. map (λ e. e.1) m.entries ≡ approaches.items) }
-    ensures named { IfOk result (λ m. map (λ e. e.0.items) m.entries ≡ map (λ e. e.1.name) m.entries) }
+    ensures named { IfOk result (λ m. map (λ e. e.0.items) m.entries
+        ≡ map (λ e. e.1.name) m.entries) }
 {
     let mut named = IndexMap::new(alloc);
     for approach in approaches {

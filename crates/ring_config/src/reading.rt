@@ -75,7 +75,8 @@ fn is_among(listed: &[KeyName], text: &str) -> bool
 }
 
 fn all_among(listed: &[KeyName], members: &Table) -> bool
-    ensures { result ≡ list_all (λ key. is_among listed.now (string_bytes key)) (map_keys members.now) }
+    ensures { result ≡ list_all (λ key. is_among listed.now (string_bytes key))
+        (map_keys members.now) }
 {
     members.keys().all(|key| is_among(listed, key.as_str()))
 }

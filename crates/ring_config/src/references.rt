@@ -108,7 +108,8 @@ pub(crate) fn required_partner(
     key: KeyName,
     entry: &Entry<'_>,
 ) -> Result<u8, ConfigError>
-    ensures { Gives (λ n. n) result (required (partner phases.now barred.now a) key (entry_seen entry.now)) }
+    ensures { Gives (λ n. n) result (required (partner phases.now barred.now a) key
+        (entry_seen entry.now)) }
 {
     let value = present(key, entry)?;
     good(place(key, entry), partner(phases, barred, a, value))
@@ -132,7 +133,8 @@ fn no_phases() -> Mask
 
 // The parents with one more, where the value is a configured phase that isn't among them.
 fn with_parent(phases: &[PhaseItem], parents: Mask, value: &Value) -> Option<Mask>
-    ensures { (found : List ℕ) → IsMaskOf found parents → Adds found (next_phase phases.now found (view value.now)) result }
+    ensures { (found : List ℕ) → IsMaskOf found parents
+        → Adds found (next_phase phases.now found (view value.now)) result }
 {
     match configured(phases, value) {
         Some(number) => {
@@ -154,7 +156,8 @@ fn are_few(count: usize) -> bool
 }
 
 fn parents_in(phases: &[PhaseItem], items: &[Value]) -> Option<Mask>
-    ensures { result ≡ option_map mask_of (passing few_parents (phases_from phases.now [] (items_view items.now))) }
+    ensures { result ≡ option_map mask_of (passing few_parents
+        (phases_from phases.now [] (items_view items.now))) }
 {
     let mut parents = no_phases();
     for item in items {

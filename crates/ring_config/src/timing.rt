@@ -63,7 +63,8 @@ impl<'a> TableRules for FloorTable<'a> {
 
 // A bound of 1 to 36,000 tenths of a second.
 fn bound_in(key: KeyName, value: &Value, entry: &Entry<'_>) -> Result<u32, ConfigError>
-    ensures { Gives (λ n. n) result (good (place key (entry_seen entry.now)) (whole 1 36000 (view value.now))) }
+    ensures { Gives (λ n. n) result (good (place key (entry_seen entry.now))
+        (whole 1 36000 (view value.now))) }
 {
     good(place(key, entry), whole(1, 36_000, value))
 }

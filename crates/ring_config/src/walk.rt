@@ -55,7 +55,8 @@ fn read_entry<R: TableRules>(
 ) -> Result<R::Item, ConfigError>
 where
     R::Item: Drop,
-    ensures { Gives (λ x. x) result (read_entry (R.rules rules.now) earlier.now (entry_seen entry.now)) }
+    ensures { Gives (λ x. x) result (read_entry (R.rules rules.now) earlier.now
+        (entry_seen entry.now)) }
 {
     only(rules.listed(), entry)?;
     let item = rules.values(entry)?;
@@ -74,7 +75,8 @@ pub(crate) fn read_entries<R: TableRules>(
 ) -> Result<Vec<R::Item>, ConfigError>
 where
     R::Item: Drop,
-    ensures { Gives (λ v. v.items) result (entries_of (R.rules rules.now) (map (λ t. table_view t.now) tables.now)) }
+    ensures { Gives (λ v. v.items) result (entries_of (R.rules rules.now)
+        (map (λ t. table_view t.now) tables.now)) }
 {
     let table = rules.table();
     let limit = rules.limit();

@@ -18,7 +18,8 @@ use std::alloc::Global;
 fn good_rows(alloc: Global, bytes: &[u8], request: &Request<'_>) -> Result<Vec<Row>, RowError>
     requires { request.now.hour < 744 }
     ensures ok { IfOk result (λ v. good_rows (wanted request.now) bytes.now ≡ Ok v.items) }
-    ensures within { IfOk result (λ v. AreWithin (36000 * request.now.hour) (36000 * request.now.hour + 36000) v.items) }
+    ensures within { IfOk result (λ v. AreWithin (36000 * request.now.hour)
+        (36000 * request.now.hour + 36000) v.items) }
     ensures few { IfOk result (λ v. length v.items ≤ 400000) }
     ensures err { IfErr result (IsRefusal (good_rows (wanted request.now) bytes.now)) }
 {
@@ -80,8 +81,16 @@ pub fn read_rows<L>(
     window: &Window,
 ) -> Result<HourRows<L>, RowError>
     requires { hour < 744 }
-    ensures ok { IfOk result (λ h. rows_of (record { signal = signal.now; hour = hour; window = window.now }) bytes.now ≡ Ok h) }
-    ensures err { IfErr result (IsRefusal (rows_of (record { signal = signal.now; hour = hour; window = window.now }) bytes.now)) }
+    ensures ok { IfOk result (λ h. rows_of (record {
+      signal = signal.now;
+      hour = hour;
+      window = window.now;
+    }) bytes.now ≡ Ok h) }
+    ensures err { IfErr result (IsRefusal (rows_of (record {
+      signal = signal.now;
+      hour = hour;
+      window = window.now;
+    }) bytes.now)) }
     ensures no_repeat { IfOk result (λ h. HasNoRepeat [] h.rows) }
 {
     let request = Request {

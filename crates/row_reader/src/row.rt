@@ -41,7 +41,8 @@ fn field(fields: &ByteRecord, i: usize) -> &[u8]
 }
 
 fn is_header_word(text: &[u8]) -> bool
-    ensures { result ≡ (is_word (codes "signalid") text.now || is_word (codes "locationidentifier") text.now) }
+    ensures { result ≡ (is_word (codes "signalid") text.now
+        || is_word (codes "locationidentifier") text.now) }
 {
     text.eq_ignore_ascii_case(b"signalid") || text.eq_ignore_ascii_case(b"locationidentifier")
 }
@@ -63,7 +64,8 @@ fn row_of(
 ) -> Result<Row, RowError>
     requires { request.now.hour < 744 }
     ensures value { result ≡ row_of (wanted request.now) n signal.now stamp.now code.now param.now }
-    ensures range { IfOk result (λ r. (36000 * request.now.hour ≤ r.at) × (r.at < 36000 * request.now.hour + 36000)) }
+    ensures range { IfOk result (λ r. (36000 * request.now.hour ≤ r.at)
+        × (r.at < 36000 * request.now.hour + 36000)) }
 {
     if signal != request.signal.as_bytes() {
         return Err(RowError::WrongSignal(n));
@@ -98,7 +100,8 @@ pub(crate) fn record_row(
     requires headers { headers ≤ 1 }
     requires number { number ≤ headers + 400001 }
     ensures value { result ≡ record_row (wanted request.now) headers number (fields_of fields.now) }
-    ensures range { IfOk result (λ r. (36000 * request.now.hour ≤ r.at) × (r.at < 36000 * request.now.hour + 36000)) }
+    ensures range { IfOk result (λ r. (36000 * request.now.hour ≤ r.at)
+        × (r.at < 36000 * request.now.hour + 36000)) }
     ensures few { OnOk result (number ≤ headers + 400000) }
 {
     if number == headers + 400_001 {

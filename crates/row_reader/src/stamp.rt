@@ -177,7 +177,8 @@ fn time_of(text: &[u8]) -> Option<u32>
 
 // The date and the time of a stamp: what is before and what is after its space or its `T`.
 fn halves(text: &[u8]) -> Option<(&[u8], &[u8])>
-    ensures { option_map (λ p. (p.0.now, p.1.now)) result ≡ option_or (cut 32 text.now) (cut 84 text.now) }
+    ensures { option_map (λ p. (p.0.now, p.1.now)) result
+        ≡ option_or (cut 32 text.now) (cut 84 text.now) }
 {
     cut(text, b' ').or_else(|| cut(text, b'T'))
 }
@@ -215,7 +216,8 @@ pub fn read_hour_stamp(text: &[u8]) -> Option<(i64, u8)>
     ensures value { result ≡ hour_stamp_of text.now }
     ensures day { IfSome result (λ s. IsDay s.0) }
     ensures hour { IfSome result (λ s. s.1 < 24) }
-    ensures forms { (day : ℤ) → (hour : ℕ) → (result ≡ Some (day, hour)) ↔ IsHourStamp text.now day hour }
+    ensures forms { (day : ℤ) → (hour : ℕ) → (result ≡ Some (day, hour))
+        ↔ IsHourStamp text.now day hour }
 {
     let (date, hour) = cut(text, b'T')?;
     match (dashed_date(date), read_number(hour, 2, 2, 23)) {

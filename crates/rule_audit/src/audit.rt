@@ -33,7 +33,8 @@ pub fn audit_rows(
 ) -> Result<Vec<AuditLine>, NoMemory>
     requires rules { rules.now ≡ rules_for config.now }
     requires view { (log : HourLog) × IsAudited config.now view.now rows.now stretches.now log }
-    ensures { IfOk result (λ v. (log : HourLog) → IsAudited config.now view.now rows.now stretches.now log → AreLines log rules.now known_before v.items) }
+    ensures { IfOk result (λ v. (log : HourLog) → IsAudited config.now view.now rows.now
+        stretches.now log → AreLines log rules.now known_before v.items) }
 {
     let specs = config.specs();
     let timed = all_skips(alloc, specs, rules, false)?;

@@ -29,7 +29,8 @@ pub(crate) fn is_of(specs: &[Spec], spec: u16, channel: Option<Channel>) -> bool
 /// Whether the channel is that of a term.
 pub(crate) fn is_of_some(specs: &[Spec], terms: &[Term], channel: Option<Channel>) -> bool
     requires { AreWithin (length specs.now) terms.now }
-    ensures { result ≡ list_any (λ c. is_channel (slice_index_or specs.now c.spec no_spec).channel channel) terms.now }
+    ensures { result ≡ list_any (λ c. is_channel (slice_index_or specs.now c.spec no_spec).channel
+        channel) terms.now }
 {
     for term in terms {
         if is_of(specs, term.spec, channel) {

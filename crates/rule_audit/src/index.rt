@@ -90,7 +90,8 @@ fn skips_of(
 ) -> Result<Skips, NoMemory>
     requires fit { All (FitsRule specs.now) rules.now }
     requires few { length rules.now ≤ 1000 }
-    ensures { IfOk result (λ s. IsSkips (is_picked specs.now rules.now clauses channel) (length rules.now) s) }
+    ensures { IfOk result (λ s. IsSkips (is_picked specs.now rules.now clauses channel)
+        (length rules.now) s) }
 {
     let count = rules.len();
     let mut last = count as u16;
@@ -136,7 +137,8 @@ fn own_of(specs: &[Spec], table: &SpecTable, row: Row) -> u16
 
 fn place_or_count(specs: &[Spec], table: &SpecTable, channel: Channel) -> u16
     requires { IsTable specs.now table.now }
-    ensures { (row : Row) → channel_in_table row.code row.param ≡ Some channel → IsOwn specs.now row result }
+    ensures { (row : Row) → channel_in_table row.code row.param ≡ Some channel
+        → IsOwn specs.now row result }
 {
     match table.place_of(channel) {
         Some(place) => place,

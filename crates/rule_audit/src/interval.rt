@@ -23,7 +23,8 @@ fn letter_leaves(spec: &Spec, letter: u8, colour: u8) -> bool
     requires fit { IsSpec spec.now }
     requires colour { colour < (rules_of spec.now).colours }
     requires letter { letter < (rules_of spec.now).letters }
-    ensures { IsTrue result ↔ ((d : ℕ) × ((rules_of spec.now).next colour letter ≡ Some d) × (d ≢ colour)) }
+    ensures { IsTrue result ↔ ((d : ℕ) × ((rules_of spec.now).next colour letter ≡ Some d)
+        × (d ≢ colour)) }
 {
     let machine = machine_of(spec);
     match machine.step(colour, letter) {
@@ -63,7 +64,10 @@ fn colour_seen(hour: &AuditedHour<'_>, index: u32, item: &IntervalItem, bound: A
     requires ready { IsReady hour.now }
     requires item { FitsItem hour.now.specs.now item.now }
     requires index { index < length hour.now.rows.now }
-    ensures { (e : Ends) → IsLogOf hour.now e → known_at hour.now.stretches.now (slice_index_or hour.now.rows.now index no_row).at ≡ true → SeesColour (MayPassRow (log_of hour.now e) index item.now.spec) item.now.colour bound (pos (slice_index_or hour.now.rows.now index no_row).at) result }
+    ensures { (e : Ends) → IsLogOf hour.now e → known_at hour.now.stretches.now
+        (slice_index_or hour.now.rows.now index no_row).at ≡ true
+        → SeesColour (MayPassRow (log_of hour.now e) index item.now.spec) item.now.colour bound
+        (pos (slice_index_or hour.now.rows.now index no_row).at) result }
 {
     let test = Test {
         colours: Mask::none().with(item.colour),
@@ -78,7 +82,11 @@ fn closing_verdict(hour: &AuditedHour<'_>, index: u32, item: &IntervalItem) -> V
     requires ready { IsReady hour.now }
     requires item { FitsItem hour.now.specs.now item.now }
     requires index { index < length hour.now.rows.now }
-    ensures { (e : Ends) → IsLogOf hour.now e → known_at hour.now.stretches.now (slice_index_or hour.now.rows.now index no_row).at ≡ true → IsIntervalVerdict result (MayPassRow (log_of hour.now e) index item.now.spec) (λ v. v.colour ≡ item.now.colour) (λ v. v.colour ≡ item.now.colour → InBound item.now.bound (pos (slice_index_or hour.now.rows.now index no_row).at) v.entry) }
+    ensures { (e : Ends) → IsLogOf hour.now e → known_at hour.now.stretches.now
+        (slice_index_or hour.now.rows.now index no_row).at ≡ true
+        → IsIntervalVerdict result (MayPassRow (log_of hour.now e) index item.now.spec)
+        (λ v. v.colour ≡ item.now.colour) (λ v. v.colour ≡ item.now.colour
+        → InBound item.now.bound (pos (slice_index_or hour.now.rows.now index no_row).at) v.entry) }
 {
     let any = colour_seen(hour, index, item, AgeBound::Any);
     if !any.some_true {
@@ -103,8 +111,16 @@ pub(crate) fn interval_verdict(hour: &AuditedHour<'_>, index: u32, item: &Interv
     requires ready { IsReady hour.now }
     requires item { FitsItem hour.now.specs.now item.now }
     requires index { index < length hour.now.rows.now }
-    requires own { channel_in_table (slice_index_or hour.now.rows.now index no_row).code (slice_index_or hour.now.rows.now index no_row).param ≡ Some (slice_index_or hour.now.specs.now item.now.spec no_spec).channel }
-    ensures { (e : Ends) → IsLogOf hour.now e → known_at hour.now.stretches.now (slice_index_or hour.now.rows.now index no_row).at ≡ true → IsIntervalVerdict result (MayPassRow (log_of hour.now e) index item.now.spec) (Closes (slice_index_or hour.now.specs.now item.now.spec no_spec) (slice_index_or hour.now.rows.now index no_row) item.now) (KeepsInterval (slice_index_or hour.now.specs.now item.now.spec no_spec) (slice_index_or hour.now.rows.now index no_row) item.now) }
+    requires own { channel_in_table (slice_index_or hour.now.rows.now index no_row).code
+        (slice_index_or hour.now.rows.now index no_row).param
+        ≡ Some (slice_index_or hour.now.specs.now item.now.spec no_spec).channel }
+    ensures { (e : Ends) → IsLogOf hour.now e → known_at hour.now.stretches.now
+        (slice_index_or hour.now.rows.now index no_row).at ≡ true
+        → IsIntervalVerdict result (MayPassRow (log_of hour.now e) index item.now.spec)
+        (Closes (slice_index_or hour.now.specs.now item.now.spec no_spec)
+        (slice_index_or hour.now.rows.now index no_row) item.now)
+        (KeepsInterval (slice_index_or hour.now.specs.now item.now.spec no_spec)
+        (slice_index_or hour.now.rows.now index no_row) item.now) }
 {
     let spec = &hour.specs[item.spec as usize];
     let row = hour.rows[index as usize];

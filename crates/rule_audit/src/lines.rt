@@ -36,7 +36,8 @@ pub(crate) fn push_line(
     place: Place,
     verdict: Verdict,
 ) -> Result<(), NoMemory>
-    ensures { OnOk result ((judged : Rule) → lines.new.items ≡ lines.old.items ++ lines_of (obligation rule judged at place) verdict) }
+    ensures { OnOk result ((judged : Rule) → lines.new.items
+        ≡ lines.old.items ++ lines_of (obligation rule judged at place) verdict) }
 {
     match verdict {
         Verdict::Idle => Ok(()),

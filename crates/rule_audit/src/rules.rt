@@ -64,7 +64,8 @@ fn push_conflicts_of(
     config: &Config,
     a: u8,
 ) -> Result<(), NoMemory>
-    ensures { OnOk result (rules.new.items ≡ rules.old.items ++ each_number (conflict_rule config.now a)) }
+    ensures { OnOk result (rules.new.items ≡ rules.old.items
+        ++ each_number (conflict_rule config.now a)) }
 {
     for b in 1..17u8 {
         push_conflict(rules, alloc, config, a, b)?;
@@ -169,7 +170,8 @@ fn push_parents(
     overlap: &OverlapItem,
     number: u8,
 ) -> Result<(), NoMemory>
-    ensures { OnOk result (rules.new.items ≡ rules.old.items ++ parents_rule_of config.now number overlap.now) }
+    ensures { OnOk result (rules.new.items ≡ rules.old.items
+        ++ parents_rule_of config.now number overlap.now) }
 {
     if overlap.number == number {
         let clause = parents_clause(alloc, config, overlap)?;

@@ -38,8 +38,13 @@ fn judge_interval(
     requires ready { IsReady hour.now }
     requires item { FitsItem hour.now.specs.now item.now }
     requires index { index < length hour.now.rows.now }
-    requires own { is_row_of hour.now.specs.now (slice_index_or hour.now.rows.now index no_row) item.now.spec ≡ true }
-    ensures { OnOk result ((e : Ends) → IsLogOf hour.now e → known_at hour.now.stretches.now (slice_index_or hour.now.rows.now index no_row).at ≡ true → Adds (HasVerdict (log_of hour.now e)) (row_obligation hour.now.specs.now index (slice_index_or hour.now.rows.now index no_row) number (Interval item.now)) lines.old.items lines.new.items) }
+    requires own { is_row_of hour.now.specs.now (slice_index_or hour.now.rows.now index no_row)
+        item.now.spec ≡ true }
+    ensures { OnOk result ((e : Ends) → IsLogOf hour.now e
+        → known_at hour.now.stretches.now (slice_index_or hour.now.rows.now index no_row).at ≡ true
+        → Adds (HasVerdict (log_of hour.now e)) (row_obligation hour.now.specs.now index
+        (slice_index_or hour.now.rows.now index no_row) number (Interval item.now)) lines.old.items
+        lines.new.items) }
 {
     let at = hour.rows[index as usize].at;
     let verdict = interval_verdict(hour, index, item);
@@ -56,8 +61,13 @@ fn judge_before(
     requires ready { IsReady hour.now }
     requires index { index < length hour.now.rows.now }
     requires place { place < length hour.now.rules.now }
-    requires own { is_timed_by hour.now.specs.now (slice_index_or hour.now.rows.now index no_row) (slice_index_or hour.now.rules.now place no_rule) ≡ true }
-    ensures { OnOk result ((e : Ends) → IsLogOf hour.now e → known_at hour.now.stretches.now (slice_index_or hour.now.rows.now index no_row).at ≡ true → Adds (HasVerdict (log_of hour.now e)) (row_obligation hour.now.specs.now index (slice_index_or hour.now.rows.now index no_row) (place + 1) (slice_index_or hour.now.rules.now place no_rule)) lines.old.items lines.new.items) }
+    requires own { is_timed_by hour.now.specs.now (slice_index_or hour.now.rows.now index no_row)
+        (slice_index_or hour.now.rules.now place no_rule) ≡ true }
+    ensures { OnOk result ((e : Ends) → IsLogOf hour.now e
+        → known_at hour.now.stretches.now (slice_index_or hour.now.rows.now index no_row).at ≡ true
+        → Adds (HasVerdict (log_of hour.now e)) (row_obligation hour.now.specs.now index
+        (slice_index_or hour.now.rows.now index no_row) (place + 1)
+        (slice_index_or hour.now.rules.now place no_rule)) lines.old.items lines.new.items) }
 {
     let number = number_of(place);
     match &hour.rules[place] {
@@ -77,8 +87,14 @@ fn judge_timed(
 ) -> Result<(), NoMemory>
     requires ready { IsReady hour.now }
     requires index { index < length hour.now.rows.now }
-    requires timed { IsSkips (λ x. is_timed_by hour.now.specs.now (slice_index_or hour.now.rows.now index no_row) (slice_index_or hour.now.rules.now x no_rule)) (length hour.now.rules.now) timed.now }
-    ensures { OnOk result ((e : Ends) → IsLogOf hour.now e → known_at hour.now.stretches.now (slice_index_or hour.now.rows.now index no_row).at ≡ true → Adds (HasVerdict (log_of hour.now e)) (row_obligations hour.now.specs.now index (slice_index_or hour.now.rows.now index no_row) 1 hour.now.rules.now) lines.old.items lines.new.items) }
+    requires timed { IsSkips (λ x. is_timed_by hour.now.specs.now
+        (slice_index_or hour.now.rows.now index no_row)
+        (slice_index_or hour.now.rules.now x no_rule)) (length hour.now.rules.now) timed.now }
+    ensures { OnOk result ((e : Ends) → IsLogOf hour.now e
+        → known_at hour.now.stretches.now (slice_index_or hour.now.rows.now index no_row).at ≡ true
+        → Adds (HasVerdict (log_of hour.now e)) (row_obligations hour.now.specs.now index
+        (slice_index_or hour.now.rows.now index no_row) 1 hour.now.rules.now) lines.old.items
+        lines.new.items) }
 {
     let count = hour.rules.len();
     let mut place = timed.next(count, 0);
@@ -93,7 +109,11 @@ fn judge_timed(
 fn judge_row(lines: &mut Vec<AuditLine>, hour: &AuditedHour<'_>, index: u32) -> Result<(), NoMemory>
     requires ready { IsReady hour.now }
     requires index { index < length hour.now.rows.now }
-    ensures { OnOk result ((e : Ends) → IsLogOf hour.now e → known_at hour.now.stretches.now (slice_index_or hour.now.rows.now index no_row).at ≡ true → Adds (HasVerdict (log_of hour.now e)) (row_obligations hour.now.specs.now index (slice_index_or hour.now.rows.now index no_row) 1 hour.now.rules.now) lines.old.items lines.new.items) }
+    ensures { OnOk result ((e : Ends) → IsLogOf hour.now e
+        → known_at hour.now.stretches.now (slice_index_or hour.now.rows.now index no_row).at ≡ true
+        → Adds (HasVerdict (log_of hour.now e)) (row_obligations hour.now.specs.now index
+        (slice_index_or hour.now.rows.now index no_row) 1 hour.now.rules.now) lines.old.items
+        lines.new.items) }
 {
     let own = hour.own[index as usize] as usize;
     if own < hour.timed.len() {
@@ -114,7 +134,9 @@ fn judge_rows(
     requires known { known_at hour.now.stretches.now at ≡ true }
     requires first { IsCutAt hour.now.rows.now at first }
     requires end { IsCutAt hour.now.rows.now (at + 1) end }
-    ensures { OnOk result ((e : Ends) → IsLogOf hour.now e → Adds (HasVerdict (log_of hour.now e)) (rows_obligations hour.now.specs.now hour.now.rules.now at 0 hour.now.rows.now) lines.old.items lines.new.items) }
+    ensures { OnOk result ((e : Ends) → IsLogOf hour.now e
+        → Adds (HasVerdict (log_of hour.now e)) (rows_obligations hour.now.specs.now
+        hour.now.rules.now at 0 hour.now.rows.now) lines.old.items lines.new.items) }
 {
     for index in first..end {
         judge_row(lines, hour, index as u32)?;
@@ -133,7 +155,11 @@ fn judge_clause(
     requires ready { IsReady hour.now }
     requires known { known_at hour.now.stretches.now at ≡ true }
     requires clause { AreWithin (length hour.now.specs.now) clause.now }
-    ensures { OnOk result ((e : Ends) (before : Bool) (rule : Rule) → IsLogOf hour.now e → is_clause rule ≡ true → terms_of rule ≡ clause.now → is_due hour.now.specs.now hour.now.rows.now before at rule ≡ true → Adds (HasVerdict (log_of hour.now e)) (end_obligation hour.now.specs.now hour.now.rows.now before at number rule) lines.old.items lines.new.items) }
+    ensures { OnOk result ((e : Ends) (before : Bool) (rule : Rule) → IsLogOf hour.now e
+        → is_clause rule ≡ true → terms_of rule ≡ clause.now
+        → is_due hour.now.specs.now hour.now.rows.now before at rule ≡ true
+        → Adds (HasVerdict (log_of hour.now e)) (end_obligation hour.now.specs.now hour.now.rows.now
+        before at number rule) lines.old.items lines.new.items) }
 {
     let verdict = clause_verdict(hour.view, at, clause);
     push_line(lines, number, at, Place::EndOfTenth, verdict)
@@ -150,7 +176,13 @@ fn judge_after(
     requires ready { IsReady hour.now }
     requires known { known_at hour.now.stretches.now at ≡ true }
     requires place { place < length hour.now.rules.now }
-    ensures { OnOk result ((e : Ends) (before : Bool) → IsLogOf hour.now e → (is_clause (slice_index_or hour.now.rules.now place no_rule) ≡ true → is_due hour.now.specs.now hour.now.rows.now before at (slice_index_or hour.now.rules.now place no_rule) ≡ true) → Adds (HasVerdict (log_of hour.now e)) (end_obligation hour.now.specs.now hour.now.rows.now before at (place + 1) (slice_index_or hour.now.rules.now place no_rule)) lines.old.items lines.new.items) }
+    ensures { OnOk result ((e : Ends) (before : Bool) → IsLogOf hour.now e
+        → (is_clause (slice_index_or hour.now.rules.now place no_rule) ≡ true
+        → is_due hour.now.specs.now hour.now.rows.now before at
+        (slice_index_or hour.now.rules.now place no_rule) ≡ true)
+        → Adds (HasVerdict (log_of hour.now e)) (end_obligation hour.now.specs.now hour.now.rows.now
+        before at (place + 1) (slice_index_or hour.now.rules.now place no_rule)) lines.old.items
+        lines.new.items) }
 {
     let number = number_of(place);
     match &hour.rules[place] {
@@ -165,7 +197,9 @@ fn judge_after(
 fn judge_all(lines: &mut Vec<AuditLine>, hour: &AuditedHour<'_>, at: u32) -> Result<(), NoMemory>
     requires ready { IsReady hour.now }
     requires known { known_at hour.now.stretches.now at ≡ true }
-    ensures { OnOk result ((e : Ends) → IsLogOf hour.now e → Adds (HasVerdict (log_of hour.now e)) (end_obligations hour.now.specs.now hour.now.rows.now false at 1 hour.now.rules.now) lines.old.items lines.new.items) }
+    ensures { OnOk result ((e : Ends) → IsLogOf hour.now e
+        → Adds (HasVerdict (log_of hour.now e)) (end_obligations hour.now.specs.now
+        hour.now.rows.now false at 1 hour.now.rules.now) lines.old.items lines.new.items) }
 {
     for place in 0..hour.rules.len() {
         judge_after(lines, hour, at, place)?;
@@ -178,7 +212,8 @@ fn next_of(hour: &AuditedHour<'_>, index: usize, from: usize) -> usize
     requires ready { IsReady hour.now }
     requires index { index < length hour.now.rows.now }
     requires from { from ≤ length hour.now.rules.now }
-    ensures { IsNext (is_due_by hour.now.specs.now hour.now.rules.now (slice_index_or hour.now.rows.now index no_row)) (length hour.now.rules.now) from result }
+    ensures { IsNext (is_due_by hour.now.specs.now hour.now.rules.now
+        (slice_index_or hour.now.rows.now index no_row)) (length hour.now.rules.now) from result }
 {
     let count = hour.rules.len();
     let own = hour.own[index] as usize;
@@ -195,7 +230,8 @@ fn next_due(hour: &AuditedHour<'_>, first: usize, end: usize, from: usize) -> us
     requires range { first ≤ end }
     requires end { end ≤ length hour.now.rows.now }
     requires from { from ≤ length hour.now.rules.now }
-    ensures { IsNextDue hour.now.specs.now hour.now.rules.now hour.now.rows.now first end from result }
+    ensures { IsNextDue hour.now.specs.now hour.now.rules.now hour.now.rows.now first end from
+        result }
 {
     let mut least = hour.rules.len();
     for index in first..end {
@@ -220,7 +256,9 @@ fn judge_due(
     requires known { known_at hour.now.stretches.now at ≡ true }
     requires first { IsCutAt hour.now.rows.now at first }
     requires end { IsCutAt hour.now.rows.now (at + 1) end }
-    ensures { OnOk result ((e : Ends) → IsLogOf hour.now e → Adds (HasVerdict (log_of hour.now e)) (end_obligations hour.now.specs.now hour.now.rows.now true at 1 hour.now.rules.now) lines.old.items lines.new.items) }
+    ensures { OnOk result ((e : Ends) → IsLogOf hour.now e
+        → Adds (HasVerdict (log_of hour.now e)) (end_obligations hour.now.specs.now
+        hour.now.rows.now true at 1 hour.now.rules.now) lines.old.items lines.new.items) }
 {
     let count = hour.rules.len();
     let mut place = next_due(hour, first, end, 0);
@@ -245,7 +283,9 @@ pub(crate) fn judge_tenth(
     requires known { known_at hour.now.stretches.now at ≡ true }
     requires first { IsCutAt hour.now.rows.now at first }
     requires end { IsCutAt hour.now.rows.now (at + 1) end }
-    ensures { OnOk result ((e : Ends) → IsLogOf hour.now e → Adds (HasVerdict (log_of hour.now e)) (tenth_obligations hour.now.specs.now hour.now.rules.now hour.now.rows.now before at) lines.old.items lines.new.items) }
+    ensures { OnOk result ((e : Ends) → IsLogOf hour.now e
+        → Adds (HasVerdict (log_of hour.now e)) (tenth_obligations hour.now.specs.now
+        hour.now.rules.now hour.now.rows.now before at) lines.old.items lines.new.items) }
 {
     judge_rows(lines, hour, at, first, end)?;
     if before {

@@ -79,7 +79,8 @@ fn no_green() -> Mask
 
 // The place among the specs of the channel of this kind and number, which is tracked.
 fn place_of(config: &Config, kind: Kind, number: u8) -> u16
-    ensures { result ≡ unwrap_or (spec_place config.now.specs (record { kind = kind; number = number })) 0 }
+    ensures { result ≡ unwrap_or (spec_place config.now.specs
+        (record { kind = kind; number = number })) 0 }
 {
     match config.spec_of(Channel { kind, number }) {
         Some(spec) => spec,
@@ -89,7 +90,8 @@ fn place_of(config: &Config, kind: Kind, number: u8) -> u16
 
 // The term that the channel is in one of the colours.
 fn term(config: &Config, kind: Kind, number: u8, colours: Mask) -> Term
-    ensures { (cs : List ℕ) → colours ≡ colours_of cs → result ≡ is_in config.now.specs kind number cs }
+    ensures { (cs : List ℕ) → colours ≡ colours_of cs → result
+        ≡ is_in config.now.specs kind number cs }
 {
     Term {
         spec: place_of(config, kind, number),
@@ -153,7 +155,8 @@ fn push_parents(
     config: &Config,
     overlap: &OverlapItem,
 ) -> Result<(), NoMemory>
-    ensures { OnOk result (terms.new.items ≡ terms.old.items ++ each_number (parent_term config.now.specs overlap.now)) }
+    ensures { OnOk result (terms.new.items ≡ terms.old.items
+        ++ each_number (parent_term config.now.specs overlap.now)) }
 {
     for phase in 1..17u8 {
         push_parent(terms, config, overlap, phase)?;
@@ -170,7 +173,8 @@ fn push_parent(
 ) -> Result<(), NoMemory>
     requires low { 1 ≤ phase }
     requires high { phase ≤ 16 }
-    ensures { OnOk result (terms.new.items ≡ terms.old.items ++ parent_term config.now.specs overlap.now phase) }
+    ensures { OnOk result (terms.new.items ≡ terms.old.items
+        ++ parent_term config.now.specs overlap.now phase) }
 {
     if is_parent(overlap, phase) {
         terms.push(term(config, Kind::Phase, phase, served()))?;

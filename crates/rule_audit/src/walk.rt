@@ -43,7 +43,10 @@ fn judge_on(
     requires first { IsCutAt hour.now.rows.now from first }
     requires within { (e : Ends) → IsLogOf hour.now e → to ≤ end_tenth e.hour }
     ensures cut { IfOk result (λ n. IsCutAt hour.now.rows.now to n) }
-    ensures lines { IfOk result (λ n. (e : Ends) → IsLogOf hour.now e → AddsUpTo (HasVerdict (log_of hour.now e)) (obligations_in hour.now true from (end_tenth e.hour)) (obligations_in hour.now true to (end_tenth e.hour)) lines.old.items lines.new.items) }
+    ensures lines { IfOk result (λ n. (e : Ends) → IsLogOf hour.now e
+        → AddsUpTo (HasVerdict (log_of hour.now e)) (obligations_in hour.now true from
+        (end_tenth e.hour)) (obligations_in hour.now true to (end_tenth e.hour)) lines.old.items
+        lines.new.items) }
 {
     let mut next = first;
     'tenths: while next < hour.rows.len() {
@@ -73,7 +76,10 @@ fn judge_known(
     requires first { IsCutAt hour.now.rows.now from first }
     requires within { (e : Ends) → IsLogOf hour.now e → to ≤ end_tenth e.hour }
     ensures cut { IfOk result (λ n. IsCutAt hour.now.rows.now to n) }
-    ensures lines { IfOk result (λ n. (e : Ends) → IsLogOf hour.now e → AddsUpTo (HasVerdict (log_of hour.now e)) (obligations_in hour.now before from (end_tenth e.hour)) (obligations_in hour.now true to (end_tenth e.hour)) lines.old.items lines.new.items) }
+    ensures lines { IfOk result (λ n. (e : Ends) → IsLogOf hour.now e
+        → AddsUpTo (HasVerdict (log_of hour.now e)) (obligations_in hour.now before from
+        (end_tenth e.hour)) (obligations_in hour.now true to (end_tenth e.hour)) lines.old.items
+        lines.new.items) }
 {
     if before {
         return judge_on(lines, hour, first, from, to);
@@ -94,11 +100,15 @@ fn judge_stretch(
 ) -> Result<usize, NoMemory>
     requires ready { IsReady hour.now }
     requires range { stretch.from < stretch.to }
-    requires known { (t : ℕ) → stretch.from ≤ t → t < stretch.to → known_at hour.now.stretches.now t ≡ stretch.known }
+    requires known { (t : ℕ) → stretch.from ≤ t → t < stretch.to
+        → known_at hour.now.stretches.now t ≡ stretch.known }
     requires first { IsCutAt hour.now.rows.now stretch.from first }
     requires within { (e : Ends) → IsLogOf hour.now e → stretch.to ≤ end_tenth e.hour }
     ensures cut { IfOk result (λ n. IsCutAt hour.now.rows.now stretch.to n) }
-    ensures lines { IfOk result (λ n. (e : Ends) → IsLogOf hour.now e → AddsUpTo (HasVerdict (log_of hour.now e)) (obligations_in hour.now before stretch.from (end_tenth e.hour)) (obligations_in hour.now stretch.known stretch.to (end_tenth e.hour)) lines.old.items lines.new.items) }
+    ensures lines { IfOk result (λ n. (e : Ends) → IsLogOf hour.now e
+        → AddsUpTo (HasVerdict (log_of hour.now e)) (obligations_in hour.now before stretch.from
+        (end_tenth e.hour)) (obligations_in hour.now stretch.known stretch.to (end_tenth e.hour))
+        lines.old.items lines.new.items) }
 {
     if stretch.known {
         return judge_known(lines, hour, first, stretch.from, stretch.to, before);
@@ -114,7 +124,9 @@ pub(crate) fn judge_hour(
 ) -> Result<Vec<AuditLine>, NoMemory>
     requires ready { IsReady hour.now }
     requires some { (e : Ends) × IsLogOf hour.now e }
-    ensures { IfOk result (λ v. (e : Ends) → IsLogOf hour.now e → AreLinesOf (HasVerdict (log_of hour.now e)) (obligations_in hour.now known_before (first_tenth e.hour) (end_tenth e.hour)) v.items) }
+    ensures { IfOk result (λ v. (e : Ends) → IsLogOf hour.now e
+        → AreLinesOf (HasVerdict (log_of hour.now e)) (obligations_in hour.now known_before
+        (first_tenth e.hour) (end_tenth e.hour)) v.items) }
 {
     let mut lines = Vec::new(alloc);
     let mut before = known_before;

@@ -137,7 +137,8 @@ fn withdraw_of<'a>(hour: &[u8]) -> Line<'a>
 }
 
 fn blank_of<'a>(from: &[u8], to: &[u8], window: &Window) -> Line<'a>
-    ensures { seen result ≡ by_range blank (stamp_in window.now from.now) (stamp_in window.now to.now) }
+    ensures { seen result ≡ by_range blank (stamp_in window.now from.now)
+        (stamp_in window.now to.now) }
 {
     match (read_stamp(from, window), read_stamp(to, window)) {
         (Some(from), Some(to)) => Line::Blank(from, to),
@@ -146,7 +147,8 @@ fn blank_of<'a>(from: &[u8], to: &[u8], window: &Window) -> Line<'a>
 }
 
 fn unblank_of<'a>(from: &[u8], to: &[u8], window: &Window) -> Line<'a>
-    ensures { seen result ≡ by_range unblank (stamp_in window.now from.now) (stamp_in window.now to.now) }
+    ensures { seen result ≡ by_range unblank (stamp_in window.now from.now)
+        (stamp_in window.now to.now) }
 {
     match (read_stamp(from, window), read_stamp(to, window)) {
         (Some(from), Some(to)) => Line::Unblank(from, to),

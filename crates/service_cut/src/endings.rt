@@ -61,7 +61,8 @@ fn found(lates: &[Option<Row>], number: u16) -> Option<Row>
 
 // Keeps a row that says why a green ends, at the place of its phase.
 fn note(lates: &mut [Option<Row>], row: Row)
-    ensures { lates.new ≡ slice_set lates.old row.param (Some (kept row (slice_index_or lates.old row.param None))) }
+    ensures { lates.new ≡ slice_set lates.old row.param
+        (Some (kept row (slice_index_or lates.old row.param None))) }
 {
     let late = kept(row, found(lates, row.param));
     let place = usize::from(row.param);
@@ -128,7 +129,8 @@ fn from_the_last(
     told: &[Told],
     lates: &mut [Option<Row>],
 ) -> Result<Vec<Service>, NoMemory>
-    ensures { IfOk result (λ v. lates.old ≡ replicate (length lates.old) None → v.items ≡ reverse (services_told (length lates.old) told.now)) }
+    ensures { IfOk result (λ v. lates.old ≡ replicate (length lates.old) None
+        → v.items ≡ reverse (services_told (length lates.old) told.now)) }
 {
     let mut services = Vec::new(alloc);
     let mut left = told.len();

@@ -32,7 +32,12 @@ impl Model for Cuts {
 
     ghost Value = { CutLists };
 
-    ghost view = { λ c. record { services = c.services.items; cycles = c.cycles.items; open_services = c.open_services.items; open_cycles = c.open_cycles.items } };
+    ghost view = { λ c. record {
+      services = c.services.items;
+      cycles = c.cycles.items;
+      open_services = c.open_services.items;
+      open_cycles = c.open_cycles.items;
+    } };
 }
 
 impl Cuts {

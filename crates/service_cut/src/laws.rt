@@ -14,37 +14,48 @@ ghost use Rattle.service_cut.specs.Cut.{services_from, cycles_from, service_is_i
 /// A row ends exactly the whole services: four rows of the phase, each the first of its kind, no
 /// begin of green between, every tenth between known.
 pub fn services_are_whole()
-    ensures { (known : ℕ → Bool) (p : ℕ) (before : List Row) (r : Row) (later : List Row) (s : Service) → known r.at ≡ true
-        → (service_at known p before r later ≡ Some s) ↔ IsService known p before r later s }
+    ensures { (known : ℕ → Bool) (p : ℕ) (before : List Row) (r : Row) (later : List Row)
+        (s : Service) → known r.at ≡ true → (service_at known p before r later ≡ Some s)
+        ↔ IsService known p before r later s }
 {}
 
 /// A row ends exactly the whole cycles: two ends of yellow with none between, every tenth between
 /// known.
 pub fn cycles_are_whole()
-    ensures { (known : ℕ → Bool) (p a b : ℕ) (before : List Row) (r : Row) (c : Cycle) → AreOrdered a b before → All (λ z. known z.at ≡ true) before → known r.at ≡ true
+    ensures { (known : ℕ → Bool) (p a b : ℕ) (before : List Row) (r : Row) (c : Cycle)
+        → AreOrdered a b before → All (λ z. known z.at ≡ true) before → known r.at ≡ true
         → (cycle_at known p before r ≡ Some c) ↔ IsCycle known p before r c }
 {}
 
 /// The cycles that end among ordered rows, where the first rows stand before them: none ends before
 /// it begins, and the offsets of green and of yellow are at most its length.
 pub fn cycles_fit()
-    ensures { (known : ℕ → Bool) (phases : List PhaseItem) (a b : ℕ) (before rows : List Row) → AreOrdered a b (before ++ rows)
-        → All CycleFits (cycles_from known phases before rows) }
+    ensures { (known : ℕ → Bool) (phases : List PhaseItem) (a b : ℕ) (before rows : List Row)
+        → AreOrdered a b (before ++ rows) → All CycleFits (cycles_from known phases before rows) }
 {}
 
 /// The lists of two parts of a log, one after the other, are those of the whole, wherever it is
 /// cut between two tenths.
 pub fn hours_add_up()
-    ensures services { (known : ℕ → Bool) (phases : List PhaseItem) (t b : ℕ) (before rows : List Row) → AreOrdered 0 t before → AreOrdered t b rows
-        → services_from known phases [] (before ++ rows) ≡ services_from known phases [] before ++ services_from known phases before rows }
-    ensures cycles { (known : ℕ → Bool) (phases : List PhaseItem) (t b : ℕ) (before rows : List Row) → AreOrdered 0 t before → AreOrdered t b rows
-        → cycles_from known phases [] (before ++ rows) ≡ cycles_from known phases [] before ++ cycles_from known phases before rows }
+    ensures services { (known : ℕ → Bool) (phases : List PhaseItem) (t b : ℕ)
+        (before rows : List Row) → AreOrdered 0 t before → AreOrdered t b rows
+        → services_from known phases [] (before ++ rows) ≡ services_from known phases [] before
+        ++ services_from known phases before rows }
+    ensures cycles { (known : ℕ → Bool) (phases : List PhaseItem) (t b : ℕ) (before rows : List Row)
+        → AreOrdered 0 t before → AreOrdered t b rows → cycles_from known phases [] (before ++ rows)
+        ≡ cycles_from known phases [] before ++ cycles_from known phases before rows }
 {}
 
 /// Of all services and cycles of a log, those whose last row is in an hour are the hour's part.
 pub fn hours_count()
-    ensures services { (known : ℕ → Bool) (phases : List PhaseItem) (a b c : ℕ) (before rows later : List Row) → AreOrdered 0 a before → AreOrdered a b rows → AreOrdered b c later
-        → filter (service_is_in a b) (services_from known phases [] (before ++ (rows ++ later))) ≡ services_from known phases before rows }
-    ensures cycles { (known : ℕ → Bool) (phases : List PhaseItem) (a b c : ℕ) (before rows later : List Row) → AreOrdered 0 a before → AreOrdered a b rows → AreOrdered b c later
-        → filter (cycle_is_in a b) (cycles_from known phases [] (before ++ (rows ++ later))) ≡ cycles_from known phases before rows }
+    ensures services { (known : ℕ → Bool) (phases : List PhaseItem) (a b c : ℕ)
+        (before rows later : List Row) → AreOrdered 0 a before → AreOrdered a b rows
+        → AreOrdered b c later → filter (service_is_in a b)
+        (services_from known phases [] (before ++ (rows ++ later)))
+        ≡ services_from known phases before rows }
+    ensures cycles { (known : ℕ → Bool) (phases : List PhaseItem) (a b c : ℕ)
+        (before rows later : List Row) → AreOrdered 0 a before → AreOrdered a b rows
+        → AreOrdered b c later → filter (cycle_is_in a b)
+        (cycles_from known phases [] (before ++ (rows ++ later)))
+        ≡ cycles_from known phases before rows }
 {}

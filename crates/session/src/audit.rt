@@ -56,7 +56,8 @@ pub fn lines_of<L>(
     requires rules { rules.now ≡ rules_for config.now }
     requires in_store { hour < length store.now.hours }
     requires store { IsStore store.now }
-    requires kept { AreKept config.now store.now worked.now.carries.items worked.now.futures.items worked.now.report }
+    requires kept { AreKept config.now store.now worked.now.carries.items worked.now.futures.items
+        worked.now.report }
     requires history { HasHistory (log_of config.now.specs store.now) }
     ensures lines { IfOk result (λ v. AreAuditLines config.now store.now hour v.items) }
     ensures grow { Grow reads.old reads.new }
@@ -105,7 +106,8 @@ pub fn with_windows<L>(
     requires rules { rules.now ≡ rules_for config.now }
     requires history { HasHistory (log_of config.now.specs store.now) }
     requires lines { (hour : ℕ) × AreLinesIn config.now store.now hour before.now lines.now }
-    ensures windows { IfOk result (λ v. AreWindowed config.now store.now before.now lines.now v.items) }
+    ensures windows { IfOk result (λ v. AreWindowed config.now store.now before.now lines.now
+        v.items) }
     ensures grow { Grow reads.old reads.new }
 {
     let mut done = Vec::new(alloc);

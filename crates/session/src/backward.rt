@@ -35,7 +35,8 @@ pub fn go_back<L>(
     requires order { first ≤ last }
     requires within { last < length store.now.hours }
     requires kept { AreFuturesBut config.now store.now first last kept.now }
-    ensures futures { IfOk result (λ v. AreNewFutures config.now store.now first last kept.now (last + 1 - length v.items) v.items) }
+    ensures futures { IfOk result (λ v. AreNewFutures config.now store.now first last kept.now
+        (last + 1 - length v.items) v.items) }
     ensures opens { IfOk result (λ v. AreOpened (last + 1 - length v.items) (last + 1) 1 1
         reads.old reads.new) }
     ensures grow { Grow reads.old reads.new }

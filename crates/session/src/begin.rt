@@ -21,7 +21,8 @@ struct NoRows;
 // So many times what is kept at the window's start.
 fn starts(alloc: Global, config: &Config, points: u32) -> Result<Vec<Carry>, NoMemory>
     ensures size { IfOk result (λ v. length v.items ≡ points) }
-    ensures start { IfOk result (λ v. (k : ℕ) (d : Carried) (r : Store) → k < points → IsCarryAt config.now r 0 (slice_index_or v.items k d)) }
+    ensures start { IfOk result (λ v. (k : ℕ) (d : Carried) (r : Store) → k < points
+        → IsCarryAt config.now r 0 (slice_index_or v.items k d)) }
 {
     let mut carries = Vec::new(alloc);
     for _ in 0..points {
@@ -33,7 +34,9 @@ fn starts(alloc: Global, config: &Config, points: u32) -> Result<Vec<Carry>, NoM
 // So many times what is kept going back at the window's end.
 fn ends(alloc: Global, config: &Config, points: u32) -> Result<Vec<Future>, NoMemory>
     ensures size { IfOk result (λ v. length v.items ≡ points) }
-    ensures end { IfOk result (λ v. (k : ℕ) (d : Ahead) (r : Store) → k < points → length r.hours ≡ config.now.window.hours → IsFutureAt config.now r (length r.hours) (slice_index_or v.items k d)) }
+    ensures end { IfOk result (λ v. (k : ℕ) (d : Ahead) (r : Store) → k < points
+        → length r.hours ≡ config.now.window.hours → IsFutureAt config.now r (length r.hours)
+        (slice_index_or v.items k d)) }
 {
     let mut futures = Vec::new(alloc);
     for _ in 0..points {
@@ -61,7 +64,8 @@ pub fn begin(alloc: Global, config: &Config, rules: &[Rule], hours: u32) -> Resu
     requires sound { IsSound config.now }
     requires rules { rules.now ≡ rules_for config.now }
     requires window { hours ≡ config.now.window.hours }
-    ensures { IfOk result (λ k. AreKept config.now (nothing_held hours) k.carries.items k.futures.items k.report) }
+    ensures { IfOk result (λ k. AreKept config.now (nothing_held hours) k.carries.items
+        k.futures.items k.report) }
 {
     let mut worked = Worked {
         carries: starts(alloc, config, hours + 1)?,

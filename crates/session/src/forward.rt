@@ -39,7 +39,8 @@ pub fn go_forward<L>(
     requires within { last < length store.now.hours }
     requires kept { AreCarriesBut config.now store.now first last kept.now }
     ensures store { IsStore store.now }
-    ensures carries { IfOk result (λ v. AreNewCarries config.now store.now first last kept.now v.items) }
+    ensures carries { IfOk result (λ v. AreNewCarries config.now store.now first last kept.now
+        v.items) }
     ensures stop { IfErr result (NamesRow (log_of config.now.specs store.now)) }
     ensures opens { IfOk result (λ v. AreOpened first (first + length v.items) 1 1 reads.old
         reads.new) }

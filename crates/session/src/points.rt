@@ -52,7 +52,9 @@ fn add_hour<L>(
     requires before { IsCarryAt config.now store.now hour before.now }
     requires after { IsFutureAt config.now store.now (hour + 1) after.now }
     requires history { HasHistory (log_of config.now.specs store.now) }
-    ensures cycles { OnOk result (found.new.cycles.items ≡ found.old.cycles.items ++ own (λ x. x.phase) phase (cycles_in config.now store.now hour)) }
+    ensures cycles { OnOk result (found.new.cycles.items
+        ≡ found.old.cycles.items ++ own (λ x. x.phase) phase
+        (cycles_in config.now store.now hour)) }
     ensures points { OnOk result (found.new.points ≡ found.old.points
         ++ points_from (is_known store.now) config.now phase (earlier_rows store.now hour)
         (own_rows store.now hour)) }
@@ -76,9 +78,11 @@ pub fn phase_diagrams<L>(
     phase: u8,
     reads: &mut Reads<L>,
 ) -> Result<Vec<Diagram>, NoMemory>
-    requires kept { AreKept config.now store.now worked.now.carries.items worked.now.futures.items worked.now.report }
+    requires kept { AreKept config.now store.now worked.now.carries.items worked.now.futures.items
+        worked.now.report }
     requires history { HasHistory (log_of config.now.specs store.now) }
-    ensures points { IfOk result (λ v. v.items ≡ diagrams_of (is_known store.now) config.now phase (known_rows store.now)) }
+    ensures points { IfOk result (λ v. v.items ≡ diagrams_of (is_known store.now) config.now phase
+        (known_rows store.now)) }
     ensures grow { Grow reads.old reads.new }
 {
     let mut found = Found {

@@ -69,12 +69,18 @@ pub fn moved(points: &Points) -> Applied
 fn start_of(worked: &Worked, points: &Points) -> Hour
     requires order { points.now.from ≤ points.now.first }
     requires carry_room { points.now.first < length worked.now.carries.items }
-    requires future_room { points.now.from + length points.now.futures.items ≤ length worked.now.futures.items }
+    requires future_room { points.now.from + length points.now.futures.items
+        ≤ length worked.now.futures.items }
     requires last { points.now.first < length worked.now.futures.items }
-    requires shape { (k : ℕ) (d : Carried) (e : Ahead) → k < points.now.first → (specs : List Spec) × AreBefore specs (slice_index_or worked.now.carries.items (k + 1) d).pasts × AreAheadsOf specs (slice_index_or worked.now.futures.items (k + 1) e) × AreAheadsOf specs (slice_index_or (patched worked.now.futures.items points.now.from points.now.futures.items) (k + 1) e) }
+    requires shape { (k : ℕ) (d : Carried) (e : Ahead) → k < points.now.first
+        → (specs : List Spec) × AreBefore specs (slice_index_or worked.now.carries.items (k + 1)
+        d).pasts × AreAheadsOf specs (slice_index_or worked.now.futures.items (k + 1) e)
+        × AreAheadsOf specs (slice_index_or (patched worked.now.futures.items points.now.from
+        points.now.futures.items) (k + 1) e) }
     ensures low { points.now.from ≤ result }
     ensures high { result ≤ points.now.first }
-    ensures same { AreSameUpTo worked.now.carries.items worked.now.futures.items points.now.from points.now.futures.items result }
+    ensures same { AreSameUpTo worked.now.carries.items worked.now.futures.items points.now.from
+        points.now.futures.items result }
 {
     for hour in points.from..points.first {
         let place = hour as usize + 1;
@@ -108,11 +114,18 @@ fn parts_between<L>(
     requires store { IsStore store.now }
     requires order { start ≤ points.now.first + length points.now.carries.items }
     requires within { points.now.first + length points.now.carries.items ≤ length store.now.hours }
-    requires carry_room { points.now.first + 1 + length points.now.carries.items ≤ length worked.now.carries.items }
-    requires future_room { points.now.from + length points.now.futures.items ≤ length worked.now.futures.items }
-    requires forth { AreCarries config.now store.now (patched worked.now.carries.items (points.now.first + 1) points.now.carries.items) }
-    requires back { AreFutures config.now store.now (patched worked.now.futures.items points.now.from points.now.futures.items) }
-    ensures parts { IfOk result (λ v. AreNewParts config.now store.now (patched worked.now.carries.items (points.now.first + 1) points.now.carries.items) (patched worked.now.futures.items points.now.from points.now.futures.items) start (points.now.first + length points.now.carries.items) v.items) }
+    requires carry_room { points.now.first + 1 + length points.now.carries.items
+        ≤ length worked.now.carries.items }
+    requires future_room { points.now.from + length points.now.futures.items
+        ≤ length worked.now.futures.items }
+    requires forth { AreCarries config.now store.now (patched worked.now.carries.items
+        (points.now.first + 1) points.now.carries.items) }
+    requires back { AreFutures config.now store.now (patched worked.now.futures.items
+        points.now.from points.now.futures.items) }
+    ensures parts { IfOk result (λ v. AreNewParts config.now store.now
+        (patched worked.now.carries.items (points.now.first + 1) points.now.carries.items)
+        (patched worked.now.futures.items points.now.from points.now.futures.items) start
+        (points.now.first + length points.now.carries.items) v.items) }
     ensures opens { OnOk result (AreOpened start
         (points.now.first + length points.now.carries.items) 1 1 reads.old reads.new) }
     ensures grow { Grow reads.old reads.new }
@@ -155,8 +168,10 @@ fn points_of<L>(
     requires back { AreFuturesBut config.now store.now first last worked.now.futures.items }
     ensures store { IsStore store.now }
     ensures first { IfOk result (λ p. p.first ≡ first) }
-    ensures carries { IfOk result (λ p. AreNewCarries config.now store.now first last worked.now.carries.items p.carries.items) }
-    ensures futures { IfOk result (λ p. AreNewFutures config.now store.now first last worked.now.futures.items p.from p.futures.items) }
+    ensures carries { IfOk result (λ p. AreNewCarries config.now store.now first last
+        worked.now.carries.items p.carries.items) }
+    ensures futures { IfOk result (λ p. AreNewFutures config.now store.now first last
+        worked.now.futures.items p.from p.futures.items) }
     ensures stop { IfErr result (NamesRow (log_of config.now.specs store.now)) }
     ensures opens { IfOk result (λ p. AreOpened p.from (p.first + length p.carries.items) 1 2
         reads.old reads.new) }
@@ -188,12 +203,17 @@ pub fn renew<L>(
 ) -> Result<Fresh, ForwardError>
     requires rules { rules.now ≡ rules_for config.now }
     requires sound { IsSound config.now }
-    requires kept { AreKeptBut config.now store.now first last worked.now.carries.items worked.now.futures.items worked.now.report }
+    requires kept { AreKeptBut config.now store.now first last worked.now.carries.items
+        worked.now.futures.items worked.now.report }
     ensures store { IsStore store.now }
     ensures first { IfOk result (λ f. f.points.first ≡ first) }
-    ensures carries { IfOk result (λ f. AreNewCarries config.now store.now first last worked.now.carries.items f.points.carries.items) }
-    ensures futures { IfOk result (λ f. AreNewFutures config.now store.now first last worked.now.futures.items f.points.from f.points.futures.items) }
-    ensures fresh { IfOk result (λ f. IsRenewed config.now store.now worked.now.carries.items f.points.first f.points.carries.items worked.now.futures.items f.points.from f.points.futures.items worked.now.report f.start f.parts.items f.sums) }
+    ensures carries { IfOk result (λ f. AreNewCarries config.now store.now first last
+        worked.now.carries.items f.points.carries.items) }
+    ensures futures { IfOk result (λ f. AreNewFutures config.now store.now first last
+        worked.now.futures.items f.points.from f.points.futures.items) }
+    ensures fresh { IfOk result (λ f. IsRenewed config.now store.now worked.now.carries.items
+        f.points.first f.points.carries.items worked.now.futures.items f.points.from
+        f.points.futures.items worked.now.report f.start f.parts.items f.sums) }
     ensures history { OnOk result (HasHistory (log_of config.now.specs store.now)) }
     ensures stop { IfErr result (NamesRow (log_of config.now.specs store.now)) }
     ensures opens { IfOk result (λ f. AreOpened f.points.from
@@ -215,13 +235,18 @@ pub fn renew<L>(
 
 // Puts it in the place of what is kept. It takes no memory.
 pub fn adopt(worked: &mut Worked, fresh: Fresh)
-    requires carry_room { fresh.points.first + 1 + length fresh.points.carries.items ≤ length worked.old.carries.items }
-    requires future_room { fresh.points.from + length fresh.points.futures.items ≤ length worked.old.futures.items }
+    requires carry_room { fresh.points.first + 1 + length fresh.points.carries.items
+        ≤ length worked.old.carries.items }
+    requires future_room { fresh.points.from + length fresh.points.futures.items
+        ≤ length worked.old.futures.items }
     requires part_room { fresh.start + length fresh.parts.items ≤ length worked.old.report }
     requires small { All (FitHours 1) fresh.parts.items }
-    requires sums { AreNewSums worked.old.report (patched worked.old.report fresh.start fresh.parts.items) fresh.sums }
-    ensures carries { worked.new.carries.items ≡ patched worked.old.carries.items (fresh.points.first + 1) fresh.points.carries.items }
-    ensures futures { worked.new.futures.items ≡ patched worked.old.futures.items fresh.points.from fresh.points.futures.items }
+    requires sums { AreNewSums worked.old.report (patched worked.old.report fresh.start
+        fresh.parts.items) fresh.sums }
+    ensures carries { worked.new.carries.items ≡ patched worked.old.carries.items
+        (fresh.points.first + 1) fresh.points.carries.items }
+    ensures futures { worked.new.futures.items ≡ patched worked.old.futures.items fresh.points.from
+        fresh.points.futures.items }
     ensures report { worked.new.report ≡ patched worked.old.report fresh.start fresh.parts.items }
 {
     let Fresh {

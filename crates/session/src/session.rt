@@ -59,13 +59,15 @@ impl<L> Model for Session<L> {
 
     ghost view = { λ s. record { config = s.config; store = s.store } };
 
-    ghost invariant = { λ s. Belong s.config s.store s.rules.items s.worked.carries.items s.worked.futures.items s.worked.report };
+    ghost invariant = { λ s. Belong s.config s.store s.rules.items s.worked.carries.items
+        s.worked.futures.items s.worked.report };
 }
 
 // How many rows are held once the hour has so many.
 fn rows_with<L>(store: &HourStore<L>, hour: Hour, count: u32) -> u64
     requires { hour < length store.now.hours }
-    ensures { (r : Shown) → length r.rows ≡ count → result ≡ rows_held (with_hour store.now hour (Some r)) }
+    ensures { (r : Shown) → length r.rows ≡ count → result
+        ≡ rows_held (with_hour store.now hour (Some r)) }
 {
     store.rows_held() + count as u64 - store.len_of(hour) as u64
 }
@@ -84,7 +86,11 @@ fn edit_error(error: ForwardError) -> EditError
 impl<L> Session<L> {
     /// A session that holds and blanks nothing.
     pub fn new(alloc: Global, config: Config) -> Result<Session<L>, NoMemory>
-        ensures { IfOk result (λ s. s ≡ record { config = config; store = nothing_held config.window.hours }) }
+        ensures { IfOk result (λ s. s ≡ record {
+          config = config;
+          store = nothing_held
+              config.window.hours;
+        }) }
     {
         let rules = rules_of(alloc, &config)?;
         let hours = config.hours();
@@ -132,7 +138,8 @@ impl<L> Session<L> {
         reads: &mut Reads<L>,
     ) -> Result<Vec<AuditLine>, NoMemory>
         requires { hour < length self.now.store.hours }
-        ensures lines { IfOk result (λ v. AreHourLines self.now.config self.now.store hour windows v.items) }
+        ensures lines { IfOk result (λ v. AreHourLines self.now.config self.now.store hour windows
+            v.items) }
         ensures history { HasHistory (log_of self.now.config.specs self.now.store) }
         ensures store { IsStore self.now.store }
         ensures grow { Grow reads.old reads.new }
@@ -152,7 +159,8 @@ impl<L> Session<L> {
     /// The whole cycles of a phase, in their order, each with the arrivals in it at the advance
     /// detectors of the phase's approaches.
     pub fn points(&self, phase: u8, reads: &mut Reads<L>) -> Result<Vec<Diagram>, NoMemory>
-        ensures points { IfOk result (λ v. v.items ≡ diagrams_of (is_known self.now.store) self.now.config phase (known_rows self.now.store)) }
+        ensures points { IfOk result (λ v. v.items ≡ diagrams_of (is_known self.now.store)
+            self.now.config phase (known_rows self.now.store)) }
         ensures store { IsStore self.now.store }
         ensures grow { Grow reads.old reads.new }
     {
@@ -198,12 +206,15 @@ impl<L> Session<L> {
     ) -> Result<Applied, EditError>
         requires in_store { hour < length self.old.store.hours }
         requires of_hour { IfSome entry (λ r. r.hour ≡ hour) }
-        ensures done { OnOk result ((self.new.store ≡ with_hour self.old.store hour entry) × HasHistory (log_of self.old.config.specs (with_hour self.old.store hour entry))) }
-        ensures moved { IfOk result (AreMoved self.old.config self.old.store (with_hour self.old.store hour entry) hour hour) }
+        ensures done { OnOk result ((self.new.store ≡ with_hour self.old.store hour entry)
+            × HasHistory (log_of self.old.config.specs (with_hour self.old.store hour entry))) }
+        ensures moved { IfOk result (AreMoved self.old.config self.old.store
+            (with_hour self.old.store hour entry) hour hour) }
         ensures stays { IfOk result (KeepParts self.old.config self.old.store
             (with_hour self.old.store hour entry)) }
         ensures back { OnErr result (self.new.store ≡ self.old.store) }
-        ensures stop { IfErr result (StopsAt self.old.config (with_hour self.old.store hour entry)) }
+        ensures stop { IfErr result (StopsAt self.old.config
+            (with_hour self.old.store hour entry)) }
         ensures store { IsStore (with_hour self.old.store hour entry) }
         ensures config { self.new.config ≡ self.old.config }
         ensures opens { (change : Change) → Touches change hour hour
@@ -247,8 +258,10 @@ impl<L> Session<L> {
         requires some { from <ℤ to }
         requires high { to ≤ℤ pos (36000 * length self.old.store.hours) }
         requires same { SameApart self.old.store.blanks from to blanks }
-        ensures done { OnOk result ((self.new.store ≡ with_blanks self.old.store blanks) × HasHistory (log_of self.old.config.specs (with_blanks self.old.store blanks))) }
-        ensures moved { IfOk result (Moves self.old.config self.old.store (with_blanks self.old.store blanks) (blank from to)) }
+        ensures done { OnOk result ((self.new.store ≡ with_blanks self.old.store blanks)
+            × HasHistory (log_of self.old.config.specs (with_blanks self.old.store blanks))) }
+        ensures moved { IfOk result (Moves self.old.config self.old.store
+            (with_blanks self.old.store blanks) (blank from to)) }
         ensures stays { IfOk result (KeepParts self.old.config self.old.store
             (with_blanks self.old.store blanks)) }
         ensures back { OnErr result (self.new.store ≡ self.old.store) }
@@ -285,8 +298,10 @@ impl<L> Session<L> {
 
     #[tactic(auto, using(crate::proofs::EditLaws::steps_done, crate::proofs::GrowLaws::grow_same), unfolding(crate::specs::Edits::step_of, crate::specs::Opens::OpensBy))]
     fn load(&mut self, rows: HourRows<L>, reads: &mut Reads<L>) -> Result<Applied, EditError>
-        ensures step { Steps self.old.config (step_of self.old.store (load rows)) self.old.store self.new.store result }
-        ensures moved { IfOk result (Moves self.old.config self.old.store self.new.store (load rows)) }
+        ensures step { Steps self.old.config (step_of self.old.store (load rows)) self.old.store
+            self.new.store result }
+        ensures moved { IfOk result (Moves self.old.config self.old.store self.new.store
+            (load rows)) }
         ensures stays { IfOk result (KeepParts self.old.config self.old.store self.new.store) }
         ensures config { self.new.config ≡ self.old.config }
         ensures opens { OpensBy (load rows) reads.old reads.new result }
@@ -307,8 +322,10 @@ impl<L> Session<L> {
 
     #[tactic(auto, using(crate::proofs::EditLaws::steps_done, crate::proofs::GrowLaws::grow_same), unfolding(crate::specs::Edits::step_of, crate::specs::Opens::OpensBy))]
     fn replace(&mut self, rows: HourRows<L>, reads: &mut Reads<L>) -> Result<Applied, EditError>
-        ensures step { Steps self.old.config (step_of self.old.store (replace rows)) self.old.store self.new.store result }
-        ensures moved { IfOk result (Moves self.old.config self.old.store self.new.store (replace rows)) }
+        ensures step { Steps self.old.config (step_of self.old.store (replace rows)) self.old.store
+            self.new.store result }
+        ensures moved { IfOk result (Moves self.old.config self.old.store self.new.store
+            (replace rows)) }
         ensures stays { IfOk result (KeepParts self.old.config self.old.store self.new.store) }
         ensures config { self.new.config ≡ self.old.config }
         ensures opens { OpensBy (replace rows) reads.old reads.new result }
@@ -329,9 +346,11 @@ impl<L> Session<L> {
 
     #[tactic(auto, using(crate::proofs::EditLaws::steps_done, crate::proofs::GrowLaws::grow_same), unfolding(crate::specs::Edits::step_of, crate::specs::Opens::OpensBy))]
     fn withdraw(&mut self, hour: Hour, reads: &mut Reads<L>) -> Result<Applied, EditError>
-        ensures step { Steps self.old.config (step_of self.old.store (withdraw hour)) self.old.store self.new.store result }
+        ensures step { Steps self.old.config (step_of self.old.store (withdraw hour)) self.old.store
+            self.new.store result }
         ensures never { IfErr result (MayRefuse (withdraw hour)) }
-        ensures moved { IfOk result (Moves self.old.config self.old.store self.new.store (withdraw hour)) }
+        ensures moved { IfOk result (Moves self.old.config self.old.store self.new.store
+            (withdraw hour)) }
         ensures stays { IfOk result (KeepParts self.old.config self.old.store self.new.store) }
         ensures config { self.new.config ≡ self.old.config }
         ensures opens { OpensBy (withdraw hour) reads.old reads.new result }
@@ -348,9 +367,11 @@ impl<L> Session<L> {
 
     #[tactic(auto, using(crate::proofs::EditLaws::steps_done, crate::proofs::GrowLaws::grow_same), unfolding(crate::specs::Edits::step_of, crate::specs::Opens::OpensBy))]
     fn blank(&mut self, from: Tenth, to: Tenth, reads: &mut Reads<L>) -> Result<Applied, EditError>
-        ensures step { Steps self.old.config (step_of self.old.store (blank from to)) self.old.store self.new.store result }
+        ensures step { Steps self.old.config (step_of self.old.store (blank from to)) self.old.store
+            self.new.store result }
         ensures never { IfErr result (MayRefuse (blank from to)) }
-        ensures moved { IfOk result (Moves self.old.config self.old.store self.new.store (blank from to)) }
+        ensures moved { IfOk result (Moves self.old.config self.old.store self.new.store
+            (blank from to)) }
         ensures stays { IfOk result (KeepParts self.old.config self.old.store self.new.store) }
         ensures config { self.new.config ≡ self.old.config }
         ensures opens { OpensBy (blank from to) reads.old reads.new result }
@@ -379,8 +400,10 @@ impl<L> Session<L> {
         to: Tenth,
         reads: &mut Reads<L>,
     ) -> Result<Applied, EditError>
-        ensures step { Steps self.old.config (step_of self.old.store (unblank from to)) self.old.store self.new.store result }
-        ensures moved { IfOk result (Moves self.old.config self.old.store self.new.store (unblank from to)) }
+        ensures step { Steps self.old.config (step_of self.old.store (unblank from to))
+            self.old.store self.new.store result }
+        ensures moved { IfOk result (Moves self.old.config self.old.store self.new.store
+            (unblank from to)) }
         ensures stays { IfOk result (KeepParts self.old.config self.old.store self.new.store) }
         ensures config { self.new.config ≡ self.old.config }
         ensures opens { OpensBy (unblank from to) reads.old reads.new result }
@@ -412,9 +435,11 @@ impl<L> Session<L> {
     /// same as before, or at the window's end. A range touches each hour of which it has a tenth,
     /// held or not.
     pub fn apply(&mut self, edit: Edit<L>, reads: &mut Reads<L>) -> Result<Applied, EditError>
-        ensures step { Steps self.old.config (step_of self.old.store (change_of edit)) self.old.store self.new.store result }
+        ensures step { Steps self.old.config (step_of self.old.store (change_of edit))
+            self.old.store self.new.store result }
         ensures never { IfErr result (MayRefuse (change_of edit)) }
-        ensures moved { IfOk result (Moves self.old.config self.old.store self.new.store (change_of edit)) }
+        ensures moved { IfOk result (Moves self.old.config self.old.store self.new.store
+            (change_of edit)) }
         ensures stays { IfOk result (KeepParts self.old.config self.old.store self.new.store) }
         ensures config { self.new.config ≡ self.old.config }
         ensures opens { OpensBy (change_of edit) reads.old reads.new result }

@@ -26,7 +26,8 @@ pub fn carry_over<L>(
 ) -> Result<Carry, ForwardError>
     requires in_store { hour < length store.now.hours }
     requires before { IsCarryAt config.now store.now hour before.now }
-    ensures leads { IfOk result (Leads config.now hour (rows_at store.now hour) store.now.blanks before.now) }
+    ensures leads { IfOk result (Leads config.now hour (rows_at store.now hour) store.now.blanks
+        before.now) }
     ensures stop { IfErr result (NamesRow (log_of config.now.specs store.now)) }
     ensures row { IfErr result (NamesRowOf hour) }
     ensures once { AreOpened hour (hour + 1) 1 1 reads.old reads.new }
@@ -46,7 +47,8 @@ pub fn future_before<L>(
 ) -> Result<Future, NoMemory>
     requires in_store { hour < length store.now.hours }
     requires after { IsFutureAt config.now store.now (hour + 1) after.now }
-    ensures backs { IfOk result (Backs config.now hour (rows_at store.now hour) store.now.blanks after.now) }
+    ensures backs { IfOk result (Backs config.now hour (rows_at store.now hour) store.now.blanks
+        after.now) }
     ensures once { AreOpened hour (hour + 1) 1 1 reads.old reads.new }
 {
     let rows = store.open_hour(hour, reads);
@@ -69,7 +71,8 @@ pub fn part_between<L>(
     requires before { IsCarryAt config.now store.now hour before.now }
     requires after { IsFutureAt config.now store.now (hour + 1) after.now }
     requires history { HasHistory (log_of config.now.specs store.now) }
-    ensures counts { IfOk result (Counts config.now hour (rows_at store.now hour) store.now.blanks before.now after.now) }
+    ensures counts { IfOk result (Counts config.now hour (rows_at store.now hour) store.now.blanks
+        before.now after.now) }
     ensures small { IfOk result (FitHours 1) }
     ensures once { AreOpened hour (hour + 1) 1 1 reads.old reads.new }
 {

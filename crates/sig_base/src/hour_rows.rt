@@ -46,7 +46,11 @@ impl<L> HourRows<L> {
     /// 400,000 rows, one isn't in the hour or one stands behind a later one.
     pub fn new(hour: Hour, rows: Vec<Row>, repeats: u32) -> Option<Self>
         ensures there { IsSome result ↔ AreRowsOf hour rows.items }
-        ensures value { IfSome result (λ h. h ≡ record { hour = hour; rows = rows.items; repeats = repeats }) }
+        ensures value { IfSome result (λ h. h ≡ record {
+          hour = hour;
+          rows = rows.items;
+          repeats = repeats;
+        }) }
     {
         if hour >= 744 || rows.len() > 400_000 {
             return None;

@@ -27,7 +27,8 @@ fn is_kept(verdict: Verdict) -> bool
 // Writes the lines in their order.
 fn put_lines<K: Sink>(config: &Config, lines: &[AuditLine], sink: &mut K) -> Result<(), PutFailed>
     requires { All (IsLineIn config.now.window) lines.now }
-    ensures { Puts (K.written sink.old) (K.written sink.new) (K.faults sink.old) (K.faults sink.new) (lines_text config.now.window lines.now) result }
+    ensures { Puts (K.written sink.old) (K.written sink.new) (K.faults sink.old) (K.faults sink.new)
+        (lines_text config.now.window lines.now) result }
 {
     for line in lines {
         match put_audit_line(config, line, sink) {
@@ -39,7 +40,8 @@ fn put_lines<K: Sink>(config: &Config, lines: &[AuditLine], sink: &mut K) -> Res
 }
 
 fn put_head<K: Sink>(number: u32, sink: &mut K) -> Result<(), PutFailed>
-    ensures { Puts (K.written sink.old) (K.written sink.new) (K.faults sink.old) (K.faults sink.new) (audit_head number) result }
+    ensures { Puts (K.written sink.old) (K.written sink.new) (K.faults sink.old) (K.faults sink.new)
+        (audit_head number) result }
 {
     let mut line = Buffer::new();
     put_parts(sink, &[line.format(number).as_bytes(), b" audit", b"\n"])
@@ -53,7 +55,8 @@ fn put_start<K: Sink>(
     total: &Partial,
     sink: &mut K,
 ) -> Result<(), PutFailed>
-    ensures { Puts (K.written sink.old) (K.written sink.new) (K.faults sink.old) (K.faults sink.new) (audit_start number config.now.specs rules.now total.now.rules) result }
+    ensures { Puts (K.written sink.old) (K.written sink.new) (K.faults sink.old) (K.faults sink.new)
+        (audit_start number config.now.specs rules.now total.now.rules) result }
 {
     match put_head(number, sink) {
         Ok(()) => {}
@@ -103,7 +106,8 @@ fn add_hour<L>(
     reads: &mut Reads<L>,
 ) -> Result<(), NoMemory>
     requires { hour < length session.now.store.hours }
-    ensures added { OnOk result (AddsHour session.now.config session.now.store hour failing.old.items failing.new.items) }
+    ensures added { OnOk result (AddsHour session.now.config session.now.store hour
+        failing.old.items failing.new.items) }
     ensures grow { Grow reads.old reads.new }
 {
     if is_clean(hour, session) {
@@ -120,7 +124,8 @@ fn failing_lines<L>(
     session: &Session<L>,
     reads: &mut Reads<L>,
 ) -> Result<Vec<AuditLine>, NoMemory>
-    ensures lines { IfOk result (λ v. AreFailing session.now.config session.now.store 0 session.now.config.window.hours v.items) }
+    ensures lines { IfOk result (λ v. AreFailing session.now.config session.now.store 0
+        session.now.config.window.hours v.items) }
     ensures grow { Grow reads.old reads.new }
 {
     let mut failing = Vec::new(alloc);
@@ -142,7 +147,9 @@ pub fn audit_line<L, K: Sink>(
     sink: &mut K,
     reads: &mut Reads<L>,
 ) -> Result<bool, Stopped>
-    ensures turn { TakesBy (IsAudited session.now.config number session.now.store) (K.written sink.old) (K.written sink.new) (K.faults sink.old) (K.faults sink.new) session.now.store result }
+    ensures turn { TakesBy (IsAudited session.now.config number session.now.store)
+        (K.written sink.old) (K.written sink.new) (K.faults sink.old) (K.faults sink.new)
+        session.now.store result }
     ensures grow { Grow reads.old reads.new }
 {
     let failing = match failing_lines(alloc, session, reads) {
@@ -161,7 +168,8 @@ pub fn audit_line<L, K: Sink>(
 }
 
 fn put_verdicts_head<K: Sink>(number: u32, hour: Hour, sink: &mut K) -> Result<(), PutFailed>
-    ensures { Puts (K.written sink.old) (K.written sink.new) (K.faults sink.old) (K.faults sink.new) (verdicts_head number hour) result }
+    ensures { Puts (K.written sink.old) (K.written sink.new) (K.faults sink.old) (K.faults sink.new)
+        (verdicts_head number hour) result }
 {
     let mut line = Buffer::new();
     let mut of = Buffer::new();
@@ -186,7 +194,9 @@ fn hour_verdicts<L, K: Sink>(
     reads: &mut Reads<L>,
 ) -> Result<bool, Stopped>
     requires { hour < session.now.config.window.hours }
-    ensures turn { TakesBy (AreVerdicts session.now.config number hour session.now.store true) (K.written sink.old) (K.written sink.new) (K.faults sink.old) (K.faults sink.new) session.now.store result }
+    ensures turn { TakesBy (AreVerdicts session.now.config number hour session.now.store true)
+        (K.written sink.old) (K.written sink.new) (K.faults sink.old) (K.faults sink.new)
+        session.now.store result }
     ensures grow { Grow reads.old reads.new }
 {
     let config = session.config();
@@ -213,7 +223,9 @@ pub fn verdicts_line<L, K: Sink>(
     sink: &mut K,
     reads: &mut Reads<L>,
 ) -> Result<bool, Stopped>
-    ensures turn { TakesBy (AreVerdicts session.now.config number hour session.now.store (nat_lt hour session.now.config.window.hours)) (K.written sink.old) (K.written sink.new) (K.faults sink.old) (K.faults sink.new) session.now.store result }
+    ensures turn { TakesBy (AreVerdicts session.now.config number hour session.now.store
+        (nat_lt hour session.now.config.window.hours)) (K.written sink.old) (K.written sink.new)
+        (K.faults sink.old) (K.faults sink.new) session.now.store result }
     ensures grow { Grow reads.old reads.new }
 {
     if hour >= session.config().window().hours() {

@@ -41,8 +41,11 @@ fn records_of<L>(
     window: &Window,
 ) -> Result<HourRows<L>, Unread>
     requires { hour < 744 }
-    ensures ok { IfOk result (λ h. of_records
-        (rows_of (record { signal = signal.now; hour = hour; window = window.now }) bytes.now) ≡ Ok h) }
+    ensures ok { IfOk result (λ h. of_records (rows_of (record {
+      signal = signal.now;
+      hour = hour;
+      window = window.now;
+    }) bytes.now) ≡ Ok h) }
     ensures no_repeat { IfOk result (λ h. HasNoRepeat [] h.rows) }
     ensures err { IfErr result (IsUnread (of_records
         (rows_of (record { signal = signal.now; hour = hour; window = window.now }) bytes.now))) }

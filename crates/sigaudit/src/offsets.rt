@@ -68,7 +68,8 @@ fn add_arrival(
 // Adds the arrivals in a diagram at the approach of this place.
 fn add_arrivals(arrivals: &mut Vec<Arrival>, diagram: &Diagram, place: u32) -> Result<(), NoMemory>
     requires { diagram.now.cycle.from ≤ diagram.now.cycle.to }
-    ensures { OnOk result (arrivals.new.items ≡ arrivals.old.items ++ arrivals_in place diagram.now) }
+    ensures { OnOk result (arrivals.new.items ≡ arrivals.old.items
+        ++ arrivals_in place diagram.now) }
 {
     if !is_taken(&diagram.cycle) {
         return Ok(());
@@ -124,7 +125,9 @@ pub fn offsets_line<L, K: Sink>(
     sink: &mut K,
     reads: &mut Reads<L>,
 ) -> Result<bool, Stopped>
-    ensures turn { TakesBy (λ t. t ≡ offsets_of session.now.config number name.now session.now.store) (K.written sink.old) (K.written sink.new) (K.faults sink.old) (K.faults sink.new) session.now.store result }
+    ensures turn { TakesBy (λ t. t ≡ offsets_of session.now.config number name.now
+        session.now.store) (K.written sink.old) (K.written sink.new) (K.faults sink.old)
+        (K.faults sink.new) session.now.store result }
     ensures grow { Grow reads.old reads.new }
 {
     let Some((place, phase)) = advance_of(session.config(), name) else {

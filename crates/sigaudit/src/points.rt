@@ -23,7 +23,8 @@ fn is_phase(config: &Config, phase: u8) -> bool
 }
 
 fn put_head<K: Sink>(number: u32, phase: u8, sink: &mut K) -> Result<(), PutFailed>
-    ensures { Puts (K.written sink.old) (K.written sink.new) (K.faults sink.old) (K.faults sink.new) (points_head number phase) result }
+    ensures { Puts (K.written sink.old) (K.written sink.new) (K.faults sink.old) (K.faults sink.new)
+        (points_head number phase) result }
 {
     let mut line = Buffer::new();
     let mut of = Buffer::new();
@@ -44,7 +45,8 @@ fn put_diagrams<K: Sink>(
     sink: &mut K,
 ) -> Result<(), PutFailed>
     requires { All (λ d. d.cycle.from < 36000 * config.now.window.hours) diagrams.now }
-    ensures { Puts (K.written sink.old) (K.written sink.new) (K.faults sink.old) (K.faults sink.new) (diagrams_text config.now diagrams.now) result }
+    ensures { Puts (K.written sink.old) (K.written sink.new) (K.faults sink.old) (K.faults sink.new)
+        (diagrams_text config.now diagrams.now) result }
 {
     for diagram in diagrams {
         match put_diagram(config, diagram, sink) {
@@ -64,7 +66,9 @@ fn phase_diagrams<L, K: Sink>(
     sink: &mut K,
     reads: &mut Reads<L>,
 ) -> Result<bool, Stopped>
-    ensures turn { TakesBy (λ t. t ≡ points_turn session.now.config number phase session.now.store true) (K.written sink.old) (K.written sink.new) (K.faults sink.old) (K.faults sink.new) session.now.store result }
+    ensures turn { TakesBy (λ t. t ≡ points_turn session.now.config number phase session.now.store
+        true) (K.written sink.old) (K.written sink.new) (K.faults sink.old) (K.faults sink.new)
+        session.now.store result }
     ensures grow { Grow reads.old reads.new }
 {
     let diagrams = match session.points(phase, reads) {
@@ -91,7 +95,9 @@ pub fn points_line<L, K: Sink>(
     sink: &mut K,
     reads: &mut Reads<L>,
 ) -> Result<bool, Stopped>
-    ensures turn { TakesBy (λ t. t ≡ points_of_phase session.now.config number phase session.now.store) (K.written sink.old) (K.written sink.new) (K.faults sink.old) (K.faults sink.new) session.now.store result }
+    ensures turn { TakesBy (λ t. t ≡ points_of_phase session.now.config number phase
+        session.now.store) (K.written sink.old) (K.written sink.new) (K.faults sink.old)
+        (K.faults sink.new) session.now.store result }
     ensures grow { Grow reads.old reads.new }
 {
     if !is_phase(session.config(), phase) {

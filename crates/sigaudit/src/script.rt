@@ -55,7 +55,9 @@ fn edit_line<L, K: Sink>(
     sink: &mut K,
     reads: &mut Reads<L>,
 ) -> Result<bool, Stopped>
-    ensures turn { TakesBy (IsEdited session.old.config number loaded session.old.store (change_of edit)) (K.written sink.old) (K.written sink.new) (K.faults sink.old) (K.faults sink.new) session.new.store result }
+    ensures turn { TakesBy (IsEdited session.old.config number loaded session.old.store
+        (change_of edit)) (K.written sink.old) (K.written sink.new) (K.faults sink.old)
+        (K.faults sink.new) session.new.store result }
     ensures config { session.new.config ≡ session.old.config }
     ensures opens { OnOk result (AreCounted
         (EditTally session.old.config session.old.store (change_of edit)) reads.old reads.new) }
@@ -99,7 +101,10 @@ fn bytes_line<L, K: Sink>(
     reads: &mut Reads<L>,
 ) -> Result<bool, Stopped>
     requires { hour < session.old.config.window.hours }
-    ensures turn { TakesBy (IsRead session.old.config number (hour_change replaces) session.old.store (hour_said (wanted_for session.old.config hour) bytes.now)) (K.written sink.old) (K.written sink.new) (K.faults sink.old) (K.faults sink.new) session.new.store result }
+    ensures turn { TakesBy (IsRead session.old.config number (hour_change replaces)
+        session.old.store (hour_said (wanted_for session.old.config hour) bytes.now))
+        (K.written sink.old) (K.written sink.new) (K.faults sink.old) (K.faults sink.new)
+        session.new.store result }
     ensures config { session.new.config ≡ session.old.config }
     ensures opens { OnOk result (AreCounted
         (ReadTally session.old.config (hour_change replaces) session.old.store
@@ -128,7 +133,8 @@ fn bytes_line<L, K: Sink>(
 // Fetches an hour file, or says why there is nothing to read.
 fn fetch_hour<S: Shelf>(alloc: Global, name: &str, shelf: &mut S, bytes: &mut Vec<u8>) -> Fetched
     requires { bytes.old.items ≡ [] }
-    ensures told { (files : Files) → S.files shelf.old ≡ Some files → FetchesHour (hour_file (files name.now)) bytes.new.items result }
+    ensures told { (files : Files) → S.files shelf.old ≡ Some files
+        → FetchesHour (hour_file (files name.now)) bytes.new.items result }
     ensures plain { NamesNoRow result }
     ensures counts { CountsFetch (S.counts shelf.old) (S.counts shelf.new) result }
     ensures files { S.files shelf.new ≡ S.files shelf.old }
@@ -157,9 +163,14 @@ fn fetch_line<L, S: Shelf, K: Sink>(
 ) -> Result<bool, Stopped>
     requires { hour < session.old.config.window.hours }
     ensures turn { (files : Files) → S.files shelf.old ≡ Some files
-        → Takes (IsFetched session.old.config number hour (hour_change replaces) session.old.store (hour_file (files name.now))) (world (S.counts shelf.old) (K.written sink.old) (K.faults sink.old)) (world (S.counts shelf.new) (K.written sink.new) (K.faults sink.new)) session.new.store result }
-    ensures cause { IsCaused (world (S.counts shelf.old) (K.written sink.old) (K.faults sink.old)) (world (S.counts shelf.new) (K.written sink.new) (K.faults sink.new)) result }
-    ensures never_fall { NeverFall (world (S.counts shelf.old) (K.written sink.old) (K.faults sink.old)) (world (S.counts shelf.new) (K.written sink.new) (K.faults sink.new)) }
+        → Takes (IsFetched session.old.config number hour (hour_change replaces) session.old.store
+        (hour_file (files name.now))) (world (S.counts shelf.old) (K.written sink.old)
+        (K.faults sink.old)) (world (S.counts shelf.new) (K.written sink.new) (K.faults sink.new))
+        session.new.store result }
+    ensures cause { IsCaused (world (S.counts shelf.old) (K.written sink.old) (K.faults sink.old))
+        (world (S.counts shelf.new) (K.written sink.new) (K.faults sink.new)) result }
+    ensures never_fall { NeverFall (world (S.counts shelf.old) (K.written sink.old)
+        (K.faults sink.old)) (world (S.counts shelf.new) (K.written sink.new) (K.faults sink.new)) }
     ensures files { S.files shelf.new ≡ S.files shelf.old }
     ensures config { session.new.config ≡ session.old.config }
     ensures opens { (files : Files) → S.files shelf.old ≡ Some files → OnOk result (AreCounted
@@ -189,9 +200,15 @@ fn file_line<L, S: Shelf, K: Sink>(
     reads: &mut Reads<L>,
 ) -> Result<bool, Stopped>
     ensures turn { (files : Files) → S.files shelf.old ≡ Some files
-        → Takes (IsFetched session.old.config number hour (hour_change replaces) session.old.store (hour_bytes files session.old.config hour name.now)) (world (S.counts shelf.old) (K.written sink.old) (K.faults sink.old)) (world (S.counts shelf.new) (K.written sink.new) (K.faults sink.new)) session.new.store result }
-    ensures cause { IsCaused (world (S.counts shelf.old) (K.written sink.old) (K.faults sink.old)) (world (S.counts shelf.new) (K.written sink.new) (K.faults sink.new)) result }
-    ensures never_fall { NeverFall (world (S.counts shelf.old) (K.written sink.old) (K.faults sink.old)) (world (S.counts shelf.new) (K.written sink.new) (K.faults sink.new)) }
+        → Takes (IsFetched session.old.config number hour (hour_change replaces) session.old.store
+        (hour_bytes files session.old.config hour name.now))
+        (world (S.counts shelf.old) (K.written sink.old) (K.faults sink.old))
+        (world (S.counts shelf.new) (K.written sink.new) (K.faults sink.new)) session.new.store
+        result }
+    ensures cause { IsCaused (world (S.counts shelf.old) (K.written sink.old) (K.faults sink.old))
+        (world (S.counts shelf.new) (K.written sink.new) (K.faults sink.new)) result }
+    ensures never_fall { NeverFall (world (S.counts shelf.old) (K.written sink.old)
+        (K.faults sink.old)) (world (S.counts shelf.new) (K.written sink.new) (K.faults sink.new)) }
     ensures files { S.files shelf.new ≡ S.files shelf.old }
     ensures config { session.new.config ≡ session.old.config }
     ensures opens { (files : Files) → S.files shelf.old ≡ Some files → OnOk result (AreCounted
@@ -213,14 +230,16 @@ fn file_line<L, S: Shelf, K: Sink>(
 }
 
 fn put_head<K: Sink>(number: u32, sink: &mut K) -> Result<(), PutFailed>
-    ensures { Puts (K.written sink.old) (K.written sink.new) (K.faults sink.old) (K.faults sink.new) (window_head number) result }
+    ensures { Puts (K.written sink.old) (K.written sink.new) (K.faults sink.old) (K.faults sink.new)
+        (window_head number) result }
 {
     let mut line = Buffer::new();
     put_parts(sink, &[line.format(number).as_bytes(), b" measures", b"\n"])
 }
 
 fn put_hour_head<K: Sink>(number: u32, hour: Hour, sink: &mut K) -> Result<(), PutFailed>
-    ensures { Puts (K.written sink.old) (K.written sink.new) (K.faults sink.old) (K.faults sink.new) (hour_head number hour) result }
+    ensures { Puts (K.written sink.old) (K.written sink.new) (K.faults sink.old) (K.faults sink.new)
+        (hour_head number hour) result }
 {
     let mut line = Buffer::new();
     let mut of = Buffer::new();
@@ -241,7 +260,8 @@ fn measures_line<L, K: Sink>(
     session: &Session<L>,
     sink: &mut K,
 ) -> Result<bool, Stopped>
-    ensures { TakesBy (IsMeasured session.now.config number session.now.store) (K.written sink.old) (K.written sink.new) (K.faults sink.old) (K.faults sink.new) session.now.store result }
+    ensures { TakesBy (IsMeasured session.now.config number session.now.store) (K.written sink.old)
+        (K.written sink.new) (K.faults sink.old) (K.faults sink.new) session.now.store result }
 {
     let total = session.report().total();
     match put_head(number, sink) {
@@ -261,7 +281,9 @@ fn hour_line<L, K: Sink>(
     session: &Session<L>,
     sink: &mut K,
 ) -> Result<bool, Stopped>
-    ensures { TakesBy (IsMeasuredOf session.now.config number hour session.now.store) (K.written sink.old) (K.written sink.new) (K.faults sink.old) (K.faults sink.new) session.now.store result }
+    ensures { TakesBy (IsMeasuredOf session.now.config number hour session.now.store)
+        (K.written sink.old) (K.written sink.new) (K.faults sink.old) (K.faults sink.new)
+        session.now.store result }
 {
     let config = session.config();
     let Some(part) = session.report().hour(hour) else {
@@ -301,9 +323,14 @@ fn take_said<L, S: Shelf, K: Sink>(
     reads: &mut Reads<L>,
 ) -> Result<bool, Stopped>
     ensures turn { (files : Files) → S.files shelf.old ≡ Some files
-        → Takes (IsTurn files session.old.config number (seen line.entry) session.old.store) (world (S.counts shelf.old) (K.written sink.old) (K.faults sink.old)) (world (S.counts shelf.new) (K.written sink.new) (K.faults sink.new)) session.new.store result }
-    ensures cause { IsCaused (world (S.counts shelf.old) (K.written sink.old) (K.faults sink.old)) (world (S.counts shelf.new) (K.written sink.new) (K.faults sink.new)) result }
-    ensures never_fall { NeverFall (world (S.counts shelf.old) (K.written sink.old) (K.faults sink.old)) (world (S.counts shelf.new) (K.written sink.new) (K.faults sink.new)) }
+        → Takes (IsTurn files session.old.config number (seen line.entry) session.old.store)
+        (world (S.counts shelf.old) (K.written sink.old) (K.faults sink.old))
+        (world (S.counts shelf.new) (K.written sink.new) (K.faults sink.new)) session.new.store
+        result }
+    ensures cause { IsCaused (world (S.counts shelf.old) (K.written sink.old) (K.faults sink.old))
+        (world (S.counts shelf.new) (K.written sink.new) (K.faults sink.new)) result }
+    ensures never_fall { NeverFall (world (S.counts shelf.old) (K.written sink.old)
+        (K.faults sink.old)) (world (S.counts shelf.new) (K.written sink.new) (K.faults sink.new)) }
     ensures files { S.files shelf.new ≡ S.files shelf.old }
     ensures config { session.new.config ≡ session.old.config }
     ensures opens { (files : Files) → S.files shelf.old ≡ Some files → IsPlain (seen line.entry)
@@ -348,9 +375,14 @@ fn take_line<L, S: Shelf, K: Sink>(
     reads: &mut Reads<L>,
 ) -> Result<bool, Stopped>
     ensures turn { (files : Files) → S.files shelf.old ≡ Some files
-        → Takes (IsTurn files session.old.config number (said session.old.config.window line.now) session.old.store) (world (S.counts shelf.old) (K.written sink.old) (K.faults sink.old)) (world (S.counts shelf.new) (K.written sink.new) (K.faults sink.new)) session.new.store result }
-    ensures cause { IsCaused (world (S.counts shelf.old) (K.written sink.old) (K.faults sink.old)) (world (S.counts shelf.new) (K.written sink.new) (K.faults sink.new)) result }
-    ensures never_fall { NeverFall (world (S.counts shelf.old) (K.written sink.old) (K.faults sink.old)) (world (S.counts shelf.new) (K.written sink.new) (K.faults sink.new)) }
+        → Takes (IsTurn files session.old.config number (said session.old.config.window line.now)
+        session.old.store) (world (S.counts shelf.old) (K.written sink.old) (K.faults sink.old))
+        (world (S.counts shelf.new) (K.written sink.new) (K.faults sink.new)) session.new.store
+        result }
+    ensures cause { IsCaused (world (S.counts shelf.old) (K.written sink.old) (K.faults sink.old))
+        (world (S.counts shelf.new) (K.written sink.new) (K.faults sink.new)) result }
+    ensures never_fall { NeverFall (world (S.counts shelf.old) (K.written sink.old)
+        (K.faults sink.old)) (world (S.counts shelf.new) (K.written sink.new) (K.faults sink.new)) }
     ensures files { S.files shelf.new ≡ S.files shelf.old }
     ensures config { session.new.config ≡ session.old.config }
     ensures opens { (files : Files) → S.files shelf.old ≡ Some files
@@ -376,9 +408,13 @@ pub fn run_script<L, S: Shelf, K: Sink>(
 ) -> Result<bool, Stopped>
     requires { length script.now < 2 ^ 32 }
     ensures transcript { (files : Files) → S.files shelf.old ≡ Some files
-        → TellsAll files session.old.config (lines_of script.now) session.old.store session.new.store (world (S.counts shelf.old) (K.written sink.old) (K.faults sink.old)) (world (S.counts shelf.new) (K.written sink.new) (K.faults sink.new)) result }
-    ensures cause { IsCaused (world (S.counts shelf.old) (K.written sink.old) (K.faults sink.old)) (world (S.counts shelf.new) (K.written sink.new) (K.faults sink.new)) result }
-    ensures never_fall { NeverFall (world (S.counts shelf.old) (K.written sink.old) (K.faults sink.old)) (world (S.counts shelf.new) (K.written sink.new) (K.faults sink.new)) }
+        → TellsAll files session.old.config (lines_of script.now) session.old.store
+        session.new.store (world (S.counts shelf.old) (K.written sink.old) (K.faults sink.old))
+        (world (S.counts shelf.new) (K.written sink.new) (K.faults sink.new)) result }
+    ensures cause { IsCaused (world (S.counts shelf.old) (K.written sink.old) (K.faults sink.old))
+        (world (S.counts shelf.new) (K.written sink.new) (K.faults sink.new)) result }
+    ensures never_fall { NeverFall (world (S.counts shelf.old) (K.written sink.old)
+        (K.faults sink.old)) (world (S.counts shelf.new) (K.written sink.new) (K.faults sink.new)) }
     ensures opens { (files : Files) → S.files shelf.old ≡ Some files
         → ArePlain session.old.config.window (lines_of script.now)
         → OnOk result (AreCounted (ScriptTally files session.old.config (lines_of script.now)

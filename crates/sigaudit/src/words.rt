@@ -7,7 +7,8 @@ use std::marker::Model;
 
 // The program's own name, and these words after it.
 fn named(alloc: Global, words: &[String]) -> Result<Vec<&str>, NoMemory>
-    ensures { IfOk result (λ v. map (λ w. w.now) v.items ≡ codes "sigaudit" ∷ map string_bytes words.now) }
+    ensures { IfOk result (λ v. map (λ w. w.now) v.items
+        ≡ codes "sigaudit" ∷ map string_bytes words.now) }
 {
     let mut all: Vec<&str> = Vec::new(alloc);
     all.push("sigaudit")?;

@@ -31,7 +31,9 @@ pub fn aheads_before(
     requires rows { IfSome rows (λ s. AreRowsOf hour s.now) }
     requires shape { AreAheadsOf specs.now after.now }
     ensures shape { IfOk result (λ a. AreAheadsOf specs.now a) }
-    ensures aheads { IfOk result (λ a. (s : Store) → HasHour s hour (option_copied rows.entry) blanked.now → AreAheadsAt (log_of specs.now s) (hour + 1) after.now → AreAheadsAt (log_of specs.now s) hour a) }
+    ensures aheads { IfOk result (λ a. (s : Store) → HasHour s hour (option_copied rows.entry)
+        blanked.now → AreAheadsAt (log_of specs.now s) (hour + 1) after.now
+        → AreAheadsAt (log_of specs.now s) hour a) }
 {
     let cut = stretches(alloc, hour, rows.is_some(), blanked)?;
     aheads_hour(alloc, specs, after, held_rows(rows), &cut)

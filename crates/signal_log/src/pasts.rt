@@ -35,8 +35,12 @@ pub fn pasts_after(
     requires shape { AreBefore specs.now before.now }
     requires early { AllEarly (first_tenth hour) before.now }
     ensures shape { IfOk result (λ p. AreBefore specs.now p × AllEarly (end_tenth hour) p) }
-    ensures pasts { IfOk result (λ p. (s : Store) → HasHour s hour (option_copied rows.entry) blanked.now → ArePastsAt (log_of specs.now s) hour before.now → ArePastsAt (log_of specs.now s) (hour + 1) p) }
-    ensures stop { IfErr result (λ e. (s : Store) → HasHour s hour (option_copied rows.entry) blanked.now → ArePastsAt (log_of specs.now s) hour before.now → NamesContradiction (log_of specs.now s) e) }
+    ensures pasts { IfOk result (λ p. (s : Store) → HasHour s hour (option_copied rows.entry)
+        blanked.now → ArePastsAt (log_of specs.now s) hour before.now
+        → ArePastsAt (log_of specs.now s) (hour + 1) p) }
+    ensures stop { IfErr result (λ e. (s : Store) → HasHour s hour (option_copied rows.entry)
+        blanked.now → ArePastsAt (log_of specs.now s) hour before.now
+        → NamesContradiction (log_of specs.now s) e) }
     ensures over { IfOk result (ArePastsOver specs.now hour (option_copied rows.entry) blanked.now
         before.now) }
     ensures stop_over { IfErr result (NamesStopOver specs.now hour (option_copied rows.entry)

@@ -70,7 +70,8 @@ fn cover(a: Span, b: Span) -> Span
 // Puts the range in place of those at `first` that it stands for.
 fn put_in_place(spans: &mut Vec<Span>, first: usize, joint: Joint) -> Result<(), NoMemory>
     requires { first + joint.count ≤ vec_len spans.old }
-    ensures ok { OnOk result (spans.new.items ≡ take first spans.old.items ++ joint.range ∷ drop (first + joint.count) spans.old.items) }
+    ensures ok { OnOk result (spans.new.items ≡ take first spans.old.items ++ joint.range
+        ∷ drop (first + joint.count) spans.old.items) }
     ensures err { OnErr result (spans.new.items ≡ spans.old.items) }
 {
     if joint.count == 0 {
@@ -126,7 +127,8 @@ fn keep_before(
     requires order { first ≤ last }
     requires within { last ≤ vec_len spans.old }
     ensures order { IfOk result (λ p. (p.first ≤ p.last) × (p.last ≤ vec_len spans.new)) }
-    ensures kept { IfOk result (λ p. take p.first spans.new.items ≡ take first spans.old.items ++ part_before from (drop first spans.old.items)) }
+    ensures kept { IfOk result (λ p. take p.first spans.new.items ≡ take first spans.old.items
+        ++ part_before from (drop first spans.old.items)) }
     ensures rest { IfOk result (λ p. drop p.last spans.new.items ≡ drop last spans.old.items) }
     ensures err { OnErr result (spans.new.items ≡ spans.old.items) }
 {
@@ -180,7 +182,8 @@ pub fn cut_from(spans: &mut Vec<Span>, from: Tenth)
 // Keeps the ranges before the place, and what the one there has before the tenth.
 fn trim(spans: &mut Vec<Span>, kept: usize, from: Tenth)
     requires { kept ≤ vec_len spans.old }
-    ensures { spans.new.items ≡ take kept spans.old.items ++ part_before from (drop kept spans.old.items) }
+    ensures { spans.new.items ≡ take kept spans.old.items
+        ++ part_before from (drop kept spans.old.items) }
 {
     if kept == spans.len() {
         return;

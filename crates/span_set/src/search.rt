@@ -15,7 +15,8 @@ pub fn are_equal(a: &[Span], b: &[Span]) -> bool
 
 pub fn least_in(spans: &[Span]) -> Option<Tenth>
     requires { AreRanges spans.now }
-    ensures { MatchOption result ((e : ℤ) → Member spans.now e → ⊥) (λ m. Member spans.now m × ((e : ℤ) → Member spans.now e → m ≤ℤ e)) }
+    ensures { MatchOption result ((e : ℤ) → Member spans.now e → ⊥) (λ m. Member spans.now m
+        × ((e : ℤ) → Member spans.now e → m ≤ℤ e)) }
 {
     match spans {
         [] => None,
@@ -60,7 +61,8 @@ pub fn begins_below(spans: &[Span], limit: Tenth) -> bool
 pub fn ended_by(spans: &[Span], at: Tenth) -> usize
     ensures within { result ≤ length spans.now }
     ensures ended { AllEnd at (take result spans.now) }
-    ensures next { result < length spans.now → (d : Span) → at <ℤ (slice_index_or spans.now result d).to }
+    ensures next { result < length spans.now → (d : Span)
+        → at <ℤ (slice_index_or spans.now result d).to }
 {
     for (i, s) in spans.iter().enumerate() {
         if at < s.to {
@@ -91,7 +93,8 @@ fn is_by(a: Tenth, b: Tenth) -> bool
 pub fn begins_by(spans: &[Span], at: usize, tenth: Tenth) -> bool
     ensures within { IsTrue result → at < length spans.now }
     ensures yes { IsTrue result → (d : Span) → (slice_index_or spans.now at d).from ≤ℤ tenth }
-    ensures no { IsFalse result → at < length spans.now → (d : Span) → tenth <ℤ (slice_index_or spans.now at d).from }
+    ensures no { IsFalse result → at < length spans.now → (d : Span)
+        → tenth <ℤ (slice_index_or spans.now at d).from }
 {
     if at < spans.len() {
         return spans[at].from <= tenth;

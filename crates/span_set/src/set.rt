@@ -63,7 +63,8 @@ impl SpanSet {
         requires low { negsuc (2 ^ 40) <ℤ from }
         requires some { from <ℤ to }
         requires high { to ≤ℤ pos (2 ^ 40) }
-        ensures ok { OnOk result ((e : ℤ) → Member self.new e ↔ (Member self.old e ⊎ Within (span from to) e)) }
+        ensures ok { OnOk result ((e : ℤ) → Member self.new e
+            ↔ (Member self.old e ⊎ Within (span from to) e)) }
         ensures err { OnErr result (self.new ≡ self.old) }
     {
         change::add(&mut self.spans, from, to)
@@ -74,7 +75,8 @@ impl SpanSet {
     #[tactic(auto, using(crate::proofs::Cutting::cut_above, crate::proofs::Cutting::cut_members))]
     pub fn remove(&mut self, from: Tenth, to: Tenth) -> Result<(), NoMemory>
         requires { from <ℤ to }
-        ensures ok { OnOk result ((e : ℤ) → Member self.new e ↔ (Member self.old e × (Within (span from to) e → ⊥))) }
+        ensures ok { OnOk result ((e : ℤ) → Member self.new e
+            ↔ (Member self.old e × (Within (span from to) e → ⊥))) }
         ensures err { OnErr result (self.new ≡ self.old) }
     {
         change::remove(&mut self.spans, from, to)
@@ -98,7 +100,8 @@ impl SpanSet {
 
     /// The least member.
     pub fn least(&self) -> Option<Tenth>
-        ensures { MatchOption result ((e : ℤ) → Member self.now e → ⊥) (λ m. Member self.now m × ((e : ℤ) → Member self.now e → m ≤ℤ e)) }
+        ensures { MatchOption result ((e : ℤ) → Member self.now e → ⊥) (λ m. Member self.now m
+            × ((e : ℤ) → Member self.now e → m ≤ℤ e)) }
     {
         search::least_in(&self.spans)
     }
@@ -122,7 +125,8 @@ impl SpanSet {
     #[tactic(auto, using(crate::proofs::Cutting::keep_above, crate::proofs::Cutting::keep_members))]
     pub fn cut_from(&mut self, from: Tenth)
         ensures members { (e : ℤ) → Member self.new e ↔ (Member self.old e × (e <ℤ from)) }
-        ensures only { (ss : List Span) → AreRanges ss → ((e : ℤ) → Member ss e ↔ (Member self.old e × (e <ℤ from))) → self.new ≡ ss }
+        ensures only { (ss : List Span) → AreRanges ss → ((e : ℤ) → Member ss e
+            ↔ (Member self.old e × (e <ℤ from))) → self.new ≡ ss }
     {
         change::cut_from(&mut self.spans, from);
     }
@@ -138,7 +142,8 @@ impl SpanSet {
     pub fn clamp_below(&mut self, limit: Tenth)
         requires low { negsuc (2 ^ 40) <ℤ limit }
         requires high { limit ≤ℤ pos (2 ^ 40) }
-        ensures { (e : ℤ) → Member self.new e ↔ ((Member self.old e × (limit ≤ℤ e)) ⊎ ((e ≡ limit) × ((x : ℤ) × Member self.old x × (x <ℤ limit)))) }
+        ensures { (e : ℤ) → Member self.new e ↔ ((Member self.old e × (limit ≤ℤ e))
+            ⊎ ((e ≡ limit) × ((x : ℤ) × Member self.old x × (x <ℤ limit)))) }
     {
         if search::begins_below(&self.spans, limit) {
             change::clamp(&mut self.spans, limit);

@@ -70,7 +70,8 @@ impl SplitSums {
 
 // Adds to the numbers of this phase.
 fn note(sums: &mut [PhaseSum], phase: u8, more: &PhaseSum)
-    ensures { sums.new ≡ slice_set sums.old phase (added (slice_index_or sums.old phase zero_sum) more.now) }
+    ensures { sums.new ≡ slice_set sums.old phase (added (slice_index_or sums.old phase zero_sum)
+        more.now) }
 {
     let place = usize::from(phase);
     if place < sums.len() {
@@ -79,8 +80,10 @@ fn note(sums: &mut [PhaseSum], phase: u8, more: &PhaseSum)
 }
 
 fn add_services(sums: &mut [PhaseSum], services: &[Service])
-    requires empty { AreSums (λ s. s.phase) (λ p ss. phase_sum_of ss []) (length sums.old) [] sums.old }
-    ensures { AreSums (λ s. s.phase) (λ p ss. phase_sum_of ss []) (length sums.old) services.now sums.new }
+    requires empty { AreSums (λ s. s.phase) (λ p ss. phase_sum_of ss []) (length sums.old) []
+        sums.old }
+    ensures { AreSums (λ s. s.phase) (λ p ss. phase_sum_of ss []) (length sums.old) services.now
+        sums.new }
 {
     for service in services {
         note(sums, service.phase, &of_service(service));
@@ -88,8 +91,10 @@ fn add_services(sums: &mut [PhaseSum], services: &[Service])
 }
 
 fn add_cycles(sums: &mut [PhaseSum], services: &[Service], cycles: &[Cycle])
-    requires services { AreSums (λ s. s.phase) (λ p ss. phase_sum_of ss []) (length sums.old) services.now sums.old }
-    ensures { AreSums (λ c. c.phase) (λ p cs. phase_sum_of (services_of p services.now) cs) (length sums.old) cycles.now sums.new }
+    requires services { AreSums (λ s. s.phase) (λ p ss. phase_sum_of ss []) (length sums.old)
+        services.now sums.old }
+    ensures { AreSums (λ c. c.phase) (λ p cs. phase_sum_of (services_of p services.now) cs)
+        (length sums.old) cycles.now sums.new }
 {
     for cycle in cycles {
         note(sums, cycle.phase, &of_cycle(cycle));
@@ -108,7 +113,8 @@ fn of_phases(
     phases: &[PhaseItem],
     table: &[PhaseSum; 17],
 ) -> Result<Vec<PhaseSum>, NoMemory>
-    ensures { IfOk result (λ v. v.items ≡ by_number (has_phase phases.now) (λ p. slice_index_or table.now p zero_sum) 17) }
+    ensures { IfOk result (λ v. v.items ≡ by_number (has_phase phases.now)
+        (λ p. slice_index_or table.now p zero_sum) 17) }
 {
     let mut sums = Vec::new(alloc);
     for number in 0..17u8 {
@@ -120,7 +126,8 @@ fn of_phases(
 }
 
 fn table_of(services: &[Service], cycles: &[Cycle]) -> [PhaseSum; 17]
-    ensures { AreSums (λ c. c.phase) (λ p cs. phase_sum_of (services_of p services.now) cs) 17 cycles.now result }
+    ensures { AreSums (λ c. c.phase) (λ p cs. phase_sum_of (services_of p services.now) cs) 17
+        cycles.now result }
 {
     let mut table = [nothing(); 17];
     add_services(&mut table, services);

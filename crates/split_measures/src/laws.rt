@@ -9,7 +9,8 @@ ghost use Rattle.split_measures.specs.Verdicts.{NumbersTell, VerdictsTell};
 /// The numbers of two parts of a log, one after the other, add up to those of the whole.
 pub fn numbers_add_up()
     ensures { (p : ℕ) (ss later_ss : List Service) (cs later_cs : List Cycle)
-        → phase_sum (ss ++ later_ss) (cs ++ later_cs) p ≡ added (phase_sum ss cs p) (phase_sum later_ss later_cs p) }
+        → phase_sum (ss ++ later_ss) (cs ++ later_cs) p
+        ≡ added (phase_sum ss cs p) (phase_sum later_ss later_cs p) }
 {}
 
 /// Law: the four numbers of a service's windows tell whether it fails in all histories that agree,

@@ -21,7 +21,8 @@ pub enum Asked {
 fn has_in_all(view: &HourView, spec: u16, at: u32, colour: u8) -> bool
     requires spec { spec < length view.now.specs }
     requires colour { colour < 16 }
-    ensures { known_at view.now.stretches at ≡ true → IsTrue result ↔ AllHave (MayPass view.now at spec) colour }
+    ensures { known_at view.now.stretches at ≡ true → IsTrue result
+        ↔ AllHave (MayPass view.now at spec) colour }
 {
     let test = Test {
         colours: Mask::none().with(colour),
@@ -36,7 +37,8 @@ fn has_in_all(view: &HourView, spec: u16, at: u32, colour: u8) -> bool
 fn is_open(view: &HourView, spec: u16, at: u32, colours: u8) -> bool
     requires spec { spec < length view.now.specs }
     requires colours { colours ≤ 16 }
-    ensures { known_at view.now.stretches at ≡ true → IsTrue result ↔ ((c : ℕ) → c < colours → AllHave (MayPass view.now at spec) c → ⊥) }
+    ensures { known_at view.now.stretches at ≡ true → IsTrue result
+        ↔ ((c : ℕ) → c < colours → AllHave (MayPass view.now at spec) c → ⊥) }
 {
     for colour in 0..colours {
         if has_in_all(view, spec, at, colour) {
@@ -50,7 +52,8 @@ fn is_open(view: &HourView, spec: u16, at: u32, colours: u8) -> bool
 pub(crate) fn holds(view: &HourView, spec: u16, at: u32, asked: Asked) -> bool
     requires spec { spec < length view.now.specs }
     requires asked { IsAsked asked }
-    ensures { known_at view.now.stretches at ≡ true → IsTrue result ↔ Meets asked (MayPass view.now at spec) }
+    ensures { known_at view.now.stretches at ≡ true → IsTrue result
+        ↔ Meets asked (MayPass view.now at spec) }
 {
     match asked {
         Asked::Colour(colour) => has_in_all(view, spec, at, colour),

@@ -40,7 +40,8 @@ fn end_of(one: Move) -> u32
 fn range(view: &HourView, spec: u16, asked: Asked, at: u32, to: u32) -> u32
     requires spec { spec < length view.now.specs }
     requires asked { IsAsked asked }
-    ensures { first_tenth view.now.hour ≤ at → at ≤ to → to ≤ first_tenth view.now.hour + 36000 → IsQuietIn view.now spec at to → Counts (MeetsAt view.now spec asked) at to result }
+    ensures { first_tenth view.now.hour ≤ at → at ≤ to → to ≤ first_tenth view.now.hour + 36000
+        → IsQuietIn view.now spec at to → Counts (MeetsAt view.now spec asked) at to result }
 {
     if at >= to {
         return 0;
@@ -55,7 +56,8 @@ fn range(view: &HourView, spec: u16, asked: Asked, at: u32, to: u32) -> u32
 pub fn tenths_of(view: &HourView, spec: u16, asked: Asked, from: u32) -> u32
     requires spec { spec < length view.now.specs }
     requires asked { IsAsked asked }
-    ensures { from ≡ first_tenth view.now.hour → IsCount (MeetsAt view.now spec asked) from 36000 result }
+    ensures { from ≡ first_tenth view.now.hour → IsCount (MeetsAt view.now spec asked) from 36000
+        result }
 {
     let mut count: u32 = 0;
     let mut at = from;

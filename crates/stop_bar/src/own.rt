@@ -76,8 +76,8 @@ fn no_rows(alloc: Global) -> Result<Vec<OwnRows>, NoMemory>
 fn add_row(table: &mut [OwnRows], row: &Row) -> Result<(), NoMemory>
     requires { length table.old ≡ 256 }
     ensures size { OnOk result (length table.new ≡ 256) }
-    ensures rows { OnOk result ((n : ℕ) → n < 256
-        → slice_index_or table.new n [] ≡ slice_index_or table.old n [] ++ own_of n (row.now ∷ [])) }
+    ensures rows { OnOk result ((n : ℕ) → n < 256 → slice_index_or table.new n []
+        ≡ slice_index_or table.old n [] ++ own_of n (row.now ∷ [])) }
 {
     match number_of(row) {
         Some(number) => {

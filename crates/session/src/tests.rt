@@ -1,4 +1,6 @@
 mod configured;
+mod many_hours;
+mod pairs;
 
 use crate::blanks::reaches_out;
 use crate::{Edit, Session};

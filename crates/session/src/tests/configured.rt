@@ -16,6 +16,10 @@ const WITH_PHASE: &str =
 const WITH_INTERVAL: &str =
     "signal = \"7\"\nstart = \"2024-03-04T06\"\nhours = 2\n\n[[phase]]\nnumber = 2\nring = 1\nside = 1\n\n[[interval]]\nchannel = \"phase 2\"\ncolour = \"Green\"\nat_least = 150\n";
 
+// 700 hours with phase 2.
+const MANY: &str =
+    "signal = \"7\"\nstart = \"2024-03-04T06\"\nhours = 700\n\n[[phase]]\nnumber = 2\nring = 1\nside = 1\n";
+
 fn read(alloc: Global, text: &str) -> Result<Config, Fail> {
     Ok(read_config(alloc, text.as_bytes())?)
 }
@@ -34,4 +38,8 @@ pub fn one_phase(alloc: Global) -> Result<Config, Fail> {
 
 pub fn one_interval(alloc: Global) -> Result<Config, Fail> {
     read(alloc, WITH_INTERVAL)
+}
+
+pub fn many_hours(alloc: Global) -> Result<Config, Fail> {
+    read(alloc, MANY)
 }

@@ -1,4 +1,5 @@
 ghost use Rattle.std.specs.Prelude.{◌≡◌, pos};
+ghost use Rattle.lane.specs.declared.moves.Move.TheVariants.{Letter};
 ghost use Rattle.lane.specs.Ring.{ring, ring_laws};
 
 use crate::{Passage, passage_source};
@@ -59,28 +60,29 @@ fn is_red(state: Option<Entered>) -> bool {
     }
 }
 
+// Green is entered at the tenth, by the row.
+fn green_at(at: u32, row: u32) -> Move
+    ensures { result ≡ Letter at 1 row }
+{
+    Move::Letter {
+        at,
+        letter: GREEN,
+        row,
+    }
+}
+
 // Green is entered at 0 and at 30. So Yellow began in one of the first two gaps, at 14 at the
 // latest, and Red at 20 or 21.
 #[test]
 fn fills_the_gaps_around_a_place(rt: HostRuntime) -> Result<(), Fail> {
+    let alloc = rt.alloc();
     let left = [
-        Move::Letter {
-            at: 0,
-            letter: GREEN,
-            row: 0,
-        },
+        green_at(0, 0),
         Move::Gap { from: 10, to: 12 },
         Move::Gap { from: 14, to: 15 },
     ];
-    let right = [
-        Move::Gap { from: 20, to: 22 },
-        Move::Letter {
-            at: 30,
-            letter: GREEN,
-            row: 1,
-        },
-    ];
-    let before = Past::start(rt.alloc(), 3)?;
+    let right = [Move::Gap { from: 20, to: 22 }, green_at(30, 1)];
+    let before = Past::start(alloc, 3)?;
     let after = Ahead::end(3, 31);
     let passage = Passage {
         before: &before,
@@ -88,24 +90,10 @@ fn fills_the_gaps_around_a_place(rt: HostRuntime) -> Result<(), Fail> {
         right: right.as_slice(),
         after: &after,
     };
-    let mut fills = Vec::new(rt.alloc());
-    let none = passage_source(
-        rt.alloc(),
-        &Ring,
-        &passage,
-        &yellow_for(2),
-        true,
-        &mut fills,
-    )?;
+    let mut fills = Vec::new(alloc);
+    let none = passage_source(alloc, &Ring, &passage, &yellow_for(2), true, &mut fills)?;
     assert_eq!(rt; none, None);
-    let source = passage_source(
-        rt.alloc(),
-        &Ring,
-        &passage,
-        &yellow_for(3),
-        true,
-        &mut fills,
-    )?;
+    let source = passage_source(alloc, &Ring, &passage, &yellow_for(3), true, &mut fills)?;
     assert!(rt; is_red(source));
     let [red, yellow] = fills.as_slice() else {
         return Err(Fail::from("fills"));

@@ -24,8 +24,9 @@ use outside::{DiskShelf, OutSink};
 use run::run;
 use sig_base::Reads;
 use status::exit_code;
+use std::env;
+use std::io::{self, ErrorKind};
 use std::process::ExitCode;
-use std::{env, io};
 use words::Words;
 
 // The mark of the rows of this program.
@@ -41,8 +42,10 @@ enum Start {
 // The words of the command line. One that is no text makes them a faulty command line.
 fn words_of(rt: &HostRuntime) -> Start {
     let mut words = Words::new(rt.alloc());
-    let Ok(all) = env::args(rt) else {
-        return Start::Usage;
+    let all = match env::args(rt) {
+        Ok(all) => all,
+        Err(error) if error.kind() == ErrorKind::OutOfMemory => return Start::Memory,
+        Err(_) => return Start::Usage,
     };
     for word in all.skip(1) {
         if words.push(word.as_str()).is_err() {

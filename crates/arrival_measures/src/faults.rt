@@ -7,6 +7,7 @@ ghost use Rattle.hour_sweep.specs.Hours.{IsHour, point};
 ghost use Rattle.ring_config.specs.Settings.{Settings};
 ghost use Rattle.arrival_measures.specs.Crossing.{flags_of};
 ghost use Rattle.arrival_measures.specs.Faults.{begins_fault, is_own};
+ghost use Rattle.arrival_measures.specs.Passing.{others_pass};
 ghost use Rattle.arrival_measures.specs.Steps.{AreDetections, arrival_in, detected_by, fault_in, flag_after, flag_cleared};
 
 use gap_map::Stretch;
@@ -50,6 +51,14 @@ impl Track for Flag {
     ghost clear = { flag_cleared };
 
     ghost out_by = { detected_by };
+
+    ghost wants = { is_own };
+
+    ghost passes = { others_pass };
+
+    fn wants(code: u8) -> bool {
+        is_own(code)
+    }
 
     fn after(self, row: &Row) -> Flag {
         let fault = if is_own(row.code) {

@@ -1,11 +1,12 @@
 -- Tables of parts.
-use Rattle.std.proofs.Common.{◌≡◌, ◌≢◌, ℕ, zero, suc, ◌+◌, ◌<◌, Bool, true, false, cond, Some, None, map, get_or, set, refl, ap, sym, ◌∙◌, arith, inl, inr}
-use Rattle.std.specs.Prelude.{option_map}
+use Rattle.std.proofs.Common.{◌≡◌, ◌≢◌, ℕ, zero, suc, ◌+◌, ◌<◌, Bool, true, false, cond, List, Option, Some, None, ◌++◌, map, get_or, set, refl, ap, ap₂, sym, ◌∙◌, arith, inl, inr}
+use Rattle.std.specs.Prelude.{option_map, option_to_list}
 use Rattle.std.specs.List.{range_with_len}
-use Rattle.std.proofs.lemmas.List.{get_or-set_same, get_or-set_other, get_or_past, length-set}
+use Rattle.std.proofs.lemmas.List.{get_or-set_same, get_or-set_other, get_or_past, length-set, set-get_or, append-nil}
 use Rattle.std.proofs.lemmas.List.FromFn.{fill_by_all, length-map-range_with_len, get_or-map-range_with_len}
 use Rattle.std.proofs.lemmas.Bool.{cases_eq, cases_lt}
-use Rattle.hour_sweep.specs.Numbers.{numbered, table}
+use Rattle.sig_base.specs.declared.values.Row.{Row}
+use Rattle.hour_sweep.specs.Numbers.{PassesOver, Tracking, numbered, table, tracking_after, tracking_row}
 
 map_same : {A : Type 0} (f g : ℕ → A) (a n : ℕ) → ((p : ℕ) → f p ≡ g p) → map f (range_with_len a n) ≡ map g (range_with_len a n)
 map_same f g a zero h = refl
@@ -50,3 +51,19 @@ table_set has n p f g y h lt e same =
       | inl at ↦ rw at (get_or-set_same (table has n f) p (Some y) None (omega arith) ∙ ap (λ z. Some z) e ∙ ap (λ v. cond v (Some (g p)) None) (sym h))
       | inr ne ↦ get_or-set_other (table has n f) p k (Some y) None ne ∙ get_or-map-range_with_len (numbered has f) 0 n k k None kn (omega arith) ∙ ap (λ z. cond (has k) (Some z) None) (same k ne)
     ])
+
+-- a row that is passed over changes nothing of what is kept
+
+abbrev tracking : {A O : Type 0} → List (Option A) → List O → Tracking A O
+tracking ps os = record { parts = ps; outs = os }
+
+row_same : {A O : Type 0} (step : Row → A → A) (out_by : Row → A → Option O) (s : Tracking A O) (x : Row) (o : Option A) → get_or s.parts x.param None ≡ o → ((a : A) → (step x a ≡ a) × (out_by x a ≡ None)) → tracking_row step out_by s x o ≡ s
+row_same step out_by s x None e h = refl
+row_same step out_by s x (Some a) e h =
+    let (p, q) = h a in
+    let same = ap (λ y. set s.parts x.param y) (ap (λ b. Some b) p ∙ sym e) ∙ set-get_or s.parts x.param None in
+    let none = ap (λ y. s.outs ++ option_to_list y) q ∙ append-nil s.outs in
+    ap₂ tracking same none
+
+pub passed_over : {A O : Type 0} (wants : ℕ → Bool) (step : Row → A → A) (out_by : Row → A → Option O) (s : Tracking A O) (x : Row) → PassesOver wants step out_by → wants x.code ≡ false → tracking_after step out_by s x ≡ s
+passed_over wants step out_by s x h e = row_same step out_by s x (get_or s.parts x.param None) refl (λ a. h x a e)

@@ -13,6 +13,10 @@ abbrev pub tracking_row : {A O : Type 0} → (Row → A → A) → (Row → A �
 tracking_row step out_by s x None = s
 tracking_row step out_by s x (Some a) = record { parts = slice_set s.parts x.param (Some (step x a)); outs = s.outs ++ option_to_list (out_by x a) }
 
+-- rows of a code that isn't wanted change no part and give nothing
+abbrev pub PassesOver : {A O : Type 0} → (ℕ → Bool) → (Row → A → A) → (Row → A → Option O) → Type 0
+PassesOver {A = A} wants step out_by = (x : Row) (a : A) → wants x.code ≡ false → (step x a ≡ a) × (out_by x a ≡ None)
+
 -- a row reaches the part of its parameter
 abbrev pub tracking_after : {A O : Type 0} → (Row → A → A) → (Row → A → Option O) → Tracking A O → Row → Tracking A O
 tracking_after step out_by s x = tracking_row step out_by s x (slice_index_or s.parts x.param None)

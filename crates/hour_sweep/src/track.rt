@@ -1,8 +1,8 @@
 // Measures that keep a part for each of some numbers.
-ghost use Rattle.std.specs.Prelude.{◌≡◌, ◌<◌, Option, None, List, [], ◌++◌, map, length, option_map, option_to_list, slice_index_or, OnOk, OnSome, IfOk};
+ghost use Rattle.std.specs.Prelude.{◌≡◌, ◌<◌, ℕ, Bool, Option, None, List, [], ◌++◌, map, length, option_map, option_to_list, slice_index_or, OnOk, OnSome, IfOk};
 ghost use Rattle.sig_base.specs.declared.values.Row.{Row};
 ghost use Rattle.hour_sweep.specs.Passes.{swept};
-ghost use Rattle.hour_sweep.specs.Numbers.{tracking_after, tracking_cleared};
+ghost use Rattle.hour_sweep.specs.Numbers.{PassesOver, tracking_after, tracking_cleared};
 
 use crate::watch::{Watch, sweep};
 use gap_map::Stretch;
@@ -24,6 +24,16 @@ pub trait Track: Copy {
 
     /// What a row gives.
     ghost out_by: { Row → Self → Option Self.Out };
+
+    /// The event codes of the rows that concern the measure.
+    ghost wants: { ℕ → Bool };
+
+    /// The other rows change no part and give nothing.
+    ghost passes: { PassesOver wants step out_by };
+
+    /// Whether rows with this event code concern the measure.
+    fn wants(code: u8) -> bool
+        ensures { result ≡ wants code };
 
     /// The part after a row of its number.
     fn after(self, row: &Row) -> Self
@@ -111,6 +121,9 @@ impl<T: Track> Watch for Tracked<T, T::Out> {
     ghost cleared = { tracking_cleared T.clear };
 
     fn row(&mut self, row: &Row) -> Result<(), NoMemory> {
+        if !T::wants(row.code) {
+            return Ok(());
+        }
         let Some(part) = part_of(&self.parts, row.param) else {
             return Ok(());
         };

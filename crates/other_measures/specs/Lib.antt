@@ -6,3 +6,4 @@ pub mod Crossing
 pub mod Sums
 pub mod States
 pub mod Hours
+pub mod Passing

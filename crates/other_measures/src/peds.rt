@@ -1,5 +1,6 @@
 // Pedestrian signals, row by row.
 ghost use Rattle.std.specs.Prelude.{◌≡◌};
+ghost use Rattle.other_measures.specs.Passing.{is_ped_code, other_peds_pass};
 ghost use Rattle.other_measures.specs.Peds.{is_call, is_walk};
 ghost use Rattle.other_measures.specs.Steps.{delay_by, ped_after, ped_cleared};
 
@@ -43,6 +44,14 @@ impl Track for PedPart {
     ghost clear = { ped_cleared };
 
     ghost out_by = { delay_by };
+
+    ghost wants = { is_ped_code };
+
+    ghost passes = { other_peds_pass };
+
+    fn wants(code: u8) -> bool {
+        code == 21 || code == 45
+    }
 
     fn after(self, row: &Row) -> Self {
         PedPart {

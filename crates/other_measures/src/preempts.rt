@@ -1,5 +1,6 @@
 // Preempts, row by row.
 ghost use Rattle.std.specs.Prelude.{◌≡◌};
+ghost use Rattle.other_measures.specs.Passing.{is_preempt_code, other_preempts_pass};
 ghost use Rattle.other_measures.specs.Preempts.{delay_of, is_dwell, is_entry, is_exit, is_input};
 ghost use Rattle.other_measures.specs.Steps.{call_after, event_by, preempt_after, preempt_cleared};
 
@@ -89,6 +90,14 @@ impl Track for PreemptPart {
     ghost clear = { preempt_cleared };
 
     ghost out_by = { event_by };
+
+    ghost wants = { is_preempt_code };
+
+    ghost passes = { other_preempts_pass };
+
+    fn wants(code: u8) -> bool {
+        code == 102 || code == 105 || code == 107 || code == 111
+    }
 
     fn after(self, row: &Row) -> Self {
         let entry = is_entry(self.number, row);

@@ -5,3 +5,4 @@ pub mod Parts
 pub mod Cut
 pub mod Whole
 pub mod Steps
+pub mod Passing

@@ -1,5 +1,5 @@
 -- What a row says of a phase.
-use Rattle.std.specs.Prelude.{ℕ, ◌==◌, Bool, true, false, if◌then◌else◌, ◌||◌}
+use Rattle.std.specs.Prelude.{ℕ, nat_le, ◌==◌, Bool, true, false, if◌then◌else◌, ◌||◌}
 use Rattle.sig_base.specs.declared.values.Row.{Row}
 use Rattle.service_cut.specs.declared.signs.Sign.{Sign}
 use Rattle.service_cut.specs.declared.signs.Sign.TheVariants.{Begin, Change, Yellow, End, Cause, Other}
@@ -11,6 +11,10 @@ code_sign c = if c == 1 then Begin else (if c == 7 then Change else (if c == 8 t
 -- what the row says of phase p
 unfoldable pub sign : ℕ → Row → Sign
 sign p x = if x.param == p then code_sign x.code else Other
+
+-- the codes that say something of a phase are among these
+abbrev pub is_told_by : ℕ → Bool
+is_told_by c = nat_le c 10
 
 -- the row is of code 1; of code 7 or 8; of code 8; of code 9 or 10; of code 4, 5 or 6
 abbrev pub is_begin : Sign → Bool

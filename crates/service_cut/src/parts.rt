@@ -1,5 +1,7 @@
 // What is kept of one phase.
 ghost use Rattle.std.specs.Prelude.{◌≡◌};
+ghost use Rattle.service_cut.specs.Signs.{is_told_by};
+ghost use Rattle.service_cut.specs.Passing.{others_pass};
 ghost use Rattle.service_cut.specs.Steps.{part_after, part_cleared, cycle_over, ends_with, told_by};
 
 use crate::cycles::{CycleBegun, cycle_after, live_yellow_after, offset};
@@ -69,6 +71,14 @@ impl Track for Part {
     ghost clear = { part_cleared };
 
     ghost out_by = { told_by };
+
+    ghost wants = { is_told_by };
+
+    ghost passes = { others_pass };
+
+    fn wants(code: u8) -> bool {
+        code <= 10
+    }
 
     fn after(self, row: &Row) -> Self {
         let sign = sign_of(self.phase, row);

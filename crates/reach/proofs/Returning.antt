@@ -11,7 +11,7 @@ use Rattle.colour_machine.specs.Rules.{Rules}
 use Rattle.reach.specs.Runs.{State, state, Step, Steps, Run}
 use Rattle.reach.specs.Ahead.{NotLater, Admits}
 use Rattle.reach.specs.Latest.{entry_of, IsTable}
-use Rattle.reach.specs.Holes.{AreHoles, AreEarliest, OnlyIn}
+use Rattle.reach.specs.Holes.{AreFrom, AreHoles, AreEarliest, OnlyIn}
 use Rattle.reach.specs.declared.seen.Test.{Test}
 use Rattle.reach.specs.declared.seen.Seen.{Seen}
 use Rattle.reach.specs.SeenIn.{SeesOf, IsPossibleIn, Crosses, SeesCrossing}
@@ -204,6 +204,13 @@ best_in hs a b r which ha hb = elim which [ inl e ↦ subst (λ (o : Option ℤ)
 pub low_holes : (hs : List Span) (f t low : ℤ) (o : Option ℤ) → low ≤ℤ f → AreHoles f t hs → InHoles hs o → IfSome o (λ x. low ≤ℤ x)
 low_holes hs f t low None h are i = tt
 low_holes hs f t low (Some x) h are i = let a = (are.1 x i).0 in omega (arith, ints)
+
+pub low_from : (hs : List Span) (low : ℤ) (o : Option ℤ) → AreFrom low hs → InHoles hs o → IfSome o (λ x. low ≤ℤ x)
+low_from hs low None are i = tt
+low_from hs low (Some x) are i = are.1 x i
+
+pub holes_from : (hs : List Span) (f t low : ℤ) → low ≤ℤ f → AreHoles f t hs → AreFrom low hs
+holes_from hs f t low h are = (are.0, λ y i. let a = (are.1 y i).0 in omega (arith, ints))
 
 pub entries_none : (m : Rules) (latest last : List (Option ℤ)) (x : ℤ) → length latest ≡ 16 → AreEntriesAt m latest last x latest 0
 entries_none m latest last x size = (size, λ c lt. absurd (omega arith), λ c ge. refl)

@@ -8,3 +8,4 @@ pub mod Points
 pub mod Views
 pub mod Steps
 pub mod Chains
+pub mod Results

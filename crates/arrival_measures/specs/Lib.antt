@@ -9,3 +9,4 @@ pub mod Views
 pub mod Steps
 pub mod Chains
 pub mod Passing
+pub mod Results

@@ -1,13 +1,10 @@
 // What an hour gives of an approach by its advance detector: its arrivals and its cycles.
-ghost use Rattle.std.specs.Prelude.{◌≡◌, ◌≤◌, ◌<◌, ◌+◌, ◌++◌, ◌||◌, map, nat_lt, ℕ, Bool, List, [], length, IfOk, OnOk};
+ghost use Rattle.std.specs.Prelude.{◌≡◌, ◌≤◌, ◌<◌, ◌+◌, ◌++◌, map, ℕ, length, IfOk, OnOk};
 ghost use Rattle.sig_base.specs.declared.values.Row.{Row};
-ghost use Rattle.hour_sweep.specs.Rows.{known_rows};
 ghost use Rattle.hour_sweep.specs.Hours.{AreOrdered, point};
 ghost use Rattle.hour_sweep.specs.Passes.{front};
-ghost use Rattle.service_cut.specs.Cut.{IsCut};
-ghost use Rattle.ring_config.specs.Settings.{Settings};
-ghost use Rattle.arrival_measures.specs.Crossing.{crossing_of};
-ghost use Rattle.arrival_measures.specs.Steps.{AreSources, IsHourOf, IsOwnOf, due_of, merged, moved, row_on};
+ghost use Rattle.arrival_measures.specs.Results.{IsApproachHour};
+ghost use Rattle.arrival_measures.specs.Steps.{due_of, merged, moved, row_on};
 ghost use Rattle.arrival_measures.specs.Travel.{from_tenth};
 
 use crate::carry::{Crossing, Tenths};
@@ -140,13 +137,9 @@ fn detector_hour(
     cuts: &Cuts,
     sources: &Sources<'_>,
 ) -> Result<ApproachHour, NoMemory>
-    ensures { IfOk result (λ h. (known : ℕ → Bool) (c : Settings) (before rows : List Row)
-        (hour : ℕ)
-        → AreSources known c before rows hour sources.now
-        → IsCut known c.phases before hour rows cuts.now
-        → IsOwnOf c approach.now → approach.now.advance ≡ Some detector
-        → crossing.now ≡ crossing_of known (point hour) before approach.now
-        → IsHourOf known c before (known_rows known rows) hour approach.now h) }
+    requires { approach.now.advance ≡ Some detector }
+    ensures { IfOk result
+        (IsApproachHour sources.now cuts.now approach.now crossing.now) }
 {
     let phase = approach.phase;
     let end = sources.first.saturating_add(36_000);
@@ -185,12 +178,8 @@ pub(crate) fn approach_hour(
     cuts: &Cuts,
     sources: &Sources<'_>,
 ) -> Result<ApproachHour, NoMemory>
-    ensures { IfOk result (λ h. (known : ℕ → Bool) (c : Settings) (before rows : List Row)
-        (hour : ℕ)
-        → AreSources known c before rows hour sources.now
-        → IsCut known c.phases before hour rows cuts.now
-        → IsOwnOf c approach.now → crossing.now ≡ crossing_of known (point hour) before approach.now
-        → IsHourOf known c before (known_rows known rows) hour approach.now h) }
+    ensures { IfOk result
+        (IsApproachHour sources.now cuts.now approach.now crossing.now) }
 {
     match approach.advance {
         Some(detector) => detector_hour(alloc, approach, detector, crossing, cuts, sources),

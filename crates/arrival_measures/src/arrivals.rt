@@ -1,5 +1,5 @@
 // Arrivals of an hour by its view, as points of diagrams.
-ghost use Rattle.std.specs.Prelude.{◌≡◌, ◌↔◌, ◌<◌, List, length, slice_index_or, IsTrue, IfOk};
+ghost use Rattle.std.specs.Prelude.{◌≡◌, ◌↔◌, ◌<◌, ◌≤◌, ◌^◌, List, length, slice_index_or, IsTrue, IfOk};
 ghost use Rattle.sig_base.specs.declared.values.Row.{Row};
 ghost use Rattle.board.specs.Logs.{HourLog, no_row};
 ghost use Rattle.board.specs.Places.{IsViewOf};
@@ -96,8 +96,15 @@ fn is_arrival(
     may_work(config, view, index, row)
 }
 
-// The arrivals of the phase among the hour's rows. More than 4,294,967,295 rows count as want of
-// memory.
+// How many of the rows a u32 can number: in an hour all of them.
+fn numbered(rows: &[Row]) -> u32
+    ensures within { result ≤ length rows.now }
+    ensures all { length rows.now < 2 ^ 32 → result ≡ length rows.now }
+{
+    rows.len().min(4_294_967_295) as u32
+}
+
+// The arrivals of the phase among the hour's rows.
 fn arrivals_among(
     alloc: Global,
     config: &Config,
@@ -111,13 +118,11 @@ fn arrivals_among(
         → IsSeen config.now view.now rows.now stretches.now log
         → ArePicked (IsArrival config.now log phase) 0 rows.now v.items) }
 {
-    if rows.len() > 4_294_967_295 {
-        return Err(NoMemory);
-    }
     let mut arrivals = Vec::new(alloc);
-    for (i, row) in rows.iter().enumerate() {
-        if is_arrival(config, phase, view, stretches, i as u32, row) {
-            arrivals.push(*row)?;
+    for i in 0..numbered(rows) {
+        let row = rows[i as usize];
+        if is_arrival(config, phase, view, stretches, i, &row) {
+            arrivals.push(row)?;
         }
     }
     Ok(arrivals)

@@ -1,5 +1,5 @@
 // The rows of an hour in chains: those of a phase or of a detector, one after another.
-ghost use Rattle.std.specs.Prelude.{◌≡◌, ◌+◌, ◌<◌, ℕ, true, false, filter, length, slice_index_or, MatchOption, IfOk};
+ghost use Rattle.std.specs.Prelude.{◌≡◌, ◌+◌, ◌<◌, true, false, filter, length, slice_index_or, MatchOption, IfOk};
 ghost use Rattle.board.specs.Logs.{no_row};
 ghost use Rattle.arrival_measures.specs.declared.chains.Chain.{Chain};
 ghost use Rattle.arrival_measures.specs.Chains.{IsNext, IsOnlyIn, cell_of, is_in, number_of};
@@ -56,9 +56,9 @@ fn chain_of(row: &Row) -> Option<Chain>
 pub(crate) struct Chains<'a> {
     rows: &'a [Row],
     // The first place of each chain, by its cell.
-    heads: Vec<u32>,
+    heads: Vec<usize>,
     // For each row the next place of its chain; their number where there is none.
-    next: Vec<u32>,
+    next: Vec<usize>,
 }
 
 impl<'a> Model for Chains<'a> {
@@ -75,21 +75,18 @@ impl<'a> Model for Chains<'a> {
 }
 
 impl<'a> Chains<'a> {
-    /// The chains of the rows. More than 4,294,967,295 rows count as want of memory.
+    /// The chains of the rows.
     pub(crate) fn new(alloc: Global, rows: &'a [Row]) -> Result<Chains<'a>, NoMemory>
         ensures { IfOk result (λ c. c ≡ rows.now) }
     {
-        if rows.len() > 4_294_967_295 {
-            return Err(NoMemory);
-        }
-        let count = rows.len() as u32;
+        let count = rows.len();
         let mut heads = vec![in alloc; count; CELLS]?;
-        let mut next = vec![in alloc; count; rows.len()]?;
+        let mut next = vec![in alloc; count; count]?;
         for place in (0..rows.len()).rev() {
             if let Some(chain) = chain_of(&rows[place]) {
                 let cell = chain.cell();
                 next[place] = heads[cell];
-                heads[cell] = place as u32;
+                heads[cell] = place;
             }
         }
         Ok(Chains { rows, heads, next })
@@ -115,7 +112,7 @@ impl<'a> Chains<'a> {
         ensures next { IsNext (is_in chain) self.now 0 result }
         ensures number { number_of chain < 256 }
     {
-        self.heads[chain.cell()] as usize
+        self.heads[chain.cell()]
     }
 
     /// The next place of the chain that has the row with this place, or the number of rows where it
@@ -125,7 +122,7 @@ impl<'a> Chains<'a> {
         ensures { (c : Chain) → number_of c < 256 → is_in c (slice_index_or self.now place no_row)
             ≡ true → IsNext (is_in c) self.now (place + 1) result }
     {
-        self.next[place] as usize
+        self.next[place]
     }
 }
 

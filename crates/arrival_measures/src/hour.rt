@@ -1,16 +1,11 @@
 // The numbers of an hour.
-ghost use Rattle.std.specs.Prelude.{◌≡◌, map, ◌+◌, ◌++◌, ℕ, Bool, List, length, slice_index_or, IfOk, OnOk, OnErr, []};
+ghost use Rattle.std.specs.Prelude.{◌≡◌, ◌+◌, ℕ, List, length, slice_index_or, IfOk, OnOk, OnErr, []};
 ghost use Rattle.sig_base.specs.declared.values.Row.{Row};
 ghost use Rattle.hour_sums.specs.Numbers.{capped, merged};
-ghost use Rattle.hour_sweep.specs.Rows.{known_rows};
-ghost use Rattle.hour_sweep.specs.Hours.{AreOrdered, IsHour, point};
-ghost use Rattle.service_cut.specs.Cut.{IsCut};
-ghost use Rattle.board.specs.Logs.{HourLog};
-ghost use Rattle.board.specs.Verdicts.{MayPass};
-ghost use Rattle.arrival_measures.specs.Crossing.{IsCarry, crossing_of};
-ghost use Rattle.arrival_measures.specs.Hours.{AreAllJudged, HasJudged, HaveCycles, IsUnheld, added, cycle_part, is_last};
-ghost use Rattle.arrival_measures.specs.Steps.{AreDetections, AreGiven, AreSources, IsHourOf, IsOwnOf, numbers_in, rows_with, sum_of};
-ghost use Rattle.arrival_measures.specs.Views.{IsSeen};
+ghost use Rattle.hour_sweep.specs.Hours.{point};
+ghost use Rattle.arrival_measures.specs.Hours.{added, cycle_part, is_last};
+ghost use Rattle.arrival_measures.specs.Steps.{IsOwnOf, numbers_in, rows_with, sum_of};
+ghost use Rattle.arrival_measures.specs.Results.{AreChained, AreHourSums, AreNextCrossings, AreSeenSums, AreUnheldSums, AreUnseenSums, HaveGivenCycles, HaveHourCycles, IsCarriedOn, IsCarriedOver, IsSeenSum, IsUnseenSum};
 
 use crate::ahead::{ApproachHour, approach_hour, due_of};
 use crate::approach::{approach_of, phase_spec};
@@ -121,13 +116,8 @@ fn seen_sum(
 ) -> Result<ArrivalSum, NoMemory>
     requires view { length view.now.specs ≡ length config.now.specs }
     requires own { IsOwnOf config.now approach.now }
-    ensures judged { IfOk result (λ s. (known : ℕ → Bool) (before rows : List Row) (hour : ℕ)
-        (log : HourLog)
-        → AreSources known config.now before rows hour sources.now
-        → IsSeen config.now view.now rows sources.now.stretches.now log
-        → IsHourOf known config.now before (known_rows known rows) hour approach.now given.now
-        → HasJudged (λ i t v. MayPass log t i v) known config.now before
-        (known_rows known rows) hour approach.now s) }
+    ensures judged { IfOk result
+        (IsSeenSum config.now view.now sources.now approach.now given.now) }
     ensures cycles { IfOk result (λ s. cycle_part s ≡ numbers_in given.now.cycles) }
 {
     let spec = phase_spec(config, approach.phase);
@@ -155,10 +145,7 @@ fn unseen_sum(
     given: &ApproachHour,
 ) -> ArrivalSum
     requires own { IsOwnOf config.now approach.now }
-    ensures judged { (known : ℕ → Bool) (before : List Row) (hour : ℕ)
-        → AreSources known config.now before [] hour sources.now → IsUnheld known hour
-        → IsHourOf known config.now before [] hour approach.now given.now
-        → HasJudged (λ _ _ _. ⊥) known config.now before [] hour approach.now result }
+    ensures judged { IsUnseenSum config.now sources.now approach.now given.now result }
     ensures cycles { cycle_part result ≡ numbers_in given.now.cycles }
 {
     let _spec = phase_spec(config, approach.phase);
@@ -198,19 +185,12 @@ fn seen_numbers(
     sources: &Sources<'_>,
 ) -> Result<HourNumbers, NoMemory>
     requires view { length view.now.specs ≡ length config.now.specs }
-    ensures judged { IfOk result (λ n. (known : ℕ → Bool) (before rows : List Row) (hour : ℕ)
-        (log : HourLog)
-        → AreGiven known config.now before rows hour sources.now crossings.now cuts.now
-        → IsSeen config.now view.now rows sources.now.stretches.now log
-        → AreAllJudged (λ i t v. MayPass log t i v) known config.now before
-        (known_rows known rows) hour n.sums.items) }
-    ensures cycles { IfOk result (λ n. (known : ℕ → Bool) (before rows : List Row) (hour : ℕ)
-        → AreGiven known config.now before rows hour sources.now crossings.now cuts.now
-        → HaveCycles known config.now before (known_rows known rows) n.sums.items) }
-    ensures crossings { IfOk result (λ n. (known : ℕ → Bool) (before rows : List Row) (hour : ℕ)
-        → AreGiven known config.now before rows hour sources.now crossings.now cuts.now
-        → n.crossings.items ≡ map (crossing_of known (point (hour + 1))
-        (before ++ known_rows known rows)) config.now.approaches) }
+    ensures judged { IfOk result (λ n.
+        AreSeenSums config.now view.now sources.now crossings.now cuts.now n.sums.items) }
+    ensures cycles { IfOk result (λ n.
+        HaveGivenCycles config.now sources.now crossings.now cuts.now n.sums.items) }
+    ensures crossings { IfOk result (λ n.
+        AreNextCrossings config.now sources.now crossings.now cuts.now n.crossings.items) }
 {
     let none = Crossing::none(alloc);
     let mut sums = Vec::new(alloc);
@@ -236,17 +216,12 @@ fn unseen_numbers(
     cuts: &Cuts,
     sources: &Sources<'_>,
 ) -> Result<HourNumbers, NoMemory>
-    ensures judged { IfOk result (λ n. (known : ℕ → Bool) (before : List Row) (hour : ℕ)
-        → AreGiven known config.now before [] hour sources.now crossings.now cuts.now
-        → IsUnheld known hour
-        → AreAllJudged (λ _ _ _. ⊥) known config.now before [] hour n.sums.items) }
-    ensures cycles { IfOk result (λ n. (known : ℕ → Bool) (before rows : List Row) (hour : ℕ)
-        → AreGiven known config.now before rows hour sources.now crossings.now cuts.now
-        → HaveCycles known config.now before (known_rows known rows) n.sums.items) }
-    ensures crossings { IfOk result (λ n. (known : ℕ → Bool) (before rows : List Row) (hour : ℕ)
-        → AreGiven known config.now before rows hour sources.now crossings.now cuts.now
-        → n.crossings.items ≡ map (crossing_of known (point (hour + 1))
-        (before ++ known_rows known rows)) config.now.approaches) }
+    ensures judged { IfOk result (λ n.
+        AreUnseenSums config.now sources.now crossings.now cuts.now n.sums.items) }
+    ensures cycles { IfOk result (λ n.
+        HaveGivenCycles config.now sources.now crossings.now cuts.now n.sums.items) }
+    ensures crossings { IfOk result (λ n.
+        AreNextCrossings config.now sources.now crossings.now cuts.now n.crossings.items) }
 {
     let none = Crossing::none(alloc);
     let mut sums = Vec::new(alloc);
@@ -280,10 +255,7 @@ fn sources_of<'a>(
     stretches: &'a [Stretch],
 ) -> Result<Sources<'a>, NoMemory>
     ensures stretches { IfOk result (λ s. s.stretches.now ≡ stretches.now) }
-    ensures sources { IfOk result (λ s. (known : ℕ → Bool) (before : List Row) (hour : ℕ)
-        → IsHour known hour rows.now stretches.now → AreOrdered 0 (point hour) before
-        → AreDetections known config.now before (known_rows known rows.now) hour found.now
-        → AreSources known config.now before rows.now hour s) }
+    ensures sources { IfOk result (AreChained config.now found.now rows.now stretches.now) }
 {
     let first = first_of(stretches);
     Ok(Sources {
@@ -306,11 +278,8 @@ pub fn arrivals_carried(
     rows: &[Row],
     stretches: &[Stretch],
 ) -> Result<(), NoMemory>
-    ensures carry { OnOk result ((known : ℕ → Bool) (before : List Row) (hour : ℕ)
-        → IsHour known hour rows.now stretches.now
-        → IsCarry known config.now before hour carry.old
-        → IsCut known config.now.phases before hour rows.now cuts.now
-        → IsCarry known config.now (before ++ known_rows known rows.now) (hour + 1) carry.new) }
+    ensures carry { OnOk result
+        (IsCarriedOn config.now rows.now stretches.now cuts.now carry.old carry.new) }
     ensures err { OnErr result (carry.new ≡ carry.old) }
 {
     let found = detect(alloc, &carry.flags, rows, stretches)?;
@@ -336,24 +305,12 @@ pub fn arrivals_hour(
     stretches: &[Stretch],
 ) -> Result<ArrivalSums, NoMemory>
     requires view { length view.now.specs ≡ length config.now.specs }
-    ensures judged { IfOk result (λ sums. (known : ℕ → Bool) (before : List Row) (hour : ℕ)
-        (log : HourLog)
-        → IsHour known hour rows.now stretches.now
-        → IsCarry known config.now before hour carry.old
-        → IsCut known config.now.phases before hour rows.now cuts.now
-        → IsSeen config.now view.now rows.now stretches.now log
-        → AreAllJudged (λ i t v. MayPass log t i v) known config.now before
-        (known_rows known rows.now) hour sums) }
-    ensures cycles { IfOk result (λ sums. (known : ℕ → Bool) (before : List Row) (hour : ℕ)
-        → IsHour known hour rows.now stretches.now
-        → IsCarry known config.now before hour carry.old
-        → IsCut known config.now.phases before hour rows.now cuts.now
-        → HaveCycles known config.now before (known_rows known rows.now) sums) }
-    ensures carry { IfOk result (λ _. (known : ℕ → Bool) (before : List Row) (hour : ℕ)
-        → IsHour known hour rows.now stretches.now
-        → IsCarry known config.now before hour carry.old
-        → IsCut known config.now.phases before hour rows.now cuts.now
-        → IsCarry known config.now (before ++ known_rows known rows.now) (hour + 1) carry.new) }
+    ensures judged { IfOk result
+        (AreHourSums config.now view.now rows.now stretches.now carry.old cuts.now) }
+    ensures cycles { IfOk result
+        (HaveHourCycles config.now rows.now stretches.now carry.old cuts.now) }
+    ensures carry { IfOk result (λ _.
+        IsCarriedOn config.now rows.now stretches.now cuts.now carry.old carry.new) }
     ensures err { OnErr result (carry.new ≡ carry.old) }
 {
     let found = detect(alloc, &carry.flags, rows, stretches)?;
@@ -377,21 +334,10 @@ pub fn arrivals_unheld(
     cuts: &Cuts,
     stretches: &[Stretch],
 ) -> Result<ArrivalSums, NoMemory>
-    ensures judged { IfOk result (λ sums. (known : ℕ → Bool) (before : List Row) (hour : ℕ)
-        → IsHour known hour [] stretches.now → IsUnheld known hour
-        → IsCarry known config.now before hour carry.old
-        → IsCut known config.now.phases before hour [] cuts.now
-        → AreAllJudged (λ _ _ _. ⊥) known config.now before [] hour sums) }
-    ensures cycles { IfOk result (λ sums. (known : ℕ → Bool) (before : List Row) (hour : ℕ)
-        → IsHour known hour [] stretches.now
-        → IsCarry known config.now before hour carry.old
-        → IsCut known config.now.phases before hour [] cuts.now
-        → HaveCycles known config.now before [] sums) }
-    ensures carry { IfOk result (λ _. (known : ℕ → Bool) (before : List Row) (hour : ℕ)
-        → IsHour known hour [] stretches.now
-        → IsCarry known config.now before hour carry.old
-        → IsCut known config.now.phases before hour [] cuts.now
-        → IsCarry known config.now before (hour + 1) carry.new) }
+    ensures judged { IfOk result (AreUnheldSums config.now stretches.now carry.old cuts.now) }
+    ensures cycles { IfOk result (HaveHourCycles config.now [] stretches.now carry.old cuts.now) }
+    ensures carry { IfOk result (λ _.
+        IsCarriedOver config.now stretches.now cuts.now carry.old carry.new) }
     ensures err { OnErr result (carry.new ≡ carry.old) }
 {
     let found = detect(alloc, &carry.flags, &[], stretches)?;

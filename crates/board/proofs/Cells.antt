@@ -11,7 +11,7 @@ use Rattle.board.specs.Logs.{no_spec}
 use Rattle.board.specs.SpecPlaces.{cell_of, AreCells, IsPlaceOf}
 use Rattle.board.proofs.Tracks.{kind_same, channel_same}
 
-few_kinds : (k : Kind) → kind_number k < 8
+pub few_kinds : (k : Kind) → kind_number k < 8
 few_kinds Phase = omega arith
 few_kinds Ped = omega arith
 few_kinds Overlap = omega arith
@@ -21,7 +21,7 @@ few_kinds PreemptInput = omega arith
 few_kinds PreemptService = omega arith
 few_kinds Coordination = omega arith
 
-cell_once : (c d : Channel) → cell_of c ≡ cell_of d → c ≡ d
+pub cell_once : (c d : Channel) → cell_of c ≡ cell_of d → c ≡ d
 cell_once c d e =
     let few = few_kinds c.kind in
     let few2 = few_kinds d.kind in

@@ -19,4 +19,5 @@ pub mod Alike
 pub mod Upto
 pub mod Cases
 pub mod Cells
+pub mod Few
 pub mod Suiting

@@ -1,5 +1,5 @@
 -- The first row after which a channel has no state.
-use Rattle.std.specs.Prelude.{◌≡◌, ◌⊎◌, ℕ, ◌<◌, ◌≤◌, ◌↔◌, min, Option, Some, None, List, [], length, slice_index_or}
+use Rattle.std.specs.Prelude.{◌≡◌, ◌⊎◌, ℕ, ◌<◌, ◌≤◌, ◌↔◌, min, Option, Some, None, MatchOption, List, [], length, slice_index_or}
 use Rattle.colour_machine.specs.Rules.{Rules}
 use Rattle.span_set.specs.declared.set.Span.{Span}
 use Rattle.reach.specs.Runs.{State}
@@ -30,6 +30,10 @@ IsEarlier (Some x) (Some y) r = r ≡ Some (min x y)
 -- the moves lead to some state
 abbrev pub Survives : Rules → List (List Span) → List Move → Type 0
 Survives m sets xs = (u : State) × AfterMoves m sets xs u
+
+-- the new sets have the states after the moves, and some, or the row after which none is left
+abbrev pub IsWalked : Rules → List (List Span) → List Move → List (List Span) → Option ℕ → Type 0
+IsWalked m old xs new r = MatchOption r (((u : State) → Holds new u ↔ AfterMoves m old xs u) × Survives m old xs) (λ n. StopRow m old xs n)
 
 -- the rules, the moves and the states before the hour of the channel with this place
 abbrev pub rules_at : List Spec → ℕ → Spec → Rules

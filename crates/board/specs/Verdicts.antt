@@ -56,6 +56,10 @@ SomeIn A c = (z : State) × A c.spec z × Has c.colours z.colour
 abbrev pub SomeNot : (ℕ → State → Type 0) → Term → Type 0
 SomeNot A c = (z : State) × A c.spec z × (Has c.colours z.colour → ⊥)
 
+-- whether there is one in them, and whether there is one outside
+abbrev pub SeesTerm : (ℕ → State → Type 0) → Term → Seen → Type 0
+SeesTerm A c seen = (IsTrue seen.some_true ↔ SomeIn A c) × (IsTrue seen.some_false ↔ SomeNot A c)
+
 -- for each term some state that its channel may have is outside its colours
 abbrev pub FailEach : (ℕ → State → Type 0) → List Term → Type 0
 FailEach A [] = Unit {0}

@@ -3,7 +3,7 @@ ghost use Rattle.std.specs.Prelude.{◌≡◌, ◌↔◌, ◌⊎◌, ℕ, ℤ, p
 ghost use Rattle.reach.specs.Runs.{State};
 ghost use Rattle.gap_map.specs.Stretches.{known_at};
 ghost use Rattle.board.specs.declared.clause.Term.{Term};
-ghost use Rattle.board.specs.Verdicts.{AreApart, AreClause, AreWithin, HasSpec, IsVerdict, Keeps, PassStates, MayPass, SomeIn, SomeNot};
+ghost use Rattle.board.specs.Verdicts.{AreApart, AreClause, AreWithin, HasSpec, IsVerdict, Keeps, PassStates, MayPass, SeesTerm};
 
 use crate::view::HourView;
 use colour_machine::Mask;
@@ -107,9 +107,7 @@ pub fn clause_verdict(view: &HourView, at: u32, clause: &Clause) -> Verdict
 // What the runs of the term's channel say of it at the end of the tenth.
 fn term_seen(view: &HourView, at: u32, term: Term) -> Seen
     requires spec { term.spec < length view.now.specs }
-    ensures { known_at view.now.stretches at ≡ true → (IsTrue result.some_true
-        ↔ SomeIn (MayPass view.now at) term) × (IsTrue result.some_false
-        ↔ SomeNot (MayPass view.now at) term) }
+    ensures { known_at view.now.stretches at ≡ true → SeesTerm (MayPass view.now at) term result }
 {
     let test = Test {
         colours: term.colours,

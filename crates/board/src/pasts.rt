@@ -9,7 +9,7 @@ ghost use Rattle.gap_map.specs.Stretches.{FollowOn};
 ghost use Rattle.board.specs.declared.pasts.PastsError.TheVariants.{Memory};
 ghost use Rattle.board.specs.Channels.{AreSpecs};
 ghost use Rattle.board.specs.Logs.{IsHour, first_tenth, end_tenth};
-ghost use Rattle.board.specs.Stops.{number, StopRow, IsEarlier, Survives, IsFirstStop, AreAfter, AreBefore, rules_at};
+ghost use Rattle.board.specs.Stops.{number, IsEarlier, IsWalked, IsFirstStop, AreAfter, AreBefore, rules_at};
 ghost use Rattle.board.specs.Places.{AllEarly, AreSamePasts};
 ghost use Rattle.board.specs.Hours.{IsStart, AreStarts, AllClamped, ArePastsOf, NamesStop};
 
@@ -236,10 +236,7 @@ fn walk_spec(
         × InOrder (rules_of spec.now) low moves.now }
     requires colours { length past.old ≡ (rules_of spec.now).colours }
     requires some { (s : State) × Holds past.old s }
-    ensures after { IfOk result (λ r. MatchOption r (((u : State) → Holds past.new u
-        ↔ AfterMoves (rules_of spec.now) past.old moves.now u)
-        × Survives (rules_of spec.now) past.old moves.now)
-        (λ x. StopRow (rules_of spec.now) past.old moves.now x)) }
+    ensures after { IfOk result (IsWalked (rules_of spec.now) past.old moves.now past.new) }
     ensures colours { length past.new ≡ length past.old }
 {
     let machine = machine_of(spec);
@@ -256,10 +253,7 @@ fn walk_moves<M: Machine>(
         × InOrder (M.rules machine.now) low moves.now }
     requires colours { length past.old ≡ (M.rules machine.now).colours }
     requires some { (s : State) × Holds past.old s }
-    ensures after { IfOk result (λ r. MatchOption r (((u : State) → Holds past.new u
-        ↔ AfterMoves (M.rules machine.now) past.old moves.now u)
-        × Survives (M.rules machine.now) past.old moves.now)
-        (λ x. StopRow (M.rules machine.now) past.old moves.now x)) }
+    ensures after { IfOk result (IsWalked (M.rules machine.now) past.old moves.now past.new) }
     ensures colours { length past.new ≡ length past.old }
 {
     match walk_past(alloc, machine, past, moves)? {

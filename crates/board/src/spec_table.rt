@@ -3,7 +3,7 @@ ghost use Rattle.std.specs.Prelude.{◌≡◌, ◌≢◌, ℕ, ◌<◌, ◌≤�
 ghost use Rattle.channel_tables.specs.declared.spec.Spec.{Spec};
 ghost use Rattle.board.specs.Channels.{kind_number};
 ghost use Rattle.board.specs.Logs.{no_spec};
-ghost use Rattle.board.specs.SpecPlaces.{cell_of, AreCells, HaveCells, IsTable};
+ghost use Rattle.board.specs.SpecPlaces.{cell_of, AreCells, HaveCells, IsPlaceAmong, IsTable};
 
 use channel_tables::Spec;
 use event_codes::{Channel, Kind};
@@ -26,13 +26,11 @@ impl Model for SpecTable {
 }
 
 impl SpecTable {
-    /// The table of the specs. More than 60,000 count as want of memory.
+    /// The table of the specs.
     pub fn new(alloc: Global, specs: &[Spec]) -> Result<SpecTable, NoMemory>
+        requires { length specs.now ≤ 60000 }
         ensures { IfOk result (λ t. IsTable specs.now t) }
     {
-        if specs.len() > 60_000 {
-            return Err(NoMemory);
-        }
         let mut cells = vec![in alloc; 65_535u16; cell_count(specs)]?;
         for i in 0..specs.len() {
             cells[cell_of(specs[i].channel)] = i as u16;
@@ -42,10 +40,7 @@ impl SpecTable {
 
     /// The place of the channel among the specs of the table.
     pub fn place_of(&self, channel: Channel) -> Option<u16>
-        ensures { (specs : List Spec) → IsTable specs self.now
-            → MatchOption result ((i : ℕ) → i < length specs
-            → (slice_index_or specs i no_spec).channel ≢ channel) (λ p. (p < length specs)
-            × ((slice_index_or specs p no_spec).channel ≡ channel)) }
+        ensures { (specs : List Spec) → IsTable specs self.now → IsPlaceAmong specs channel result }
     {
         let cell = cell_of(channel);
         if cell >= self.cells.len() {

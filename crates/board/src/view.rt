@@ -73,9 +73,9 @@ impl HourView {
             after.now) }
         requires before { AreBefore specs.now before.now }
         requires after { AreAheadsOf specs.now after.now }
-        ensures { IfOk result (λ v. (hour : ℕ) → IsLog (hour_log hour specs.now rows.now
-            stretches.now before.now after.now) → v ≡ hour_log hour specs.now rows.now stretches.now
-            before.now after.now) }
+        ensures { IfOk result (λ v. (hour : ℕ)
+            → let log = hour_log hour specs.now rows.now stretches.now before.now after.now in
+            IsLog log → v ≡ log) }
     {
         let hour = hour_of(stretches);
         HourView::of_hour(alloc, hour, specs, before, rows, stretches, after)
@@ -144,9 +144,9 @@ impl HourView {
         requires spec { spec < length self.now.specs }
         requires low { negsuc (2 ^ 39) ≤ℤ test.now.at }
         requires high { test.now.at ≤ℤ pos (2 ^ 39) }
-        ensures { index < length self.now.rows → known_at self.now.stretches
-            (slice_index_or self.now.rows index no_row).at ≡ true
-            → test.now.at ≡ pos (slice_index_or self.now.rows index no_row).at
+        ensures { index < length self.now.rows
+            → let at = (slice_index_or self.now.rows index no_row).at in
+            known_at self.now.stretches at ≡ true → test.now.at ≡ pos at
             → SeesRow self.now index spec test.now result }
     {
         let line = &self.lines[spec as usize];

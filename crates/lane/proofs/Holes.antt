@@ -1,5 +1,5 @@
 -- The gaps of a leg as the holes of a run.
-use Rattle.std.proofs.Common.{suc, zero, ◌≡◌, refl, sym, subst, inl, inr, ◌⊎◌, ◌↔◌, ℕ, ◌+◌, ◌<◌, ◌≤◌, ◌^◌, ℤ, pos, negsuc, ◌<ℤ◌, ◌≤ℤ◌, List, [], ◌∷◌, ◌++◌, length, take, drop, get_or, arith, Option}
+use Rattle.std.proofs.Common.{suc, zero, ◌≡◌, refl, inl, inr, ◌⊎◌, ◌↔◌, ℕ, ◌+◌, ◌<◌, ◌≤◌, ◌^◌, ℤ, pos, negsuc, ◌<ℤ◌, ◌≤ℤ◌, List, [], ◌∷◌, ◌++◌, length, take, drop, get_or, arith, Option}
 use Rattle.std.proofs.lemmas.Int.{ints}
 use Rattle.std.proofs.lemmas.List.{take_more, drop_all}
 use Rattle.colour_machine.specs.Rules.{Rules}
@@ -19,7 +19,7 @@ use Rattle.lane.specs.declared.moves.Move.{Move}
 use Rattle.lane.specs.declared.moves.Move.TheVariants.{Letter, Gap}
 use Rattle.lane.specs.Walks.{limit_before, InOrder}
 use Rattle.lane.specs.Runs.{AreGapsOf}
-use Rattle.lane.specs.Legs.{AreApart, IsLeg, IsGap, with_hole}
+use Rattle.lane.specs.Legs.{IsLeg, IsGap, with_hole}
 
 -- one hole more
 gaps_push : (hs : List Span) (xs : List Move) (f t : ℕ) → AreGapsOf hs xs → AreGapsOf (hs ++ span (pos f) (pos t) ∷ []) (xs ++ Gap f t ∷ [])

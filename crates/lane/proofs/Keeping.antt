@@ -2,7 +2,7 @@
 use Rattle.std.proofs.Common.{suc, zero, ◌≡◌, refl, ap, sym, subst, ◌∙◌, inl, inr, ◌⊎◌, ◌↔◌, ℕ, ◌+◌, ◌-◌, ◌<◌, ◌≤◌, ℤ, pos, ◌+ℤ◌, ◌<ℤ◌, ◌≤ℤ◌, List, [], ◌∷◌, ◌++◌, length, take, drop, get_or, arith}
 use Rattle.std.proofs.lemmas.Int.{ints}
 use Rattle.std.proofs.lemmas.Bool.{cases_eq, cases_order}
-use Rattle.std.proofs.lemmas.List.{take_more, length_push, get_or_push, get_or_append_left, get_or_default}
+use Rattle.std.proofs.lemmas.List.{take_more, length_push, get_or_push, get_or_append_left, get_or_default, length-take}
 use Rattle.span_set.specs.declared.set.Span.{Span}
 use Rattle.colour_machine.specs.Rules.{Rules}
 use Rattle.reach.specs.Runs.{State, Step, Steps, Run, Fills}
@@ -120,6 +120,9 @@ runs_more xs i count number runs h n c e are j lt = elim (cases_eq j i) [
   | inl same ↦ get_or_push runs number 0 j (n ∙ sym same) ∙ (e ∙ (c ∙ ap (λ k. letters (take k xs)) (sym same)))
   | inr ne ↦ get_or_append_left runs (number ∷ []) 0 j (omega arith) ∙ are j (omega arith)
 ]
+
+pub few_before : (xs : List Move) (i : ℕ) → letters (take i xs) ≤ length xs
+few_before xs i = let few = few_letters (take i xs) in let size = length-take i xs in omega arith
 
 pub count_more : (xs : List Move) (i : ℕ) (d : Move) (count : ℕ) → i < length xs → count ≡ letters (take i xs) → count + letters (get_or xs i d ∷ []) ≡ letters (take (i + 1) xs)
 count_more xs i d count lt e = let more = letters_more xs i d lt in omega arith

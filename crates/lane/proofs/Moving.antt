@@ -1,9 +1,7 @@
 -- Moves one after another, forward and backward.
 use Rattle.std.proofs.Common.{suc, zero, ◌≡◌, refl, sym, subst, inl, inr, ◌↔◌, ℕ, ◌+◌, ◌-◌, ◌<◌, ◌≤◌, ℤ, pos, ◌+ℤ◌, ◌<ℤ◌, Bool, true, false, List, [], ◌∷◌, ◌++◌, length, take, drop, get_or, arith, Option, Result, Ok, Err, IsTrue, MatchBool, OnOk, IfOk}
 use Rattle.std.proofs.lemmas.Int.{ints}
-use Rattle.std.proofs.lemmas.Bool.{cases_eq}
-use Rattle.std.proofs.lemmas.Grind.{common_steps}
-use Rattle.std.proofs.lemmas.List.{take-take, take_more, take_all, drop_all, drop_more}
+use Rattle.std.proofs.lemmas.List.{take-take, take_all, drop_all, drop_more}
 use Rattle.span_set.specs.declared.set.Span.{Span}
 use Rattle.colour_machine.specs.Rules.{Rules}
 use Rattle.reach.specs.Runs.{State, Step, Steps, Run, Fills}

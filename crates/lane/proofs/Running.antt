@@ -1,5 +1,5 @@
 -- Gaps between two letters as the holes of a run.
-use Rattle.std.proofs.Common.{◌≡◌, sym, subst, ◌↔◌, ℤ, pos, List, [], ◌∷◌}
+use Rattle.std.proofs.Common.{sym, subst, ◌↔◌, ℤ, pos, List, [], ◌∷◌}
 use Rattle.colour_machine.specs.Rules.{Rules}
 use Rattle.span_set.specs.declared.set.Span.{Span}
 use Rattle.reach.specs.Runs.{State, Fills}

@@ -1,5 +1,5 @@
 -- Aheads that stand for those of the places.
-use Rattle.std.proofs.Common.{◌≡◌, ap, sym, ◌∙◌, inl, inr, ◌↔◌, ℕ, ◌+◌, ◌-◌, ◌≤◌, ◌<◌, ℤ, List, [], ◌∷◌, ◌++◌, length, take, drop, get_or, arith, Option, refl, subst}
+use Rattle.std.proofs.Common.{◌≡◌, sym, ◌∙◌, inl, inr, ◌↔◌, ℕ, ◌+◌, ◌-◌, ◌≤◌, ◌<◌, ℤ, List, [], ◌∷◌, ◌++◌, length, take, drop, get_or, arith, Option, refl}
 use Rattle.std.proofs.lemmas.Bool.{cases_eq, cases_lt}
 use Rattle.std.proofs.lemmas.List.{drop_all, length_push, get_or_push, get_or_append_left, get_or-append-add, get_or_read, append_assoc, append-nil, length-append}
 use Rattle.span_set.specs.declared.set.Span.{Span}
@@ -18,7 +18,7 @@ use Rattle.lane.specs.Kept.{past_of, ArePasts, AreRuns, HavePasts, HaveAheads, A
 use Rattle.lane.specs.Runs.{AreGapsOf}
 use Rattle.lane.specs.Legs.{IsLeg}
 use Rattle.lane.proofs.Legs.{length_slice, slice_leg, rest_join}
-use Rattle.lane.proofs.Holes.{gaps_drop, gaps_length}
+use Rattle.lane.proofs.Holes.{gaps_drop}
 use Rattle.lane.proofs.Keeping.{leg_run}
 use Rattle.lane.proofs.Moving.{ahead_over, order_drop}
 use Rattle.lane.proofs.Running.{runs_moves}

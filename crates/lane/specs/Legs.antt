@@ -1,5 +1,5 @@
 -- The legs of a walk, each of which is taken in one step.
-use Rattle.std.specs.Prelude.{ℕ, ◌+◌, ◌-◌, ◌<◌, pos, List, [], ◌∷◌, ◌++◌, length, slice_index_or}
+use Rattle.std.specs.Prelude.{ℕ, ◌-◌, ◌<◌, pos, List, [], ◌∷◌, ◌++◌, length, slice_index_or}
 use Rattle.std.specs.List.{AllAdjacentBelow}
 use Rattle.span_set.specs.declared.set.Span.{Span}
 use Rattle.span_set.specs.Changes.{span}

@@ -9,7 +9,7 @@ use Rattle.reach.specs.Tests.{Meets}
 use Rattle.reach.specs.declared.seen.Test.{Test}
 use Rattle.reach.specs.declared.seen.Seen.{Seen}
 use Rattle.lane.specs.declared.moves.Move.{Move}
-use Rattle.lane.specs.Walks.{limit_before, limit_after, InOrder, AfterMoves, BeforeMoves, EnteredBefore}
+use Rattle.lane.specs.Walks.{limit_before, limit_after, AfterMoves, BeforeMoves}
 
 -- the state is entered early enough for the first of the moves
 abbrev pub EntersBefore : List Move → State → Type 0

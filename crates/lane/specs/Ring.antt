@@ -1,7 +1,6 @@
 -- A machine for tests: three colours in a ring, each entered from the one before it by the letter of its number.
-use Rattle.std.specs.Prelude.{◌≡◌, ℕ, ◌+◌, ◌<◌, Bool, true, false, cond, nat_lt, ◌==◌, Option, Some, None}
-use Rattle.std.proofs.Common.{arith, refl}
-use Rattle.std.proofs.lemmas.Bool.Decides.{nat_tests}
+use Rattle.std.specs.Prelude.{◌≡◌, ℕ, ◌+◌, Bool, true, false, cond, nat_lt, ◌==◌, Some, None}
+use Rattle.std.proofs.Common.{arith}
 use Rattle.colour_machine.specs.Rules.{Rules, IsMachine}
 
 abbrev pub after : ℕ → ℕ

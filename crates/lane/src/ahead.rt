@@ -11,7 +11,7 @@ ghost use Rattle.lane.specs.Legs.{IsLeg};
 
 use crate::leg::{END, leg_begin, put_holes};
 use crate::moves::Move;
-use crate::past::{RunPasts, past_at, run_number};
+use crate::past::{RunPasts, past_at};
 use colour_machine::Machine;
 use reach::{Ahead, Past, ahead_gap, ahead_holes, ahead_in, ahead_row, is_sure};
 use sig_base::NoMemory;
@@ -56,7 +56,7 @@ pub struct PlaceAheads {
     // completed.
     pub aheads: Vec<Ahead>,
     // For the place after the last move, that before it and so on the number of its Ahead.
-    pub numbers: Vec<u32>,
+    pub numbers: Vec<usize>,
 }
 
 // Later than every entry.
@@ -177,7 +177,7 @@ fn add_place(places: &mut PlaceAheads, past: &Past, ahead: &Ahead) -> Result<(),
 // The number of an Ahead that stands for this one among the states of the Past: the first where
 // one state alone is kept and can be completed, the last where it is the same, else this one, which
 // is added.
-fn keep(aheads: &mut Vec<Ahead>, past: &Past, ahead: &Ahead) -> Result<u32, NoMemory>
+fn keep(aheads: &mut Vec<Ahead>, past: &Past, ahead: &Ahead) -> Result<usize, NoMemory>
     requires colours { length past.now ≡ length ahead.now }
     requires aheads { HaveAheads (length ahead.now) aheads.old.items }
     ensures all { OnOk result (HaveAheads (length ahead.now) aheads.new.items) }
@@ -190,9 +190,9 @@ fn keep(aheads: &mut Vec<Ahead>, past: &Past, ahead: &Ahead) -> Result<u32, NoMe
     }
     let last = aheads.len() - 1;
     if aheads[last].same(ahead) {
-        return run_number(last);
+        return Ok(last);
     }
-    let number = run_number(aheads.len())?;
+    let number = aheads.len();
     aheads.push(ahead.copy())?;
     Ok(number)
 }

@@ -95,8 +95,8 @@ impl<M: Machine> Line<M> {
             → SeesPassing (M.rules self.now.machine) self.now.before self.now.after
             (take place self.now.moves) (drop place self.now.moves) test.now result }
     {
-        let run = self.pasts.runs[place] as usize;
-        let number = self.aheads.numbers[self.moves.len() - place] as usize;
+        let run = self.pasts.runs[place];
+        let number = self.aheads.numbers[self.moves.len() - place];
         possible(&self.pasts.pasts[run], &self.aheads.aheads[number], test)
     }
 }

@@ -112,7 +112,7 @@ fn gap_past<M: Machine>(machine: &M, past: &mut Past, from: u32, to: u32) -> Res
 pub struct RunPasts {
     pub pasts: Vec<Past>,
     // For each place, before a move or after the last, the number of its run.
-    pub runs: Vec<u32>,
+    pub runs: Vec<usize>,
 }
 
 // The Past of the place's run.
@@ -121,8 +121,7 @@ pub fn past_at(pasts: &RunPasts, place: usize) -> &Past
     requires run { HasPast pasts.now place }
     ensures { result.now ≡ past_of pasts.now place }
 {
-    let run = pasts.runs[place] as usize;
-    &pasts.pasts[run]
+    &pasts.pasts[pasts.runs[place]]
 }
 
 // One Past for each run of gaps, and the run of each place.
@@ -155,18 +154,16 @@ pub fn pasts_of<M: Machine>(
 }
 
 // The number of each place's run: how many letters are before the place.
-fn runs_of(alloc: Global, moves: &[Move]) -> Result<Vec<u32>, NoMemory>
+fn runs_of(alloc: Global, moves: &[Move]) -> Result<Vec<usize>, NoMemory>
     ensures { IfOk result (λ v. AreRuns moves.now v.items) }
 {
     let mut runs = Vec::with_capacity(alloc, moves.len() + 1)?;
     let mut count = 0;
     for i in 0..moves.len() {
-        let number = run_number(count)?;
-        runs.push(number)?;
+        runs.push(count)?;
         count = count_on(count, moves[i]);
     }
-    let last = run_number(count)?;
-    runs.push(last)?;
+    runs.push(count)?;
     Ok(runs)
 }
 
@@ -178,16 +175,6 @@ fn count_on(count: usize, next: Move) -> usize
     match next {
         Move::Letter { .. } => count + 1,
         Move::Gap { .. } => count,
-    }
-}
-
-// The number of a run after so many others. More than a u32 can tell count as want of memory.
-pub fn run_number(others: usize) -> Result<u32, NoMemory>
-    ensures { IfOk result (λ n. n ≡ others) }
-{
-    match u32::try_from(others) {
-        Ok(number) => Ok(number),
-        Err(_) => Err(NoMemory),
     }
 }
 

@@ -11,10 +11,7 @@ use Rattle.colour_machine.specs.Rules.{Rules}
 use Rattle.reach.specs.Runs.{State, state, Step, Steps, Run}
 use Rattle.reach.specs.Ahead.{NotLater, Admits}
 use Rattle.reach.specs.Latest.{entry_of, IsTable}
-use Rattle.reach.specs.Holes.{AreHoles, AreEarliest, OnlyIn}
-use Rattle.reach.specs.declared.seen.Test.{Test}
-use Rattle.reach.specs.declared.seen.Seen.{Seen}
-use Rattle.reach.specs.SeenIn.{SeesOf, IsPossibleIn, Crosses, SeesCrossing}
+use Rattle.reach.specs.Holes.{AreFrom, AreHoles, OnlyIn}
 use Rattle.reach.specs.Last.{BeforeHoles, InHoles, IsPrev, LeftIn, LeftInBelow, IsLaterIn, IsRoundIn, Continues, AreLasts, StaysOrLeaves, AreLast, PlacesAreGaps, IsEntryAt, AreEntriesAt}
 use Rattle.std.specs.Option.{IfSome}
 use Rattle.reach.proofs.Entering.{entry_more, IsLater, ranks, ranks_fall}
@@ -205,6 +202,13 @@ pub low_holes : (hs : List Span) (f t low : ℤ) (o : Option ℤ) → low ≤ℤ
 low_holes hs f t low None h are i = tt
 low_holes hs f t low (Some x) h are i = let a = (are.1 x i).0 in omega (arith, ints)
 
+pub low_from : (hs : List Span) (low : ℤ) (o : Option ℤ) → AreFrom low hs → InHoles hs o → IfSome o (λ x. low ≤ℤ x)
+low_from hs low None are i = tt
+low_from hs low (Some x) are i = are.1 x i
+
+pub holes_from : (hs : List Span) (f t low : ℤ) → low ≤ℤ f → AreHoles f t hs → AreFrom low hs
+holes_from hs f t low h are = (are.0, λ y i. let a = (are.1 y i).0 in omega (arith, ints))
+
 pub entries_none : (m : Rules) (latest last : List (Option ℤ)) (x : ℤ) → length latest ≡ 16 → AreEntriesAt m latest last x latest 0
 entries_none m latest last x size = (size, λ c lt. absurd (omega arith), λ c ge. refl)
 
@@ -247,17 +251,3 @@ places_gaps m sets latest hs gs ks f x t before after fx xt parts = (
     λ (u, g, a). (u, holes_of m hs ks (negsuc (2 ^ 40)) x t s u after.0 xt after.1 (λ y mem. (parts y).1 (inr mem)) g, a),
   ),
 )
-
-pub sees_iff : (P Q : State → Type 0) (test : Test) (seen : Seen) → ((s : State) → P s ↔ Q s) → SeesOf P test seen → SeesOf Q test seen
-sees_iff P Q test seen h o = record {
-  some_true = (λ x. let (s, p, k) = o.some_true.0 x in (s, (h s).0 p, k), λ (s, q, k). o.some_true.1 (s, (h s).1 q, k));
-  some_false = (λ x. let (s, p, k) = o.some_false.0 x in (s, (h s).0 p, k), λ (s, q, k). o.some_false.1 (s, (h s).1 q, k));
-}
-
-pub crosses_is : (m : Rules) (sets : List (List Span)) (latest here last : List (Option ℤ)) (hs : List Span) (f x t : ℤ) (a : List ℤ) (test : Test) (seen : Seen) → f ≤ℤ x → x ≤ℤ t → AreEarliest m sets hs f t a → AreLast m latest hs f t last → ((s : State) → Admits here s ↔ StaysOrLeaves m latest last x s) → SeesOf (IsPossibleIn sets hs t a x here test.at) test seen → SeesCrossing m sets latest hs f x t test seen
-crosses_is m sets latest here last hs f x t a test seen fx xt early late admits sees gs ks before after parts =
-    let law = places_gaps m sets latest hs gs ks f x t before after fx xt parts in
-    sees_iff (IsPossibleIn sets hs t a x here test.at) (Crosses m sets latest gs ks test.at) test seen (λ s. (
-      λ (h, le, ad). ((law.0 s).0 ((early s x fx xt).1 h), le, (law.1 s).0 ((late s x fx xt).1 ((admits s).0 ad))),
-      λ (h, le, ad). ((early s x fx xt).0 ((law.0 s).1 h), le, (admits s).1 ((late s x fx xt).0 ((law.1 s).1 ad))),
-    )) sees

@@ -12,6 +12,10 @@ use Rattle.reach.specs.Sets.{at}
 abbrev pub AreHoles : ℤ → ℤ → List Span → Type 0
 AreHoles f t hs = AreRanges hs × ((y : ℤ) → Member hs y → (f ≤ℤ y) × (y <ℤ t))
 
+-- the holes are ranges in order, and none of their tenths lies before f
+abbrev pub AreFrom : ℤ → List Span → Type 0
+AreFrom f hs = AreRanges hs × ((y : ℤ) → Member hs y → f ≤ℤ y)
+
 -- the lists, placed at the tenths t, t + 1 and so on, have letters only in the holes
 abbrev pub OnlyIn : List Span → ℤ → List (List ℕ) → Type 0
 OnlyIn hs t [] = Unit {0}

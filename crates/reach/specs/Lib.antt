@@ -10,4 +10,3 @@ pub mod Table
 pub mod Single
 pub mod Holes
 pub mod Last
-pub mod SeenIn

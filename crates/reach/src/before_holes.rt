@@ -6,7 +6,7 @@ ghost use Rattle.span_set.specs.declared.set.Span.{Span};
 ghost use Rattle.span_set.specs.Spans.{AreRanges, Member};
 ghost use Rattle.reach.specs.Ahead.{NotLater, Admits};
 ghost use Rattle.reach.specs.Latest.{entry_of};
-ghost use Rattle.reach.specs.Holes.{AreHoles};
+ghost use Rattle.reach.specs.Holes.{AreFrom, AreHoles};
 ghost use Rattle.reach.specs.Last.{InHoles, IsPrev, LeftIn, IsLaterIn, IsRoundIn, AreLast, StaysOrLeaves, IsEntryAt, AreEntriesAt, PlacesAreGaps};
 ghost use Rattle.reach.specs.Runs.{State};
 
@@ -120,7 +120,7 @@ fn last_holes<M: Machine>(
 {
     let mut last = [None; 16];
     'rounds: loop {
-        let next = last_all(machine, latest, &last, holes, from, to);
+        let next = last_all(machine, latest, &last, holes);
         if same_entries(&next, &last) {
             return last;
         }
@@ -133,17 +133,14 @@ fn last_all<M: Machine>(
     latest: &[Option<Tenth>; 16],
     last: &[Option<Tenth>; 16],
     holes: &[Span],
-    from: Tenth,
-    to: Tenth,
 ) -> [Option<Tenth>; 16]
-    requires low { negsuc (2 ^ 39) ≤ℤ from }
-    requires holes { AreHoles from to holes.now }
+    requires holes { AreFrom (negsuc (2 ^ 39)) holes.now }
     requires last { (c : ℕ) → InHoles holes.now (entry_of last.now c) }
     ensures { IsRoundIn (M.rules machine.now) latest.now holes.now last.now result }
 {
     let mut new = [None; 16];
     for colour in 0..machine.colours() {
-        new[colour as usize] = last_letters(machine, latest, last, colour, holes, from, to);
+        new[colour as usize] = last_letters(machine, latest, last, colour, holes);
     }
     new
 }
@@ -154,21 +151,18 @@ fn last_letters<M: Machine>(
     last: &[Option<Tenth>],
     colour: u8,
     holes: &[Span],
-    from: Tenth,
-    to: Tenth,
 ) -> Option<Tenth>
-    requires low { negsuc (2 ^ 39) ≤ℤ from }
     requires colour { colour < (M.rules machine.now).colours }
     requires all { length latest.now ≡ 16 }
     requires all_last { length last.now ≡ 16 }
-    requires holes { AreHoles from to holes.now }
+    requires holes { AreFrom (negsuc (2 ^ 39)) holes.now }
     requires last { (c : ℕ) → InHoles holes.now (entry_of last.now c) }
     ensures { IsLaterIn (M.rules machine.now) latest.now holes.now last.now colour
         (M.rules machine.now).letters result }
 {
     let mut hole = last[colour as usize];
     for letter in 0..machine.letters() {
-        hole = last_by(machine, latest, last, colour, letter, holes, from, to, hole);
+        hole = last_by(machine, latest, last, colour, letter, holes, hole);
     }
     hole
 }
@@ -180,16 +174,13 @@ fn last_by<M: Machine>(
     colour: u8,
     letter: u8,
     holes: &[Span],
-    from: Tenth,
-    to: Tenth,
     so_far: Option<Tenth>,
 ) -> Option<Tenth>
-    requires low { negsuc (2 ^ 39) ≤ℤ from }
     requires colour { colour < (M.rules machine.now).colours }
     requires letter { letter < (M.rules machine.now).letters }
     requires all { length latest.now ≡ 16 }
     requires all_last { length last.now ≡ 16 }
-    requires holes { AreHoles from to holes.now }
+    requires holes { AreFrom (negsuc (2 ^ 39)) holes.now }
     requires last { (c : ℕ) → InHoles holes.now (entry_of last.now c) }
     requires so_far { InHoles holes.now so_far }
     ensures hole { InHoles holes.now result }
@@ -198,14 +189,8 @@ fn last_by<M: Machine>(
 {
     match machine.step(colour, letter) {
         Some(next) if next != colour => {
-            let hole = enter_by(
-                latest[next as usize],
-                last[next as usize],
-                machine.floor(next),
-                holes,
-                from,
-                to,
-            );
+            let n = next as usize;
+            let hole = enter_by(latest[n], last[n], machine.floor(next), holes);
             best_of(so_far, hole)
         }
         Some(_) => so_far,
@@ -214,30 +199,20 @@ fn last_by<M: Machine>(
 }
 
 // The last hole at which a colour may be entered: it may stay, or be left a floor later.
-fn enter_by(
-    stay: Option<Tenth>,
-    leave: Option<Tenth>,
-    floor: u32,
-    holes: &[Span],
-    from: Tenth,
-    to: Tenth,
-) -> Option<Tenth>
-    requires low { negsuc (2 ^ 39) ≤ℤ from }
+fn enter_by(stay: Option<Tenth>, leave: Option<Tenth>, floor: u32, holes: &[Span]) -> Option<Tenth>
     requires floor { floor ≤ 36000 }
-    requires holes { AreHoles from to holes.now }
+    requires holes { AreFrom (negsuc (2 ^ 39)) holes.now }
     requires leave { InHoles holes.now leave }
     ensures hole { InHoles holes.now result }
     ensures enter { (y : ℤ) → Member holes.now y → NotLater result y
         ↔ (NotLater stay y ⊎ NotLater leave (y +ℤ pos floor)) }
 {
-    prev_of(holes, best_of(stay, sooner(leave, floor, holes, from, to)))
+    prev_of(holes, best_of(stay, sooner(leave, floor)))
 }
 
-fn sooner(leave: Option<Tenth>, floor: u32, holes: &[Span], from: Tenth, to: Tenth) -> Option<Tenth>
-    requires low { negsuc (2 ^ 39) ≤ℤ from }
+fn sooner(leave: Option<Tenth>, floor: u32) -> Option<Tenth>
+    requires low { IfSome leave (λ x. negsuc (2 ^ 39) ≤ℤ x) }
     requires floor { floor ≤ 36000 }
-    requires holes { AreHoles from to holes.now }
-    requires leave { InHoles holes.now leave }
     ensures { (y : ℤ) → NotLater result y ↔ NotLater leave (y +ℤ pos floor) }
 {
     match leave {

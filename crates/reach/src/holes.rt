@@ -109,7 +109,7 @@ fn least_single(one: Single, colour: u8) -> Option<Tenth>
 }
 
 // The least tenth of the holes from the tenth on, or `to`.
-pub(crate) fn next_hole(holes: &[Span], tenth: Tenth, from: Tenth, to: Tenth) -> Tenth
+fn next_hole(holes: &[Span], tenth: Tenth, from: Tenth, to: Tenth) -> Tenth
     requires { AreHoles from to holes.now }
     ensures { IsNext holes.now to tenth result }
 {

@@ -19,7 +19,6 @@ mod past;
 mod row;
 mod run;
 mod seen;
-mod seen_holes;
 mod sets;
 #[cfg(test)]
 mod table;
@@ -37,4 +36,3 @@ pub use past::Past;
 pub use row::past_row;
 pub use run::past_run;
 pub use seen::{AgeBound, Seen, Test, is_sure, possible};
-pub use seen_holes::{possible_in_holes, seen_crossing};

@@ -150,7 +150,7 @@ fn seen_in(sets: &[SpanSet], latest: &[Option<Tenth>], test: &Test) -> Seen
     seen
 }
 
-pub(crate) fn either(a: bool, b: bool) -> bool
+fn either(a: bool, b: bool) -> bool
     ensures { IsTrue result ↔ (IsTrue a ⊎ IsTrue b) }
 {
     if a {

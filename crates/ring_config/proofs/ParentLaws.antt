@@ -1,6 +1,8 @@
 -- Sets of phases as masks, and the parents of an overlap as the code gathers them.
-use Rattle.std.proofs.Common.{◌≡◌, ◌≢◌, ◌⊎◌, ◌↔◌, inl, inr, ℕ, ◌+◌, ◌-◌, ◌^◌, ◌<◌, ◌≤◌, max, Bool, true, false, ◌&&◌, ◌||◌, ◌==◌, cond, nat_le, IsTrue, List, [], ◌∷◌, ◌++◌, length, get_or, drop, fold, bit_or, Option, Some, None, option_map, refl, ap, sym, ◌∙◌, arith}
+use Rattle.std.proofs.Common.{◌≡◌, ◌≢◌, ◌⊎◌, ◌↔◌, inl, inr, ℕ, suc, zero, ◌+◌, ◌-◌, ◌^◌, ◌<◌, ◌≤◌, max, Bool, true, false, ◌&&◌, ◌||◌, ◌==◌, cond, nat_le, IsTrue, List, [], ◌∷◌, ◌++◌, length, get_or, drop, filter, fold, bit_or, Option, Some, None, option_map, refl, ap, sym, ◌∙◌, arith}
 use Rattle.std.specs.Int.{bit_at}
+use Rattle.std.specs.List.{range_with_len}
+use Rattle.std.proofs.lemmas.Bool.{cases_Bool}
 use Rattle.std.proofs.lemmas.Bool.Decides.{eqb_tells}
 use Rattle.std.proofs.lemmas.List.{length_push, drop_all}
 use Rattle.std.proofs.lemmas.Nat.Bits.{bit_at_or, bit_at-lt, bit_at-zero, bit_at-pow_same, bit_at-pow_other, same_from_bits}
@@ -10,7 +12,7 @@ use Rattle.toml.specs.declared.value.Value.{Value}
 use Rattle.toml.specs.Data.{Data}
 use Rattle.toml.specs.View.{view, items_view}
 use Rattle.toml.proofs.Views.{items_view-drop}
-use Rattle.ring_config.specs.Values.{configured, has_number, next_phase, phases_from, few_parents, passing, mask_of}
+use Rattle.ring_config.specs.Values.{configured, has_number, next_phase, phases_from, few_parents, passing, mask_of, phases_in}
 use Rattle.ring_config.specs.Parents.{ArePositive, IsMaskOf, Adds}
 
 -- ---- bits
@@ -81,6 +83,64 @@ bit_of_phase found mask n is q =
     let z : bit_at 0 (n - 1) ≡ 0 = bit_at-zero (n - 1) in
     let b = bits_from found 0 n is.positive q in
     rw is.value (b ∙ rw z (omega arith))
+
+-- ---- how many phases
+
+few_or : (p q : ℕ → Bool) (ns : List ℕ) → length (filter (λ n. p n || q n) ns) ≤ length (filter p ns) + length (filter q ns)
+few_or p q [] = omega arith
+few_or p q (n ∷ ns) =
+    let rest = few_or p q ns in
+    elim (cases_Bool (p n)) [
+      | inl has ↦ elim (cases_Bool (q n)) [ inl also ↦ rw (has, also) (omega arith) | inr lacks ↦ rw (has, lacks) (omega arith) ]
+      | inr other ↦ elim (cases_Bool (q n)) [ inl also ↦ rw (other, also) (omega arith) | inr lacks ↦ rw (other, lacks) rest ]
+    ]
+
+none_later : (m a k : ℕ) → m < a → length (filter (λ n. m == n) (range_with_len a k)) ≤ 0
+none_later m a zero lt = omega arith
+none_later m a (suc k) lt =
+    let rest = none_later m (a + 1) k (omega arith) in
+    elim (eqb_tells m a) [
+      | inl t ↦ let same : m ≡ a = t.1 in absurd (omega arith)
+      | inr t ↦ rw t.0 rest
+    ]
+
+one_at_most : (m a k : ℕ) → length (filter (λ n. m == n) (range_with_len a k)) ≤ 1
+one_at_most m a zero = omega arith
+one_at_most m a (suc k) = elim (eqb_tells m a) [
+  | inl t ↦ let same : m ≡ a = t.1 in let rest = none_later m (a + 1) k (omega arith) in rw t.0 (omega arith)
+  | inr t ↦ rw t.0 (one_at_most m (a + 1) k)
+]
+
+none_of_none : (a k : ℕ) → length (filter (has_number []) (range_with_len a k)) ≤ 0
+none_of_none a zero = omega arith
+none_of_none a (suc k) = none_of_none (a + 1) k
+
+few_found : (found : List ℕ) (a k : ℕ) → length (filter (has_number found) (range_with_len a k)) ≤ length found
+few_found [] a k = none_of_none a k
+few_found (m ∷ ms) a k =
+    let each = few_or (λ n. m == n) (has_number ms) (range_with_len a k) in
+    let one = one_at_most m a k in
+    let rest = few_found ms a k in
+    omega arith
+
+few_like : (p q : ℕ → Bool) (a k : ℕ) → ((n : ℕ) → a ≤ n → p n ≡ q n) → length (filter p (range_with_len a k)) ≤ length (filter q (range_with_len a k))
+few_like p q a zero h = omega arith
+few_like p q a (suc k) h =
+    let rest = few_like p q (a + 1) k (λ n le. h n (omega arith)) in
+    elim (cases_Bool (q a)) [
+      | inl has ↦ rw (h a (omega arith), has) (omega arith)
+      | inr lacks ↦ rw (h a (omega arith), lacks) rest
+    ]
+
+bit_is : (b : Bool) (bit : ℕ) → bit ≡ bit_of b → (bit == 1) ≡ b
+bit_is true bit e = rw e refl
+bit_is false bit e = rw e refl
+
+pub few_phases : (found : List ℕ) (mask : ℕ) → IsMaskOf found mask → length found ≤ 8 → length (phases_in mask) ≤ 8
+few_phases found mask is few =
+    let like = few_like (λ n. bit_at mask (n - 1) == 1) (has_number found) 1 16 (λ n le. bit_is (has_number found n) (bit_at mask (n - 1)) (bit_of_phase found mask n is le)) in
+    let all = few_found found 1 16 in
+    omega arith
 
 fold_push : (found : List ℕ) (start n : ℕ) → fold more start (found ++ n ∷ []) ≡ more (fold more start found) n
 fold_push [] start n = refl

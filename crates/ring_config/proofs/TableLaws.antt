@@ -26,13 +26,13 @@ use Rattle.ring_config.specs.declared.items.IntervalItem.{IntervalItem}
 use Rattle.ring_config.specs.declared.items.Approach.{Approach}
 use Rattle.ring_config.specs.Reading.{◌>>=◌, EntryData, place, value_at, good, or_default, required, defaulted, optional}
 use Rattle.ring_config.specs.Values as values
-use Rattle.ring_config.specs.Values.{whole, configured, has_phase, has_pair, has_number, next_phase, phases_from, few_parents, mask_of, passing, partner, kind_word, is_word_and, is_named, named_from, channel, colour, colour_of, name, is_short_text, is_name_byte}
+use Rattle.ring_config.specs.Values.{whole, configured, has_phase, has_pair, has_number, next_phase, phases_from, few_parents, mask_of, phases_in, passing, partner, kind_word, is_word_and, is_named, named_from, channel, colour, colour_of, name, is_short_text, is_name_byte}
 use Rattle.ring_config.specs.Parents.{ArePositive, IsMaskOf}
 use Rattle.ring_config.specs.Tables.{phase_values, overlap_values, pair_values, floor_values, bound_of, bound_at, interval_values, is_over, numerator, high_of, high_at, travel_with, approach_values}
 use Rattle.ring_config.specs.Sound.{IsBetween, IsConfigured, IsPhase, IsOverlap, IsPairOf, IsTimed, IsBound, IsApproach}
 use Rattle.ring_config.proofs.DoLaws.{ok_is, bound, good_is, required_means, required_value, required_between, optional_between, passing_is, and_then_is, map_is, whole_between, whole_integer}
 use Rattle.ring_config.proofs.ListLaws.{all_push}
-use Rattle.ring_config.proofs.ParentLaws.{bit_of_phase, bit_of}
+use Rattle.ring_config.proofs.ParentLaws.{bit_of_phase, bit_of, few_phases}
 
 -- ---- phases
 
@@ -91,7 +91,7 @@ some_member : (found : List ℕ) → 1 ≤ length found → ArePositive found �
 some_member [] le p = absurd (omega arith)
 some_member (n ∷ ns) le p = (n, p.0, rw (eq-eqb n n refl) refl)
 
-pub parents_are : (phases : List PhaseItem) (d : Data) (mask : ℕ) → values.parents phases d ≡ Some mask → ((b : ℕ) → Has mask b → IsConfigured phases (b + 1)) × ((b : ℕ) × Has mask b)
+pub parents_are : (phases : List PhaseItem) (d : Data) (mask : ℕ) → values.parents phases d ≡ Some mask → ((b : ℕ) → Has mask b → IsConfigured phases (b + 1)) × ((b : ℕ) × Has mask b) × (length (phases_in mask) ≤ 8)
 unfolding values.parents
 parents_are phases d mask h =
     let m = map_is mask_of (passing few_parents (option_and_then (phases_from phases []) (as_array d))) mask h in
@@ -106,6 +106,7 @@ parents_are phases d mask h =
           let there : Has mask (b + 1 - 1) = rw (let k : b + 1 - 1 ≡ b = omega arith in k) has in
           member_configured phases m.0 (b + 1) all (bit_tells (has_number m.0 (b + 1)) (sym (bit_of_phase m.0 mask (b + 1) is le) ∙ there)),
       (one.0 - 1, bit_of_phase m.0 mask one.0 is one.1 ∙ ap bit_of one.2),
+      few_phases m.0 mask is (leb-true (length m.0) 8 few.1),
     )
 
 pub overlap_is : (phases : List PhaseItem) (e : EntryData) (o : OverlapItem) → overlap_values phases e ≡ Ok o → IsOverlap phases o
@@ -119,6 +120,7 @@ overlap_is phases e o h =
       number = required_between 1 16 keys.Number e a.0 a.1;
       parents = p.0;
       some = p.1;
+      few = p.2;
     })
 
 -- ---- pairs

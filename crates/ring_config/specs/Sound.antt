@@ -15,7 +15,7 @@ use Rattle.ring_config.specs.declared.items.OverlapItem.{OverlapItem}
 use Rattle.ring_config.specs.declared.items.IntervalItem.{IntervalItem}
 use Rattle.ring_config.specs.declared.items.Approach.{Approach}
 use Rattle.row_reader.specs.Signal.{is_signal}
-use Rattle.ring_config.specs.Values.{has_phase, has_pair, is_name_byte, is_short_text}
+use Rattle.ring_config.specs.Values.{has_phase, has_pair, is_name_byte, is_short_text, phases_in}
 use Rattle.ring_config.specs.Settings.{Settings, kind_rank, is_tracked, spec_place}
 
 abbrev pub IsBetween : ℕ → ℕ → ℕ → Type 0
@@ -30,11 +30,12 @@ pub record IsPhase (p : PhaseItem) : Type 0 where
   pub ring : IsBetween 1 4 p.ring
   pub side : IsBetween 1 4 p.side
 
--- an overlap has parents, all of them configured; bit b is phase b + 1
+-- an overlap has 1 to 8 parents, all of them configured; bit b is phase b + 1
 pub record IsOverlap (phases : List PhaseItem) (o : OverlapItem) : Type 0 where
   pub number : IsBetween 1 16 o.number
   pub parents : (b : ℕ) → Has o.parents b → IsConfigured phases (b + 1)
   pub some : (b : ℕ) × Has o.parents b
+  pub few : length (phases_in o.parents) ≤ 8
 
 -- two configured phases that differ
 pub record IsPairOf (phases : List PhaseItem) (p : Pair) : Type 0 where

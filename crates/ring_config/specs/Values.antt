@@ -1,6 +1,7 @@
 -- What a value stands for, key by key; none where it isn't good.
-use Rattle.std.specs.Prelude.{ℕ, ℤ, pos, ◌+◌, ◌-◌, ◌/◌, ◌^◌, ◌+ℤ◌, int_le, ◌&&◌, ◌||◌, ◌==◌, not, Bool, false, nat_le, if◌then◌else◌, List, [], ◌∷◌, ◌++◌, length, codes, decimal, fold, bit_or, Option, Some, None, option_map, option_and_then, position}
-use Rattle.std.specs.List.{list_any, list_all}
+use Rattle.std.specs.Prelude.{ℕ, ℤ, pos, ◌+◌, ◌-◌, ◌/◌, ◌^◌, ◌+ℤ◌, int_le, ◌&&◌, ◌||◌, ◌==◌, not, Bool, false, nat_le, if◌then◌else◌, List, [], ◌∷◌, ◌++◌, length, codes, decimal, filter, fold, bit_or, Option, Some, None, option_map, option_and_then, position}
+use Rattle.std.specs.Int.{bit_at}
+use Rattle.std.specs.List.{list_any, list_all, range_with_len}
 use Rattle.std.specs.Str.{bytes_eq}
 use Rattle.toml.specs.Data.{Data, table, Items, no_items, item, Members, as_str, as_integer, as_bool, as_array}
 use Rattle.sig_base.specs.Window.{Span}
@@ -103,6 +104,10 @@ phases_from phases found (item d ds) =
 -- the set of these phases: bit n - 1 for phase n
 unfoldable pub mask_of : List ℕ → ℕ
 mask_of numbers = fold (λ mask n. bit_or mask (2 ^ (n - 1))) 0 numbers
+
+-- the phases of such a set, ascending
+abbrev pub phases_in : ℕ → List ℕ
+phases_in mask = filter (λ n. bit_at mask (n - 1) == 1) (range_with_len 1 16)
 
 abbrev pub few_parents : List ℕ → Bool
 few_parents found = nat_le 1 (length found) && nat_le (length found) 8

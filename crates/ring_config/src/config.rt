@@ -242,6 +242,7 @@ impl Config {
         ensures value { result.now ≡ self.now.intervals }
         ensures intervals { All (IsIntervalOf self.now.specs) self.now.intervals }
         ensures few { length self.now.intervals ≤ 256 }
+        ensures sound { IsSound self.now }
     {
         self.intervals.as_slice()
     }

@@ -19,7 +19,7 @@ pub struct Pair {
 pub struct OverlapItem {
     /// 1 to 16.
     pub number: u8,
-    /// Bit `p - 1` for phase `p`.
+    /// 1 to 8 of them: bit `p - 1` for phase `p`.
     pub parents: Mask,
 }
 

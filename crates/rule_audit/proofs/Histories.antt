@@ -1,5 +1,5 @@
 -- That some history agrees, at each known tenth.
-use Rattle.std.proofs.Common.{◌≡◌, ℕ, ◌+◌, pos, true, List, length, get_or, arith}
+use Rattle.std.proofs.Common.{◌≡◌, ℕ, ◌+◌, pos, true, length, get_or, arith}
 use Rattle.reach.specs.Runs.{State, state}
 use Rattle.gap_map.specs.Stretches.{known_at}
 use Rattle.board.specs.Channels.{track}

@@ -6,6 +6,8 @@ pub mod Indexing
 pub mod Tenths
 pub mod Histories
 pub mod Walking
+pub mod Lists
+pub mod Placing
 pub mod Fitting
 pub mod Logs
 pub mod Once

@@ -16,7 +16,7 @@ use Rattle.ring_config.specs.Sound.{IsApproach, IsBefore, IsBetween, IsConfigure
 use Rattle.ring_config.specs.Values.{has_number, has_phase}
 use Rattle.board.specs.Channels.{AreSpecs}
 use Rattle.board.proofs.Bridge.{lt_tells}
-use Rattle.rule_audit.proofs.Fitting.{among}
+use Rattle.rule_audit.proofs.Lists.{among}
 
 -- what each that passes a test shows
 any_shows : {X : Type 0} (Q : X → Type 0) (R : Type 0) (p : X → Bool) (xs : List X) → All Q xs → list_any p xs ≡ true → ((x : X) → Q x → p x ≡ true → R) → R
@@ -42,7 +42,7 @@ module _ {X : Type 0} (p : X → Bool) where
     | inr (_, le) ↦ absurd (let k = place_early xs i d lt e in omega arith)
   ]
 
-same_self : (ch : Channel) → is_same_channel ch ch ≡ true
+pub same_self : (ch : Channel) → is_same_channel ch ch ≡ true
 same_self ch = rw (eq-eqb (kind_rank ch.kind) (kind_rank ch.kind) refl, eq-eqb ch.number ch.number refl) refl
 
 not_before_self : (a : Channel) → IsBefore a a → ⊥

@@ -1,4 +1,5 @@
 pub mod Rules
+pub mod Channels
 pub mod Obligations
 pub mod Judged
 pub mod Lines

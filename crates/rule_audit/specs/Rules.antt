@@ -30,7 +30,7 @@ colours_of cs = fold (λ mask c. bit_or mask (2 ^ c)) 0 cs
 unfoldable pub others : Kind → List ℕ → List ℕ
 others kind cs = filter (λ c. not (has_number cs c)) (range_with_len 0 (length (table_of kind).names))
 
--- the channel is in one of the colours
+-- the channel is in one of the colours; the channels of rules are tracked, so that each has a place (Channels: AreOfOwn)
 unfoldable pub is_in : List Spec → Kind → ℕ → List ℕ → Term
 is_in specs kind n cs = record { spec = unwrap_or (spec_place specs (record { kind = kind; number = n })) 0; colours = colours_of cs }
 

@@ -148,6 +148,7 @@ fn place_or_count(specs: &[Spec], table: &SpecTable, channel: Channel) -> u16
 
 /// For each row the place of its channel.
 pub(crate) fn own_places(alloc: Global, specs: &[Spec], rows: &[Row]) -> Result<Vec<u16>, NoMemory>
+    requires { length specs.now ≤ 225 }
     ensures { IfOk result (λ v. AreOwn specs.now rows.now (length rows.now) v.items) }
 {
     let table = SpecTable::new(alloc, specs)?;

@@ -10,6 +10,7 @@
 //!   `tenth`: all verdicts of one tenth.
 //! - `index`: the rules by channel, and of which channel each row is.
 //! - `hour`, `walk`, `audit`: the pass over the tenths of an hour, and the call.
+//! - `laws`: each rule is of the channels that it names.
 //!
 //! Tenths are tenths of a second from the window's start.
 #![tactic(auto)]
@@ -19,6 +20,7 @@ mod due;
 mod hour;
 mod index;
 mod interval;
+mod laws;
 mod lines;
 mod rules;
 mod tenth;
@@ -26,6 +28,7 @@ mod terms;
 mod walk;
 
 pub use audit::audit_rows;
+pub use laws::rules_are_of_their_channels;
 pub use lines::{AuditLine, Place};
 pub use rules::{Rule, rules_of};
 

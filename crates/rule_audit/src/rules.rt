@@ -1,5 +1,6 @@
 // The rules with their numbers.
-ghost use Rattle.std.specs.Prelude.{◌≡◌, ◌++◌, IfOk, OnOk, map};
+ghost use Rattle.std.specs.Prelude.{◌≡◌, ◌++◌, Contains, IfOk, OnOk, map};
+ghost use Rattle.ring_config.specs.Sound.{IsSound};
 ghost use Rattle.ring_config.specs.Values.{has_number, has_phase};
 ghost use Rattle.rule_audit.specs.declared.rules.Rule.TheVariants.{Interval};
 ghost use Rattle.rule_audit.specs.Rules.{companion_rule, companion_rules, conflict_rule, conflict_rules, each_number, is_conflict, parents_rule, parents_rule_of, parents_rules, rules_for};
@@ -30,18 +31,17 @@ pub enum Rule {
 pub fn rules_of(alloc: Global, config: &Config) -> Result<Vec<Rule>, NoMemory>
     ensures { IfOk result (λ v. v.items ≡ rules_for config.now) }
 {
-    let mut rules = interval_rules(alloc, config)?;
+    let mut rules = interval_rules(alloc, config.intervals())?;
     push_conflicts(&mut rules, alloc, config)?;
     push_companions(&mut rules, alloc, config)?;
     push_all_parents(&mut rules, alloc, config)?;
     Ok(rules)
 }
 
-fn interval_rules(alloc: Global, config: &Config) -> Result<Vec<Rule>, NoMemory>
-    ensures { IfOk result (λ v. v.items ≡ map Interval config.now.intervals) }
+fn interval_rules(alloc: Global, items: &[IntervalItem]) -> Result<Vec<Rule>, NoMemory>
+    ensures { IfOk result (λ v. v.items ≡ map Interval items.now) }
 {
     let mut rules = Vec::new(alloc);
-    let items = config.intervals();
     for item in items {
         rules.push(Rule::Interval(*item))?;
     }
@@ -49,6 +49,7 @@ fn interval_rules(alloc: Global, config: &Config) -> Result<Vec<Rule>, NoMemory>
 }
 
 fn push_conflicts(rules: &mut Vec<Rule>, alloc: Global, config: &Config) -> Result<(), NoMemory>
+    requires { IsSound config.now }
     ensures { OnOk result (rules.new.items ≡ rules.old.items ++ conflict_rules config.now) }
 {
     for a in 1..17u8 {
@@ -64,6 +65,7 @@ fn push_conflicts_of(
     config: &Config,
     a: u8,
 ) -> Result<(), NoMemory>
+    requires { IsSound config.now }
     ensures { OnOk result (rules.new.items ≡ rules.old.items
         ++ each_number (conflict_rule config.now a)) }
 {
@@ -80,6 +82,7 @@ fn push_conflict(
     a: u8,
     b: u8,
 ) -> Result<(), NoMemory>
+    requires { IsSound config.now }
     ensures { OnOk result (rules.new.items ≡ rules.old.items ++ conflict_rule config.now a b) }
 {
     if is_conflict(config, a, b) {
@@ -107,6 +110,7 @@ fn has_phase(phases: &[PhaseItem], number: u8) -> bool
 }
 
 fn push_companions(rules: &mut Vec<Rule>, alloc: Global, config: &Config) -> Result<(), NoMemory>
+    requires { IsSound config.now }
     ensures { OnOk result (rules.new.items ≡ rules.old.items ++ companion_rules config.now) }
 {
     for ped in 1..17u8 {
@@ -121,6 +125,7 @@ fn push_companion(
     config: &Config,
     ped: u8,
 ) -> Result<(), NoMemory>
+    requires { IsSound config.now }
     ensures { OnOk result (rules.new.items ≡ rules.old.items ++ companion_rule config.now ped) }
 {
     if has_number(config.peds(), ped) {
@@ -138,6 +143,7 @@ fn has_number(numbers: &[u8], number: u8) -> bool
 }
 
 fn push_all_parents(rules: &mut Vec<Rule>, alloc: Global, config: &Config) -> Result<(), NoMemory>
+    requires { IsSound config.now }
     ensures { OnOk result (rules.new.items ≡ rules.old.items ++ parents_rules config.now) }
 {
     for number in 1..17u8 {
@@ -153,6 +159,7 @@ fn push_parents_of(
     config: &Config,
     number: u8,
 ) -> Result<(), NoMemory>
+    requires { IsSound config.now }
     ensures { OnOk result (rules.new.items ≡ rules.old.items ++ parents_rule config.now number) }
 {
     let overlaps = config.overlaps();
@@ -170,6 +177,8 @@ fn push_parents(
     overlap: &OverlapItem,
     number: u8,
 ) -> Result<(), NoMemory>
+    requires sound { IsSound config.now }
+    requires overlap { Contains config.now.overlaps overlap.now }
     ensures { OnOk result (rules.new.items ≡ rules.old.items
         ++ parents_rule_of config.now number overlap.now) }
 {

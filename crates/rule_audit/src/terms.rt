@@ -1,11 +1,13 @@
 // The clauses that rules say.
-ghost use Rattle.std.specs.Prelude.{◌≡◌, ◌<◌, ◌≤◌, ◌^◌, ◌++◌, [], ◌∷◌, ℕ, List, IfOk, OnOk, bit_or, unwrap_or};
+ghost use Rattle.std.specs.Prelude.{◌≡◌, ◌<◌, ◌≤◌, ◌^◌, ◌++◌, [], ◌∷◌, ℕ, List, Contains, IfOk, IsTrue, OnOk, bit_or};
 ghost use Rattle.event_codes.specs.declared.channels.Kind.TheVariants as kinds;
 ghost use Rattle.channel_tables.specs.PedTable as ped_colours;
 ghost use Rattle.channel_tables.specs.PhaseTable as phase_colours;
 ghost use Rattle.channel_tables.specs.OverlapTable as overlap_colours;
-ghost use Rattle.ring_config.specs.Settings.{spec_place};
-ghost use Rattle.rule_audit.specs.Rules.{colours_of, companion_terms, conflict_terms, each_number, is_in, is_parent, others, parent_term, parents_terms, served};
+ghost use Rattle.board.specs.Verdicts.{AreClause};
+ghost use Rattle.ring_config.specs.Sound.{IsOverlap, IsSound};
+ghost use Rattle.rule_audit.specs.Channels.{IsPlace, IsTracked};
+ghost use Rattle.rule_audit.specs.Rules.{colours_of, companion_terms, conflict_terms, each_number, is_conflict, is_in, is_parent, others, parent_term, parents_terms, served};
 
 use board::{Clause, Term};
 use colour_machine::Mask;
@@ -77,19 +79,20 @@ fn no_green() -> Mask
     with_colour(clear, 5)
 }
 
-// The place among the specs of the channel of this kind and number, which is tracked.
+// The place among the specs of the channel of this kind and number.
 fn place_of(config: &Config, kind: Kind, number: u8) -> u16
-    ensures { result ≡ unwrap_or (spec_place config.now.specs
-        (record { kind = kind; number = number })) 0 }
+    requires { IsTracked config.now kind number }
+    ensures { IsPlace config.now.specs kind number result }
 {
     match config.spec_of(Channel { kind, number }) {
         Some(spec) => spec,
-        None => 0,
+        None => unreachable!(),
     }
 }
 
 // The term that the channel is in one of the colours.
 fn term(config: &Config, kind: Kind, number: u8, colours: Mask) -> Term
+    requires { IsTracked config.now kind number }
     ensures { (cs : List ℕ) → colours ≡ colours_of cs → result
         ≡ is_in config.now.specs kind number cs }
 {
@@ -99,14 +102,14 @@ fn term(config: &Config, kind: Kind, number: u8, colours: Mask) -> Term
     }
 }
 
-// A clause of these terms, 1 to 9 and no two of one channel. A configuration has no others: an
-// overlap has at most 8 parents.
-fn clause_of(terms: Vec<Term>) -> Result<Clause, NoMemory>
-    ensures { IfOk result (λ c. c ≡ terms.items) }
+// The clause of these terms.
+fn clause_of(terms: Vec<Term>) -> Clause
+    requires { AreClause terms.items }
+    ensures { result ≡ terms.items }
 {
     match Clause::new(terms) {
-        Some(clause) => Ok(clause),
-        None => Err(NoMemory),
+        Some(clause) => clause,
+        None => unreachable!(),
     }
 }
 
@@ -117,22 +120,26 @@ pub(crate) fn conflict_clause(
     a: u8,
     b: u8,
 ) -> Result<Clause, NoMemory>
+    requires sound { IsSound config.now }
+    requires conflict { IsTrue (is_conflict config.now a b) }
     ensures { IfOk result (λ c. c ≡ conflict_terms config.now.specs a b) }
 {
     let mut terms = Vec::new(alloc);
     terms.push(term(config, Kind::Phase, a, not_served()))?;
     terms.push(term(config, Kind::Phase, b, not_served()))?;
-    clause_of(terms)
+    Ok(clause_of(terms))
 }
 
 /// The pedestrian signal doesn't show walk, or its phase is on or green.
 pub(crate) fn companion_clause(alloc: Global, config: &Config, ped: u8) -> Result<Clause, NoMemory>
+    requires sound { IsSound config.now }
+    requires ped { IsTracked config.now kinds.Ped ped }
     ensures { IfOk result (λ c. c ≡ companion_terms config.now.specs ped) }
 {
     let mut terms = Vec::new(alloc);
     terms.push(term(config, Kind::Ped, ped, no_walk()))?;
     terms.push(term(config, Kind::Phase, ped, on_or_green()))?;
-    clause_of(terms)
+    Ok(clause_of(terms))
 }
 
 /// The overlap isn't green, or one of its parents is served.
@@ -141,12 +148,14 @@ pub(crate) fn parents_clause(
     config: &Config,
     overlap: &OverlapItem,
 ) -> Result<Clause, NoMemory>
+    requires sound { IsSound config.now }
+    requires overlap { Contains config.now.overlaps overlap.now }
     ensures { IfOk result (λ c. c ≡ parents_terms config.now.specs overlap.now) }
 {
     let mut terms = Vec::new(alloc);
     terms.push(term(config, Kind::Overlap, overlap.number, no_green()))?;
     push_parents(&mut terms, config, overlap)?;
-    clause_of(terms)
+    Ok(clause_of(terms))
 }
 
 // The parents of the overlap, ascending.
@@ -155,6 +164,7 @@ fn push_parents(
     config: &Config,
     overlap: &OverlapItem,
 ) -> Result<(), NoMemory>
+    requires { IsOverlap config.now.phases overlap.now }
     ensures { OnOk result (terms.new.items ≡ terms.old.items
         ++ each_number (parent_term config.now.specs overlap.now)) }
 {
@@ -171,6 +181,7 @@ fn push_parent(
     overlap: &OverlapItem,
     phase: u8,
 ) -> Result<(), NoMemory>
+    requires overlap { IsOverlap config.now.phases overlap.now }
     requires low { 1 ≤ phase }
     requires high { phase ≤ 16 }
     ensures { OnOk result (terms.new.items ≡ terms.old.items

@@ -22,7 +22,8 @@ use Rattle.arrival_measures.proofs.Travels.{late_late}
 use Rattle.arrival_measures.proofs.ahead.detector_hour.Goals as goal
 
 pub returns : goal.returns
-returns c = λ known s before rows hour are cut of_it is_adv cross.
+returns c = λ known s before rows hour are cut of_it cross.
+    let is_adv = c.requires in
     let t = point hour in
     let to = point (hour + 1) in
     let a = c.args.approach.now in

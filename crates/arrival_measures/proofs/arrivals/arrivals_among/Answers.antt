@@ -1,4 +1,4 @@
-use Rattle.std.proofs.Common.{◌<◌, ◌∙◌, List, ap, subst, length, refl, arith}
+use Rattle.std.proofs.Common.{◌≡◌, ◌<◌, ◌≤◌, ◌∙◌, List, ap, subst, length, refl, arith}
 use Rattle.std.proofs.lemmas.List.{take_all}
 use Rattle.sig_base.specs.declared.values.Row.{Row}
 use Rattle.board.specs.Logs.{no_row}
@@ -15,6 +15,7 @@ pub loop-i-preserved : goal.loop-i-preserved
 loop-i-preserved c = λ log is.
     let rows = c.args.rows.now in
     let i = c.loop-i.i in
+    let within = c.numbered-i-end.ensures.within in
     let lt : i < length rows = omega arith in
     let P = IsArrival c.args.config.now log c.args.phase in
     let tells = c.is_arrival.ensures log rows is lt refl in
@@ -25,6 +26,9 @@ loop-i-preserved c = λ log is.
 
 pub returns : goal.returns
 returns c = λ log is.
+    let few : length c.args.rows.now ≤ 400000 = subst (λ (zs : List Row). length zs ≤ 400000) is.same_rows is.is_view.is_log.is_hour.are_rows.few in
+    let all = c.numbered-i-end.ensures.all in
+    let count : c.numbered-i-end.result ≡ length c.args.rows.now = all (omega arith) in
     subst (λ (zs : List Row). ArePicked (IsArrival c.args.config.now log c.args.phase) 0 zs c.loop-i.arrivals.items)
     (take_all c.loop-i.i c.args.rows.now (omega arith))
     (c.loop-i.invariant log is)

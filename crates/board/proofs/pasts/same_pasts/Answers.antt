@@ -1,8 +1,6 @@
-use Rattle.std.proofs.Common.{rules, arith, refl, length, ◌≡◌, ◌↔◌, [], get_or, subst, ap, List}
+use Rattle.std.proofs.Common.{rules, arith, refl, length, ◌≡◌, subst, List}
 use Rattle.span_set.specs.declared.set.Span.{Span}
-use Rattle.reach.specs.Runs.{State}
-use Rattle.reach.specs.Past.{Holds}
-use Rattle.board.specs.Places.{AreSamePasts, HaveSameStates}
+use Rattle.board.specs.Places.{AreSamePasts}
 use Rattle.board.proofs.Starting.{same_sets}
 use Rattle.board.proofs.pasts.same_pasts.Goals as goal
 

@@ -1,4 +1,4 @@
-use Rattle.std.proofs.Common.{◌≡◌, ◌*◌, arith}
+use Rattle.std.proofs.Common.{arith}
 use Rattle.board.specs.Logs.{end_tenth, first_tenth}
 use Rattle.board.proofs.view.hour_of.Goals as goal
 

@@ -1,4 +1,4 @@
-use Rattle.std.proofs.Common.{arith, ◌≡◌, ◌∙◌, ◌+◌, ◌-◌, ℕ, length, take, drop}
+use Rattle.std.proofs.Common.{arith, ◌≡◌, ◌-◌, ℕ, take, drop}
 use Rattle.reach.specs.Runs.{State}
 use Rattle.lane.specs.Places.{limit_of}
 use Rattle.lane.specs.Walks.{BeforeMoves}

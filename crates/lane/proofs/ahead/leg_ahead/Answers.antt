@@ -1,4 +1,4 @@
-use Rattle.std.proofs.Common.{arith, ◌≡◌, ◌∙◌, ◌↔◌, length, drop, []}
+use Rattle.std.proofs.Common.{arith, ◌∙◌, length, drop}
 use Rattle.std.proofs.lemmas.Result.{on_ok_weaker}
 use Rattle.reach.specs.Ahead.{Admits}
 use Rattle.reach.specs.Last.{BeforeGaps}

@@ -1,4 +1,4 @@
-use Rattle.std.proofs.Common.{pos, ◌≤ℤ◌, ◌<◌, ◌^◌, arith, rules}
+use Rattle.std.proofs.Common.{pos, ◌<◌, ◌^◌, arith, rules}
 use Rattle.std.proofs.lemmas.Int.{ints}
 use Rattle.lane.proofs.Holes.{end_more}
 use Rattle.lane.proofs.leg.put_hole.Goals as goal

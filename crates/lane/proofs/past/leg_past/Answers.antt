@@ -1,4 +1,4 @@
-use Rattle.std.proofs.Common.{arith, refl, ◌≡◌, ◌≤◌, ◌↔◌, length, []}
+use Rattle.std.proofs.Common.{arith, ◌↔◌, []}
 use Rattle.reach.specs.Runs.{State}
 use Rattle.reach.specs.Past.{Holds}
 use Rattle.reach.proofs.Later.{then_iff}

@@ -1,8 +1,13 @@
 use Rattle.std.proofs.Common.{refl, subst, List, Option, ℤ, negsuc, ◌^◌}
 use Rattle.std.proofs.lemmas.Int.{to_z-of_z}
 use Rattle.reach.specs.Last.{IsRoundIn}
-use Rattle.reach.proofs.Returning.{round_sound, lasts_fall, last_is, low_holes}
+use Rattle.reach.proofs.Returning.{round_sound, lasts_fall, last_is, low_holes, holes_from}
 use Rattle.reach.proofs.before_holes.last_holes.Goals as goal
+
+pub last_all-next-requires-clause-holes : goal.last_all-next-requires-clause-holes
+last_all-next-requires-clause-holes g c =
+    let rf = c.ranges.from in let rt = c.ranges.to in
+    holes_from c.args.holes.now c.args.from c.args.to (negsuc (2 ^ 39)) c.requires.low c.requires.holes
 
 pub rounds-preserved : goal.rounds-preserved
 rounds-preserved g c =

@@ -26,7 +26,7 @@ loop-i-preserved c =
 
 pub returns : goal.returns
 returns c =
-    let few = c.if-specs-gt60000.false in
+    let few = c.requires in
     let over = c.loop-i-test.false in
     let (have, are) = c.loop-i.invariant in
     let last : c.loop-i.i ≡ length c.args.specs.now = omega arith in

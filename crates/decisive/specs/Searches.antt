@@ -1,5 +1,5 @@
 -- Where the searches for a window's ends come to.
-use Rattle.std.specs.Prelude.{◌≡◌, ◌⊎◌, ℕ, ◌+◌, ◌-◌, ◌*◌, ◌<◌, ◌≤◌, ◌^◌, List, length, take, min, slice_index}
+use Rattle.std.specs.Prelude.{◌≡◌, ◌⊎◌, ℕ, ◌+◌, ◌*◌, ◌<◌, ◌≤◌, List, length, take}
 use Rattle.sig_base.specs.declared.values.Row.{Row}
 use Rattle.gap_map.specs.declared.stretch.Stretch.{Stretch}
 use Rattle.channel_tables.specs.declared.spec.Spec.{Spec}
@@ -17,10 +17,6 @@ use Rattle.decisive.specs.declared.judge.Start.{Start}
 use Rattle.decisive.specs.declared.parts.Part.{Part}
 use Rattle.decisive.specs.Candidates.{BeginsBy, EndsBy, IsFirstEnd, IsLastBegin, NoneBegins, NoneEnds}
 use Rattle.decisive.specs.Laws.{TellsOf}
-
--- no count fell; a count ends at the last value of a u64
-unfoldable pub Grow : List ℕ → List ℕ → Type 0
-Grow old new = (h : ℕ) → min (slice_index old h) (2 ^ 64 - 1) ≤ slice_index new h
 
 -- the rows of an hour, none where it isn't held
 abbrev pub hour_rows : Store → ℕ → List Row

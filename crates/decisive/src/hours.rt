@@ -6,7 +6,8 @@ ghost use Rattle.board.specs.Logs.{first_tenth};
 ghost use Rattle.signal_log.specs.Log.{log_of};
 ghost use Rattle.signal_log.specs.Points.{rows_or_none};
 ghost use Rattle.decisive.specs.Laws.{TellsOf};
-ghost use Rattle.decisive.specs.Searches.{ArePlaced, Grow, rank};
+ghost use Rattle.decisive.specs.Searches.{ArePlaced, rank};
+ghost use Rattle.sig_base.specs.Reads.{Grow};
 
 use gap_map::{Stretch, stretches};
 use hour_store::HourStore;

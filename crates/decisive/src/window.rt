@@ -6,7 +6,8 @@ ghost use Rattle.signal_log.specs.Log.{HasHistory, log_of};
 ghost use Rattle.signal_log.specs.Points.{ArePastsAt};
 ghost use Rattle.rule_audit.specs.Rules.{rules_for};
 ghost use Rattle.decisive.specs.Breaks.{FitsParts, FitsStart};
-ghost use Rattle.decisive.specs.Searches.{AreFound, ArePlaced, Grow, hour_rows, rank, rank_in};
+ghost use Rattle.decisive.specs.Searches.{AreFound, ArePlaced, hour_rows, rank, rank_in};
+ghost use Rattle.sig_base.specs.Reads.{Grow};
 ghost use Rattle.decisive.specs.Lines.{IsBrokenIn, IsWindowIn};
 ghost use Rattle.decisive.specs.Window.{IsPlaceIn};
 

@@ -3,7 +3,8 @@ ghost use Rattle.std.specs.Prelude.{ℕ, ◌+◌, ◌<◌, ◌≤◌, ◌^◌, l
 ghost use Rattle.board.specs.Logs.{first_tenth};
 ghost use Rattle.board.specs.Places.{IsPlace};
 ghost use Rattle.decisive.specs.Breaks.{FitsParts, FitsStart};
-ghost use Rattle.decisive.specs.Searches.{ArePlaced, Grow, IsBeginAt, IsBeginFound, IsEndAt, IsEndFound, NoBegin, NoEnd, rank};
+ghost use Rattle.decisive.specs.Searches.{ArePlaced, IsBeginAt, IsBeginFound, IsEndAt, IsEndFound, NoBegin, NoEnd, rank};
+ghost use Rattle.sig_base.specs.Reads.{Grow};
 
 use crate::hours::{Placed, add_hour, hour_before};
 use crate::judge::{Question, Start};

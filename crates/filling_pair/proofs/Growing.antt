@@ -1,2 +1,2 @@
 -- Counts that never fall.
-pub use Rattle.strand_search.proofs.Growing.{grow_on, grow_raised_to, grow_same}
+pub use Rattle.sig_base.proofs.Growing.{grow_on, grow_raised_to, grow_same}

@@ -18,7 +18,6 @@ use Rattle.rule_audit.specs.declared.rules.Rule.TheVariants.{Interval, Conflict,
 use Rattle.rule_audit.specs.Index.{no_rule}
 use Rattle.rule_audit.specs.Judged.{KeepsInterval}
 use Rattle.filling_pair.specs.declared.strands.Strand.{Strand}
-pub use Rattle.strand_search.specs.Events.{Grow}
 use Rattle.filling_pair.specs.Strands.{AreStrands, Leads, events_with}
 
 -- the rows of an hour, none where it isn't held

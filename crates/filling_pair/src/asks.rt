@@ -2,7 +2,8 @@
 ghost use Rattle.std.specs.Prelude.{◌≡◌, ◌≤◌, length, IfOk, MatchOption};
 ghost use Rattle.board.specs.Channels.{AreSpecs};
 ghost use Rattle.filling_pair.specs.Asks.{FitAsks, FitsAsk, HasAsk, IsAmong, LacksReply, NoneStands, Replies, ReplyAll, row_of_place};
-ghost use Rattle.filling_pair.specs.Kept.{Grow, IsPlaced};
+ghost use Rattle.filling_pair.specs.Kept.{IsPlaced};
+ghost use Rattle.sig_base.specs.Reads.{Grow};
 ghost use Rattle.filling_pair.specs.Strands.{rows_of};
 
 use crate::strands::{Fill, Fills, Strand, Strands};

@@ -4,7 +4,8 @@ ghost use Rattle.channel_tables.specs.Spec.{IsSpec};
 ghost use Rattle.signal_log.specs.Log.{log_of};
 ghost use Rattle.rule_audit.specs.Rules.{rules_for};
 ghost use Rattle.filling_pair.specs.Strands.{AreAllStrands, IsStrand};
-ghost use Rattle.filling_pair.specs.Kept.{AreShown, Grow, IsLineOf, IsPlaced, KeepLine, KeepsLine, line_rows};
+ghost use Rattle.filling_pair.specs.Kept.{AreShown, IsLineOf, IsPlaced, KeepLine, KeepsLine, line_rows};
+ghost use Rattle.sig_base.specs.Reads.{Grow};
 
 use crate::channels::are_channels;
 use crate::hours::rows_of_hour;

@@ -11,7 +11,8 @@ ghost use Rattle.rule_audit.specs.Rules.{rules_for};
 ghost use Rattle.rule_audit.specs.Pass.{FitsItem, FitsRule};
 ghost use Rattle.strand_search.specs.Runs.{TellsWithinHour};
 ghost use Rattle.filling_pair.specs.Asks.{AreHolding, IsClauseOf, IsOpen, IsOpenClause, IsPair, IsTermOf, IsUndecided, NoneHolds, Shows, ShowsBoth, failing};
-ghost use Rattle.filling_pair.specs.Kept.{Grow, IsLineOf, IsPlaced};
+ghost use Rattle.filling_pair.specs.Kept.{IsLineOf, IsPlaced};
+ghost use Rattle.sig_base.specs.Reads.{Grow};
 
 use crate::asks::{Ask, replies};
 use crate::strands::{Pair, Strands};

@@ -6,7 +6,8 @@ ghost use Rattle.board.specs.Channels.{track};
 ghost use Rattle.board.specs.Logs.{no_spec};
 ghost use Rattle.signal_log.specs.Log.{IsBeforeWindow, log_of};
 ghost use Rattle.filling_pair.specs.Strands.{IsStrand, start_of};
-ghost use Rattle.filling_pair.specs.Kept.{Grow, IsPlaced};
+ghost use Rattle.filling_pair.specs.Kept.{IsPlaced};
+ghost use Rattle.sig_base.specs.Reads.{Grow};
 ghost use Rattle.filling_pair.specs.Walking.{FillsFrom, Fits, IsStood, track_of};
 
 use crate::hours::follow;

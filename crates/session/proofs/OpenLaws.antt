@@ -2,7 +2,7 @@
 use Rattle.std.proofs.Common.{◌≡◌, ◌∙◌, inl, inr, ℕ, zero, suc, ◌+◌, ◌-◌, ◌^◌, ◌<◌, ◌≤◌, ◌≢◌, min, List, length, length-set, get_or, get_or-set_same, get_or-set_other, Option, refl, sym, ap, subst, arith, ℤ, Result, Ok, Err}
 use Rattle.std.proofs.lemmas.Bool.{cases_lt}
 use Rattle.std.proofs.lemmas.List.{get_or_past}
-use Rattle.sig_base.specs.Reads.{one_more, raised}
+use Rattle.sig_base.specs.Reads.{Grow, one_more, raised}
 use Rattle.sig_base.specs.declared.values.Applied.{Applied}
 use Rattle.sig_base.specs.declared.values.EditError.{EditError}
 use Rattle.sig_base.specs.declared.values.Row.{Row}
@@ -14,7 +14,7 @@ use Rattle.hour_work.specs.Points.{NamesStop}
 use Rattle.session.specs.Edits.{Change, blank, unblank}
 use Rattle.session.specs.Moved.{Touches}
 use Rattle.session.specs.Opens.{AreOpened, IsOpened, NamesRowOf, OpensBy, OpensToRow, count_after}
-use Rattle.session.specs.Sessions.{Grow, refusal_for}
+use Rattle.session.specs.Sessions.{refusal_for}
 
 -- ---- the count of one hour
 

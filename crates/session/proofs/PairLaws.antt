@@ -11,7 +11,7 @@ use Rattle.strand_search.specs.Events as strands
 use Rattle.filling_pair.specs.declared.strands.Pair.{Pair}
 use Rattle.filling_pair.specs.Asks.{IsPair}
 use Rattle.session.specs.Pairs.{ArePairsOf, is_open_at, is_undecided}
-use Rattle.session.specs.Sessions.{Grow}
+use Rattle.sig_base.specs.Reads.{Grow}
 
 -- no count fell, by the one word or the other
 pub grow_of_pair : (a b : List ℕ) → strands.Grow a b → Grow a b

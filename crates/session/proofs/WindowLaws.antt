@@ -32,7 +32,7 @@ use Rattle.hour_work.specs.Rows.{hour_rows}
 use Rattle.hour_work.specs.Verdicts.{AreAuditLines, HasStoreVerdict, obligations_in, states_in}
 use Rattle.hour_work.proofs.PlacedLaws.{Each, FitPlace, IsPlaced, all_placed, each_all, rules_fit}
 use Rattle.session.specs.HourLines.{AreLinesIn, HasOwnWindow, IsLineAfter, IsLineIn}
-use Rattle.session.specs.Sessions.{Grow}
+use Rattle.sig_base.specs.Reads.{Grow}
 use Rattle.session.specs.Windows.{AreHourLines, AreWithWindows, HasWindow, is_broken, with_window}
 
 join : {X : Type 0} (P : X → Type 0) (xs ys : List X) → Each P xs → Each P ys → Each P (xs ++ ys)

@@ -1,5 +1,5 @@
 -- A session, and what an edit answers and does to it.
-use Rattle.std.specs.Prelude.{◌≡◌, ◌≤◌, ◌<◌, ◌-◌, ◌^◌, ℕ, List, length, min, slice_index, slice_index_or, Result, Ok, Err}
+use Rattle.std.specs.Prelude.{◌≡◌, ◌<◌, ℕ, List, length, slice_index_or, Result, Ok, Err}
 use Rattle.sig_base.specs.declared.values.Applied.{Applied}
 use Rattle.sig_base.specs.declared.values.EditError.{EditError}
 use Rattle.sig_base.specs.declared.values.EditError.TheVariants.{TooManyBlanks, Contradiction, Memory}
@@ -50,10 +50,6 @@ abbrev pub MayRefuse : Change → EditError → Type 0
 MayRefuse (withdraw _) (Contradiction _) = ⊥
 MayRefuse (blank _ _) (Contradiction _) = ⊥
 MayRefuse _ _ = Unit {0}
-
--- no count fell; a count ends at the last value of a u64
-unfoldable pub Grow : List ℕ → List ℕ → Type 0
-Grow old new = (h : ℕ) → min (slice_index old h) (2 ^ 64 - 1) ≤ slice_index new h
 
 -- there is one count for each rule, in the numbers of each hour and in their sums
 pub record AreCounted (rules : ℕ) (all : List Numbers) : Type 0 where

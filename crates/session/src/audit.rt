@@ -7,7 +7,7 @@ ghost use Rattle.hour_work.specs.Points.{IsCarryAt, IsFutureAt};
 ghost use Rattle.hour_work.specs.Verdicts.{AreAuditLines};
 ghost use Rattle.session.specs.HourLines.{AreLinesIn, AreWindowed, HasOwnWindow, IsLineAfter};
 ghost use Rattle.session.specs.Links.{AreKept};
-ghost use Rattle.session.specs.Sessions.{Grow};
+ghost use Rattle.sig_base.specs.Reads.{Grow};
 
 use crate::renew::Worked;
 use board::Pasts;

@@ -4,7 +4,7 @@ ghost use Rattle.hour_store.specs.Store.{IsStore};
 ghost use Rattle.session.specs.Links.{AreFuturesBut};
 ghost use Rattle.session.specs.Opens.{AreOpened};
 ghost use Rattle.session.specs.Renewed.{AreNewFutures};
-ghost use Rattle.session.specs.Sessions.{Grow};
+ghost use Rattle.sig_base.specs.Reads.{Grow};
 
 use crate::steps::future_before;
 use hour_store::HourStore;

@@ -7,7 +7,7 @@ ghost use Rattle.hour_work.specs.Points.{NamesRow};
 ghost use Rattle.session.specs.Links.{AreCarriesBut};
 ghost use Rattle.session.specs.Opens.{AreOpened, OpensToRow};
 ghost use Rattle.session.specs.Renewed.{AreNewCarries};
-ghost use Rattle.session.specs.Sessions.{Grow};
+ghost use Rattle.sig_base.specs.Reads.{Grow};
 
 use crate::steps::carry_over;
 use hour_store::HourStore;

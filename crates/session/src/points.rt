@@ -8,7 +8,7 @@ ghost use Rattle.hour_work.specs.Rows.{earlier_rows, own_rows};
 ghost use Rattle.hour_work.specs.Measures.{cycles_in};
 ghost use Rattle.hour_work.specs.Points.{IsCarryAt, IsFutureAt};
 ghost use Rattle.session.specs.Links.{AreKept};
-ghost use Rattle.session.specs.Sessions.{Grow};
+ghost use Rattle.sig_base.specs.Reads.{Grow};
 
 use crate::renew::Worked;
 use arrival_measures::{Diagram, Point, Points, diagrams};

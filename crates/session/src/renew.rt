@@ -12,7 +12,7 @@ ghost use Rattle.hour_work.specs.Points.{Carried, NamesRow};
 ghost use Rattle.session.specs.Links.{Ahead, AreCarries, AreCarriesBut, AreFutures, AreFuturesBut, AreKeptBut};
 ghost use Rattle.session.specs.Opens.{AreOpened, OpensToRow};
 ghost use Rattle.session.specs.Renewed.{AreNewCarries, AreNewFutures, AreNewParts, AreSameUpTo, IsRenewed};
-ghost use Rattle.session.specs.Sessions.{Grow};
+ghost use Rattle.sig_base.specs.Reads.{Grow};
 
 use crate::backward::go_back;
 use crate::forward::go_forward;

@@ -15,7 +15,8 @@ ghost use Rattle.session.specs.Moved.{AreMoved, KeepParts, Moves, Touches};
 ghost use Rattle.session.specs.Opens.{OpensBy};
 ghost use Rattle.session.specs.Pairs.{ArePairsAt};
 ghost use Rattle.session.specs.Ranges.{SameApart};
-ghost use Rattle.session.specs.Sessions.{AreCounted, Grow, Kept, MayRefuse, Steps, StopsAt, refusal_for};
+ghost use Rattle.session.specs.Sessions.{AreCounted, Kept, MayRefuse, Steps, StopsAt, refusal_for};
+ghost use Rattle.sig_base.specs.Reads.{Grow};
 ghost use Rattle.session.specs.Windows.{AreHourLines};
 
 use crate::Edit;

@@ -1,2 +1,3 @@
 mod Years
 mod Dates
+mod Growing

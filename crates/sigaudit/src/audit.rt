@@ -1,7 +1,7 @@
 // The verdicts of a session: those that are broken or undecided, or all of one hour.
 ghost use Rattle.std.specs.Prelude.{◌≡◌, ◌<◌, ◌++◌, true, [], IfOk, IsTrue, All, OnOk, length, nat_lt};
 ghost use Rattle.outside.specs.Sink.{Puts};
-ghost use Rattle.session.specs.Sessions.{Grow};
+ghost use Rattle.sig_base.specs.Reads.{Grow};
 ghost use Rattle.report_text.specs.Audit.{IsLineIn};
 ghost use Rattle.sigaudit.specs.Audit.{AddsHour, AreFailing, AreVerdicts, IsAudited, audit_head, audit_start, failing_at, failing_of, is_kept, lines_text, verdicts_head};
 ghost use Rattle.sigaudit.specs.Run.{TakesBy};

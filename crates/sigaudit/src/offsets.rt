@@ -1,7 +1,7 @@
 // The best shift of an approach.
 ghost use Rattle.std.specs.Prelude.{◌≡◌, ◌++◌, ◌≤◌, All, IfOk, OnOk, length};
 ghost use Rattle.offset_search.specs.Shifted.{counts_of};
-ghost use Rattle.session.specs.Sessions.{Grow};
+ghost use Rattle.sig_base.specs.Reads.{Grow};
 ghost use Rattle.sigaudit.specs.Offsets.{advance_of, arrivals_at, arrivals_in, arrivals_of, is_taken, offsets_of, store_arrivals};
 ghost use Rattle.sigaudit.specs.Run.{TakesBy};
 

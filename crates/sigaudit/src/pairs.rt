@@ -3,7 +3,7 @@ ghost use Rattle.std.specs.Prelude.{◌≡◌, ◌*◌, ◌<◌, ◌≤◌, All,
 ghost use Rattle.outside.specs.Sink.{Puts};
 ghost use Rattle.row_reader.specs.Stamp.{stamp_in};
 ghost use Rattle.rule_audit.specs.Rules.{rules_for};
-ghost use Rattle.session.specs.Sessions.{Grow};
+ghost use Rattle.sig_base.specs.Reads.{Grow};
 ghost use Rattle.report_text.specs.Pairs.{IsPairIn, pair_text};
 ghost use Rattle.sigaudit.specs.Pairs.{AreFound, found_text, nothing_text, place_of, rule_within, tenth_within};
 ghost use Rattle.sigaudit.specs.Run.{PutsOne};

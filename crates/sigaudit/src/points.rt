@@ -2,7 +2,7 @@
 ghost use Rattle.std.specs.Prelude.{◌≡◌, ◌<◌, ◌*◌, true, All, length};
 ghost use Rattle.outside.specs.Sink.{Puts};
 ghost use Rattle.ring_config.specs.Values.{has_phase};
-ghost use Rattle.session.specs.Sessions.{Grow};
+ghost use Rattle.sig_base.specs.Reads.{Grow};
 ghost use Rattle.sigaudit.specs.Points.{diagrams_text, points_head, points_of_phase, points_turn};
 ghost use Rattle.sigaudit.specs.Run.{TakesBy};
 

@@ -2,7 +2,7 @@
 ghost use Rattle.std.specs.Prelude.{◌≡◌, ◌≤◌, ◌<◌, Some, [], length, IfSome, true, false};
 ghost use Rattle.outside.specs.Shelf.{Counts, Files};
 ghost use Rattle.sig_base.specs.Window.{IsDay};
-ghost use Rattle.session.specs.Sessions.{Grow};
+ghost use Rattle.sig_base.specs.Reads.{Grow};
 ghost use Rattle.ring_config.specs.Settings.{config_of};
 ghost use Rattle.command_line.specs.Words.{IsReadable, seen};
 ghost use Rattle.sigaudit.specs.Asked.{asked_of};

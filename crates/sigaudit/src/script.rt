@@ -7,7 +7,7 @@ ghost use Rattle.sig_base.specs.HourRows.{Shown};
 ghost use Rattle.hour_store.specs.Store.{Store};
 ghost use Rattle.sigaudit.specs.HourFile.{hour_said};
 ghost use Rattle.session.specs.Edits.{change_of};
-ghost use Rattle.session.specs.Sessions.{Grow};
+ghost use Rattle.sig_base.specs.Reads.{Grow};
 ghost use Rattle.script_lines.specs.Lines.{lines_of};
 ghost use Rattle.script_lines.specs.Words.{said};
 ghost use Rattle.script_lines.specs.Seen.{seen};

@@ -1,5 +1,5 @@
 -- Rows that are letters of a channel.
-use Rattle.std.specs.Prelude.{◌≡◌, ℕ, suc, ◌<◌, ◌≤◌, pos, ◌≤ℤ◌, ◌<ℤ◌, ◌&&◌, nat_le, nat_lt, min, ◌-◌, ◌^◌, Bool, false, if◌then◌else◌, IsSome, List, [], ◌∷◌, ◌++◌, slice_index}
+use Rattle.std.specs.Prelude.{◌≡◌, ℕ, suc, ◌<◌, ◌≤◌, pos, ◌≤ℤ◌, ◌<ℤ◌, ◌&&◌, nat_le, nat_lt, ◌^◌, Bool, false, if◌then◌else◌, IsSome, List, [], ◌∷◌, ◌++◌}
 use Rattle.sig_base.specs.declared.values.Row.{Row}
 use Rattle.colour_machine.specs.Rules.{Rules}
 use Rattle.board.specs.History.{Track}
@@ -28,10 +28,6 @@ AreFew known rs = (hour a b : ℕ) → first_tenth hour ≤ a → b ≤ end_tent
 -- what was added to the rows is these letters of the channel
 abbrev pub AddsLetters : Track → List Fill → List Row → List Row → Type 0
 AddsLetters k fs old new = (qs : List Row) × (new ≡ old ++ qs) × AreFillRows k fs qs
-
--- no count fell; a count ends at the last value of a u64
-unfoldable pub Grow : List ℕ → List ℕ → Type 0
-Grow old new = (h : ℕ) → min (slice_index old h) (2 ^ 64 - 1) ≤ slice_index new h
 
 -- each of these is a letter of the machine, at a tenth that a window may have
 abbrev pub AreLettersOf : Rules → List Fill → Type 0

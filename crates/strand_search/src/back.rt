@@ -5,7 +5,7 @@ ghost use Rattle.board.specs.Channels.{AreSpecs};
 ghost use Rattle.board.specs.Logs.{first_tenth};
 ghost use Rattle.gap_ways.specs.Ways.{state_of};
 ghost use Rattle.strand_search.specs.Crossings.{AddsHoursBack};
-ghost use Rattle.strand_search.specs.Events.{Grow};
+ghost use Rattle.sig_base.specs.Reads.{Grow};
 ghost use Rattle.strand_search.specs.Points.{ArePastsUpTo, past_at};
 
 use crate::over::clamped_back_over;

@@ -5,7 +5,7 @@ ghost use Rattle.board.specs.Channels.{AreSpecs};
 ghost use Rattle.channel_ways.specs.Moves.{NonePasses, PassesAlone};
 ghost use Rattle.signal_log.specs.Points.{AreAheadsAt, ArePastsAt};
 ghost use Rattle.strand_search.specs.Crossings.{FitsCut, IsCrossed, IsCrossing};
-ghost use Rattle.strand_search.specs.Events.{Grow};
+ghost use Rattle.sig_base.specs.Reads.{Grow};
 ghost use Rattle.strand_search.specs.Parts.{moves_over};
 ghost use Rattle.strand_search.specs.Points.{log_alone};
 ghost use Rattle.strand_search.specs.Runs.{IsAsked, NoneComes, test_of};

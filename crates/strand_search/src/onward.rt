@@ -4,7 +4,7 @@ ghost use Rattle.board.specs.Channels.{AreSpecs};
 ghost use Rattle.gap_ways.specs.Ways.{state_of};
 ghost use Rattle.signal_log.specs.Points.{AreAheadsAt};
 ghost use Rattle.strand_search.specs.Crossings.{AddsHours, GoesOn};
-ghost use Rattle.strand_search.specs.Events.{Grow};
+ghost use Rattle.sig_base.specs.Reads.{Grow};
 ghost use Rattle.strand_search.specs.Points.{AreAheadsBack, log_alone};
 
 use crate::over::on_over;

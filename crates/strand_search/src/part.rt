@@ -3,7 +3,7 @@ ghost use Rattle.std.specs.Prelude.{◌≡◌, ◌∷◌, [], ◌<◌, ◌^◌, 
 ghost use Rattle.board.specs.Channels.{AreSpecs, track};
 ghost use Rattle.board.specs.Moves.{own};
 ghost use Rattle.signal_log.specs.Points.{rows_or_none};
-ghost use Rattle.strand_search.specs.Events.{Grow};
+ghost use Rattle.sig_base.specs.Reads.{Grow};
 ghost use Rattle.strand_search.specs.Parts.{IsHourPart};
 
 use board::{Course, courses_of};

@@ -2,7 +2,7 @@
 ghost use Rattle.std.specs.Prelude.{◌≡◌, ◌∷◌, [], ◌+◌, ◌≤◌, ◌<◌, length, slice_index_or, IfOk, IfErr, MatchOption};
 ghost use Rattle.board.specs.Channels.{AreSpecs};
 ghost use Rattle.signal_log.specs.Points.{AreAheadsAt, ArePastsAt};
-ghost use Rattle.strand_search.specs.Events.{Grow};
+ghost use Rattle.sig_base.specs.Reads.{Grow};
 ghost use Rattle.strand_search.specs.Points.{AreAheadsBack, ArePastsUpTo, HasNone, log_alone};
 
 use board::{Aheads, Pasts, PastsError};

@@ -2,7 +2,7 @@
 ghost use Rattle.std.specs.Prelude.{◌≡◌, ◌∷◌, [], ◌++◌, ◌/◌, ◌<◌, length, reverse, MatchOption, IfOk};
 ghost use Rattle.board.specs.Channels.{AreSpecs};
 ghost use Rattle.strand_search.specs.Crossings.{IsCrossedFrom};
-ghost use Rattle.strand_search.specs.Events.{Grow};
+ghost use Rattle.sig_base.specs.Reads.{Grow};
 ghost use Rattle.strand_search.specs.Points.{ArePointsAround, HasNone};
 ghost use Rattle.strand_search.specs.Runs.{IsAsked, IsFound, NoneComes};
 

@@ -1,6 +1,7 @@
 use Rattle.std.proofs.Common.{◌≡◌, ◌+◌, ◌-◌, ◌≤◌, ℕ}
 use Rattle.board.specs.Logs.{first_tenth}
-use Rattle.decisive.specs.Searches.{ArePlaced, Grow, rank}
+use Rattle.decisive.specs.Searches.{ArePlaced, rank}
+use Rattle.sig_base.specs.Reads.{Grow}
 use Rattle.decisive.proofs.within.search_begin.Given as goal
 
 abbrev pub invariant-loop-back : goal.invariant-loop-back

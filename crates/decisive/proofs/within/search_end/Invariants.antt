@@ -1,6 +1,7 @@
 use Rattle.std.proofs.Common.{◌≡◌, ◌<◌, ◌≤◌, length}
 use Rattle.board.specs.Logs.{first_tenth}
-use Rattle.decisive.specs.Searches.{ArePlaced, Grow, rank}
+use Rattle.decisive.specs.Searches.{ArePlaced, rank}
+use Rattle.sig_base.specs.Reads.{Grow}
 use Rattle.decisive.proofs.within.search_end.Given as goal
 
 abbrev pub invariant-loop-next : goal.invariant-loop-next

@@ -1,5 +1,5 @@
 use Rattle.filling_pair.specs.Asks.{ReplyUpTo}
-use Rattle.filling_pair.specs.Kept.{Grow}
+use Rattle.sig_base.specs.Reads.{Grow}
 use Rattle.filling_pair.proofs.asks.replies.Given as goal
 
 abbrev pub invariant-loop-spec : goal.invariant-loop-spec

@@ -1,7 +1,8 @@
 use Rattle.std.proofs.Common.{◌↔◌, ◌⊎◌, IsTrue, drop}
 use Rattle.signal_log.specs.Log.{log_of}
 use Rattle.filling_pair.specs.Strands.{AreAllStrands}
-use Rattle.filling_pair.specs.Kept.{AreKept, Grow}
+use Rattle.filling_pair.specs.Kept.{AreKept}
+use Rattle.sig_base.specs.Reads.{Grow}
 use Rattle.filling_pair.proofs.check.check_each.Given as goal
 
 abbrev pub invariant-loop-strand : goal.invariant-loop-strand

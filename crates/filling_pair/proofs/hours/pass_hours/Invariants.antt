@@ -2,7 +2,7 @@ use Rattle.std.proofs.Common.{◌↔◌, ℕ, ◌-◌, List, ◌++◌}
 use Rattle.sig_base.specs.declared.values.Row.{Row}
 use Rattle.channel_tables.specs.Any.{any_rules}
 use Rattle.reach.specs.Runs.{State}
-use Rattle.filling_pair.specs.Kept.{Grow}
+use Rattle.sig_base.specs.Reads.{Grow}
 use Rattle.filling_pair.specs.Walking.{Fits, Remains, own_hours, track_of}
 use Rattle.filling_pair.proofs.hours.pass_hours.Given as goal
 

@@ -1,7 +1,7 @@
 use Rattle.std.proofs.Common.{ℕ, ◌<◌, get_or}
 use Rattle.board.specs.declared.clause.Term.{Term}
 use Rattle.filling_pair.specs.Asks.{NoneHolds}
-use Rattle.filling_pair.specs.Kept.{Grow}
+use Rattle.sig_base.specs.Reads.{Grow}
 use Rattle.filling_pair.proofs.pair.clause_keeps.Given as goal
 
 abbrev pub invariant-loop-i : goal.invariant-loop-i

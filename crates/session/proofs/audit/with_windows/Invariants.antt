@@ -3,7 +3,7 @@ use Rattle.signal_log.specs.Log.{log_of}
 use Rattle.rule_audit.specs.Rules.{rules_for}
 use Rattle.hour_work.specs.Rows.{hour_rows}
 use Rattle.session.specs.HourLines.{AreLinesIn}
-use Rattle.session.specs.Sessions.{Grow}
+use Rattle.sig_base.specs.Reads.{Grow}
 use Rattle.session.specs.Windows.{AreWithWindows}
 use Rattle.session.proofs.audit.with_windows.Given as goal
 

@@ -1,7 +1,7 @@
 use Rattle.std.proofs.Common.{take}
 use Rattle.std.specs.Prelude.{filter}
 use Rattle.session.specs.Pairs.{ArePairsOf, is_open_at}
-use Rattle.session.specs.Sessions.{Grow}
+use Rattle.sig_base.specs.Reads.{Grow}
 use Rattle.session.proofs.pairs.pairs_of.Given as goal
 
 -- the lines so far have their pairs

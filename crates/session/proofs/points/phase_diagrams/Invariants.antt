@@ -4,7 +4,7 @@ use Rattle.hour_store.specs.Store.{is_known}
 use Rattle.arrival_measures.specs.Points.{points_from}
 use Rattle.hour_work.specs.Rows.{earlier_rows, own_rows}
 use Rattle.hour_work.specs.Measures.{cycles_in, over_hours}
-use Rattle.session.specs.Sessions.{Grow}
+use Rattle.sig_base.specs.Reads.{Grow}
 use Rattle.session.proofs.points.phase_diagrams.Given as goal
 
 abbrev pub invariant-loop-hour : goal.invariant-loop-hour

@@ -1,4 +1,4 @@
-use Rattle.session.specs.Sessions.{Grow}
+use Rattle.sig_base.specs.Reads.{Grow}
 use Rattle.sigaudit.proofs.AuditFacts.{FailingOn}
 use Rattle.sigaudit.proofs.audit.failing_lines.Given as goal
 

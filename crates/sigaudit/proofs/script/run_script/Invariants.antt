@@ -1,7 +1,7 @@
 use Rattle.std.proofs.Common.{◌≡◌, ◌+◌, ◌≤◌, length, Some}
 use Rattle.outside.specs.Shelf.{Files}
 use Rattle.script_lines.specs.Lines.{lines_of}
-use Rattle.session.specs.Sessions.{Grow}
+use Rattle.sig_base.specs.Reads.{Grow}
 use Rattle.sigaudit.specs.Counting.{ArePlain}
 use Rattle.sigaudit.specs.Run.{world, NeverFall}
 use Rattle.sigaudit.proofs.CountFacts.{IsCountedOn}

@@ -2,7 +2,7 @@ use Rattle.std.proofs.Common.{◌≡◌, ℕ, ◌+◌}
 use Rattle.reach.specs.Past.{Holds}
 use Rattle.gap_ways.specs.Ways.{state_of}
 use Rattle.strand_search.specs.Crossings.{AddsHoursBack}
-use Rattle.strand_search.specs.Events.{Grow}
+use Rattle.sig_base.specs.Reads.{Grow}
 use Rattle.strand_search.specs.Points.{past_at}
 use Rattle.strand_search.proofs.back.back_to_start.Given as goal
 

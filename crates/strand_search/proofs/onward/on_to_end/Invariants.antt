@@ -1,6 +1,6 @@
 use Rattle.gap_ways.specs.Ways.{state_of}
 use Rattle.strand_search.specs.Crossings.{AddsHours, GoesOn}
-use Rattle.strand_search.specs.Events.{Grow}
+use Rattle.sig_base.specs.Reads.{Grow}
 use Rattle.strand_search.proofs.onward.on_to_end.Given as goal
 
 abbrev pub invariant-loop-hour : goal.invariant-loop-hour

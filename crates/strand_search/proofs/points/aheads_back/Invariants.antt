@@ -1,5 +1,5 @@
 use Rattle.strand_search.specs.Points.{AreAheadsBack}
-use Rattle.strand_search.specs.Events.{Grow}
+use Rattle.sig_base.specs.Reads.{Grow}
 use Rattle.strand_search.proofs.points.aheads_back.Given as goal
 
 abbrev pub invariant-loop-done : goal.invariant-loop-done

@@ -1,5 +1,5 @@
 use Rattle.strand_search.specs.Points.{ArePastsUpTo}
-use Rattle.strand_search.specs.Events.{Grow}
+use Rattle.sig_base.specs.Reads.{Grow}
 use Rattle.strand_search.proofs.points.pasts_up_to.Given as goal
 
 abbrev pub invariant-loop-past : goal.invariant-loop-past

@@ -15,6 +15,7 @@
 //! Tenths are tenths of a second from the window's start.
 #![tactic(auto)]
 
+mod cuts;
 mod hours;
 mod judge;
 mod laws;
@@ -24,5 +25,6 @@ mod search;
 mod window;
 mod within;
 
+pub use hours::HourMoves;
 pub use laws::{channel_alone, clause_by_terms, more_is_known, window_is_one};
-pub use window::decisive_window;
+pub use window::{decisive_window, window_in};

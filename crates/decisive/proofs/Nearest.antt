@@ -132,6 +132,11 @@ module _ (q : Question) (told : Told) (f t : ℕ) (is : IsToldAt q told f t) whe
   pub begin_row : (v i : ℕ) → i < told.place → (f ≤ tenth_at (Begin v) told i) × (tenth_at (Begin v) told i ≤ q.at)
   begin_row v i lt = row_before f t q.at told.place (told.place - 1 - i) told.rows.now told.stretches.now is.place (omega arith)
 
+  -- no row is before what is told
+  pub row_low : (aim : Aim) (i : ℕ) → i < row_count aim told → f ≤ tenth_at aim told i
+  row_low (End start) i lt = let first = is.place.first in let (a, b) = end_row start i lt in omega arith
+  row_low (Begin v) i lt = (begin_row v i lt).0
+
   pub end_sought : (start : Bor Start) → FitsStart start.now q.specs.now f → EndsGrow start.now q told t → IsSought (End start) q told
   end_sought start fits grow = record {
     low = f;

@@ -1,6 +1,7 @@
 // The rows with which a window may end or begin: the nearest to the place that will do, looked for
 // by growing steps and then by halving.
 ghost use Rattle.std.specs.Prelude.{◌≡◌, ◌↔◌, ℕ, ◌+◌, ◌<◌, ◌≤◌, length, slice_index_or, IsTrue, IfOk, MatchOption};
+ghost use Rattle.gap_map.specs.Stretches.{FollowOn};
 ghost use Rattle.board.specs.Logs.{no_row};
 ghost use Rattle.decisive.specs.Breaks.{FitsParts, FitsStart};
 ghost use Rattle.decisive.specs.Cuts.{IsCutAfter};
@@ -53,7 +54,8 @@ fn row_from(told: &Told<'_>, aim: &Aim<'_>, i: usize) -> Row
 
 // Whether it is a candidate: known, and of one of the channels.
 fn is_candidate(question: &Question<'_>, told: &Told<'_>, row: Row) -> bool
-    requires { FitsParts question.now.specs.now question.now.parts.now }
+    requires parts { FitsParts question.now.specs.now question.now.parts.now }
+    requires follow { (f t : ℕ) × FollowOn f t told.now.stretches.now × (f ≤ row.at) }
     ensures { IsTrue result ↔ IsCandidateRow question.now told.now row }
 {
     is_row_of_parts(question.specs, question.parts, row) && is_known(told.stretches, row.at)

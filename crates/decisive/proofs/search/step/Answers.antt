@@ -1,15 +1,20 @@
-use Rattle.std.proofs.Common.{arith, refl, rules, sym, subst, ◌≡◌, ◌+◌, length}
+use Rattle.std.proofs.Common.{arith, refl, rules, sym, subst, ◌≡◌, ◌+◌, ◌≤◌, length}
 use Rattle.sig_base.specs.declared.values.Row.{Row}
 use Rattle.decisive.specs.Tries.{IsCandidateRow, IsNearest, IsOwnAt, IsTrail}
 use Rattle.decisive.proofs.Judging.{none_map}
-use Rattle.decisive.proofs.Nearest.{trail_push, trail_skip, trail_tried}
+use Rattle.decisive.proofs.Nearest.{row_low, trail_push, trail_skip, trail_tried}
 use Rattle.decisive.proofs.search.step.Goals as goal
 
 pub row_from-requires-clause-place : goal.row_from-requires-clause-place
 row_from-requires-clause-place c = c.requires.sought.is_told.place.count
 
-pub is_candidate-requires : goal.is_candidate-requires
-is_candidate-requires c = c.requires.sought.is_told.parts
+pub is_candidate-requires-clause-parts : goal.is_candidate-requires-clause-parts
+is_candidate-requires-clause-parts c = c.requires.sought.is_told.parts
+
+pub is_candidate-requires-clause-follow : goal.is_candidate-requires-clause-follow
+is_candidate-requires-clause-follow c =
+    let sought = c.requires.sought in
+    (sought.low, sought.high, sought.is_told.place.stretches, subst (λ (r : Row). sought.low ≤ r.at) (sym c.row_from.ensures) (row_low c.args.question.now c.args.told.now sought.low sought.high sought.is_told c.args.aim.now c.args.i c.requires.within))
 
 pub try_last-requires-clause-trail : goal.try_last-requires-clause-trail
 try_last-requires-clause-trail c =

@@ -1,11 +1,12 @@
 -- From the ends that were found to the decisive window of a line.
-use Rattle.std.proofs.Common.{◌≡◌, refl, ap, sym, ◌∙◌, subst, inl, inr, ◌↔◌, ℕ, suc, zero, ◌*◌, ◌/◌, ◌<◌, ◌≤◌, true, false, not, List, [], ◌∷◌, length, take, map, get_or, arith, None, pos}
+use Rattle.std.proofs.Common.{◌≡◌, refl, ap, sym, ◌∙◌, subst, inl, inr, ◌↔◌, ℕ, suc, zero, ◌+◌, ◌*◌, ◌/◌, ◌<◌, ◌≤◌, true, false, not, List, [], ◌∷◌, length, take, map, get_or, arith, None, pos}
 use Rattle.std.specs.Prelude.{is_some}
 use Rattle.std.proofs.lemmas.Bool.{and_parts, cases_lt}
 use Rattle.std.proofs.lemmas.List.{get_or_past}
 use Rattle.span_set.specs.Spans.{is_member}
 use Rattle.sig_base.specs.declared.values.Row.{Row}
 use Rattle.sig_base.specs.declared.values.Verdict.TheVariants.{Broken}
+use Rattle.gap_map.specs.declared.stretch.Stretch.{Stretch}
 use Rattle.channel_tables.specs.declared.spec.Spec.{Spec}
 use Rattle.reach.specs.declared.seen.AgeBound.{AgeBound}
 use Rattle.reach.specs.declared.seen.AgeBound.TheVariants.{Any, AtLeast, AtMost}
@@ -16,6 +17,8 @@ use Rattle.board.specs.declared.clause.Term.{Term}
 use Rattle.board.specs.Channels.{AreSpecs}
 use Rattle.board.specs.History.{events_at}
 use Rattle.board.specs.Logs.{first_tenth, no_row, no_spec}
+use Rattle.board.specs.Moves.{count_before}
+use Rattle.board.specs.Places.{IsPlace, upto}
 use Rattle.board.specs.Verdicts.{AreWithin}
 use Rattle.signal_log.specs.Log.{HasHistory, Log, log_of, window_end}
 use Rattle.signal_log.specs.Laws.{IsWithinHour}
@@ -33,13 +36,16 @@ use Rattle.decisive.specs.declared.judge.Start.{Start}
 use Rattle.decisive.specs.Parts.{AllNone, NoneIs, no_part, parts_of, term_part}
 use Rattle.decisive.specs.Breaks.{FitsPart, FitsParts}
 use Rattle.decisive.specs.Candidates.{FromLog}
-use Rattle.decisive.specs.Searches.{AreFound, rank_in}
-use Rattle.decisive.specs.Laws.{IsAt, TellsLess}
+use Rattle.decisive.specs.Searches.{AreFound, IsBeginAt, rank_in}
+use Rattle.decisive.specs.Laws.{IsAt, TellsLess, TellsOf, rows_to}
 use Rattle.decisive.specs.Window.{HasLogVerdict, IsCandidate, IsDecisive, IsGreatestTo, IsLeastFrom, IsPlaceIn, only}
 use Rattle.decisive.proofs.Decided.{begin_is, end_is, first_is, last_is}
+use Rattle.decisive.proofs.Found.{tells_upto}
 use Rattle.decisive.proofs.Less.{history_less}
-use Rattle.decisive.proofs.Lawful.{broken_stays, more_whole, to_range}
+use Rattle.decisive.proofs.Lawful.{broken_grows, broken_stays, more_whole, to_range}
 use Rattle.decisive.proofs.Parted.{clause_parts, interval_parts}
+use Rattle.decisive.proofs.Placing.{count_over, place_upto}
+use Rattle.decisive.proofs.Since.{take_both}
 
 -- ---- rules and their parts
 
@@ -163,4 +169,29 @@ concluded specs s rows number x hour u v place rule start are is has fits lt the
         | inl at ↦ begin_is log o rows j parts has all_known verdict (first_tenth begin.first) v begin.place begin.rows begin.stretches begin.tells begin.is_place begin.rank_is (omega arith) u at
         | inr (e, zero_is, none) ↦ subst (λ (q : ℕ). IsGreatestTo (IsCandidate log o) (λ w. HasLogVerdict (only w v log) rows o Broken) x q) (sym zero_is) (first_is log o rows j parts has all_known verdict (first_tenth begin.first) v begin.place begin.rows begin.stretches begin.tells begin.is_place begin.rank_is (omega arith) (omega arith) least.holds none)
       ];
+    }
+
+-- the same where the own tenth is the end, and the begin is in what is told of its hour
+pub concluded_own : (specs : List Spec) (s : Store) (rows own_rows : List Row) (ss : List Stretch) (number x f t n u : ℕ) (place : Place) (rule : Rule) → AreSpecs specs → IsStore s → HasHistory (log_of specs s) → FitsRule specs rule → x < window_end (log_of specs s) → is_known s x ≡ true → events_at rows x ≡ events_at (known_rows s) x → IsPlaceIn rows x place → HasLogVerdict (log_of specs s) rows (obligation number rule x place) Broken → TellsOf (log_of specs s) own_rows ss f t → IsPlace f t own_rows ss x n → length (events_at (take n own_rows) x) ≡ rank_in rows x place → IsBeginAt specs (parts_of rule) x (rows_to x own_rows) (upto x ss) n u → IsDecisive (log_of specs s) rows (obligation number rule x place) u x
+concluded_own specs s rows own_rows ss number x f t n u place rule are is has fits lt there same_rows is_place broken tells at rank found =
+    let log = log_of specs s in
+    let o = obligation number rule x place in
+    let j = rank_in rows x place in
+    let parts = rule_fits specs rule are fits in
+    let all_known = λ (p : ℕ) (l : p < length (known_rows s)). known_each s p l in
+    let verdict = λ (a b : ℕ) (low : a ≤ x) (high : x ≤ b). verdict_is log rows number x are has lt there same_rows a b low high place rule fits is_place broken in
+    let first = at.first in
+    let c = count_before (x + 1) own_rows in
+    let over : n ≤ c = count_over f (x + 1) (x + 1) n own_rows at.count at.before (omega arith) in
+    let same = ap (λ (rs : List Row). length (events_at rs x)) (take_both n c own_rows over) ∙ rank in
+    let begin = begin_is log o rows j parts has all_known verdict f x n (rows_to x own_rows) (upto x ss) (tells_upto log own_rows ss f t x tells first at.last) (place_upto f t x n x own_rows ss at (omega arith) at.last) same lt u found in
+    let early = begin.early in
+    record {
+      end = record {
+        candidate = inl (inl refl);
+        late = omega arith;
+        holds = broken_grows log rows o u x 0 x are has (at_place log rows number x place rule lt there fits is_place) early (omega arith) (omega arith) (omega arith) begin.holds;
+        least = λ w c le small. absurd (omega arith);
+      };
+      begin = begin;
     }

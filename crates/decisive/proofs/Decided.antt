@@ -1,5 +1,5 @@
 -- The decisive window of an obligation, by its ends that were found.
-use Rattle.std.proofs.Common.{◌≡◌, refl, ap, sym, ◌∙◌, subst, inl, inr, ◌↔◌, ℕ, suc, zero, ◌+◌, ◌-◌, ◌<◌, ◌≤◌, Bool, true, false, List, [], ◌∷◌, ◌++◌, length, take, drop, map, get_or, arith, ◌||◌, take-append-drop}
+use Rattle.std.proofs.Common.{◌≡◌, refl, ap, sym, ◌∙◌, subst, inl, inr, ◌↔◌, ℕ, suc, zero, ◌+◌, ◌<◌, ◌≤◌, Bool, true, false, List, [], ◌∷◌, length, take, map, get_or, arith, ◌||◌}
 use Rattle.std.specs.List.{list_any}
 use Rattle.std.proofs.lemmas.Bool.{cases_Bool, cases_eq, cases_lt, eq-eqb}
 use Rattle.sig_base.specs.declared.values.Row.{Row}
@@ -12,27 +12,23 @@ use Rattle.board.specs.declared.clause.Term.{Term}
 use Rattle.board.specs.Channels.{is_channel}
 use Rattle.board.specs.History.{Event, event_of, events_at}
 use Rattle.board.specs.Logs.{no_row, no_spec}
-use Rattle.board.specs.Moves.{RowsIn, count_before}
-use Rattle.board.specs.Places.{IsPlace, since, upto}
-use Rattle.board.proofs.Bridge.{cut_rows, event_not_here}
-use Rattle.board.proofs.Cutting.{events_join, none_after}
+use Rattle.board.specs.Places.{IsPlace}
+use Rattle.board.proofs.Bridge.{event_not_here}
 use Rattle.board.proofs.Rows.{rows_split}
 use Rattle.signal_log.specs.Log.{HasHistory, Log, window_end}
 use Rattle.rule_audit.specs.declared.rules.Rule.{Rule}
 use Rattle.rule_audit.specs.declared.rules.Rule.TheVariants.{Interval, Conflict, Companion, Parents}
 use Rattle.rule_audit.specs.Obligations.{Obligation, is_row_of, is_row_of_some}
 use Rattle.decisive.specs.declared.judge.Start.{Start}
-use Rattle.decisive.specs.declared.judge.Start.TheVariants.{Free}
 use Rattle.decisive.specs.declared.parts.Part.{Part}
 use Rattle.decisive.specs.Parts.{AllNone, parts_of, term_part}
 use Rattle.decisive.specs.Breaks.{FitsParts}
-use Rattle.decisive.specs.Candidates.{BeginsBy, EndsBy, FromLog, IsOwnRow, NoneBegins, NoneEnds, is_row_of_parts, rows_from}
+use Rattle.decisive.specs.Candidates.{BeginsBy, EndsBy, FromLog, IsOwnRow, NoneBegins, NoneEnds, is_row_of_parts}
 use Rattle.decisive.specs.Searches.{IsBeginAt, IsEndAt, NoBegin, NoEnd}
-use Rattle.decisive.specs.Laws.{TellsOf, rows_to}
+use Rattle.decisive.specs.Laws.{TellsOf}
 use Rattle.decisive.specs.Window.{HasLogVerdict, HasRowAt, IsCandidate, IsGreatestTo, IsLeastFrom, is_row_of_rule, only}
-use Rattle.decisive.proofs.Found.{all_by, tells_since, tells_upto}
-use Rattle.decisive.proofs.Placing.{count_over, count_under, place_since, place_upto, row_after, row_before, take_part}
-use Rattle.decisive.proofs.Since.{take_both}
+use Rattle.decisive.proofs.Growing.{begins_none, ends_none}
+use Rattle.decisive.proofs.Placing.{row_after, row_before, sorted}
 
 -- ---- rows of a rule
 
@@ -95,25 +91,6 @@ row_event : (specs : List Spec) (parts : List Part) (r q : Row) → event_of r �
 unfolding by_event
 row_event specs parts r q e = ap (λ v. by_event specs parts v) e
 
--- rows are in order
-sorted : (f t i m : ℕ) (rows : List Row) → RowsIn f t rows → i ≤ m → m < length rows → (get_or rows i no_row).at ≤ (get_or rows m no_row).at
-sorted f t i m [] h le lt = absurd (omega arith)
-sorted f t zero zero (r ∷ rs) h le lt = omega arith
-sorted f t zero (suc m) (r ∷ rs) (a, b, h) le lt = (rows_split r.at t m rs h (omega arith)).2
-sorted f t (suc i) zero (r ∷ rs) h le lt = absurd (omega arith)
-sorted f t (suc i) (suc m) (r ∷ rs) (a, b, h) le lt = sorted r.at t i m rs h (omega arith) (omega arith)
-
--- the events before a place don't change where the rows before an earlier tenth are left out
-rank_from : (f t x n u : ℕ) (rows : List Row) (ss : List Stretch) → IsPlace f t rows ss x n → f ≤ u → u ≤ x → length (events_at (take (n - count_before u rows) (rows_from u rows)) x) ≡ length (events_at (take n rows) x)
-rank_from f t x n u rows ss p low le =
-    let c = count_before u rows in
-    let last = p.last in
-    let under : c ≤ n = count_under x t u n rows p.after le in
-    let (k1, k2, k3, k4) = cut_rows f u t rows low (omega arith) p.rows_in in
-    let whole : take n rows ≡ take c rows ++ drop c (take n rows) = sym (ap (λ rs. rs ++ drop c (take n rows)) (sym (take_both c n rows under)) ∙ take-append-drop c (take n rows)) in
-    let parts_same : length (events_at (take n rows) x) ≡ length (events_at (drop c (take n rows)) x) = ap (λ (rs : List Row). length (events_at rs x)) whole ∙ ap (λ es. length es) (events_join (take c rows) (drop c (take n rows)) x ∙ ap (λ es. es ++ events_at (drop c (take n rows)) x) (none_after (take c rows) f u x k1 le)) in
-    ap (λ (rs : List Row). length (events_at rs x)) (take_part c n rows under) ∙ sym parts_same
-
 module _ (log : Log) (o : Obligation) (rows0 : List Row) (j : ℕ) (fits : FitsParts log.specs (parts_of o.rule)) (has : HasHistory log) (all_known : (place : ℕ) → place < length log.rows → log.known (get_or log.rows place no_row).at ≡ true) (verdict : (a b : ℕ) → a ≤ o.at → o.at ≤ b → HasLogVerdict (only a b log) rows0 o Broken ↔ AllNone (only a b log) o.at j (parts_of o.rule)) where
   abbrev parts : List Part
   parts = parts_of o.rule
@@ -148,13 +125,10 @@ module _ (log : Log) (o : Obligation) (rows0 : List Row) (j : ℕ) (fits : FitsP
   module _ (start : Start) (f t n : ℕ) (rows : List Row) (ss : List Stretch) (tells : TellsOf log rows ss f t) (place : IsPlace f t rows ss x n) (rank : length (events_at (take n rows) x) ≡ j) (from : FromLog log start f 0) (in_window : t ≤ window_end log) where
     ends : (w : ℕ) → x ≤ w → w < t → EndsBy start log.specs parts x rows ss n w ↔ HasLogVerdict (only 0 w log) rows0 o Broken
     ends w le lt =
-        let first = place.first in
-        let over : n ≤ count_before (w + 1) rows = count_over f (x + 1) (w + 1) n rows place.count place.before (omega arith) in
-        let same : length (events_at (take n (rows_to w rows)) x) ≡ j = ap (λ (rs : List Row). length (events_at rs x)) (take_both n (count_before (w + 1) rows) rows over) ∙ rank in
-        let law = all_by start log parts (rows_to w rows) (upto w ss) f 0 w x n fits has (tells_upto log rows ss f t w tells (omega arith) lt) (place_upto f t x n w rows ss place le lt) (omega arith) from in
+        let law = ends_none log parts fits has f t x n rows ss tells place in_window start w from le lt in
         let v = verdict 0 w (omega arith) le in (
-          (λ e. v.1 (subst (λ (q : ℕ). AllNone (only 0 w log) x q parts) same (law.0 e))),
-          λ b. law.1 (subst (λ (q : ℕ). AllNone (only 0 w log) x q parts) (sym same) (v.0 b)),
+          (λ e. v.1 (subst (λ (q : ℕ). AllNone (only 0 w log) x q parts) rank (law.0 e))),
+          λ b. law.1 (subst (λ (q : ℕ). AllNone (only 0 w log) x q parts) (sym rank) (v.0 b)),
         )
 
     -- no candidate before row m, nor x itself
@@ -224,11 +198,10 @@ module _ (log : Log) (o : Obligation) (rows0 : List Row) (j : ℕ) (fits : FitsP
     begins : (u : ℕ) → f ≤ u → u ≤ x → BeginsBy log.specs parts x rows ss n u ↔ HasLogVerdict (only u v log) rows0 o Broken
     begins u low le =
         let high = place.last in
-        let same = rank_from f (v + 1) x n u rows ss place low le ∙ rank in
-        let law = all_by (Free u) log parts (rows_from u rows) (since u ss) u u v x (n - count_before u rows) fits has (tells_since log rows ss f (v + 1) u tells low (omega arith)) (place_since f (v + 1) x n u rows ss place low le) last (refl, refl) in
+        let law = begins_none log parts fits has f v x n rows ss tells place last u low le in
         let h = verdict u v le (omega arith) in (
-          (λ e. h.1 (subst (λ (q : ℕ). AllNone (only u v log) x q parts) same (law.0 e))),
-          λ b. law.1 (subst (λ (q : ℕ). AllNone (only u v log) x q parts) (sym same) (h.0 b)),
+          (λ e. h.1 (subst (λ (q : ℕ). AllNone (only u v log) x q parts) rank (law.0 e))),
+          λ b. law.1 (subst (λ (q : ℕ). AllNone (only u v log) x q parts) (sym rank) (h.0 b)),
         )
 
     none_after_row : (m u : ℕ) → (BeginsBy log.specs parts x rows ss n x → ⊥) → NoneBegins log.specs parts x rows ss n m → f ≤ u → ((i : ℕ) → i < length rows → u < (get_or rows i no_row).at → m ≤ i) → (w : ℕ) → IsCandidate log o w → w ≤ x → u < w → HasLogVerdict (only w v log) rows0 o Broken → ⊥

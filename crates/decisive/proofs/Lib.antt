@@ -15,3 +15,9 @@ pub mod Found
 pub mod Decided
 pub mod Concluded
 pub mod Finished
+pub mod Slicing
+pub mod Sliced
+pub mod Tried
+pub mod Growing
+pub mod Nearest
+pub mod Handed

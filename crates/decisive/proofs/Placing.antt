@@ -1,13 +1,16 @@
 -- Places of what is told up to a tenth, or from one on.
-use Rattle.std.proofs.Common.{◌≡◌, refl, ap, sym, ◌∙◌, subst, inl, inr, ℕ, suc, zero, ◌+◌, ◌-◌, ◌<◌, ◌≤◌, List, [], ◌∷◌, length, take, drop, get_or, arith}
+use Rattle.std.proofs.Common.{◌≡◌, refl, ap, sym, ◌∙◌, subst, inl, inr, ℕ, suc, zero, ◌+◌, ◌-◌, ◌<◌, ◌≤◌, true, false, ltb, List, [], ◌∷◌, ◌++◌, length, take, drop, get_or, arith, take-append-drop}
+use Rattle.std.specs.List.Sorted.{IsNonDecreasingBy, IsPartitionPoint}
 use Rattle.std.proofs.lemmas.List.{length-take-le}
+use Rattle.std.proofs.lemmas.List.Sorted.{IsNonDecreasingBy-from_default}
 use Rattle.sig_base.specs.declared.values.Row.{Row}
 use Rattle.gap_map.specs.declared.stretch.Stretch.{Stretch}
+use Rattle.board.specs.History.{events_at}
 use Rattle.board.specs.Logs.{no_row}
 use Rattle.board.specs.Moves.{RowsIn, count_before}
 use Rattle.board.specs.Places.{IsPlace, since, upto}
 use Rattle.board.proofs.Bridge.{cut_rows, lt_tells}
-use Rattle.board.proofs.Cutting.{count_max, since_in, upto_in, upto_known}
+use Rattle.board.proofs.Cutting.{count_max, events_join, none_after, since_in, upto_in, upto_known}
 use Rattle.board.proofs.Rows.{rows_split}
 use Rattle.decisive.specs.Candidates.{rows_from}
 use Rattle.decisive.specs.Laws.{rows_to}
@@ -128,3 +131,34 @@ few_part (suc q) (r ∷ rows) = let h = few_part q rows in omega arith
 
 pub few_rest : (q : ℕ) (rows : List Row) → length (drop q rows) ≤ length rows
 few_rest q rows = let h = len_drop q rows in omega arith
+
+-- the events before a place don't change where the rows before an earlier tenth are left out
+pub rank_from : (f t x n u : ℕ) (rows : List Row) (ss : List Stretch) → IsPlace f t rows ss x n → f ≤ u → u ≤ x → length (events_at (take (n - count_before u rows) (rows_from u rows)) x) ≡ length (events_at (take n rows) x)
+rank_from f t x n u rows ss p low le =
+    let c = count_before u rows in
+    let last = p.last in
+    let under : c ≤ n = count_under x t u n rows p.after le in
+    let (k1, k2, k3, k4) = cut_rows f u t rows low (omega arith) p.rows_in in
+    let whole : take n rows ≡ take c rows ++ drop c (take n rows) = sym (ap (λ rs. rs ++ drop c (take n rows)) (sym (take_both c n rows under)) ∙ take-append-drop c (take n rows)) in
+    let parts_same : length (events_at (take n rows) x) ≡ length (events_at (drop c (take n rows)) x) = ap (λ (rs : List Row). length (events_at rs x)) whole ∙ ap (λ es. length es) (events_join (take c rows) (drop c (take n rows)) x ∙ ap (λ es. es ++ events_at (drop c (take n rows)) x) (none_after (take c rows) f u x k1 le)) in
+    ap (λ (rs : List Row). length (events_at rs x)) (take_part c n rows under) ∙ sym parts_same
+
+-- rows are in order
+pub sorted : (f t i m : ℕ) (rows : List Row) → RowsIn f t rows → i ≤ m → m < length rows → (get_or rows i no_row).at ≤ (get_or rows m no_row).at
+sorted f t i m [] h le lt = absurd (omega arith)
+sorted f t zero zero (r ∷ rs) h le lt = omega arith
+sorted f t zero (suc m) (r ∷ rs) (a, b, h) le lt = (rows_split r.at t m rs h (omega arith)).2
+sorted f t (suc i) zero (r ∷ rs) h le lt = absurd (omega arith)
+sorted f t (suc i) (suc m) (r ∷ rs) (a, b, h) le lt = sorted r.at t i m rs h (omega arith) (omega arith)
+
+pub rows_rise : (f t : ℕ) (rows : List Row) → RowsIn f t rows → IsNonDecreasingBy (λ (r : Row). r.at) rows
+rows_rise f t rows h = IsNonDecreasingBy-from_default (λ (r : Row). r.at) rows no_row (λ i j le lt. sorted f t i j rows h le lt)
+
+-- the place at which rows in order are told apart by a tenth
+pub count_point : (y : ℕ) (rows : List Row) (i : ℕ) → i ≤ length rows → IsPartitionPoint (λ (r : Row). ltb r.at y ≡ true) (λ (r : Row). ltb r.at y ≡ false) rows i → i ≡ count_before y rows
+count_point y [] i le at = omega arith
+count_point y (r ∷ rows) zero le at = let late : ltb r.at y ≡ false = at.1 0 r (omega arith) (omega arith) in rw late refl
+count_point y (r ∷ rows) (suc i) le at =
+    let early : ltb r.at y ≡ true = at.0 0 r (omega arith) (omega arith) in
+    let rest = count_point y rows i (omega arith) ((λ k d lo hi. at.0 (suc k) d (omega arith) (omega arith)), (λ k d lo hi. at.1 (suc k) d (omega arith) (omega arith))) in
+    rw early (ap suc rest)

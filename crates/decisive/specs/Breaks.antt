@@ -1,18 +1,16 @@
 -- A judgement by the moves of channels.
-use Rattle.std.specs.Prelude.{◌≡◌, ℕ, ◌+◌, ◌<◌, ◌≤◌, ◌^◌, pos, true, List, [], ◌∷◌, length, take, drop, slice_index_or}
+use Rattle.std.specs.Prelude.{◌≡◌, ℕ, ◌<◌, pos, List, [], length, take, drop, slice_index_or}
 use Rattle.sig_base.specs.declared.values.Row.{Row}
 use Rattle.gap_map.specs.declared.stretch.Stretch.{Stretch}
-use Rattle.gap_map.specs.Stretches.{FollowOn}
 use Rattle.channel_tables.specs.declared.spec.Spec.{Spec}
 use Rattle.lane.specs.declared.moves.Move.{Move}
 use Rattle.channel_window.specs.Moves.{FitsKeep, KeepsBy, NoneKeeps, NoneKeepsFrom}
 use Rattle.board.specs.Channels.{AreSpecs, track}
 use Rattle.board.specs.History.{Track}
 use Rattle.board.specs.Logs.{no_spec}
-use Rattle.board.specs.Moves.{RowsIn, own}
+use Rattle.board.specs.Moves.{own}
 use Rattle.board.specs.Places.{AllEarly, since, upto}
 use Rattle.board.specs.Stops.{AreBefore}
-use Rattle.decisive.specs.declared.judge.Cut.{Cut}
 use Rattle.decisive.specs.declared.judge.Start.{Start}
 use Rattle.decisive.specs.declared.judge.Start.TheVariants.{Free, Kept}
 use Rattle.decisive.specs.declared.parts.Part.{Part}
@@ -48,19 +46,3 @@ pub record FitsPart (specs : List Spec) (p : Part) : Type 0 where
 pub record FitsParts (specs : List Spec) (parts : List Part) : Type 0 where
   pub are : AreSpecs specs
   pub each : (k : ℕ) → k < length parts → FitsPart specs (slice_index_or parts k no_part)
-
--- the first of the stretches is known
-abbrev pub BeginsKnown : List Stretch → Type 0
-BeginsKnown [] = Unit {0}
-BeginsKnown (s ∷ ss) = s.known ≡ true
-
--- what is told of the tenths from f up to t, cut at a place at tenth x
-pub record IsCutAtPlace (cut : Cut) (f x t : ℕ) : Type 0 where
-  pub few_to : length cut.rows_to.now < 2 ^ 32
-  pub few_on : length cut.rows_on.now < 2 ^ 32
-  pub first : f ≤ x
-  pub to : FollowOn f (x + 1) cut.to.items
-  pub rows_to : RowsIn f (x + 1) cut.rows_to.now
-  pub on : FollowOn x t cut.on.items
-  pub rows_on : RowsIn x t cut.rows_on.now
-  pub begins : BeginsKnown cut.on.items

@@ -37,6 +37,14 @@ rows_from u rows = drop (count_before u rows) rows
 abbrev pub BeginsBy : List Spec → List Part → ℕ → List Row → List Stretch → ℕ → ℕ → Type 0
 BeginsBy specs parts x rows ss n u = AllBreak (Free u) specs parts x (rows_from u rows) (since u ss) (n - count_before u rows)
 
+-- what breaks up to some tenth breaks up to each later one before t
+abbrev pub EndsByGrow : Start → List Spec → List Part → ℕ → List Row → List Stretch → ℕ → ℕ → Type 0
+EndsByGrow start specs parts x rows ss n t = (y z : ℕ) → x ≤ y → y ≤ z → z < t → EndsBy start specs parts x rows ss n y → EndsBy start specs parts x rows ss n z
+
+-- what breaks from some tenth on breaks from each earlier one on that isn't before f
+abbrev pub BeginsByGrow : List Spec → List Part → ℕ → List Row → List Stretch → ℕ → ℕ → Type 0
+BeginsByGrow specs parts x rows ss n f = (y z : ℕ) → f ≤ z → z ≤ y → y ≤ x → BeginsBy specs parts x rows ss n y → BeginsBy specs parts x rows ss n z
+
 -- the states are those with which a judgement of the tenths from u on begins, where what is told begins with tenth f
 abbrev pub FromLog : Log → Start → ℕ → ℕ → Type 0
 FromLog log (Free g) f u = (g ≡ f) × (u ≡ f)

@@ -5,3 +5,5 @@ pub mod Breaks
 pub mod Candidates
 pub mod Searches
 pub mod Lines
+pub mod Cuts
+pub mod Tries

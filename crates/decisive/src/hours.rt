@@ -4,13 +4,21 @@ ghost use Rattle.channel_tables.specs.declared.spec.Spec.{Spec};
 ghost use Rattle.hour_store.specs.Store.{rows_at};
 ghost use Rattle.board.specs.Logs.{first_tenth};
 ghost use Rattle.signal_log.specs.Log.{log_of};
-ghost use Rattle.signal_log.specs.Points.{rows_or_none};
+ghost use Rattle.signal_log.specs.Points.{ArePastsAt, rows_or_none};
 ghost use Rattle.decisive.specs.Laws.{TellsOf};
+<<<<<<< HEAD
 ghost use Rattle.decisive.specs.Searches.{ArePlaced, rank};
 ghost use Rattle.sig_base.specs.Reads.{Grow};
+=======
+ghost use Rattle.decisive.specs.Searches.{ArePlaced, rank};
+ghost use Rattle.decisive.specs.Lines.{AreHourMoves};
+>>>>>>> d99ffe5356737c6df2e426fb870d5ec773bc489d
 
+use crate::judge::Told;
+use board::{Course, Pasts, courses_of};
 use gap_map::{Stretch, stretches};
 use hour_store::HourStore;
+use ring_config::Config;
 use sig_base::{Hour, NoMemory, Reads, Row};
 use std::alloc::Global;
 
@@ -65,6 +73,70 @@ pub(crate) fn hour_told<L>(
         rows: own,
         stretches: cut,
     })
+}
+
+/// What the windows of an hour's lines are looked for in first: the states of each channel at the
+/// point before the hour, its rows, its stretches, and each channel's moves, cut once.
+#[derive(Drop)]
+pub struct HourMoves<'a> {
+    pub(crate) before: &'a Pasts,
+    pub(crate) rows: &'a [Row],
+    pub(crate) stretches: Vec<Stretch>,
+    pub(crate) courses: Vec<Course>,
+}
+
+impl<'a> HourMoves<'a> {
+    /// Of an hour of the store, which is opened; `before` has the states at the point before it.
+    pub fn new<L>(
+        alloc: Global,
+        config: &Config,
+        store: &'a HourStore<L>,
+        before: &'a Pasts,
+        hour: Hour,
+        reads: &mut Reads<L>,
+    ) -> Result<HourMoves<'a>, NoMemory>
+        requires within { hour < length store.now.hours }
+        requires before { ArePastsAt (log_of config.now.specs store.now) hour before.now }
+        ensures moves { IfOk result (AreHourMoves config.now.specs store.now hour) }
+        ensures grow { Grow reads.old reads.new }
+    {
+        let _hours = store.hours();
+        let opened = store.open_hour(hour, reads);
+        let cut = stretches(alloc, hour, opened.is_some(), store.blanked())?;
+        let rows = shown(opened);
+        let courses = courses_of(alloc, config.specs(), rows, &cut)?;
+        Ok(HourMoves {
+            before,
+            rows,
+            stretches: cut,
+            courses,
+        })
+    }
+
+    /// What is told of the hour, with a place of a line.
+    pub(crate) fn told(&self, place: usize) -> Told<'_>
+        ensures rows { result.rows.now ≡ self.now.rows.now }
+        ensures stretches { result.stretches.now ≡ self.now.stretches.items }
+        ensures courses { result.courses.now ≡ self.now.courses.items }
+        ensures place { result.place ≡ place }
+    {
+        Told {
+            rows: self.rows,
+            stretches: self.stretches.as_slice(),
+            courses: self.courses.as_slice(),
+            place,
+        }
+    }
+}
+
+// The rows, or none.
+fn shown(rows: Option<&[Row]>) -> &[Row]
+    ensures { result.now ≡ rows_or_none (option_copied rows.entry) }
+{
+    match rows {
+        Some(rows) => rows,
+        None => &[],
+    }
 }
 
 /// Adds what is told of the hours after these.

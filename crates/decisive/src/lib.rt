@@ -5,16 +5,23 @@
 //! which the log, from tenth 0 on, breaks the obligation. It begins with the greatest candidate up to
 //! the own tenth from which on the log up to that end breaks it.
 //!
+//! The rows of a line's hour are cut into each channel's moves once for all its lines. The begin is
+//! looked for back from the place, with the own tenth as the end, by growing steps and then by
+//! halving; only where the hour has none are hours looked at one by one. So a line costs the rows back
+//! to where it is decided, and a few tries over the moves between.
+//!
 //! - `parts`: what a rule asks of each of its channels; it is broken where none of them has such a
 //!   state.
+//! - `cuts`: a channel's moves cut at a tenth or at a place.
 //! - `judge`: whether it is broken over some tenths alone, by the moves of these channels.
-//! - `rows`, `search`: the candidates among the rows, and the first and the last that will do.
-//! - `hours`, `within`: hour by hour, on from the line's own hour and back from it.
-//! - `window`: the call. `laws`: what holds of every log.
+//! - `rows`, `search`: the candidates among the rows, and the nearest that will do.
+//! - `hours`, `within`: an hour's moves; hour by hour, on from the line's own hour and back from it.
+//! - `window`: the calls. `laws`: what holds of every log.
 //!
 //! Tenths are tenths of a second from the window's start.
 #![tactic(auto)]
 
+mod cuts;
 mod hours;
 mod judge;
 mod laws;
@@ -24,5 +31,6 @@ mod search;
 mod window;
 mod within;
 
+pub use hours::HourMoves;
 pub use laws::{channel_alone, clause_by_terms, more_is_known, window_is_one};
-pub use window::decisive_window;
+pub use window::{decisive_window, window_in};

@@ -1,9 +1,9 @@
 // The rows that are candidates for a window's ends, and what is known of their tenths.
-ghost use Rattle.std.specs.Prelude.{◌≡◌, ◌<◌, ◌≤◌, Some, length, slice_index_or};
-ghost use Rattle.gap_map.specs.Stretches.{known_at};
+ghost use Rattle.std.specs.Prelude.{◌≡◌, ℕ, ◌<◌, ◌≤◌, Some, length, slice_index_or};
+ghost use Rattle.gap_map.specs.Stretches.{FollowOn, known_at};
 ghost use Rattle.board.specs.Channels.{is_channel};
 ghost use Rattle.board.specs.Logs.{no_spec};
-ghost use Rattle.board.specs.Moves.{count_before};
+ghost use Rattle.board.specs.Moves.{RowsIn, count_before};
 ghost use Rattle.decisive.specs.Breaks.{FitsParts};
 ghost use Rattle.decisive.specs.Candidates.{is_row_of_parts};
 
@@ -13,29 +13,21 @@ use event_codes::{Channel, channel_of};
 use gap_map::Stretch;
 use sig_base::Row;
 
-/// Whether the tenth is known by the stretches.
+/// Whether the tenth is known by the stretches, which follow one another from no later tenth on.
 pub(crate) fn is_known(stretches: &[Stretch], tenth: u32) -> bool
-    ensures { result ≡ known_at stretches.now tenth }
+    ensures { (f t : ℕ) → FollowOn f t stretches.now → f ≤ tenth
+        → result ≡ known_at stretches.now tenth }
 {
-    for stretch in stretches {
-        if stretch.known && stretch.from <= tenth && tenth < stretch.to {
-            return true;
-        }
-    }
-    false
+    let place = stretches.partition_point(|stretch| stretch.to <= tenth);
+    place < stretches.len() && stretches[place].known
 }
 
-/// The number of first rows before the tenth.
+/// The number of first rows before the tenth, of rows in order.
 pub(crate) fn rows_before(rows: &[Row], tenth: u64) -> usize
-    ensures count { result ≡ count_before tenth rows.now }
+    ensures count { (f t : ℕ) → RowsIn f t rows.now → result ≡ count_before tenth rows.now }
     ensures within { result ≤ length rows.now }
 {
-    for (i, row) in rows.iter().enumerate() {
-        if row.at as u64 >= tenth {
-            return i;
-        }
-    }
-    rows.len()
+    rows.partition_point(|row| (row.at as u64) < tenth)
 }
 
 fn is_same(a: Channel, b: Channel) -> bool

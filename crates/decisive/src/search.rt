@@ -1,161 +1,192 @@
-// The rows with which a window may end or begin, tried one after another.
-ghost use Rattle.std.specs.Prelude.{◌≡◌, ◌↔◌, ℕ, ◌+◌, ◌<◌, ◌≤◌, ◌^◌, length, slice_index_or, IsTrue, IfOk, MatchOption};
+// The rows with which a window may end or begin: the nearest to the place that will do, looked for
+// by growing steps and then by halving.
+ghost use Rattle.std.specs.Prelude.{◌≡◌, ◌↔◌, ℕ, ◌+◌, ◌<◌, ◌≤◌, length, slice_index_or, IsTrue, IfOk, MatchOption};
+ghost use Rattle.gap_map.specs.Stretches.{FollowOn};
 ghost use Rattle.board.specs.Logs.{no_row};
-ghost use Rattle.board.specs.Places.{IsPlace};
 ghost use Rattle.decisive.specs.Breaks.{FitsParts, FitsStart};
-ghost use Rattle.decisive.specs.Candidates.{BeginsBy, EndsBy, IsFirstEnd, IsLastBegin, IsOwnRow, NoneBegins, NoneEnds};
+ghost use Rattle.decisive.specs.Cuts.{IsCutAfter};
+ghost use Rattle.decisive.specs.Tries.{BeginsGrow, DoesAt, EndsGrow, IsBeginRow, IsCandidateRow, IsEndRow, IsFirstOf, IsNearest, IsOwnAt, IsSought, IsToldAt, IsTrail, NoBeginRow, NoEndRow, NoneDo, found_at, row_at, row_count};
 
-use crate::judge::{Question, Start, breaks, stretches_since, stretches_upto};
-use crate::rows::{is_known, is_row_of_parts, rows_before};
-use gap_map::Stretch;
+use crate::judge::{Question, Start, Told, begins_by, ends_by};
+use crate::rows::{is_known, is_row_of_parts};
 use sig_base::{NoMemory, Row};
 use std::alloc::Global;
 
-/// What is told of some tenths, and after how many of its rows the place is.
+/// What is looked for: on from the place an end, where a walk begins with these states, or back from
+/// it a begin, where what is told up to this tenth counts.
 #[derive(Drop)]
-pub(crate) struct Told<'a> {
-    pub(crate) rows: &'a [Row],
-    pub(crate) stretches: &'a [Stretch],
-    pub(crate) place: usize,
+pub(crate) enum Aim<'a> {
+    End(&'a Start<'a>),
+    Begin(u32),
 }
 
-/// Whether the tenths up to this one break it.
-pub(crate) fn ends_by(
-    alloc: Global,
-    question: &Question<'_>,
-    start: &Start<'_>,
-    told: &Told<'_>,
-    tenth: u32,
-) -> Result<bool, NoMemory>
-    requires parts { FitsParts question.now.specs.now question.now.parts.now }
-    requires few { length told.now.rows.now < 2 ^ 32 }
-    requires late { question.now.at ≤ tenth }
-    requires place { (f t : ℕ) × FitsStart start.now question.now.specs.now f
-        × IsPlace f t told.now.rows.now told.now.stretches.now question.now.at told.now.place
-        × (tenth < t) }
-    ensures { IfOk result (λ b. IsTrue b ↔ EndsBy start.now question.now.specs.now
-        question.now.parts.now question.now.at told.now.rows.now told.now.stretches.now
-        told.now.place tenth) }
-{
-    let count = rows_before(told.rows, tenth as u64 + 1);
-    let (rows, _later) = told.rows.split_at(count);
-    let stretches = stretches_upto(alloc, told.stretches, tenth)?;
-    breaks(alloc, question, start, rows, &stretches, told.place)
+/// The candidates that were found, by how many rows each is from the place, the nearest first; and
+/// how many of them are known not to do.
+#[derive(Drop)]
+pub(crate) struct Trail {
+    pub(crate) found: Vec<usize>,
+    pub(crate) tried: usize,
 }
 
-/// Whether the tenths from this one on break it.
-pub(crate) fn begins_by(
-    alloc: Global,
-    question: &Question<'_>,
-    told: &Told<'_>,
-    tenth: u32,
-) -> Result<bool, NoMemory>
-    requires parts { FitsParts question.now.specs.now question.now.parts.now }
-    requires few { length told.now.rows.now < 2 ^ 32 }
-    requires early { tenth ≤ question.now.at }
-    requires place { (f t : ℕ) × (f ≤ tenth) × IsPlace f t told.now.rows.now told.now.stretches.now
-        question.now.at told.now.place }
-    ensures { IfOk result (λ b. IsTrue b ↔ BeginsBy question.now.specs.now question.now.parts.now
-        question.now.at told.now.rows.now told.now.stretches.now told.now.place tenth) }
+// How many rows there are to look at.
+fn row_count(told: &Told<'_>, aim: &Aim<'_>) -> usize
+    requires { told.now.place ≤ length told.now.rows.now }
+    ensures { result ≡ row_count aim.now told.now }
 {
-    let count = rows_before(told.rows, tenth as u64);
-    let (_earlier, rows) = told.rows.split_at(count);
-    let stretches = stretches_since(alloc, told.stretches, tenth)?;
-    breaks(
-        alloc,
-        question,
-        &Start::Free(tenth),
-        rows,
-        &stretches,
-        told.place - count,
-    )
-}
-
-// The tenth of the row, where it is a candidate.
-fn candidate(question: &Question<'_>, told: &Told<'_>, i: usize) -> Option<u32>
-    requires parts { FitsParts question.now.specs.now question.now.parts.now }
-    requires within { i < length told.now.rows.now }
-    ensures { MatchOption result (IsOwnRow question.now.specs.now question.now.parts.now
-        told.now.rows.now told.now.stretches.now i → ⊥)
-        (λ w. (w ≡ (slice_index_or told.now.rows.now i no_row).at)
-        × IsOwnRow question.now.specs.now question.now.parts.now told.now.rows.now
-        told.now.stretches.now i) }
-{
-    let row = told.rows[i];
-    if !is_known(told.stretches, row.at) {
-        return None;
+    match aim {
+        Aim::End(_start) => told.rows.len() - told.place,
+        Aim::Begin(_last) => told.place,
     }
-    if !is_row_of_parts(question.specs, question.parts, row) {
-        return None;
-    }
-    Some(row.at)
 }
 
-// The tenth of the row, where it is a candidate and the tenths up to it break.
-fn ends_at_row(
+// The row that is so many rows from the place.
+fn row_from(told: &Told<'_>, aim: &Aim<'_>, i: usize) -> Row
+    requires place { told.now.place ≤ length told.now.rows.now }
+    requires within { i < row_count aim.now told.now }
+    ensures { result ≡ slice_index_or told.now.rows.now (row_at aim.now told.now i) no_row }
+{
+    let _count = told.rows.len();
+    match aim {
+        Aim::End(_start) => told.rows[told.place + i],
+        Aim::Begin(_last) => told.rows[told.place - 1 - i],
+    }
+}
+
+// Whether it is a candidate: known, and of one of the channels.
+fn is_candidate(question: &Question<'_>, told: &Told<'_>, row: Row) -> bool
+    requires parts { FitsParts question.now.specs.now question.now.parts.now }
+    requires follow { (f t : ℕ) × FollowOn f t told.now.stretches.now × (f ≤ row.at) }
+    ensures { IsTrue result ↔ IsCandidateRow question.now told.now row }
+{
+    is_row_of_parts(question.specs, question.parts, row) && is_known(told.stretches, row.at)
+}
+
+// Whether the row does.
+fn does_at(
     alloc: Global,
     question: &Question<'_>,
-    start: &Start<'_>,
     told: &Told<'_>,
+    aim: &Aim<'_>,
     i: usize,
-) -> Result<Option<u32>, NoMemory>
-    requires parts { FitsParts question.now.specs.now question.now.parts.now }
-    requires few { length told.now.rows.now < 2 ^ 32 }
-    requires low { told.now.place ≤ i }
-    requires within { i < length told.now.rows.now }
-    requires place { (f t : ℕ) × FitsStart start.now question.now.specs.now f
-        × IsPlace f t told.now.rows.now told.now.stretches.now question.now.at told.now.place }
-    ensures { IfOk result (λ r. MatchOption r (IsOwnRow question.now.specs.now
-        question.now.parts.now told.now.rows.now told.now.stretches.now i
-        → EndsBy start.now question.now.specs.now question.now.parts.now question.now.at
-        told.now.rows.now told.now.stretches.now told.now.place
-        (slice_index_or told.now.rows.now i no_row).at → ⊥)
-        (λ w. (w ≡ (slice_index_or told.now.rows.now i no_row).at)
-        × IsOwnRow question.now.specs.now question.now.parts.now told.now.rows.now
-        told.now.stretches.now i × EndsBy start.now question.now.specs.now question.now.parts.now
-        question.now.at told.now.rows.now told.now.stretches.now told.now.place w)) }
+) -> Result<bool, NoMemory>
+    requires sought { IsSought aim.now question.now told.now }
+    requires within { i < row_count aim.now told.now }
+    requires own { IsOwnAt aim.now question.now told.now i }
+    ensures { IfOk result (λ b. IsTrue b ↔ DoesAt aim.now question.now told.now i) }
 {
-    match candidate(question, told, i) {
-        None => Ok(None),
-        Some(tenth) => {
-            if ends_by(alloc, question, start, told, tenth)? {
-                return Ok(Some(tenth));
-            }
-            Ok(None)
+    let row = row_from(told, aim, i);
+    match aim {
+        Aim::End(start) => ends_by(alloc, question, start, told, row.at),
+        Aim::Begin(last) => begins_by(alloc, question, told, row.at, *last),
+    }
+}
+
+// The place of the first candidate that does, where the last of them does and those that were tried
+// don't: by halving.
+fn halve(
+    alloc: Global,
+    question: &Question<'_>,
+    told: &Told<'_>,
+    aim: &Aim<'_>,
+    trail: &Trail,
+) -> Result<usize, NoMemory>
+    requires sought { IsSought aim.now question.now told.now }
+    requires trail { (n : ℕ) × (n ≤ row_count aim.now told.now)
+        × IsTrail aim.now question.now told.now trail.now n }
+    requires untried { trail.now.tried < length trail.now.found.items }
+    requires last { (k : ℕ) → k + 1 ≡ length trail.now.found.items
+        → DoesAt aim.now question.now told.now (found_at trail.now k) }
+    ensures { IfOk result (IsFirstOf aim.now question.now told.now trail.now) }
+{
+    let mut low = trail.tried;
+    let mut high = trail.found.len() - 1;
+    'search: while low < high {
+        let middle = low + (high - low) / 2;
+        if does_at(alloc, question, told, aim, trail.found[middle])? {
+            high = middle;
+        } else {
+            low = middle + 1;
         }
     }
+    Ok(low)
 }
 
-// The tenth of the row, where it is a candidate and the tenths from it on break.
-fn begins_at_row(
+// The nearest candidate that does, where the last that was found does; else none of them does.
+fn try_last(
     alloc: Global,
     question: &Question<'_>,
     told: &Told<'_>,
-    i: usize,
-) -> Result<Option<u32>, NoMemory>
-    requires parts { FitsParts question.now.specs.now question.now.parts.now }
-    requires few { length told.now.rows.now < 2 ^ 32 }
-    requires high { i < told.now.place }
-    requires place { (f t : ℕ) × IsPlace f t told.now.rows.now told.now.stretches.now
-        question.now.at told.now.place }
-    ensures { IfOk result (λ r. MatchOption r (IsOwnRow question.now.specs.now
-        question.now.parts.now told.now.rows.now told.now.stretches.now i
-        → BeginsBy question.now.specs.now question.now.parts.now question.now.at told.now.rows.now
-        told.now.stretches.now told.now.place (slice_index_or told.now.rows.now i no_row).at
-        → ⊥) (λ u. (u ≡ (slice_index_or told.now.rows.now i no_row).at)
-        × IsOwnRow question.now.specs.now question.now.parts.now told.now.rows.now
-        told.now.stretches.now i × BeginsBy question.now.specs.now question.now.parts.now
-        question.now.at told.now.rows.now told.now.stretches.now told.now.place u)) }
+    aim: &Aim<'_>,
+    trail: &Trail,
+) -> Result<Option<usize>, NoMemory>
+    requires sought { IsSought aim.now question.now told.now }
+    requires trail { (n : ℕ) × (n ≤ row_count aim.now told.now)
+        × IsTrail aim.now question.now told.now trail.now n }
+    requires untried { trail.now.tried < length trail.now.found.items }
+    ensures { IfOk result (λ r. MatchOption r ((k : ℕ) → k < length trail.now.found.items
+        → DoesAt aim.now question.now told.now (found_at trail.now k) → ⊥)
+        (IsNearest aim.now question.now told.now)) }
 {
-    match candidate(question, told, i) {
-        None => Ok(None),
-        Some(tenth) => {
-            if begins_by(alloc, question, told, tenth)? {
-                return Ok(Some(tenth));
-            }
-            Ok(None)
+    let last = trail.found[trail.found.len() - 1];
+    if !does_at(alloc, question, told, aim, last)? {
+        return Ok(None);
+    }
+    let first = halve(alloc, question, told, aim, trail)?;
+    Ok(Some(trail.found[first]))
+}
+
+// Looks at one row more; twice as many candidates are found between one try and the next.
+fn step(
+    alloc: Global,
+    question: &Question<'_>,
+    told: &Told<'_>,
+    aim: &Aim<'_>,
+    trail: &mut Trail,
+    i: usize,
+) -> Result<Option<usize>, NoMemory>
+    requires sought { IsSought aim.now question.now told.now }
+    requires within { i < row_count aim.now told.now }
+    requires trail { IsTrail aim.now question.now told.now trail.old i }
+    ensures { IfOk result (λ r. MatchOption r (IsTrail aim.now question.now told.now trail.new
+        (i + 1)) (IsNearest aim.now question.now told.now)) }
+{
+    if !is_candidate(question, told, row_from(told, aim, i)) {
+        return Ok(None);
+    }
+    trail.found.push(i)?;
+    if trail.found.len() / 2 < trail.tried {
+        return Ok(None);
+    }
+    let hit = try_last(alloc, question, told, aim, trail)?;
+    trail.tried = trail.found.len();
+    Ok(hit)
+}
+
+// The nearest candidate that does.
+fn nearest(
+    alloc: Global,
+    question: &Question<'_>,
+    told: &Told<'_>,
+    aim: &Aim<'_>,
+) -> Result<Option<usize>, NoMemory>
+    requires sought { IsSought aim.now question.now told.now }
+    ensures { IfOk result (λ r. MatchOption r (NoneDo aim.now question.now told.now
+        (row_count aim.now told.now)) (IsNearest aim.now question.now told.now)) }
+{
+    let mut trail = Trail {
+        found: Vec::new(alloc),
+        tried: 0,
+    };
+    for i in 0..row_count(told, aim) {
+        match step(alloc, question, told, aim, &mut trail, i)? {
+            Some(hit) => return Ok(Some(hit)),
+            None => {}
         }
     }
+    if trail.tried == trail.found.len() {
+        return Ok(None);
+    }
+    try_last(alloc, question, told, aim, &trail)
 }
 
 /// The tenth of the first candidate among the rows after the place up to which the tenths break it.
@@ -165,46 +196,35 @@ pub(crate) fn first_end(
     start: &Start<'_>,
     told: &Told<'_>,
 ) -> Result<Option<u32>, NoMemory>
-    requires parts { FitsParts question.now.specs.now question.now.parts.now }
-    requires few { length told.now.rows.now < 2 ^ 32 }
-    requires place { (f t : ℕ) × FitsStart start.now question.now.specs.now f
-        × IsPlace f t told.now.rows.now told.now.stretches.now question.now.at told.now.place }
-    ensures { IfOk result (λ r. MatchOption r (NoneEnds start.now question.now.specs.now
-        question.now.parts.now question.now.at told.now.rows.now told.now.stretches.now
-        told.now.place (length told.now.rows.now)) (λ w. IsFirstEnd start.now question.now.specs.now
-        question.now.parts.now question.now.at told.now.rows.now told.now.stretches.now
-        told.now.place w)) }
+    requires told { (f t : ℕ) × IsToldAt question.now told.now f t
+        × FitsStart start.now question.now.specs.now f × EndsGrow start.now question.now told.now t }
+    ensures { IfOk result (λ r. MatchOption r (NoEndRow start.now question.now told.now)
+        (IsEndRow start.now question.now told.now)) }
 {
-    for i in told.place..told.rows.len() {
-        match ends_at_row(alloc, question, start, told, i)? {
-            Some(tenth) => return Ok(Some(tenth)),
-            None => {}
-        }
+    let aim = Aim::End(start);
+    match nearest(alloc, question, told, &aim)? {
+        Some(i) => Ok(Some(row_from(told, &aim, i).at)),
+        None => Ok(None),
     }
-    Ok(None)
 }
 
-/// The tenth of the last candidate among the rows before the place from which the tenths break it.
+/// The tenth of the last candidate among the rows before the place from which on the tenths up to
+/// the last break it.
 pub(crate) fn last_begin(
     alloc: Global,
     question: &Question<'_>,
     told: &Told<'_>,
+    last: u32,
 ) -> Result<Option<u32>, NoMemory>
-    requires parts { FitsParts question.now.specs.now question.now.parts.now }
-    requires few { length told.now.rows.now < 2 ^ 32 }
-    requires place { (f t : ℕ) × IsPlace f t told.now.rows.now told.now.stretches.now
-        question.now.at told.now.place }
-    ensures { IfOk result (λ r. MatchOption r (NoneBegins question.now.specs.now
-        question.now.parts.now question.now.at told.now.rows.now told.now.stretches.now
-        told.now.place 0) (λ u. IsLastBegin question.now.specs.now question.now.parts.now
-        question.now.at told.now.rows.now told.now.stretches.now told.now.place u)) }
+    requires late { question.now.at ≤ last }
+    requires told { (f t : ℕ) × IsToldAt question.now told.now f t
+        × IsCutAfter t told.now.stretches.now last × BeginsGrow question.now told.now last f }
+    ensures { IfOk result (λ r. MatchOption r (NoBeginRow question.now told.now last)
+        (IsBeginRow question.now told.now last)) }
 {
-    for back in 0..told.place {
-        let i = told.place - 1 - back;
-        match begins_at_row(alloc, question, told, i)? {
-            Some(tenth) => return Ok(Some(tenth)),
-            None => {}
-        }
+    let aim = Aim::Begin(last);
+    match nearest(alloc, question, told, &aim)? {
+        Some(i) => Ok(Some(row_from(told, &aim, i).at)),
+        None => Ok(None),
     }
-    Ok(None)
 }

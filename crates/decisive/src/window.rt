@@ -1,26 +1,29 @@
 // The decisive window of a broken line.
-ghost use Rattle.std.specs.Prelude.{◌≡◌, ℕ, ◌+◌, ◌/◌, ◌<◌, ◌≤◌, true, length, IfOk};
+ghost use Rattle.std.specs.Prelude.{◌≡◌, ℕ, ◌+◌, ◌/◌, ◌<◌, ◌≤◌, true, length, IfOk, IfSome};
 ghost use Rattle.hour_store.specs.Store.{Store, is_known};
 ghost use Rattle.board.specs.Logs.{first_tenth};
 ghost use Rattle.signal_log.specs.Log.{HasHistory, log_of};
 ghost use Rattle.signal_log.specs.Points.{ArePastsAt};
 ghost use Rattle.rule_audit.specs.Rules.{rules_for};
+ghost use Rattle.board.specs.Moves.{RowsIn};
+ghost use Rattle.decisive.specs.declared.judge.Start.TheVariants.{Kept};
 ghost use Rattle.decisive.specs.Breaks.{FitsParts, FitsStart};
+ghost use Rattle.decisive.specs.Candidates.{FromLog};
 ghost use Rattle.decisive.specs.Searches.{AreFound, ArePlaced, hour_rows, rank, rank_in};
 ghost use Rattle.sig_base.specs.Reads.{Grow};
-ghost use Rattle.decisive.specs.Lines.{IsBrokenIn, IsWindowIn};
+ghost use Rattle.decisive.specs.Lines.{AreHourMoves, IsBrokenIn, IsHourBegin, IsWindowIn, place_in};
 ghost use Rattle.decisive.specs.Window.{IsPlaceIn};
 
-use crate::hours::{HoursTold, Placed, hour_told};
-use crate::judge::{Question, Start, stretches_upto};
+use crate::hours::{HourMoves, Placed, hour_told};
+use crate::judge::{Question, Start};
 use crate::parts::parts_of;
 use crate::rows::rows_before;
-use crate::within::{search_begin, search_end};
+use crate::within::{nearest_begin, search_begin, search_end};
 use board::Pasts;
 use hour_store::HourStore;
 use ring_config::Config;
 use rule_audit::{AuditLine, Place, Rule};
-use sig_base::{Hour, NoMemory, Reads};
+use sig_base::{Hour, NoMemory, Reads, Row};
 use std::alloc::Global;
 
 // What is told of the hour, with the place.
@@ -56,24 +59,6 @@ fn placed_in<L>(
     }
 }
 
-// What is told up to the tenth.
-fn cut_at(alloc: Global, placed: &Placed, tenth: u32) -> Result<Placed, NoMemory>
-    ensures { IfOk result (λ p. (s : Store) (f t k x : ℕ)
-        → ArePlaced s placed.now.told f t k x placed.now.place → x ≤ tenth → tenth < t
-        → ArePlaced s p.told f (tenth + 1) k x p.place × (rank p.told x p.place
-        ≡ rank placed.now.told x placed.now.place)) }
-{
-    let count = rows_before(&placed.told.rows, tenth as u64 + 1);
-    let (first, _later) = placed.told.rows.split_at(count);
-    let mut rows = Vec::new(alloc);
-    rows.extend_from_slice(first)?;
-    let stretches = stretches_upto(alloc, &placed.told.stretches, tenth)?;
-    Ok(Placed {
-        told: HoursTold { rows, stretches },
-        place: placed.place,
-    })
-}
-
 // The begin and the end, the end first looked for.
 fn window_of<L>(
     alloc: Global,
@@ -87,6 +72,8 @@ fn window_of<L>(
     requires parts { FitsParts question.now.specs.now question.now.parts.now }
     requires within { hour < length store.now.hours }
     requires start { FitsStart start.now question.now.specs.now (first_tenth hour) }
+    requires history { HasHistory (log_of question.now.specs.now store.now) }
+    requires from { FromLog (log_of question.now.specs.now store.now) start.now (first_tenth hour) 0 }
     requires place { ArePlaced store.now first.told (first_tenth hour) (first_tenth (hour + 1))
         (hour + 1) question.now.at first.place }
     ensures found { IfOk result (λ w. AreFound start.now store.now question.now.specs.now
@@ -96,17 +83,113 @@ fn window_of<L>(
 {
     let _hours = store.hours();
     let (end, placed) = search_end(alloc, question, start, store, hour, first, reads)?;
-    let last = cut_at(alloc, &placed, end)?;
-    let begin = search_begin(alloc, question, store, hour, last, reads)?;
+    let begin = search_begin(alloc, question, store, hour, placed, end, reads)?;
     Ok((begin, end))
 }
 
-/// The decisive window of a broken line of this store: its first and its last tenth. The last is
-/// the least candidate from the line's own tenth on up to which the log alone, from the window's
-/// start, breaks the obligation; then the first is the greatest candidate up to the own tenth from
-/// which on the log up to the last tenth alone does. Candidates are the own tenth, those of known
-/// rows of the rule's channels, tenth 0 and the window's last. `before` has the states of each
-/// channel at the point before the line's hour. The hours that it looks at are opened.
+// The window, looked for hour by hour.
+fn search_window<L>(
+    alloc: Global,
+    question: &Question<'_>,
+    store: &HourStore<L>,
+    before: &Pasts,
+    place: Place,
+    reads: &mut Reads<L>,
+) -> Result<(u32, u32), NoMemory>
+    requires parts { FitsParts question.now.specs.now question.now.parts.now }
+    requires within { question.now.at / 36000 < length store.now.hours }
+    requires is_known { is_known store.now question.now.at ≡ true }
+    requires place { IsPlaceIn (hour_rows store.now (question.now.at / 36000)) question.now.at place }
+    requires history { HasHistory (log_of question.now.specs.now store.now) }
+    requires before { ArePastsAt (log_of question.now.specs.now store.now) (question.now.at / 36000)
+        before.now }
+    ensures found { IfOk result (λ w. AreFound (Kept before.entry) store.now question.now.specs.now
+        question.now.parts.now (question.now.at / 36000) question.now.at
+        (rank_in (hour_rows store.now (question.now.at / 36000)) question.now.at place) w.0 w.1) }
+    ensures grow { Grow reads.old reads.new }
+{
+    let _hours = store.hours();
+    let hour = question.at / 36_000;
+    let first = placed_in(alloc, store, hour, question.at, place, reads)?;
+    window_of(
+        alloc,
+        question,
+        &Start::Kept(before),
+        store,
+        hour,
+        first,
+        reads,
+    )
+}
+
+// After how many of the hour's rows the place of a line is.
+fn place_in(rows: &[Row], at: u32, place: Place) -> usize
+    requires { IsPlaceIn rows.now at place }
+    ensures { (f t : ℕ) → RowsIn f t rows.now → result ≡ place_in rows.now at place }
+{
+    match place {
+        Place::BeforeRow(row) => row as usize,
+        Place::EndOfTenth => rows_before(rows, at as u64 + 1),
+    }
+}
+
+// The begin, where the line's own tenth is the end and the begin is in its hour.
+fn begin_in_hour(
+    alloc: Global,
+    question: &Question<'_>,
+    moves: &HourMoves<'_>,
+    place: Place,
+) -> Result<Option<u32>, NoMemory>
+    requires parts { FitsParts question.now.specs.now question.now.parts.now }
+    requires place { IsPlaceIn moves.now.rows.now question.now.at place }
+    requires moves { (s : Store) × (hour : ℕ)
+        × AreHourMoves question.now.specs.now s hour moves.now
+        × HasHistory (log_of question.now.specs.now s) × (is_known s question.now.at ≡ true)
+        × (first_tenth hour ≤ question.now.at) × (question.now.at < first_tenth (hour + 1)) }
+    ensures { IfOk result (λ r. IfSome r (IsHourBegin question.now moves.now place)) }
+{
+    let told = moves.told(place_in(moves.rows, question.at, place));
+    nearest_begin(alloc, question, &told, question.at)
+}
+
+/// The decisive window of a broken line of an hour of this store: its first and its last tenth.
+/// The last is the least candidate from the line's own tenth on up to which the log alone, from the
+/// window's start, breaks the obligation; then the first is the greatest candidate up to the own
+/// tenth from which on the log up to the last tenth alone does. Candidates are the own tenth, those
+/// of known rows of the rule's channels, tenth 0 and the window's last. Where the hour up to the own
+/// tenth alone breaks it, no other is opened.
+pub fn window_in<L>(
+    alloc: Global,
+    config: &Config,
+    rules: &[Rule],
+    store: &HourStore<L>,
+    moves: &HourMoves<'_>,
+    line: &AuditLine,
+    reads: &mut Reads<L>,
+) -> Result<(u32, u32), NoMemory>
+    requires rules { rules.now ≡ rules_for config.now }
+    requires history { HasHistory (log_of config.now.specs store.now) }
+    requires line { IsBrokenIn config.now store.now rules.now line.now }
+    requires moves { AreHourMoves config.now.specs store.now (line.now.at / 36000) moves.now }
+    ensures window { IfOk result (λ w. IsWindowIn config.now store.now rules.now line.now w.0 w.1) }
+    ensures grow { Grow reads.old reads.new }
+{
+    let _hours = store.hours();
+    let specs = config.specs();
+    let parts = parts_of(alloc, &rules[line.rule as usize - 1])?;
+    let question = Question {
+        specs,
+        parts: &parts,
+        at: line.at,
+    };
+    match begin_in_hour(alloc, &question, moves, line.place)? {
+        Some(begin) => Ok((begin, line.at)),
+        None => search_window(alloc, &question, store, moves.before, line.place, reads),
+    }
+}
+
+/// The same of one line alone, where `before` has the states of each channel at the point before the
+/// line's hour. The hours that it looks at are opened.
 pub fn decisive_window<L>(
     alloc: Global,
     config: &Config,
@@ -125,22 +208,6 @@ pub fn decisive_window<L>(
     ensures grow { Grow reads.old reads.new }
 {
     let _hours = store.hours();
-    let specs = config.specs();
-    let hour = line.at / 36_000;
-    let parts = parts_of(alloc, &rules[line.rule as usize - 1])?;
-    let first = placed_in(alloc, store, hour, line.at, line.place, reads)?;
-    let question = Question {
-        specs,
-        parts: &parts,
-        at: line.at,
-    };
-    window_of(
-        alloc,
-        &question,
-        &Start::Kept(before),
-        store,
-        hour,
-        first,
-        reads,
-    )
+    let moves = HourMoves::new(alloc, config, store, before, line.at / 36_000, reads)?;
+    window_in(alloc, config, rules, store, &moves, line, reads)
 }

@@ -1,14 +1,19 @@
-// The searches for a window's end and begin, hour by hour.
-ghost use Rattle.std.specs.Prelude.{ℕ, ◌+◌, ◌<◌, ◌≤◌, ◌^◌, length, IfOk, MatchOption};
+// The searches for a window's ends and begin, hour by hour.
+ghost use Rattle.std.specs.Prelude.{◌≡◌, ℕ, ◌+◌, ◌<◌, ◌≤◌, ◌^◌, length, IfOk, MatchOption};
 ghost use Rattle.board.specs.Logs.{first_tenth};
 ghost use Rattle.board.specs.Places.{IsPlace};
+ghost use Rattle.signal_log.specs.Log.{HasHistory, log_of};
 ghost use Rattle.decisive.specs.Breaks.{FitsParts, FitsStart};
-ghost use Rattle.decisive.specs.Searches.{ArePlaced, IsBeginAt, IsBeginFound, IsEndAt, IsEndFound, NoBegin, NoEnd, rank};
+ghost use Rattle.decisive.specs.Candidates.{FromLog};
+ghost use Rattle.decisive.specs.Cuts.{IsCutAfter};
+ghost use Rattle.decisive.specs.Searches.{ArePlaced, IsBeginFound, IsEndFound, rank};
 ghost use Rattle.sig_base.specs.Reads.{Grow};
+ghost use Rattle.decisive.specs.Tries.{Begins, BeginsGrow, EndsGrow, IsBeginIn, IsBeginOf, IsEndIn, IsEndOf, IsToldAt, NoBeginIn, NoBeginOf, NoBeginRow, NoEndIn, NoEndOf, PlacedBeginsGrow, PlacedEndsGrow};
 
 use crate::hours::{Placed, add_hour, hour_before};
-use crate::judge::{Question, Start};
-use crate::search::{Told, begins_by, ends_by, first_end, last_begin};
+use crate::judge::{Question, Start, Told, begins_by, ends_by};
+use crate::search::{first_end, last_begin};
+use board::courses_of;
 use hour_store::HourStore;
 use sig_base::{Hour, NoMemory, Reads};
 use std::alloc::Global;
@@ -21,16 +26,11 @@ fn end_within(
     told: &Told<'_>,
     last: u32,
 ) -> Result<Option<u32>, NoMemory>
-    requires parts { FitsParts question.now.specs.now question.now.parts.now }
-    requires few { length told.now.rows.now < 2 ^ 32 }
-    requires late { question.now.at ≤ last }
-    requires place { (f t : ℕ) × FitsStart start.now question.now.specs.now f
-        × IsPlace f t told.now.rows.now told.now.stretches.now question.now.at told.now.place
-        × (last < t) }
-    ensures { IfOk result (λ r. MatchOption r (NoEnd start.now question.now.specs.now
-        question.now.parts.now question.now.at told.now.rows.now told.now.stretches.now
-        told.now.place last) (λ w. IsEndAt start.now question.now.specs.now question.now.parts.now
-        question.now.at told.now.rows.now told.now.stretches.now told.now.place w)) }
+    requires told { (f : ℕ) × IsToldAt question.now told.now f (last + 1)
+        × FitsStart start.now question.now.specs.now f
+        × EndsGrow start.now question.now told.now (last + 1) }
+    ensures { IfOk result (λ r. MatchOption r (NoEndOf start.now question.now told.now last)
+        (IsEndOf start.now question.now told.now)) }
 {
     if !ends_by(alloc, question, start, told, last)? {
         return Ok(None);
@@ -41,33 +41,46 @@ fn end_within(
     first_end(alloc, question, start, told)
 }
 
-/// The last candidate of these tenths from which on they break it, where they do from the first.
+/// The last candidate of these tenths from which on those up to the last break it.
+pub(crate) fn nearest_begin(
+    alloc: Global,
+    question: &Question<'_>,
+    told: &Told<'_>,
+    last: u32,
+) -> Result<Option<u32>, NoMemory>
+    requires late { question.now.at ≤ last }
+    requires told { (f t : ℕ) × IsToldAt question.now told.now f t
+        × IsCutAfter t told.now.stretches.now last × BeginsGrow question.now told.now last f }
+    ensures { IfOk result (λ r. MatchOption r ((Begins question.now told.now last question.now.at
+        → ⊥) × NoBeginRow question.now told.now last) (IsBeginOf question.now told.now last)) }
+{
+    if begins_by(alloc, question, told, question.at, last)? {
+        return Ok(Some(question.at));
+    }
+    last_begin(alloc, question, told, last)
+}
+
+/// The same, where they do from the first on.
 fn begin_within(
     alloc: Global,
     question: &Question<'_>,
     told: &Told<'_>,
     first: u32,
+    last: u32,
 ) -> Result<Option<u32>, NoMemory>
-    requires parts { FitsParts question.now.specs.now question.now.parts.now }
-    requires few { length told.now.rows.now < 2 ^ 32 }
-    requires early { first ≤ question.now.at }
-    requires place { (f t : ℕ) × (f ≤ first) × IsPlace f t told.now.rows.now told.now.stretches.now
-        question.now.at told.now.place }
-    ensures { IfOk result (λ r. MatchOption r (NoBegin question.now.specs.now question.now.parts.now
-        question.now.at told.now.rows.now told.now.stretches.now told.now.place first)
-        (λ u. IsBeginAt question.now.specs.now question.now.parts.now question.now.at
-        told.now.rows.now told.now.stretches.now told.now.place u)) }
+    requires late { question.now.at ≤ last }
+    requires told { (t : ℕ) × IsToldAt question.now told.now first t
+        × IsCutAfter t told.now.stretches.now last × BeginsGrow question.now told.now last first }
+    ensures { IfOk result (λ r. MatchOption r (NoBeginOf question.now told.now last first)
+        (IsBeginOf question.now told.now last)) }
 {
-    if !begins_by(alloc, question, told, first)? {
+    if !begins_by(alloc, question, told, first, last)? {
         return Ok(None);
     }
-    if begins_by(alloc, question, told, question.at)? {
-        return Ok(Some(question.at));
-    }
-    last_begin(alloc, question, told)
+    nearest_begin(alloc, question, told, last)
 }
 
-/// The same of what is told of hours.
+/// The end in what is told of hours, which is cut into moves.
 fn end_in(
     alloc: Global,
     question: &Question<'_>,
@@ -77,46 +90,53 @@ fn end_in(
 ) -> Result<Option<u32>, NoMemory>
     requires parts { FitsParts question.now.specs.now question.now.parts.now }
     requires few { length placed.now.told.rows.items < 2 ^ 32 }
-    requires late { question.now.at ≤ last }
-    requires place { (f t : ℕ) × FitsStart start.now question.now.specs.now f
-        × IsPlace f t placed.now.told.rows.items placed.now.told.stretches.items question.now.at
-        placed.now.place × (last < t) }
-    ensures { IfOk result (λ r. MatchOption r (NoEnd start.now question.now.specs.now
-        question.now.parts.now question.now.at placed.now.told.rows.items
-        placed.now.told.stretches.items placed.now.place last)
-        (λ w. IsEndAt start.now question.now.specs.now question.now.parts.now question.now.at
-        placed.now.told.rows.items placed.now.told.stretches.items placed.now.place w)) }
+    requires place { (f : ℕ) × FitsStart start.now question.now.specs.now f
+        × IsPlace f (last + 1) placed.now.told.rows.items placed.now.told.stretches.items
+        question.now.at placed.now.place
+        × PlacedEndsGrow start.now question.now placed.now (last + 1) }
+    ensures { IfOk result (λ r. MatchOption r (NoEndIn start.now question.now placed.now last)
+        (IsEndIn start.now question.now placed.now)) }
 {
+    let rows = placed.told.rows.as_slice();
+    let stretches = placed.told.stretches.as_slice();
+    let courses = courses_of(alloc, question.specs, rows, stretches)?;
     let told = Told {
-        rows: &placed.told.rows,
-        stretches: &placed.told.stretches,
+        rows,
+        stretches,
+        courses: courses.as_slice(),
         place: placed.place,
     };
     end_within(alloc, question, start, &told, last)
 }
 
+/// The begin.
 fn begin_in(
     alloc: Global,
     question: &Question<'_>,
     placed: &Placed,
     first: u32,
+    last: u32,
 ) -> Result<Option<u32>, NoMemory>
     requires parts { FitsParts question.now.specs.now question.now.parts.now }
     requires few { length placed.now.told.rows.items < 2 ^ 32 }
-    requires early { first ≤ question.now.at }
-    requires place { (f t : ℕ) × (f ≤ first) × IsPlace f t placed.now.told.rows.items
-        placed.now.told.stretches.items question.now.at placed.now.place }
-    ensures { IfOk result (λ r. MatchOption r (NoBegin question.now.specs.now question.now.parts.now
-        question.now.at placed.now.told.rows.items placed.now.told.stretches.items placed.now.place
-        first) (λ u. IsBeginAt question.now.specs.now question.now.parts.now question.now.at
-        placed.now.told.rows.items placed.now.told.stretches.items placed.now.place u)) }
+    requires late { question.now.at ≤ last }
+    requires place { (t : ℕ) × IsPlace first t placed.now.told.rows.items
+        placed.now.told.stretches.items question.now.at placed.now.place
+        × IsCutAfter t placed.now.told.stretches.items last
+        × PlacedBeginsGrow question.now placed.now last first }
+    ensures { IfOk result (λ r. MatchOption r (NoBeginIn question.now placed.now last first)
+        (IsBeginIn question.now placed.now last)) }
 {
+    let rows = placed.told.rows.as_slice();
+    let stretches = placed.told.stretches.as_slice();
+    let courses = courses_of(alloc, question.specs, rows, stretches)?;
     let told = Told {
-        rows: &placed.told.rows,
-        stretches: &placed.told.stretches,
+        rows,
+        stretches,
+        courses: courses.as_slice(),
         place: placed.place,
     };
-    begin_within(alloc, question, &told, first)
+    begin_within(alloc, question, &told, first, last)
 }
 
 /// The window's end, looked for from the place's hour on, and what is told of the hours up to it.
@@ -132,6 +152,8 @@ pub(crate) fn search_end<L>(
     requires parts { FitsParts question.now.specs.now question.now.parts.now }
     requires within { hour < length store.now.hours }
     requires start { FitsStart start.now question.now.specs.now (first_tenth hour) }
+    requires history { HasHistory (log_of question.now.specs.now store.now) }
+    requires from { FromLog (log_of question.now.specs.now store.now) start.now (first_tenth hour) 0 }
     requires place { ArePlaced store.now first.told (first_tenth hour) (first_tenth (hour + 1))
         (hour + 1) question.now.at first.place }
     ensures found { IfOk result (λ r. IsEndFound start.now store.now question.now.specs.now
@@ -155,35 +177,39 @@ pub(crate) fn search_end<L>(
     }
 }
 
-/// The window's begin, looked for from the place's hour back, where what is told is cut at the end.
+/// The window's begin, looked for from the place's hour back, where what is told up to the end
+/// counts.
 pub(crate) fn search_begin<L>(
     alloc: Global,
     question: &Question<'_>,
     store: &HourStore<L>,
     hour: Hour,
-    last: Placed,
+    first: Placed,
+    end: u32,
     reads: &mut Reads<L>,
 ) -> Result<u32, NoMemory>
     requires parts { FitsParts question.now.specs.now question.now.parts.now }
     requires within { hour < length store.now.hours }
-    requires place { (v : ℕ) × ArePlaced store.now last.told (first_tenth hour) (v + 1) 744
-        question.now.at last.place }
-    ensures found { IfOk result (λ u. (v : ℕ) → ArePlaced store.now last.told (first_tenth hour)
-        (v + 1) 744 question.now.at last.place → IsBeginFound store.now question.now.specs.now
-        question.now.parts.now question.now.at (rank last.told question.now.at last.place) v u) }
+    requires history { HasHistory (log_of question.now.specs.now store.now) }
+    requires late { question.now.at ≤ end }
+    requires place { (t : ℕ) × (t ≤ first_tenth (length store.now.hours))
+        × ArePlaced store.now first.told (first_tenth hour) t 744 question.now.at first.place
+        × IsCutAfter t first.told.stretches.items end }
+    ensures found { IfOk result (IsBeginFound store.now question.now.specs.now
+        question.now.parts.now question.now.at (rank first.told question.now.at first.place) end) }
     ensures grow { Grow reads.old reads.new }
 {
     let _hours = store.hours();
-    let mut placed = last;
+    let mut placed = first;
     for back in 0..hour {
-        let first = hour - back;
-        match begin_in(alloc, question, &placed, 36_000 * first)? {
+        let from = hour - back;
+        match begin_in(alloc, question, &placed, 36_000 * from, end)? {
             Some(begin) => return Ok(begin),
             None => {}
         }
-        placed = hour_before(alloc, store, first - 1, &placed, reads)?;
+        placed = hour_before(alloc, store, from - 1, &placed, reads)?;
     }
-    match begin_in(alloc, question, &placed, 0)? {
+    match begin_in(alloc, question, &placed, 0, end)? {
         Some(begin) => Ok(begin),
         None => Ok(0),
     }

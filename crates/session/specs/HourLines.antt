@@ -1,5 +1,5 @@
 -- The lines of an hour of the store, before and after their windows are looked for.
-use Rattle.std.specs.Prelude.{◌≡◌, ◌/◌, ℕ, true, List, Option, All}
+use Rattle.std.specs.Prelude.{◌≡◌, ◌<◌, ◌/◌, ℕ, true, false, List, Option, All, length, slice_index_or}
 use Rattle.span_set.specs.declared.set.Span.{Span}
 use Rattle.hour_store.specs.Store.{Store}
 use Rattle.ring_config.specs.Settings.{Settings}
@@ -37,3 +37,11 @@ HasOwnWindow c s line w = HasWindow (log_of c.specs s) (rules_for c) (hour_rows 
 -- the second lines are the first ones with their windows, whatever the hour is of which the first ones are
 abbrev pub AreWindowed : Settings → Store → List (List (List Span)) → List AuditLine → List AuditLine → Type 0
 AreWindowed c s before plain lines = (hour : ℕ) → AreLinesIn c s hour before plain → AreWithWindows (log_of c.specs s) (rules_for c) (hour_rows s hour) plain lines
+
+-- no line is broken
+abbrev pub NoneBroken : List AuditLine → Type 0
+NoneBroken lines = (i : ℕ) (d : AuditLine) → i < length lines → is_broken (slice_index_or lines i d).verdict ≡ false
+
+-- a broken line is of the hour
+abbrev pub IsBrokenHour : List AuditLine → ℕ → Type 0
+IsBrokenHour lines hour = (i : ℕ) × (i < length lines) × ((d : AuditLine) → (is_broken (slice_index_or lines i d).verdict ≡ true) × ((slice_index_or lines i d).at / 36000 ≡ hour))

@@ -1,8 +1,13 @@
-use Rattle.std.proofs.Common.{◌≡◌, ◌+◌, ◌-◌, ◌≤◌, ℕ}
+use Rattle.std.proofs.Common.{◌≡◌, ◌+◌, ◌-◌, ◌≤◌, ℕ, length}
 use Rattle.board.specs.Logs.{first_tenth}
+<<<<<<< HEAD
 use Rattle.decisive.specs.Searches.{ArePlaced, rank}
 use Rattle.sig_base.specs.Reads.{Grow}
+=======
+use Rattle.decisive.specs.Cuts.{IsCutAfter}
+use Rattle.decisive.specs.Searches.{ArePlaced, rank}
+>>>>>>> d99ffe5356737c6df2e426fb870d5ec773bc489d
 use Rattle.decisive.proofs.within.search_begin.Given as goal
 
 abbrev pub invariant-loop-back : goal.invariant-loop-back
-invariant-loop-back g l = (l.back ≤ l.fn.hour) × ((v : ℕ) → ArePlaced l.store l.initial.placed.told (first_tenth l.fn.hour) (v + 1) 744 l.question.at l.initial.placed.place → ArePlaced l.store l.placed.told (first_tenth (l.fn.hour - l.back)) (v + 1) (744 + l.back) l.question.at l.placed.place × (rank l.placed.told l.question.at l.placed.place ≡ rank l.initial.placed.told l.question.at l.initial.placed.place)) × Grow l.initial.reads l.reads
+invariant-loop-back g l = (l.back ≤ l.fn.hour) × ((t : ℕ) × (t ≤ first_tenth (length l.store.hours)) × ArePlaced l.store l.placed.told (first_tenth (l.fn.hour - l.back)) t (744 + l.back) l.question.at l.placed.place × IsCutAfter t l.placed.told.stretches.items l.fn.end) × (rank l.placed.told l.question.at l.placed.place ≡ rank l.initial.placed.told l.question.at l.initial.placed.place) × Grow l.initial.reads l.reads

@@ -1,27 +1,51 @@
-use Rattle.session.proofs.GrowLaws.{grow_on, grow_same}
-use Rattle.hour_work.specs.Rows.{hour_rows}
-use Rattle.rule_audit.specs.Rules.{rules_for}
+use Rattle.std.proofs.Common.{◌≡◌, ◌∙◌, ◌/◌, ◌<◌, ◌*◌, arith, sym, subst, ℕ, length, get_or}
+use Rattle.std.specs.Prelude.{All}
+use Rattle.std.proofs.lemmas.Result.{IfOk-weaker}
+use Rattle.span_set.specs.declared.set.Span.{Span}
 use Rattle.signal_log.specs.Log.{log_of}
-use Rattle.session.proofs.WindowLaws.{none_yet, own_hour, windows_turn}
+use Rattle.signal_log.specs.Points.{ArePastsAt}
+use Rattle.session.specs.HourLines.{AreWindowed, IsLineIn}
+use Rattle.session.proofs.GrowLaws.{grow_on, grow_same}
+use Rattle.session.proofs.WindowLaws.{grow_of, no_line}
 use Rattle.session.proofs.audit.with_windows.Goals as goal
 
-pub loop-line-init : goal.loop-line-init
-loop-line-init g c = record {
-  windows = λ hour are. none_yet (log_of c.args.config.now.specs c.args.store.now) (rules_for c.args.config.now) (hour_rows c.args.store.now hour) c.new-done.result.items c.new-done.ensures.items;
+pub new-requires-clause-within : goal.new-requires-clause-within
+new-requires-clause-within g c =
+    let (hour, are) = c.requires.lines in
+    let (i, lt, is) = c.in-Some.ensures in
+    let mine = are.each i no_line lt in
+    let broken = mine.broken (is no_line).0 in
+    let within = broken.within in
+    let same = (is no_line).1 in
+    omega arith
+
+pub new-requires-clause-before : goal.new-requires-clause-before
+new-requires-clause-before g c =
+    let (hour, are) = c.requires.lines in
+    let (i, lt, is) = c.in-Some.ensures in
+    let mine = are.each i no_line lt in
+    let same : hour ≡ c.in-Some.hour = sym mine.in_hour ∙ (is no_line).1 in
+    subst (λ (h : ℕ). ArePastsAt (log_of c.args.config.now.specs c.args.store.now) h c.args.before.now) same are.pasts
+
+pub windowed-requires-clause-lines : goal.windowed-requires-clause-lines
+windowed-requires-clause-lines g c =
+    let (hour, are) = c.requires.lines in
+    let (i, lt, is) = c.in-Some.ensures in
+    let mine = are.each i no_line lt in
+    let same : hour ≡ c.in-Some.hour = sym mine.in_hour ∙ (is no_line).1 in
+    (c.in-Some.hour, c.in_ok-moves-in-Some.ensures.moves, subst (λ (h : ℕ). All (IsLineIn c.args.config.now c.args.store.now h) c.args.lines.now) same are.each)
+
+pub returns-in-None : goal.returns-in-None
+returns-in-None g c = record {
+  windows = IfOk-weaker c.unbroken.result _ _ (λ v h. h c.args.config.now c.args.store.now c.args.before.now) c.unbroken.ensures;
   grow = grow_same c.args.reads.now;
 }
 
-pub returns-in_err-window-clause-grow : goal.returns-in_err-window-clause-grow
-returns-in_err-window-clause-grow g c = grow_on _ _ _ c.loop-line.invariant.grow c.window_of.ensures.grow
+pub returns-in_err-moves-in-Some-clause-grow : goal.returns-in_err-moves-in-Some-clause-grow
+returns-in_err-moves-in-Some-clause-grow g c = grow_of _ _ c.new.ensures.grow
 
-pub returns-in_err-push-clause-grow : goal.returns-in_err-push-clause-grow
-returns-in_err-push-clause-grow g c = grow_on _ _ _ c.loop-line.invariant.grow c.window_of.ensures.grow
+pub returns-in_ok-moves-in-Some-clause-grow : goal.returns-in_ok-moves-in-Some-clause-grow
+returns-in_ok-moves-in-Some-clause-grow g c = grow_on _ _ _ (grow_of _ _ c.new.ensures.grow) c.windowed.ensures.grow
 
-pub loop-line-preserved : goal.loop-line-preserved
-loop-line-preserved g c = record {
-  windows = windows_turn c.args.config.now c.args.store.now c.args.before.now c.args.lines.now c.loop-line.line-index c.loop-line.done.items c.push.new.self.items c.in_ok-window.window c.loop-line-test.true c.loop-line.invariant.windows c.in_ok-window.ensures.window c.in_ok-push.ensures.items;
-  grow = grow_on _ _ _ c.loop-line.invariant.grow c.window_of.ensures.grow;
-}
-
-pub window_of-requires-clause-line : goal.window_of-requires-clause-line
-window_of-requires-clause-line g c = own_hour c.args.config.now c.args.store.now c.requires.lines.0 c.args.before.now c.args.lines.now c.loop-line.line-index c.loop-line-test.true c.requires.lines.1
+pub returns-in_ok-moves-in-Some-clause-windows : goal.returns-in_ok-moves-in-Some-clause-windows
+returns-in_ok-moves-in-Some-clause-windows g c = IfOk-weaker c.windowed.result _ _ (λ v h. h c.args.before.now) c.windowed.ensures.windows

@@ -1,6 +1,0 @@
-use Rattle.std.proofs.Common.{◌≡◌, drop}
-use Rattle.board.specs.Places.{since}
-use Rattle.decisive.proofs.judge.stretches_since.Given as goal
-
-abbrev pub invariant-loop-i : goal.invariant-loop-i
-invariant-loop-i l = since l.tenth (drop l.i l.stretches) ≡ since l.tenth l.stretches

@@ -6,13 +6,9 @@ ghost use Rattle.board.specs.Logs.{first_tenth};
 ghost use Rattle.signal_log.specs.Log.{log_of};
 ghost use Rattle.signal_log.specs.Points.{ArePastsAt, rows_or_none};
 ghost use Rattle.decisive.specs.Laws.{TellsOf};
-<<<<<<< HEAD
 ghost use Rattle.decisive.specs.Searches.{ArePlaced, rank};
 ghost use Rattle.sig_base.specs.Reads.{Grow};
-=======
-ghost use Rattle.decisive.specs.Searches.{ArePlaced, rank};
 ghost use Rattle.decisive.specs.Lines.{AreHourMoves};
->>>>>>> d99ffe5356737c6df2e426fb870d5ec773bc489d
 
 use crate::judge::Told;
 use board::{Course, Pasts, courses_of};

@@ -1,12 +1,8 @@
 use Rattle.std.proofs.Common.{◌≡◌, ◌+◌, ◌-◌, ◌≤◌, ℕ, length}
 use Rattle.board.specs.Logs.{first_tenth}
-<<<<<<< HEAD
-use Rattle.decisive.specs.Searches.{ArePlaced, rank}
-use Rattle.sig_base.specs.Reads.{Grow}
-=======
 use Rattle.decisive.specs.Cuts.{IsCutAfter}
 use Rattle.decisive.specs.Searches.{ArePlaced, rank}
->>>>>>> d99ffe5356737c6df2e426fb870d5ec773bc489d
+use Rattle.sig_base.specs.Reads.{Grow}
 use Rattle.decisive.proofs.within.search_begin.Given as goal
 
 abbrev pub invariant-loop-back : goal.invariant-loop-back

@@ -1,3 +1,3 @@
 mod Years
 mod Dates
-mod Growing
+pub mod Growing

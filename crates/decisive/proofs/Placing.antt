@@ -124,14 +124,6 @@ row_before f t x n i rows ss p lt = go f n i rows p.count p.before lt
     go g (suc m) zero (r ∷ rs) l0 (a, b, h) l = (a, omega arith)
     go g (suc m) (suc k) (r ∷ rs) l0 (a, b, h) l = let (one, two) = go r.at m k rs (omega arith) h (omega arith) in (omega arith, two)
 
-pub few_part : (q : ℕ) (rows : List Row) → length (take q rows) ≤ length rows
-few_part zero rows = omega arith
-few_part (suc q) [] = omega arith
-few_part (suc q) (r ∷ rows) = let h = few_part q rows in omega arith
-
-pub few_rest : (q : ℕ) (rows : List Row) → length (drop q rows) ≤ length rows
-few_rest q rows = let h = len_drop q rows in omega arith
-
 -- the events before a place don't change where the rows before an earlier tenth are left out
 pub rank_from : (f t x n u : ℕ) (rows : List Row) (ss : List Stretch) → IsPlace f t rows ss x n → f ≤ u → u ≤ x → length (events_at (take (n - count_before u rows) (rows_from u rows)) x) ≡ length (events_at (take n rows) x)
 rank_from f t x n u rows ss p low le =

@@ -7,8 +7,8 @@
 //!
 //! The rows of a line's hour are cut into each channel's moves once for all its lines. The begin is
 //! looked for back from the place, with the own tenth as the end, by growing steps and then by
-//! halving; only where the hour has none are hours looked at one by one. So a line costs the rows back
-//! to where it is decided, and a few tries over the moves between.
+//! halving; only where the hour has none are hours looked at one by one. So a line costs the rows
+//! back to where it is decided, and a few tries over the moves between.
 //!
 //! - `parts`: what a rule asks of each of its channels; it is broken where none of them has such a
 //!   state.

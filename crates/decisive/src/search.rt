@@ -12,8 +12,8 @@ use crate::rows::{is_known, is_row_of_parts};
 use sig_base::{NoMemory, Row};
 use std::alloc::Global;
 
-/// What is looked for: on from the place an end, where a walk begins with these states, or back from
-/// it a begin, where what is told up to this tenth counts.
+/// What is looked for: on from the place an end, where a walk begins with these states, or back
+/// from it a begin, where what is told up to this tenth counts.
 #[derive(Drop)]
 pub(crate) enum Aim<'a> {
     End(&'a Start<'a>),
@@ -197,7 +197,8 @@ pub(crate) fn first_end(
     told: &Told<'_>,
 ) -> Result<Option<u32>, NoMemory>
     requires told { (f t : ℕ) × IsToldAt question.now told.now f t
-        × FitsStart start.now question.now.specs.now f × EndsGrow start.now question.now told.now t }
+        × FitsStart start.now question.now.specs.now f
+        × EndsGrow start.now question.now told.now t }
     ensures { IfOk result (λ r. MatchOption r (NoEndRow start.now question.now told.now)
         (IsEndRow start.now question.now told.now)) }
 {

@@ -73,7 +73,8 @@ fn window_of<L>(
     requires within { hour < length store.now.hours }
     requires start { FitsStart start.now question.now.specs.now (first_tenth hour) }
     requires history { HasHistory (log_of question.now.specs.now store.now) }
-    requires from { FromLog (log_of question.now.specs.now store.now) start.now (first_tenth hour) 0 }
+    requires from { FromLog (log_of question.now.specs.now store.now) start.now (first_tenth hour)
+        0 }
     requires place { ArePlaced store.now first.told (first_tenth hour) (first_tenth (hour + 1))
         (hour + 1) question.now.at first.place }
     ensures found { IfOk result (λ w. AreFound start.now store.now question.now.specs.now
@@ -99,7 +100,8 @@ fn search_window<L>(
     requires parts { FitsParts question.now.specs.now question.now.parts.now }
     requires within { question.now.at / 36000 < length store.now.hours }
     requires is_known { is_known store.now question.now.at ≡ true }
-    requires place { IsPlaceIn (hour_rows store.now (question.now.at / 36000)) question.now.at place }
+    requires place { IsPlaceIn (hour_rows store.now (question.now.at / 36000)) question.now.at
+        place }
     requires history { HasHistory (log_of question.now.specs.now store.now) }
     requires before { ArePastsAt (log_of question.now.specs.now store.now) (question.now.at / 36000)
         before.now }

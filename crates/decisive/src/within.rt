@@ -153,7 +153,8 @@ pub(crate) fn search_end<L>(
     requires within { hour < length store.now.hours }
     requires start { FitsStart start.now question.now.specs.now (first_tenth hour) }
     requires history { HasHistory (log_of question.now.specs.now store.now) }
-    requires from { FromLog (log_of question.now.specs.now store.now) start.now (first_tenth hour) 0 }
+    requires from { FromLog (log_of question.now.specs.now store.now) start.now (first_tenth hour)
+        0 }
     requires place { ArePlaced store.now first.told (first_tenth hour) (first_tenth (hour + 1))
         (hour + 1) question.now.at first.place }
     ensures found { IfOk result (λ r. IsEndFound start.now store.now question.now.specs.now

@@ -12,8 +12,7 @@ use sig_base::Window;
 
 fn put_cycle<K: Sink>(window: &Window, cycle: &Cycle, sink: &mut K) -> Result<(), PutFailed>
     requires { cycle.now.from < 36000 * window.now.hours }
-    ensures { Puts (K.written sink.old) (K.written sink.new) (K.faults sink.old) (K.faults sink.new)
-        (cycle_line window.now cycle.now) result }
+    ensures { Puts (K.taken sink.old) (K.taken sink.new) (cycle_line window.now cycle.now) result }
 {
     let stamp = window.stamp(cycle.from);
     let mut length = Buffer::new();
@@ -48,8 +47,7 @@ fn name_at(config: &Config, place: u32) -> &[u8]
 }
 
 fn put_point<K: Sink>(config: &Config, point: Point, sink: &mut K) -> Result<(), PutFailed>
-    ensures { Puts (K.written sink.old) (K.written sink.new) (K.faults sink.old) (K.faults sink.new)
-        (point_line config.now point) result }
+    ensures { Puts (K.taken sink.old) (K.taken sink.new) (point_line config.now point) result }
 {
     let mut offset = Buffer::new();
     put_parts(
@@ -65,14 +63,11 @@ fn put_point<K: Sink>(config: &Config, point: Point, sink: &mut K) -> Result<(),
 }
 
 fn put_points<K: Sink>(config: &Config, points: &[Point], sink: &mut K) -> Result<(), PutFailed>
-    ensures { Puts (K.written sink.old) (K.written sink.new) (K.faults sink.old) (K.faults sink.new)
+    ensures { Puts (K.taken sink.old) (K.taken sink.new)
         (flat_map (point_line config.now) points.now) result }
 {
     for point in points {
-        match put_point(config, *point, sink) {
-            Ok(()) => {}
-            Err(failed) => return Err(failed),
-        }
+        put_point(config, *point, sink)?;
     }
     Ok(())
 }
@@ -85,12 +80,9 @@ pub fn put_diagram<K: Sink>(
     sink: &mut K,
 ) -> Result<(), PutFailed>
     requires in_window { diagram.now.cycle.from < 36000 * config.now.window.hours }
-    ensures { Puts (K.written sink.old) (K.written sink.new) (K.faults sink.old) (K.faults sink.new)
-        (diagram_text config.now diagram.now) result }
+    ensures { Puts (K.taken sink.old) (K.taken sink.new) (diagram_text config.now diagram.now)
+        result }
 {
-    match put_cycle(config.window(), &diagram.cycle, sink) {
-        Ok(()) => {}
-        Err(failed) => return Err(failed),
-    }
+    put_cycle(config.window(), &diagram.cycle, sink)?;
     put_points(config, diagram.points.list(), sink)
 }

@@ -11,8 +11,7 @@ use outside::{PutFailed, Sink, put_parts};
 use ring_config::Config;
 
 fn put_held<K: Sink>(part: &Partial, sink: &mut K) -> Result<(), PutFailed>
-    ensures { Puts (K.written sink.old) (K.written sink.new) (K.faults sink.old) (K.faults sink.new)
-        (held_line part.now) result }
+    ensures { Puts (K.taken sink.old) (K.taken sink.new) (held_line part.now) result }
 {
     let mut hours = Buffer::new();
     let mut rows = Buffer::new();
@@ -32,18 +31,11 @@ fn put_held<K: Sink>(part: &Partial, sink: &mut K) -> Result<(), PutFailed>
 }
 
 fn put_others<K: Sink>(config: &Config, part: &Partial, sink: &mut K) -> Result<(), PutFailed>
-    ensures { Puts (K.written sink.old) (K.written sink.new) (K.faults sink.old) (K.faults sink.new)
-        (others_text config.now part.now) result }
+    ensures { Puts (K.taken sink.old) (K.taken sink.new) (others_text config.now part.now) result }
 {
     let others = part.others();
-    match put_lines(config, others.peds(), sink) {
-        Ok(()) => {}
-        Err(failed) => return Err(failed),
-    }
-    match put_lines(config, others.preempts(), sink) {
-        Ok(()) => {}
-        Err(failed) => return Err(failed),
-    }
+    put_lines(config, others.peds(), sink)?;
+    put_lines(config, others.preempts(), sink)?;
     put_coordination(config.coordination(), others.coordination(), sink)
 }
 
@@ -52,21 +44,11 @@ fn put_others<K: Sink>(config: &Config, part: &Partial, sink: &mut K) -> Result<
 /// preempt, by ascending number, and one for the coordination where it is on; then for each
 /// approach, in file order, a line for its advance detector and two for its stop bar detector.
 pub fn put_measures<K: Sink>(config: &Config, part: &Partial, sink: &mut K) -> Result<(), PutFailed>
-    ensures { Puts (K.written sink.old) (K.written sink.new) (K.faults sink.old) (K.faults sink.new)
-        (measures_text config.now part.now) result }
+    ensures { Puts (K.taken sink.old) (K.taken sink.new) (measures_text config.now part.now) result }
 {
-    match put_held(part, sink) {
-        Ok(()) => {}
-        Err(failed) => return Err(failed),
-    }
-    match put_lines(config, part.splits().phases(), sink) {
-        Ok(()) => {}
-        Err(failed) => return Err(failed),
-    }
-    match put_others(config, part, sink) {
-        Ok(()) => {}
-        Err(failed) => return Err(failed),
-    }
+    put_held(part, sink)?;
+    put_lines(config, part.splits().phases(), sink)?;
+    put_others(config, part, sink)?;
     let splits = part.splits().approaches();
     put_approaches(config, part.arrivals().approaches(), splits, sink)
 }

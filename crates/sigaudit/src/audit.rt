@@ -27,8 +27,8 @@ fn is_kept(verdict: Verdict) -> bool
 // Writes the lines in their order.
 fn put_lines<K: Sink>(config: &Config, lines: &[AuditLine], sink: &mut K) -> Result<(), PutFailed>
     requires { All (IsLineIn config.now.window) lines.now }
-    ensures { Puts (K.written sink.old) (K.written sink.new) (K.faults sink.old) (K.faults sink.new)
-        (lines_text config.now.window lines.now) result }
+    ensures { Puts (K.taken sink.old) (K.taken sink.new) (lines_text config.now.window lines.now)
+        result }
 {
     for line in lines {
         match put_audit_line(config, line, sink) {
@@ -40,8 +40,7 @@ fn put_lines<K: Sink>(config: &Config, lines: &[AuditLine], sink: &mut K) -> Res
 }
 
 fn put_head<K: Sink>(number: u32, sink: &mut K) -> Result<(), PutFailed>
-    ensures { Puts (K.written sink.old) (K.written sink.new) (K.faults sink.old) (K.faults sink.new)
-        (audit_head number) result }
+    ensures { Puts (K.taken sink.old) (K.taken sink.new) (audit_head number) result }
 {
     let mut line = Buffer::new();
     put_parts(sink, &[line.format(number).as_bytes(), b" audit", b"\n"])
@@ -55,7 +54,7 @@ fn put_start<K: Sink>(
     total: &Partial,
     sink: &mut K,
 ) -> Result<(), PutFailed>
-    ensures { Puts (K.written sink.old) (K.written sink.new) (K.faults sink.old) (K.faults sink.new)
+    ensures { Puts (K.taken sink.old) (K.taken sink.new)
         (audit_start number config.now.specs rules.now total.now.rules) result }
 {
     match put_head(number, sink) {
@@ -148,8 +147,7 @@ pub fn audit_line<L, K: Sink>(
     reads: &mut Reads<L>,
 ) -> Result<bool, Stopped>
     ensures turn { TakesBy (IsAudited session.now.config number session.now.store)
-        (K.written sink.old) (K.written sink.new) (K.faults sink.old) (K.faults sink.new)
-        session.now.store result }
+        (K.taken sink.old) (K.taken sink.new) session.now.store result }
     ensures grow { Grow reads.old reads.new }
 {
     let failing = match failing_lines(alloc, session, reads) {
@@ -168,8 +166,7 @@ pub fn audit_line<L, K: Sink>(
 }
 
 fn put_verdicts_head<K: Sink>(number: u32, hour: Hour, sink: &mut K) -> Result<(), PutFailed>
-    ensures { Puts (K.written sink.old) (K.written sink.new) (K.faults sink.old) (K.faults sink.new)
-        (verdicts_head number hour) result }
+    ensures { Puts (K.taken sink.old) (K.taken sink.new) (verdicts_head number hour) result }
 {
     let mut line = Buffer::new();
     let mut of = Buffer::new();
@@ -195,8 +192,7 @@ fn hour_verdicts<L, K: Sink>(
 ) -> Result<bool, Stopped>
     requires { hour < session.now.config.window.hours }
     ensures turn { TakesBy (AreVerdicts session.now.config number hour session.now.store true)
-        (K.written sink.old) (K.written sink.new) (K.faults sink.old) (K.faults sink.new)
-        session.now.store result }
+        (K.taken sink.old) (K.taken sink.new) session.now.store result }
     ensures grow { Grow reads.old reads.new }
 {
     let config = session.config();
@@ -224,8 +220,8 @@ pub fn verdicts_line<L, K: Sink>(
     reads: &mut Reads<L>,
 ) -> Result<bool, Stopped>
     ensures turn { TakesBy (AreVerdicts session.now.config number hour session.now.store
-        (nat_lt hour session.now.config.window.hours)) (K.written sink.old) (K.written sink.new)
-        (K.faults sink.old) (K.faults sink.new) session.now.store result }
+        (nat_lt hour session.now.config.window.hours)) (K.taken sink.old) (K.taken sink.new)
+        session.now.store result }
     ensures grow { Grow reads.old reads.new }
 {
     if hour >= session.config().window().hours() {

@@ -83,7 +83,7 @@ fn is_top(table: TableName) -> bool
 
 // Writes the place of a key of the file itself.
 fn put_top<K: Sink>(key: KeyName, sink: &mut K) -> Result<(), PutFailed>
-    ensures { Puts (K.written sink.old) (K.written sink.new) (K.faults sink.old) (K.faults sink.new)
+    ensures { Puts (K.taken sink.old) (K.taken sink.new)
         (line_of (codes "top." ∷ key_text key ∷ [])) result }
 {
     put_parts(sink, &[b"top.", key_text(key).as_bytes(), b"\n"])
@@ -96,8 +96,9 @@ fn put_entry<K: Sink>(
     key: KeyName,
     sink: &mut K,
 ) -> Result<(), PutFailed>
-    ensures { Puts (K.written sink.old) (K.written sink.new) (K.faults sink.old) (K.faults sink.new)
-        (line_of (table_text table ∷ codes "[" ∷ decimal entry ∷ codes "]." ∷ key_text key ∷ [])) result }
+    ensures { Puts (K.taken sink.old) (K.taken sink.new)
+        (line_of (table_text table ∷ codes "[" ∷ decimal entry ∷ codes "]." ∷ key_text key ∷ []))
+        result }
 {
     let mut number = Buffer::new();
     put_parts(
@@ -119,8 +120,7 @@ fn put_place<K: Sink>(
     key: KeyName,
     sink: &mut K,
 ) -> Result<(), PutFailed>
-    ensures { Puts (K.written sink.old) (K.written sink.new) (K.faults sink.old) (K.faults sink.new)
-        (place_text table entry key) result }
+    ensures { Puts (K.taken sink.old) (K.taken sink.new) (place_text table entry key) result }
 {
     if is_top(table) {
         put_top(key, sink)
@@ -130,8 +130,7 @@ fn put_place<K: Sink>(
 }
 
 fn put_fault<K: Sink>(fault: &[u8], at: KeyAt, sink: &mut K) -> Result<(), PutFailed>
-    ensures { Puts (K.written sink.old) (K.written sink.new) (K.faults sink.old) (K.faults sink.new)
-        (fault_text fault.now at) result }
+    ensures { Puts (K.taken sink.old) (K.taken sink.new) (fault_text fault.now at) result }
 {
     match put_parts(sink, &[b"config refused: ", fault]) {
         Ok(()) => {}
@@ -142,8 +141,7 @@ fn put_fault<K: Sink>(fault: &[u8], at: KeyAt, sink: &mut K) -> Result<(), PutFa
 
 /// Writes the line of a refused configuration: what is wrong first, and where.
 pub fn put_config_error<K: Sink>(error: ConfigError, sink: &mut K) -> Result<(), PutFailed>
-    ensures { Puts (K.written sink.old) (K.written sink.new) (K.faults sink.old) (K.faults sink.new)
-        (config_text error) result }
+    ensures { Puts (K.taken sink.old) (K.taken sink.new) (config_text error) result }
 {
     match error {
         ConfigError::NotToml => sink.put(b"config refused: not toml\n"),

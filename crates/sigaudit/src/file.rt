@@ -49,7 +49,7 @@ fn show_counts<L, K: Sink>(
     reads: &mut Reads<L>,
 ) -> Result<Ended, Stopped>
     ensures put { PutsOutcome (outcome (count_text rows.now.rows rows.now.repeats) Ended.Done)
-        (K.written sink.old) (K.written sink.new) (K.faults sink.old) (K.faults sink.new) result }
+        (K.taken sink.old) (K.taken sink.new) result }
     ensures reads { reads.new ≡ raised reads.old rows.now.hour }
 {
     match put_counts(rows.show(reads), rows.repeats(), sink) {
@@ -60,8 +60,7 @@ fn show_counts<L, K: Sink>(
 
 fn show_refusal<K: Sink>(window: &Window, error: RowError, sink: &mut K) -> Result<Ended, Stopped>
     ensures { PutsOutcome (outcome (refusal_text window.now None (Refusal.File error))
-        Ended.SomeRefused) (K.written sink.old) (K.written sink.new) (K.faults sink.old)
-        (K.faults sink.new) result }
+        Ended.SomeRefused) (K.taken sink.old) (K.taken sink.new) result }
 {
     match put_refusal(window, None, &Refusal::File(error), sink) {
         Ok(()) => Ok(Ended::SomeRefused),
@@ -80,7 +79,7 @@ fn put_count<L, K: Sink>(
 ) -> Result<Ended, Stopped>
     requires { window.now ≡ window_of (plain_asked asked.now) }
     ensures put { PutsOutcome (outcome_of Task.Count (plain_asked asked.now) bytes.now)
-        (K.written sink.old) (K.written sink.new) (K.faults sink.old) (K.faults sink.new) result }
+        (K.taken sink.old) (K.taken sink.new) result }
     ensures reads { (reads.new ≡ reads.old) ⊎ (reads.new ≡ raised reads.old 0) }
 {
     match read_rows::<L>(alloc, bytes, asked.signal, 0, window) {
@@ -91,8 +90,8 @@ fn put_count<L, K: Sink>(
 }
 
 fn show_packed<K: Sink>(bytes: &[u8], sink: &mut K) -> Result<Ended, Stopped>
-    ensures { PutsOutcome (outcome bytes.now Ended.Done) (K.written sink.old) (K.written sink.new)
-        (K.faults sink.old) (K.faults sink.new) result }
+    ensures { PutsOutcome (outcome bytes.now Ended.Done) (K.taken sink.old) (K.taken sink.new)
+        result }
 {
     match sink.put(bytes) {
         Ok(()) => Ok(Ended::Done),
@@ -101,8 +100,8 @@ fn show_packed<K: Sink>(bytes: &[u8], sink: &mut K) -> Result<Ended, Stopped>
 }
 
 fn show_packed_refusal<K: Sink>(error: PackError, sink: &mut K) -> Result<Ended, Stopped>
-    ensures { PutsOutcome (outcome (packed_text None error) Ended.SomeRefused) (K.written sink.old)
-        (K.written sink.new) (K.faults sink.old) (K.faults sink.new) result }
+    ensures { PutsOutcome (outcome (packed_text None error) Ended.SomeRefused) (K.taken sink.old)
+        (K.taken sink.new) result }
 {
     match put_packed_refusal(None, error, sink) {
         Ok(()) => Ok(Ended::SomeRefused),
@@ -124,7 +123,7 @@ fn pack_rows<L, K: Sink>(
     requires hour { rows.now.hour ≡ 0 }
     requires no_repeat { HasNoRepeat [] rows.now.rows }
     ensures put { PutsOutcome (pack_outcome (plain_asked asked.now) (Ok rows.now))
-        (K.written sink.old) (K.written sink.new) (K.faults sink.old) (K.faults sink.new) result }
+        (K.taken sink.old) (K.taken sink.new) result }
     ensures reads { reads.new ≡ raised reads.old 0 }
 {
     match pack(alloc, asked.signal, window, rows, reads) {
@@ -145,7 +144,7 @@ fn put_pack<L, K: Sink>(
     requires window { window.now ≡ window_of (plain_asked asked.now) }
     requires signal { is_signal asked.now.signal.now ≡ true }
     ensures put { PutsOutcome (outcome_of Task.Pack (plain_asked asked.now) bytes.now)
-        (K.written sink.old) (K.written sink.new) (K.faults sink.old) (K.faults sink.new) result }
+        (K.taken sink.old) (K.taken sink.new) result }
     ensures reads { (reads.new ≡ reads.old) ⊎ (reads.new ≡ raised reads.old 0) }
 {
     match read_hour::<L>(alloc, bytes, asked.signal, 0, window) {
@@ -168,7 +167,7 @@ fn put_outcome<L, K: Sink>(
     requires window { window.now ≡ window_of (plain_asked asked.now) }
     requires signal { is_signal asked.now.signal.now ≡ true }
     ensures put { PutsOutcome (outcome_of asked.now.task (plain_asked asked.now) bytes.now)
-        (K.written sink.old) (K.written sink.new) (K.faults sink.old) (K.faults sink.new) result }
+        (K.taken sink.old) (K.taken sink.new) result }
     ensures reads { (reads.new ≡ reads.old) ⊎ (reads.new ≡ raised reads.old 0) }
 {
     match asked.task {
@@ -188,16 +187,14 @@ pub fn put_file<L, S: Shelf, K: Sink>(
     requires day { IsDay asked.now.day }
     requires hour { asked.now.hour < 24 }
     requires signal { is_signal asked.now.signal.now ≡ true }
-    ensures told { IfSome (S.files shelf.old) (λ files. RunsAs (λ lines o. o
-        ≡ file_outcome asked.now.task (plain_asked asked.now) (files asked.now.file.now))
-        (world (S.counts shelf.old) (K.written sink.old) (K.faults sink.old))
-        (world (S.counts shelf.new) (K.written sink.new) (K.faults sink.new))
-        (status_of_run result)) }
-    ensures cause { FileCause (world (S.counts shelf.old) (K.written sink.old) (K.faults sink.old))
-        (world (S.counts shelf.new) (K.written sink.new) (K.faults sink.new))
-        (status_of_run result) }
-    ensures never_fall { NeverFall (world (S.counts shelf.old) (K.written sink.old)
-        (K.faults sink.old)) (world (S.counts shelf.new) (K.written sink.new) (K.faults sink.new)) }
+    ensures told { IfSome (S.files shelf.old) (λ files. RunsAs
+        (λ lines o. o ≡ file_outcome asked.now.task (plain_asked asked.now)
+        (files asked.now.file.now)) (world (S.counts shelf.old) (K.taken sink.old))
+        (world (S.counts shelf.new) (K.taken sink.new)) (status_of_run result)) }
+    ensures cause { FileCause (world (S.counts shelf.old) (K.taken sink.old))
+        (world (S.counts shelf.new) (K.taken sink.new)) (status_of_run result) }
+    ensures never_fall { NeverFall (world (S.counts shelf.old) (K.taken sink.old))
+        (world (S.counts shelf.new) (K.taken sink.new)) }
     ensures reads { (reads.new ≡ reads.old) ⊎ (reads.new ≡ raised reads.old 0) }
 {
     let Some(window) = Window::new(asked.day, asked.hour, 1) else {

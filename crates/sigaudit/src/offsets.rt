@@ -126,8 +126,7 @@ pub fn offsets_line<L, K: Sink>(
     reads: &mut Reads<L>,
 ) -> Result<bool, Stopped>
     ensures turn { TakesBy (λ t. t ≡ offsets_of session.now.config number name.now
-        session.now.store) (K.written sink.old) (K.written sink.new) (K.faults sink.old)
-        (K.faults sink.new) session.now.store result }
+        session.now.store) (K.taken sink.old) (K.taken sink.new) session.now.store result }
     ensures grow { Grow reads.old reads.new }
 {
     let Some((place, phase)) = advance_of(session.config(), name) else {

@@ -60,8 +60,7 @@ fn place_of(config: &Config, rules: &[Rule], rule: u32, at: &str) -> Option<(u16
 }
 
 fn put_nothing<K: Sink>(sink: &mut K) -> Result<(), PutFailed>
-    ensures { Puts (K.written sink.old) (K.written sink.new) (K.faults sink.old) (K.faults sink.new)
-        nothing_text result }
+    ensures { Puts (K.taken sink.old) (K.taken sink.new) nothing_text result }
 {
     sink.put(b"nothing undecided\n")
 }
@@ -74,7 +73,7 @@ fn put_each<K: Sink>(
 ) -> Result<(), PutFailed>
     requires at { line.now.at < 36000 * config.now.window.hours }
     requires pairs { All (IsPairIn config.now.window) pairs.now }
-    ensures { Puts (K.written sink.old) (K.written sink.new) (K.faults sink.old) (K.faults sink.new)
+    ensures { Puts (K.taken sink.old) (K.taken sink.new)
         (flat_map (pair_text config.now line.now.rule line.now.at) pairs.now) result }
 {
     for pair in pairs {
@@ -95,7 +94,7 @@ fn put_found<K: Sink>(
 ) -> Result<(), PutFailed>
     requires at { line.now.at < 36000 * config.now.window.hours }
     requires pairs { All (IsPairIn config.now.window) pairs.now }
-    ensures { Puts (K.written sink.old) (K.written sink.new) (K.faults sink.old) (K.faults sink.new)
+    ensures { Puts (K.taken sink.old) (K.taken sink.new)
         (found_text config.now line.now.rule line.now.at pairs.now) result }
 {
     if pairs.is_empty() {
@@ -118,7 +117,7 @@ fn put_pairs<L, K: Sink>(
     requires last { rule ≤ length (rules_for session.now.config) }
     requires at { at < 36000 * session.now.config.window.hours }
     ensures text { PutsOne (AreFound session.now.config session.now.store (Some (rule, at)))
-        (K.written sink.old) (K.written sink.new) (K.faults sink.old) (K.faults sink.new) result }
+        (K.taken sink.old) (K.taken sink.new) result }
     ensures grow { Grow reads.old reads.new }
 {
     let config = session.config();
@@ -152,7 +151,7 @@ pub fn put_undecided<L, K: Sink>(
 ) -> Result<(), Stopped>
     ensures text { PutsOne (AreFound session.now.config session.now.store
         (place_of session.now.config rule (stamp_in session.now.config.window at.now)))
-        (K.written sink.old) (K.written sink.new) (K.faults sink.old) (K.faults sink.new) result }
+        (K.taken sink.old) (K.taken sink.new) result }
     ensures grow { Grow reads.old reads.new }
 {
     if let Some((rule, at)) = place_of(session.config(), session.rules(), rule, at) {

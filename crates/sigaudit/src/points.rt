@@ -23,8 +23,7 @@ fn is_phase(config: &Config, phase: u8) -> bool
 }
 
 fn put_head<K: Sink>(number: u32, phase: u8, sink: &mut K) -> Result<(), PutFailed>
-    ensures { Puts (K.written sink.old) (K.written sink.new) (K.faults sink.old) (K.faults sink.new)
-        (points_head number phase) result }
+    ensures { Puts (K.taken sink.old) (K.taken sink.new) (points_head number phase) result }
 {
     let mut line = Buffer::new();
     let mut of = Buffer::new();
@@ -45,8 +44,8 @@ fn put_diagrams<K: Sink>(
     sink: &mut K,
 ) -> Result<(), PutFailed>
     requires { All (λ d. d.cycle.from < 36000 * config.now.window.hours) diagrams.now }
-    ensures { Puts (K.written sink.old) (K.written sink.new) (K.faults sink.old) (K.faults sink.new)
-        (diagrams_text config.now diagrams.now) result }
+    ensures { Puts (K.taken sink.old) (K.taken sink.new) (diagrams_text config.now diagrams.now)
+        result }
 {
     for diagram in diagrams {
         match put_diagram(config, diagram, sink) {
@@ -67,8 +66,7 @@ fn phase_diagrams<L, K: Sink>(
     reads: &mut Reads<L>,
 ) -> Result<bool, Stopped>
     ensures turn { TakesBy (λ t. t ≡ points_turn session.now.config number phase session.now.store
-        true) (K.written sink.old) (K.written sink.new) (K.faults sink.old) (K.faults sink.new)
-        session.now.store result }
+        true) (K.taken sink.old) (K.taken sink.new) session.now.store result }
     ensures grow { Grow reads.old reads.new }
 {
     let diagrams = match session.points(phase, reads) {
@@ -96,8 +94,7 @@ pub fn points_line<L, K: Sink>(
     reads: &mut Reads<L>,
 ) -> Result<bool, Stopped>
     ensures turn { TakesBy (λ t. t ≡ points_of_phase session.now.config number phase
-        session.now.store) (K.written sink.old) (K.written sink.new) (K.faults sink.old)
-        (K.faults sink.new) session.now.store result }
+        session.now.store) (K.taken sink.old) (K.taken sink.new) session.now.store result }
     ensures grow { Grow reads.old reads.new }
 {
     if !is_phase(session.config(), phase) {

@@ -56,8 +56,7 @@ fn edit_line<L, K: Sink>(
     reads: &mut Reads<L>,
 ) -> Result<bool, Stopped>
     ensures turn { TakesBy (IsEdited session.old.config number loaded session.old.store
-        (change_of edit)) (K.written sink.old) (K.written sink.new) (K.faults sink.old)
-        (K.faults sink.new) session.new.store result }
+        (change_of edit)) (K.taken sink.old) (K.taken sink.new) session.new.store result }
     ensures config { session.new.config ≡ session.old.config }
     ensures opens { OnOk result (AreCounted
         (EditTally session.old.config session.old.store (change_of edit)) reads.old reads.new) }
@@ -103,8 +102,7 @@ fn bytes_line<L, K: Sink>(
     requires { hour < session.old.config.window.hours }
     ensures turn { TakesBy (IsRead session.old.config number (hour_change replaces)
         session.old.store (hour_said (wanted_for session.old.config hour) bytes.now))
-        (K.written sink.old) (K.written sink.new) (K.faults sink.old) (K.faults sink.new)
-        session.new.store result }
+        (K.taken sink.old) (K.taken sink.new) session.new.store result }
     ensures config { session.new.config ≡ session.old.config }
     ensures opens { OnOk result (AreCounted
         (ReadTally session.old.config (hour_change replaces) session.old.store
@@ -164,13 +162,12 @@ fn fetch_line<L, S: Shelf, K: Sink>(
     requires { hour < session.old.config.window.hours }
     ensures turn { (files : Files) → S.files shelf.old ≡ Some files
         → Takes (IsFetched session.old.config number hour (hour_change replaces) session.old.store
-        (hour_file (files name.now))) (world (S.counts shelf.old) (K.written sink.old)
-        (K.faults sink.old)) (world (S.counts shelf.new) (K.written sink.new) (K.faults sink.new))
-        session.new.store result }
-    ensures cause { IsCaused (world (S.counts shelf.old) (K.written sink.old) (K.faults sink.old))
-        (world (S.counts shelf.new) (K.written sink.new) (K.faults sink.new)) result }
-    ensures never_fall { NeverFall (world (S.counts shelf.old) (K.written sink.old)
-        (K.faults sink.old)) (world (S.counts shelf.new) (K.written sink.new) (K.faults sink.new)) }
+        (hour_file (files name.now))) (world (S.counts shelf.old) (K.taken sink.old))
+        (world (S.counts shelf.new) (K.taken sink.new)) session.new.store result }
+    ensures cause { IsCaused (world (S.counts shelf.old) (K.taken sink.old))
+        (world (S.counts shelf.new) (K.taken sink.new)) result }
+    ensures never_fall { NeverFall (world (S.counts shelf.old) (K.taken sink.old))
+        (world (S.counts shelf.new) (K.taken sink.new)) }
     ensures files { S.files shelf.new ≡ S.files shelf.old }
     ensures config { session.new.config ≡ session.old.config }
     ensures opens { (files : Files) → S.files shelf.old ≡ Some files → OnOk result (AreCounted
@@ -202,13 +199,12 @@ fn file_line<L, S: Shelf, K: Sink>(
     ensures turn { (files : Files) → S.files shelf.old ≡ Some files
         → Takes (IsFetched session.old.config number hour (hour_change replaces) session.old.store
         (hour_bytes files session.old.config hour name.now))
-        (world (S.counts shelf.old) (K.written sink.old) (K.faults sink.old))
-        (world (S.counts shelf.new) (K.written sink.new) (K.faults sink.new)) session.new.store
-        result }
-    ensures cause { IsCaused (world (S.counts shelf.old) (K.written sink.old) (K.faults sink.old))
-        (world (S.counts shelf.new) (K.written sink.new) (K.faults sink.new)) result }
-    ensures never_fall { NeverFall (world (S.counts shelf.old) (K.written sink.old)
-        (K.faults sink.old)) (world (S.counts shelf.new) (K.written sink.new) (K.faults sink.new)) }
+        (world (S.counts shelf.old) (K.taken sink.old))
+        (world (S.counts shelf.new) (K.taken sink.new)) session.new.store result }
+    ensures cause { IsCaused (world (S.counts shelf.old) (K.taken sink.old))
+        (world (S.counts shelf.new) (K.taken sink.new)) result }
+    ensures never_fall { NeverFall (world (S.counts shelf.old) (K.taken sink.old))
+        (world (S.counts shelf.new) (K.taken sink.new)) }
     ensures files { S.files shelf.new ≡ S.files shelf.old }
     ensures config { session.new.config ≡ session.old.config }
     ensures opens { (files : Files) → S.files shelf.old ≡ Some files → OnOk result (AreCounted
@@ -230,16 +226,14 @@ fn file_line<L, S: Shelf, K: Sink>(
 }
 
 fn put_head<K: Sink>(number: u32, sink: &mut K) -> Result<(), PutFailed>
-    ensures { Puts (K.written sink.old) (K.written sink.new) (K.faults sink.old) (K.faults sink.new)
-        (window_head number) result }
+    ensures { Puts (K.taken sink.old) (K.taken sink.new) (window_head number) result }
 {
     let mut line = Buffer::new();
     put_parts(sink, &[line.format(number).as_bytes(), b" measures", b"\n"])
 }
 
 fn put_hour_head<K: Sink>(number: u32, hour: Hour, sink: &mut K) -> Result<(), PutFailed>
-    ensures { Puts (K.written sink.old) (K.written sink.new) (K.faults sink.old) (K.faults sink.new)
-        (hour_head number hour) result }
+    ensures { Puts (K.taken sink.old) (K.taken sink.new) (hour_head number hour) result }
 {
     let mut line = Buffer::new();
     let mut of = Buffer::new();
@@ -260,8 +254,8 @@ fn measures_line<L, K: Sink>(
     session: &Session<L>,
     sink: &mut K,
 ) -> Result<bool, Stopped>
-    ensures { TakesBy (IsMeasured session.now.config number session.now.store) (K.written sink.old)
-        (K.written sink.new) (K.faults sink.old) (K.faults sink.new) session.now.store result }
+    ensures { TakesBy (IsMeasured session.now.config number session.now.store) (K.taken sink.old)
+        (K.taken sink.new) session.now.store result }
 {
     let total = session.report().total();
     match put_head(number, sink) {
@@ -282,8 +276,7 @@ fn hour_line<L, K: Sink>(
     sink: &mut K,
 ) -> Result<bool, Stopped>
     ensures { TakesBy (IsMeasuredOf session.now.config number hour session.now.store)
-        (K.written sink.old) (K.written sink.new) (K.faults sink.old) (K.faults sink.new)
-        session.now.store result }
+        (K.taken sink.old) (K.taken sink.new) session.now.store result }
 {
     let config = session.config();
     let Some(part) = session.report().hour(hour) else {
@@ -324,13 +317,12 @@ fn take_said<L, S: Shelf, K: Sink>(
 ) -> Result<bool, Stopped>
     ensures turn { (files : Files) → S.files shelf.old ≡ Some files
         → Takes (IsTurn files session.old.config number (seen line.entry) session.old.store)
-        (world (S.counts shelf.old) (K.written sink.old) (K.faults sink.old))
-        (world (S.counts shelf.new) (K.written sink.new) (K.faults sink.new)) session.new.store
-        result }
-    ensures cause { IsCaused (world (S.counts shelf.old) (K.written sink.old) (K.faults sink.old))
-        (world (S.counts shelf.new) (K.written sink.new) (K.faults sink.new)) result }
-    ensures never_fall { NeverFall (world (S.counts shelf.old) (K.written sink.old)
-        (K.faults sink.old)) (world (S.counts shelf.new) (K.written sink.new) (K.faults sink.new)) }
+        (world (S.counts shelf.old) (K.taken sink.old))
+        (world (S.counts shelf.new) (K.taken sink.new)) session.new.store result }
+    ensures cause { IsCaused (world (S.counts shelf.old) (K.taken sink.old))
+        (world (S.counts shelf.new) (K.taken sink.new)) result }
+    ensures never_fall { NeverFall (world (S.counts shelf.old) (K.taken sink.old))
+        (world (S.counts shelf.new) (K.taken sink.new)) }
     ensures files { S.files shelf.new ≡ S.files shelf.old }
     ensures config { session.new.config ≡ session.old.config }
     ensures opens { (files : Files) → S.files shelf.old ≡ Some files → IsPlain (seen line.entry)
@@ -376,13 +368,12 @@ fn take_line<L, S: Shelf, K: Sink>(
 ) -> Result<bool, Stopped>
     ensures turn { (files : Files) → S.files shelf.old ≡ Some files
         → Takes (IsTurn files session.old.config number (said session.old.config.window line.now)
-        session.old.store) (world (S.counts shelf.old) (K.written sink.old) (K.faults sink.old))
-        (world (S.counts shelf.new) (K.written sink.new) (K.faults sink.new)) session.new.store
-        result }
-    ensures cause { IsCaused (world (S.counts shelf.old) (K.written sink.old) (K.faults sink.old))
-        (world (S.counts shelf.new) (K.written sink.new) (K.faults sink.new)) result }
-    ensures never_fall { NeverFall (world (S.counts shelf.old) (K.written sink.old)
-        (K.faults sink.old)) (world (S.counts shelf.new) (K.written sink.new) (K.faults sink.new)) }
+        session.old.store) (world (S.counts shelf.old) (K.taken sink.old))
+        (world (S.counts shelf.new) (K.taken sink.new)) session.new.store result }
+    ensures cause { IsCaused (world (S.counts shelf.old) (K.taken sink.old))
+        (world (S.counts shelf.new) (K.taken sink.new)) result }
+    ensures never_fall { NeverFall (world (S.counts shelf.old) (K.taken sink.old))
+        (world (S.counts shelf.new) (K.taken sink.new)) }
     ensures files { S.files shelf.new ≡ S.files shelf.old }
     ensures config { session.new.config ≡ session.old.config }
     ensures opens { (files : Files) → S.files shelf.old ≡ Some files
@@ -409,12 +400,12 @@ pub fn run_script<L, S: Shelf, K: Sink>(
     requires { length script.now < 2 ^ 32 }
     ensures transcript { (files : Files) → S.files shelf.old ≡ Some files
         → TellsAll files session.old.config (lines_of script.now) session.old.store
-        session.new.store (world (S.counts shelf.old) (K.written sink.old) (K.faults sink.old))
-        (world (S.counts shelf.new) (K.written sink.new) (K.faults sink.new)) result }
-    ensures cause { IsCaused (world (S.counts shelf.old) (K.written sink.old) (K.faults sink.old))
-        (world (S.counts shelf.new) (K.written sink.new) (K.faults sink.new)) result }
-    ensures never_fall { NeverFall (world (S.counts shelf.old) (K.written sink.old)
-        (K.faults sink.old)) (world (S.counts shelf.new) (K.written sink.new) (K.faults sink.new)) }
+        session.new.store (world (S.counts shelf.old) (K.taken sink.old))
+        (world (S.counts shelf.new) (K.taken sink.new)) result }
+    ensures cause { IsCaused (world (S.counts shelf.old) (K.taken sink.old))
+        (world (S.counts shelf.new) (K.taken sink.new)) result }
+    ensures never_fall { NeverFall (world (S.counts shelf.old) (K.taken sink.old))
+        (world (S.counts shelf.new) (K.taken sink.new)) }
     ensures opens { (files : Files) → S.files shelf.old ≡ Some files
         → ArePlain session.old.config.window (lines_of script.now)
         → OnOk result (AreCounted (ScriptTally files session.old.config (lines_of script.now)

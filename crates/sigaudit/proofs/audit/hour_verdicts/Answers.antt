@@ -8,11 +8,11 @@ pub audit_hour-requires : goal.audit_hour-requires
 audit_hour-requires g c = let size = c.config-config.ensures.hours in let lt = c.requires in omega arith
 
 pub returns-in-Err-clause-turn : goal.returns-in-Err-clause-turn
-returns-in-Err-clause-turn g c = by_nothing (AreVerdicts c.args.session.now.config c.args.number c.args.hour c.args.session.now.store true) (g.K.Sink.written c.args.sink.now) (g.K.Sink.faults c.args.sink.now) c.args.session.now.store
+returns-in-Err-clause-turn g c = by_nothing (AreVerdicts c.args.session.now.config c.args.number c.args.hour c.args.session.now.store true) (g.K.Sink.taken c.args.sink.now) c.args.session.now.store
 
 pub returns-in-Err-put_verdicts_head-clause-turn : goal.returns-in-Err-put_verdicts_head-clause-turn
 returns-in-Err-put_verdicts_head-clause-turn g c =
-    verdicts_cut c.args.session.now.config c.args.number c.args.hour c.args.session.now.store c.in-Ok.lines.items _ _ _ _ c.in-Ok.ensures.history c.in-Ok.ensures.lines c.in-Err-put_verdicts_head.ensures
+    verdicts_cut c.args.session.now.config c.args.number c.args.hour c.args.session.now.store c.in-Ok.lines.items _ _ c.in-Ok.ensures.history c.in-Ok.ensures.lines c.in-Err-put_verdicts_head.ensures
 
 pub put_lines-requires : goal.put_lines-requires
 put_lines-requires g c =
@@ -21,10 +21,8 @@ put_lines-requires g c =
 
 pub returns-in-Ok-put_lines-clause-turn : goal.returns-in-Ok-put_lines-clause-turn
 returns-in-Ok-put_lines-clause-turn g c =
-    verdicts_done c.args.session.now.config c.config-config.result.now c.args.number c.args.hour c.args.session.now.store c.in-Ok.lines.items c.deref.result.now _ _ _ _ _ _ c.config-config.ensures.value c.deref.ensures.value c.in-Ok.ensures.history c.in-Ok.ensures.lines
-    c.in-Ok-put_verdicts_head.ensures.0 c.in-Ok-put_verdicts_head.ensures.1 c.in-Ok-put_lines.ensures.0 c.in-Ok-put_lines.ensures.1
+    verdicts_done c.args.session.now.config c.config-config.result.now c.args.number c.args.hour c.args.session.now.store c.in-Ok.lines.items c.deref.result.now _ _ _ c.config-config.ensures.value c.deref.ensures.value c.in-Ok.ensures.history c.in-Ok.ensures.lines c.in-Ok-put_verdicts_head.ensures c.in-Ok-put_lines.ensures
 
 pub returns-clause-turn : goal.returns-clause-turn
 returns-clause-turn g c =
-    verdicts_stop c.args.session.now.config c.config-config.result.now c.args.number c.args.hour c.args.session.now.store c.in-Ok.lines.items c.deref.result.now _ _ _ _ _ _ c.config-config.ensures.value c.deref.ensures.value c.in-Ok.ensures.history c.in-Ok.ensures.lines
-    c.in-Ok-put_verdicts_head.ensures.0 c.in-Ok-put_verdicts_head.ensures.1 c.in-Err-put_lines.ensures
+    verdicts_stop c.args.session.now.config c.config-config.result.now c.args.number c.args.hour c.args.session.now.store c.in-Ok.lines.items c.deref.result.now _ _ _ c.config-config.ensures.value c.deref.ensures.value c.in-Ok.ensures.history c.in-Ok.ensures.lines c.in-Ok-put_verdicts_head.ensures c.in-Err-put_lines.ensures

@@ -6,5 +6,5 @@ use Rattle.sigaudit.proofs.audit.put_lines.Given as goal
 -- the lines so far were written
 abbrev pub invariant-loop-line : goal.invariant-loop-line
 invariant-loop-line g l =
-    Going (g.K.Sink.written l.fn.sink) (g.K.Sink.written l.sink) (g.K.Sink.faults l.fn.sink) (g.K.Sink.faults l.sink)
+    Going (g.K.Sink.taken l.fn.sink) (g.K.Sink.taken l.sink)
     (lines_text l.config.window l.lines) (lines_text l.config.window (drop l.line-index l.lines))

@@ -4,8 +4,8 @@ use Rattle.sigaudit.specs.Audit.{audit_head}
 use Rattle.sigaudit.proofs.audit.put_start.Goals as goal
 
 pub returns-in-Err : goal.returns-in-Err
-returns-in-Err g c = stops-front _ _ _ _ (audit_head c.args.number) (counts_text c.args.config.now.specs c.args.rules.now c.args.total.now.rules) c.in-Err.ensures
+returns-in-Err g c = stops-front _ _ (audit_head c.args.number) (counts_text c.args.config.now.specs c.args.rules.now c.args.total.now.rules) c.in-Err.ensures
 
 pub returns : goal.returns
 returns g c =
-    puts-then _ _ _ _ _ _ (audit_head c.args.number) (counts_text c.args.config.now.specs c.args.rules.now c.args.total.now.rules) c.put_audit_counts.result c.in-Ok.ensures.0 c.in-Ok.ensures.1 c.put_audit_counts.ensures
+    puts-then _ _ _ (audit_head c.args.number) (counts_text c.args.config.now.specs c.args.rules.now c.args.total.now.rules) c.put_audit_counts.result c.in-Ok.ensures c.put_audit_counts.ensures

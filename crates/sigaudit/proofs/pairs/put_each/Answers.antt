@@ -11,15 +11,15 @@ pub returns-in-Err : goal.returns-in-Err
 returns-in-Err g c =
     let text = pair_text c.args.config.now c.args.line.now.rule c.args.line.now.at in
     let next = point_here text c.args.pairs.now c.loop-pair.pair-index c.pair-item.result c.loop-pair-test.true c.pair-item.is in
-    going-stops _ _ _ _ _ _ (flat_map text c.args.pairs.now) _ _ (rw next at c.loop-pair.invariant) c.in-Err.ensures
+    going-stops _ _ _ (flat_map text c.args.pairs.now) _ _ (rw next at c.loop-pair.invariant) c.in-Err.ensures
 
 pub loop-pair-preserved : goal.loop-pair-preserved
 loop-pair-preserved g c =
     let text = pair_text c.args.config.now c.args.line.now.rule c.args.line.now.at in
     let next = point_here text c.args.pairs.now c.loop-pair.pair-index c.pair-item.result c.loop-pair-test.true c.pair-item.is in
-    going-on _ _ _ _ _ _ (flat_map text c.args.pairs.now) _ _ (rw next at c.loop-pair.invariant) c.in-Ok.ensures.0 c.in-Ok.ensures.1
+    going-on _ _ _ (flat_map text c.args.pairs.now) _ _ (rw next at c.loop-pair.invariant) c.in-Ok.ensures
 
 pub returns : goal.returns
 returns g c =
     let text = pair_text c.args.config.now c.args.line.now.rule c.args.line.now.at in
-    going-end _ _ _ _ (flat_map text c.args.pairs.now) (rw (points_end text c.args.pairs.now c.loop-pair.pair-index c.loop-pair-test.false) at c.loop-pair.invariant)
+    going-end _ _ (flat_map text c.args.pairs.now) (rw (points_end text c.args.pairs.now c.loop-pair.pair-index c.loop-pair-test.false) at c.loop-pair.invariant)

@@ -6,5 +6,5 @@ use Rattle.sigaudit.proofs.pairs.put_each.Given as goal
 -- the pairs so far were written
 abbrev pub invariant-loop-pair : goal.invariant-loop-pair
 invariant-loop-pair g l =
-    Going (g.K.Sink.written l.fn.sink) (g.K.Sink.written l.sink) (g.K.Sink.faults l.fn.sink) (g.K.Sink.faults l.sink)
+    Going (g.K.Sink.taken l.fn.sink) (g.K.Sink.taken l.sink)
     (flat_map (pair_text l.config l.line.rule l.line.at) l.pairs) (flat_map (pair_text l.config l.line.rule l.line.at) (drop l.pair-index l.pairs))

@@ -9,4 +9,4 @@ put_found-requires-clause-pairs g c =
 pub returns-clause-text : goal.returns-clause-text
 returns-clause-text g c =
     let s = c.args.session.now in
-    found_stops s.config c.config-config.result.now s.store c.args.rule c.args.at c.in-Ok.pairs c.list.result.now _ _ _ _ c.config-config.ensures.value c.list.ensures c.in-Ok.ensures.history c.in-Ok.ensures.pairs c.in-Err-put_found.ensures
+    found_stops s.config c.config-config.result.now s.store c.args.rule c.args.at c.in-Ok.pairs c.list.result.now _ _ c.config-config.ensures.value c.list.ensures c.in-Ok.ensures.history c.in-Ok.ensures.pairs c.in-Err-put_found.ensures

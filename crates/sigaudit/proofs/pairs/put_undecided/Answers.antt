@@ -10,7 +10,7 @@ returns-in-Some-clause-text g c =
     let place = place_of s.config c.args.rule (stamp_in s.config.window c.args.at.now) in
     let value : c.place_of.result ≡ place = rw c.config.ensures.value at c.place_of.ensures.value in
     let there : place ≡ Some (c.in-Some.rule, c.in-Some.at) = sym value ∙ c.in-Some.is in
-    found_there s.config s.store place c.in-Some.rule c.in-Some.at _ _ _ _ c.put_pairs.result there c.put_pairs.ensures.text
+    found_there s.config s.store place c.in-Some.rule c.in-Some.at _ _ c.put_pairs.result there c.put_pairs.ensures.text
 
 pub returns-in-Err-clause-text : goal.returns-in-Err-clause-text
 returns-in-Err-clause-text g c =
@@ -18,4 +18,4 @@ returns-in-Err-clause-text g c =
     let place = place_of s.config c.args.rule (stamp_in s.config.window c.args.at.now) in
     let value : c.place_of.result ≡ place = rw c.config.ensures.value at c.place_of.ensures.value in
     let none : place ≡ None = sym value ∙ is_none-of c.place_of.result c.in_default.not-Some in
-    nothing_stops s.config s.store place _ _ _ _ none c.in-Err.ensures
+    nothing_stops s.config s.store place _ _ none c.in-Err.ensures

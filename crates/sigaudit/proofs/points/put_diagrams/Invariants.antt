@@ -6,5 +6,5 @@ use Rattle.sigaudit.proofs.points.put_diagrams.Given as goal
 -- the diagrams so far were written
 abbrev pub invariant-loop-diagram : goal.invariant-loop-diagram
 invariant-loop-diagram g l =
-    Going (g.K.Sink.written l.fn.sink) (g.K.Sink.written l.sink) (g.K.Sink.faults l.fn.sink) (g.K.Sink.faults l.sink)
+    Going (g.K.Sink.taken l.fn.sink) (g.K.Sink.taken l.sink)
     (diagrams_text l.config l.diagrams) (diagrams_text l.config (drop l.diagram-index l.diagrams))

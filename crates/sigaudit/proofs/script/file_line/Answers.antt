@@ -21,21 +21,20 @@ pub returns-then-hour-hours-clause-turn : goal.returns-then-hour-hours-clause-tu
 returns-then-hour-hours-clause-turn g c = λ files told.
     let same : c.hours.result ≡ c.args.session.now.config.window.hours = c.hours.ensures.value ∙ ap (λ (w : Span). w.hours) c.window.ensures ∙ ap (λ (k : Settings). k.window.hours) c.config.ensures.value in
     let past : c.args.session.now.config.window.hours ≤ c.args.hour = let t = c.if-hour-hours.true in omega arith in
-    takes_of_by (IsFetched c.args.session.now.config c.args.number c.args.hour (hour_change c.args.replaces) c.args.session.now.store (hour_bytes files c.args.session.now.config c.args.hour c.args.name.now)) (g.S.Shelf.counts c.args.shelf.now) (g.S.Shelf.counts c.args.shelf.now) _ _ _ _ c.args.session.now.store c.refuse.result refl
-    (outside_line files c.args.session.now.config c.config-then-hour-hours.result.now c.args.number c.args.hour c.args.name.now (hour_change c.args.replaces) c.args.session.now.store _ _ _ _ c.refuse.result c.config-then-hour-hours.ensures.value past c.refuse.ensures)
+    takes_of_by (IsFetched c.args.session.now.config c.args.number c.args.hour (hour_change c.args.replaces) c.args.session.now.store (hour_bytes files c.args.session.now.config c.args.hour c.args.name.now)) (g.S.Shelf.counts c.args.shelf.now) (g.S.Shelf.counts c.args.shelf.now) _ _ c.args.session.now.store c.refuse.result refl (outside_line files c.args.session.now.config c.config-then-hour-hours.result.now c.args.number c.args.hour c.args.name.now (hour_change c.args.replaces) c.args.session.now.store _ _ c.refuse.result c.config-then-hour-hours.ensures.value past c.refuse.ensures)
 
 pub returns-then-hour-hours-clause-cause : goal.returns-then-hour-hours-clause-cause
-returns-then-hour-hours-clause-cause g c = caused_of_by (λ (t : Turn). t ≡ refuses c.args.session.now.config c.args.number (Edit OutOfWindow) c.args.session.now.store) (g.S.Shelf.counts c.args.shelf.now) (g.S.Shelf.counts c.args.shelf.now) _ _ _ _ c.args.session.now.store c.refuse.result refl (by_bad c.args.session.now.config c.config-then-hour-hours.result.now c.args.number (Edit OutOfWindow) c.args.session.now.store _ _ _ _ c.refuse.result c.config-then-hour-hours.ensures.value c.refuse.ensures)
+returns-then-hour-hours-clause-cause g c = caused_of_by (λ (t : Turn). t ≡ refuses c.args.session.now.config c.args.number (Edit OutOfWindow) c.args.session.now.store) (g.S.Shelf.counts c.args.shelf.now) (g.S.Shelf.counts c.args.shelf.now) _ _ c.args.session.now.store c.refuse.result refl (by_bad c.args.session.now.config c.config-then-hour-hours.result.now c.args.number (Edit OutOfWindow) c.args.session.now.store _ _ c.refuse.result c.config-then-hour-hours.ensures.value c.refuse.ensures)
 
 pub returns-then-hour-hours-clause-never_fall : goal.returns-then-hour-hours-clause-never_fall
-returns-then-hour-hours-clause-never_fall g c = never_of_by (λ (t : Turn). t ≡ refuses c.args.session.now.config c.args.number (Edit OutOfWindow) c.args.session.now.store) (g.S.Shelf.counts c.args.shelf.now) (g.S.Shelf.counts c.args.shelf.now) _ _ _ _ c.args.session.now.store c.refuse.result (omega arith) (omega arith) (omega arith) (by_bad c.args.session.now.config c.config-then-hour-hours.result.now c.args.number (Edit OutOfWindow) c.args.session.now.store _ _ _ _ c.refuse.result c.config-then-hour-hours.ensures.value c.refuse.ensures)
+returns-then-hour-hours-clause-never_fall g c = never_of_by (λ (t : Turn). t ≡ refuses c.args.session.now.config c.args.number (Edit OutOfWindow) c.args.session.now.store) (g.S.Shelf.counts c.args.shelf.now) (g.S.Shelf.counts c.args.shelf.now) _ _ c.args.session.now.store c.refuse.result (omega arith) (omega arith) (omega arith) (by_bad c.args.session.now.config c.config-then-hour-hours.result.now c.args.number (Edit OutOfWindow) c.args.session.now.store _ _ c.refuse.result c.config-then-hour-hours.ensures.value c.refuse.ensures)
 
 pub returns-clause-turn : goal.returns-clause-turn
 returns-clause-turn g c = λ files told.
     let same : c.hours.result ≡ c.args.session.now.config.window.hours = c.hours.ensures.value ∙ ap (λ (w : Span). w.hours) c.window.ensures ∙ ap (λ (k : Settings). k.window.hours) c.config.ensures.value in
     let within : c.args.hour < c.args.session.now.config.window.hours = let t = c.if-hour-hours.false in omega arith in
     inside_line files c.args.session.now.config c.args.number c.args.hour c.args.name.now (hour_change c.args.replaces) c.args.session.now.store c.fetch_line.new.session.store
-    (world (g.S.Shelf.counts c.args.shelf.now) (g.K.Sink.written c.args.sink.now) (g.K.Sink.faults c.args.sink.now)) (world (g.S.Shelf.counts c.fetch_line.new.shelf) (g.K.Sink.written c.fetch_line.new.sink) (g.K.Sink.faults c.fetch_line.new.sink)) c.fetch_line.result within (c.fetch_line.ensures.turn files told)
+    (world (g.S.Shelf.counts c.args.shelf.now) (g.K.Sink.taken c.args.sink.now)) (world (g.S.Shelf.counts c.fetch_line.new.shelf) (g.K.Sink.taken c.fetch_line.new.sink)) c.fetch_line.result within (c.fetch_line.ensures.turn files told)
 
 pub returns-then-hour-hours-clause-opens : goal.returns-then-hour-hours-clause-opens
 returns-then-hour-hours-clause-opens g c = λ files told.

@@ -10,7 +10,6 @@ use filling_pair::{Fill, Pair, Strand};
 use itoa::Buffer;
 use outside::{PutFailed, Sink, put_parts};
 use ring_config::Config;
-use rule_audit::AuditLine;
 use sig_base::Window;
 
 fn put_fill<K: Sink>(window: &Window, fill: Fill, sink: &mut K) -> Result<(), PutFailed>
@@ -139,18 +138,22 @@ fn put_sides<K: Sink>(config: &Config, pair: &Pair, sink: &mut K) -> Result<(), 
     put_side(config, b"breaks", pair.breaks.list(), sink)
 }
 
-fn put_undecided<K: Sink>(window: &Window, line: &AuditLine, sink: &mut K) -> Result<(), PutFailed>
-    requires { line.now.at < 36000 * window.now.hours }
-    ensures { Puts (K.taken sink.old) (K.taken sink.new)
-        (undecided_line window.now line.now.rule line.now.at) result }
+fn put_undecided<K: Sink>(
+    window: &Window,
+    rule: u16,
+    at: u32,
+    sink: &mut K,
+) -> Result<(), PutFailed>
+    requires { at < 36000 * window.now.hours }
+    ensures { Puts (K.taken sink.old) (K.taken sink.new) (undecided_line window.now rule at) result }
 {
-    let stamp = window.stamp(line.at);
+    let stamp = window.stamp(at);
     let mut number = Buffer::new();
     put_parts(
         sink,
         &[
             b"undecided ",
-            number.format(line.rule).as_bytes(),
+            number.format(rule).as_bytes(),
             b" ",
             &stamp,
             b"\n",
@@ -158,21 +161,22 @@ fn put_undecided<K: Sink>(window: &Window, line: &AuditLine, sink: &mut K) -> Re
     )
 }
 
-/// Writes the number of an undecided line's rule and the tenth, and then each channel's start and
-/// fills: those with which the rule is kept there, and those with which it is broken. A start is
+/// Writes the number of a rule and a tenth at which it is undecided, and then each channel's start
+/// and fills: those with which the rule is kept there, and those with which it is broken. A start is
 /// the channel, its colour, and for how many tenths it has had it when the window begins. The
-/// window has the tenths of the line and of the fills.
-pub fn put_pair<K: Sink>(
+/// window has this tenth and those of the fills.
+pub(crate) fn put_pair<K: Sink>(
     config: &Config,
-    line: &AuditLine,
+    rule: u16,
+    at: u32,
     pair: &Pair,
     sink: &mut K,
 ) -> Result<(), PutFailed>
-    requires at { line.now.at < 36000 * config.now.window.hours }
+    requires at { at < 36000 * config.now.window.hours }
     requires pair { IsPairIn config.now.window pair.now }
-    ensures { Puts (K.taken sink.old) (K.taken sink.new)
-        (pair_text config.now line.now.rule line.now.at pair.now) result }
+    ensures { Puts (K.taken sink.old) (K.taken sink.new) (pair_text config.now rule at pair.now)
+        result }
 {
-    put_undecided(config.window(), line, sink)?;
+    put_undecided(config.window(), rule, at, sink)?;
     put_sides(config, pair, sink)
 }

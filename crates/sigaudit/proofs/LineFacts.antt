@@ -4,13 +4,13 @@ use Rattle.std.proofs.lemmas.Bool.{lt-ltb, le-ltb}
 use Rattle.std.specs.Prelude.{slice_get}
 use Rattle.outside.specs.Shelf.{Counts, Files}
 use Rattle.outside.specs.Sink.{Stops, Taken, Writes}
-use Rattle.outside.proofs.PutsFacts.{appends-nothing, stops-front, stops-then, writes-then}
+use Rattle.outside.proofs.PutsFacts.{appends-nothing}
 use Rattle.sig_base.specs.HourRows.{Shown}
 use Rattle.sig_base.specs.declared.values.EditError.TheVariants.{OutOfWindow}
 use Rattle.sigaudit.specs.HourFile.{hour_said}
 use Rattle.hour_store.specs.Store.{Store}
 use Rattle.hour_work.specs.Numbers.{Numbers, total_of}
-use Rattle.report_text.specs.Measures.{measures_text}
+use Rattle.report_text.specs.Measures.{hour_measures, window_measures}
 use Rattle.report_text.specs.declared.refusal.Refusal.{Refusal}
 use Rattle.report_text.specs.declared.refusal.Refusal.TheVariants.{BadLine, FileTooLong, Edit}
 use Rattle.ring_config.specs.Settings.{Settings}
@@ -22,7 +22,7 @@ use Rattle.sigaudit.specs.Turns.{Turn, passes, refuses, writes}
 use Rattle.sigaudit.specs.Audit.{AreVerdicts, IsAudited, IsReportOf}
 use Rattle.sigaudit.specs.Points.{points_of_phase}
 use Rattle.sigaudit.specs.Offsets.{offsets_of}
-use Rattle.sigaudit.specs.Script.{edit_said, hour_bytes, hour_change, hour_file, hour_head, wanted_for, window_head, IsEdited, IsFetched, IsMeasured, IsMeasuredOf, IsRead, IsTurn}
+use Rattle.sigaudit.specs.Script.{edit_said, hour_bytes, hour_change, hour_file, wanted_for, IsEdited, IsFetched, IsMeasured, IsMeasuredOf, IsRead, IsTurn}
 use Rattle.sigaudit.specs.Run.{World, world, Takes, TakesBy, TakesPut}
 use Rattle.sigaudit.specs.declared.status.Stopped.{Stopped}
 use Rattle.sigaudit.specs.declared.status.Stopped.TheVariants as stopped
@@ -74,30 +74,18 @@ inside_line files c n hour name make s s' old new r lt h =
 
 -- ---- measures
 
-measured : (c : Settings) (n : ℕ) (s : Store) (all : List Numbers) → IsReportOf c s all → IsMeasured c n s (writes (window_head n ++ measures_text c (total_of all)) s)
-measured c n s all h = (all, h, refl)
+pub measures_done : (c c' : Settings) (n : ℕ) (s : Store) (all : List Numbers) (x : Numbers) (w w' : Taken) → c' ≡ c → IsReportOf c s all → x ≡ total_of all → Writes w w' (window_measures n c' x) → TakesBy (IsMeasured c n s) w w' s (Ok false)
+measures_done c c' n s all x w w' ec h ex k =
+    let k' = rw (ec, ex) at k in
+    (writes (window_measures n c (total_of all)) s, (all, h, refl), k', refl, refl)
 
-pub measures_cut : (c : Settings) (n : ℕ) (s : Store) (all : List Numbers) (w w' : Taken) → IsReportOf c s all → Stops w w' (window_head n) → TakesBy (IsMeasured c n s) w w' s (Err stopped.Fault)
-measures_cut c n s all w w' h k =
-    (writes (window_head n ++ measures_text c (total_of all)) s, measured c n s all h, stops-front w w' (window_head n) (measures_text c (total_of all)) k)
-
-pub measures_stop : (c c' : Settings) (n : ℕ) (s : Store) (all : List Numbers) (x : Numbers) (w w1 w2 : Taken) → c' ≡ c → IsReportOf c s all → x ≡ total_of all → Writes w w1 (window_head n)
-    → Stops w1 w2 (measures_text c' x) → TakesBy (IsMeasured c n s) w w2 s (Err stopped.Fault)
-measures_stop c c' n s all x w w1 w2 ec h ex a k =
-    let k' = rw (ec, ex) at k in (
-      writes (window_head n ++ measures_text c (total_of all)) s,
-      measured c n s all h,
-      stops-then w w1 w2 (window_head n) (measures_text c (total_of all)) a k',
-    )
-
-pub measures_done : (c c' : Settings) (n : ℕ) (s : Store) (all : List Numbers) (x : Numbers) (w w1 w2 : Taken) → c' ≡ c → IsReportOf c s all → x ≡ total_of all → Writes w w1 (window_head n)
-    → Writes w1 w2 (measures_text c' x) → TakesBy (IsMeasured c n s) w w2 s (Ok false)
-measures_done c c' n s all x w w1 w2 ec h ex a b =
-    let b' = rw (ec, ex) at b in
-    (writes (window_head n ++ measures_text c (total_of all)) s, measured c n s all h, writes-then w w1 w2 (window_head n) (measures_text c (total_of all)) a b', refl, refl)
+pub measures_cut : (c c' : Settings) (n : ℕ) (s : Store) (all : List Numbers) (x : Numbers) (w w' : Taken) → c' ≡ c → IsReportOf c s all → x ≡ total_of all → Stops w w' (window_measures n c' x) → TakesBy (IsMeasured c n s) w w' s (Err stopped.Fault)
+measures_cut c c' n s all x w w' ec h ex k =
+    let k' = rw (ec, ex) at k in
+    (writes (window_measures n c (total_of all)) s, (all, h, refl), k')
 
 -- the measures of an hour, which are there
-hour_measured : (c : Settings) (n hour : ℕ) (s : Store) (all : List Numbers) (x : Numbers) → IsReportOf c s all → Some x ≡ slice_get all hour → IsMeasuredOf c n hour s (writes (hour_head n hour ++ measures_text c x) s)
+hour_measured : (c : Settings) (n hour : ℕ) (s : Store) (all : List Numbers) (x : Numbers) → IsReportOf c s all → Some x ≡ slice_get all hour → IsMeasuredOf c n hour s (writes (hour_measures n hour c x) s)
 hour_measured c n hour s all x h e = (all, h, rw (← e) refl)
 
 pub hour_outside : (c c' : Settings) (n hour : ℕ) (s : Store) (all : List Numbers) (w w' : Taken) (r : Result Bool Stopped) → c' ≡ c → IsReportOf c s all → None ≡ slice_get all hour
@@ -106,25 +94,17 @@ hour_outside c c' n hour s all w w' r ec h e k =
     let is : IsMeasuredOf c n hour s (refuses c n (Edit OutOfWindow) s) = (all, h, rw (← e) refl) in
     by_refusal (IsMeasuredOf c n hour s) c c' n (Edit OutOfWindow) s w w' r ec is k
 
-pub hour_cut : (c : Settings) (n hour : ℕ) (s : Store) (all : List Numbers) (x : Numbers) (w w' : Taken) → IsReportOf c s all → Some x ≡ slice_get all hour → Stops w w' (hour_head n hour)
+pub hour_done : (c c' : Settings) (n hour : ℕ) (s : Store) (all : List Numbers) (x : Numbers) (w w' : Taken) → c' ≡ c → IsReportOf c s all → Some x ≡ slice_get all hour → Writes w w' (hour_measures n hour c' x)
+    → TakesBy (IsMeasuredOf c n hour s) w w' s (Ok false)
+hour_done c c' n hour s all x w w' ec h e k =
+    let k' = rw ec at k in
+    (writes (hour_measures n hour c x) s, hour_measured c n hour s all x h e, k', refl, refl)
+
+pub hour_cut : (c c' : Settings) (n hour : ℕ) (s : Store) (all : List Numbers) (x : Numbers) (w w' : Taken) → c' ≡ c → IsReportOf c s all → Some x ≡ slice_get all hour → Stops w w' (hour_measures n hour c' x)
     → TakesBy (IsMeasuredOf c n hour s) w w' s (Err stopped.Fault)
-hour_cut c n hour s all x w w' h e k =
-    (writes (hour_head n hour ++ measures_text c x) s, hour_measured c n hour s all x h e, stops-front w w' (hour_head n hour) (measures_text c x) k)
-
-pub hour_stop : (c c' : Settings) (n hour : ℕ) (s : Store) (all : List Numbers) (x : Numbers) (w w1 w2 : Taken) → c' ≡ c → IsReportOf c s all → Some x ≡ slice_get all hour → Writes w w1 (hour_head n hour)
-    → Stops w1 w2 (measures_text c' x) → TakesBy (IsMeasuredOf c n hour s) w w2 s (Err stopped.Fault)
-hour_stop c c' n hour s all x w w1 w2 ec h e a k =
-    let k' = rw ec at k in (
-      writes (hour_head n hour ++ measures_text c x) s,
-      hour_measured c n hour s all x h e,
-      stops-then w w1 w2 (hour_head n hour) (measures_text c x) a k',
-    )
-
-pub hour_done : (c c' : Settings) (n hour : ℕ) (s : Store) (all : List Numbers) (x : Numbers) (w w1 w2 : Taken) → c' ≡ c → IsReportOf c s all → Some x ≡ slice_get all hour → Writes w w1 (hour_head n hour)
-    → Writes w1 w2 (measures_text c' x) → TakesBy (IsMeasuredOf c n hour s) w w2 s (Ok false)
-hour_done c c' n hour s all x w w1 w2 ec h e a b =
-    let b' = rw ec at b in
-    (writes (hour_head n hour ++ measures_text c x) s, hour_measured c n hour s all x h e, writes-then w w1 w2 (hour_head n hour) (measures_text c x) a b', refl, refl)
+hour_cut c c' n hour s all x w w' ec h e k =
+    let k' = rw ec at k in
+    (writes (hour_measures n hour c x) s, hour_measured c n hour s all x h e, k')
 
 -- ---- what the lines do, by what they say
 

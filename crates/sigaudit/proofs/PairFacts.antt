@@ -20,9 +20,9 @@ use Rattle.filling_pair.specs.Strands.{AreAllStrands, AreFills}
 use Rattle.session.specs.Pairs.{ArePairsAt, ArePairsOf}
 use Rattle.session.specs.Sessions.{Kept}
 use Rattle.script_lines.specs.Lines.{lines_of}
-use Rattle.report_text.specs.Pairs.{AreFillsIn, AreStrandsIn, IsPairIn, pair_text}
+use Rattle.report_text.specs.Pairs.{AreFillsIn, AreStrandsIn, IsPairIn, found_text, nothing_text}
 use Rattle.sigaudit.specs.Aims.{for_rule}
-use Rattle.sigaudit.specs.Pairs.{AreFound, found_text, nothing_text, place_of}
+use Rattle.sigaudit.specs.Pairs.{AreFound, place_of}
 use Rattle.sigaudit.specs.Run.{IsCarriedOut, PutsOne, RunsAs, ScriptCause, world}
 use Rattle.sigaudit.specs.Status.{status_of_run}
 use Rattle.sigaudit.specs.Transcript.{IsAimOutcome, ended_by, outcome}
@@ -58,15 +58,6 @@ pub pairs_in : (c : Settings) (s : Store) (rule at : ℕ) (ps : List Pair) → l
 pairs_in c s rule at ps e h = pairs_of_in c s _ ps (rw e (omega arith)) h.2
 
 -- ---- their texts
-
--- there are none, or some
-pub none_found : (c : Settings) (rule at : ℕ) (ps : List Pair) → length ps ≡ 0 → found_text c rule at ps ≡ nothing_text
-none_found c rule at [] h = refl
-none_found c rule at (p ∷ ps) h = absurd (omega arith)
-
-pub some_found : (c : Settings) (rule at : ℕ) (ps : List Pair) → 0 < length ps → found_text c rule at ps ≡ flat_map (pair_text c rule at) ps
-some_found c rule at [] h = absurd (omega arith)
-some_found c rule at (p ∷ ps) h = refl
 
 -- a rule and a tenth aren't there
 pub nothing_stops : (c : Settings) (s : Store) (place : Option (ℕ × ℕ)) (w w' : Taken) → place ≡ None → Stops w w' nothing_text → PutsOne {T = Unit {0}} (AreFound c s place) w w' (Err stopped.Fault)

@@ -4,7 +4,6 @@ use Rattle.std.specs.List.{All, cons_option}
 use Rattle.std.specs.Prelude.{◌==◌}
 use Rattle.std.proofs.lemmas.List.Elements.{All-cons, All-filter, All-head, All-map, All-nil, All-push, All-same, All-tail, All-weaker, filter_passes}
 use Rattle.outside.specs.Sink.{Stops, Taken, Writes}
-use Rattle.outside.proofs.PutsFacts.{stops-front, stops-then, writes-then}
 use Rattle.sig_base.specs.declared.values.PhaseItem.{PhaseItem}
 use Rattle.sig_base.specs.declared.values.Row.{Row}
 use Rattle.hour_store.specs.Store.{Store, is_known, known_rows, rows_of}
@@ -18,26 +17,16 @@ use Rattle.ring_config.specs.Values.{has_phase as is_configured}
 use Rattle.arrival_measures.specs.declared.points.Diagram.{Diagram}
 use Rattle.arrival_measures.specs.Hours.{cycles_of}
 use Rattle.arrival_measures.specs.Points.{diagram_of, diagrams_of, points_from}
-use Rattle.report_text.specs.Approaches.{diagram_text}
-use Rattle.report_text.proofs.ApproachLines.{points_next, points_end}
+use Rattle.report_text.specs.Approaches.{diagrams_text}
 use Rattle.report_text.specs.declared.refusal.Refusal.TheVariants.{BadLine}
 use Rattle.sigaudit.specs.Turns.{refuses}
-use Rattle.sigaudit.specs.Points.{diagrams_text, points_head, points_of_phase, points_turn}
+use Rattle.report_text.specs.Heads.{points_head}
+use Rattle.sigaudit.specs.Points.{points_of_phase, points_turn}
 use Rattle.sigaudit.specs.Run.{TakesBy, TakesPut}
 use Rattle.sigaudit.proofs.TakeFacts.{by_refusal}
 use Rattle.sigaudit.proofs.EditFacts.{known_within}
 use Rattle.sigaudit.specs.declared.status.Stopped.{Stopped}
 use Rattle.sigaudit.specs.declared.status.Stopped.TheVariants as stopped
-
--- ---- one diagram after another
-
-pub diagrams_next : (c : Settings) (ds : List Diagram) (i : ℕ) (d : Diagram) → i < length ds → d ≡ get_or ds i d
-    → diagrams_text c (drop i ds) ≡ diagram_text c d ++ diagrams_text c (drop (i + 1) ds)
-diagrams_next c ds i d h e =
-    subst (λ (x : Diagram). diagrams_text c (drop i ds) ≡ diagram_text c x ++ diagrams_text c (drop (i + 1) ds)) (sym e) (points_next (diagram_text c) ds i d h)
-
-pub diagrams_over : (c : Settings) (ds : List Diagram) (i : ℕ) → length ds ≤ i → diagrams_text c (drop i ds) ≡ []
-diagrams_over c ds i h = points_end (diagram_text c) ds i h
 
 -- ---- each cycle begins at one of the rows
 
@@ -118,21 +107,18 @@ same_text : (c c' : Settings) (s : Store) (p : ℕ) (ds ds' : List Diagram) → 
     → diagrams_text c' ds' ≡ diagrams_text c (diagrams_of (is_known s) c p (known_rows s))
 same_text c c' s p ds ds' ec e e' = ap (λ (k : Settings). diagrams_text k ds') ec ∙ ap (λ (xs : List Diagram). diagrams_text c xs) (e' ∙ e)
 
-pub points_cut : (c : Settings) (n p : ℕ) (s : Store) (w w' : Taken) → Stops w w' (points_head n p) → TakesBy (λ t. t ≡ points_turn c n p s true) w w' s (Err stopped.Fault)
-points_cut c n p s w w' k =
-    (points_turn c n p s true, refl, stops-front w w' (points_head n p) (diagrams_text c (diagrams_of (is_known s) c p (known_rows s))) k)
+-- they were written, or cut off
+pub points_done : (c c' : Settings) (n p : ℕ) (s : Store) (ds ds' : List Diagram) (w w' : Taken) → c' ≡ c → ds ≡ diagrams_of (is_known s) c p (known_rows s) → ds' ≡ ds → Writes w w' (points_head n p ++ diagrams_text c' ds')
+    → TakesBy (λ t. t ≡ points_turn c n p s true) w w' s (Ok false)
+points_done c c' n p s ds ds' w w' ec e e' h =
+    let h' = subst (λ (xs : List ℕ). Writes w w' (points_head n p ++ xs)) (same_text c c' s p ds ds' ec e e') h in
+    (points_turn c n p s true, refl, h', refl, refl)
 
-pub points_stop : (c c' : Settings) (n p : ℕ) (s : Store) (ds ds' : List Diagram) (w w1 w2 : Taken) → c' ≡ c → ds ≡ diagrams_of (is_known s) c p (known_rows s) → ds' ≡ ds → Writes w w1 (points_head n p) → Stops w1 w2 (diagrams_text c' ds') → TakesBy (λ t. t ≡ points_turn c n p s true) w w2 s (Err stopped.Fault)
-points_stop c c' n p s ds ds' w w1 w2 ec e e' a k =
-    let text = diagrams_text c (diagrams_of (is_known s) c p (known_rows s)) in
-    let k' = subst (λ (xs : List ℕ). Stops w1 w2 xs) (same_text c c' s p ds ds' ec e e') k in
-    (points_turn c n p s true, refl, stops-then w w1 w2 (points_head n p) text a k')
-
-pub points_done : (c c' : Settings) (n p : ℕ) (s : Store) (ds ds' : List Diagram) (w w1 w2 : Taken) → c' ≡ c → ds ≡ diagrams_of (is_known s) c p (known_rows s) → ds' ≡ ds → Writes w w1 (points_head n p) → Writes w1 w2 (diagrams_text c' ds') → TakesBy (λ t. t ≡ points_turn c n p s true) w w2 s (Ok false)
-points_done c c' n p s ds ds' w w1 w2 ec e e' a b =
-    let text = diagrams_text c (diagrams_of (is_known s) c p (known_rows s)) in
-    let b' = subst (λ (xs : List ℕ). Writes w1 w2 xs) (same_text c c' s p ds ds' ec e e') b in
-    (points_turn c n p s true, refl, writes-then w w1 w2 (points_head n p) text a b', refl, refl)
+pub points_cut : (c c' : Settings) (n p : ℕ) (s : Store) (ds ds' : List Diagram) (w w' : Taken) → c' ≡ c → ds ≡ diagrams_of (is_known s) c p (known_rows s) → ds' ≡ ds → Stops w w' (points_head n p ++ diagrams_text c' ds')
+    → TakesBy (λ t. t ≡ points_turn c n p s true) w w' s (Err stopped.Fault)
+points_cut c c' n p s ds ds' w w' ec e e' h =
+    let h' = subst (λ (xs : List ℕ). Stops w w' (points_head n p ++ xs)) (same_text c c' s p ds ds' ec e e') h in
+    (points_turn c n p s true, refl, h')
 
 -- a phase that is configured, or isn't
 pub phase_there : (c c' : Settings) (n p : ℕ) (s : Store) (b : Bool) (w w' : Taken) (r : Result Bool Stopped) → c' ≡ c → b ≡ is_configured c'.phases p → b ≡ true

@@ -20,9 +20,10 @@ use Rattle.sigaudit.specs.declared.file.Task.{Task}
 use Rattle.sigaudit.specs.declared.file.Task.TheVariants.{Count, Pack}
 use Rattle.sigaudit.specs.Asked.{HourAsked, hour_asked, asked_of}
 use Rattle.sigaudit.specs.Status.{status_of_run}
-use Rattle.sigaudit.specs.ConfigText.{config_text, is_config_memory}
+use Rattle.report_text.specs.ConfigRefusal.{config_text, is_config_memory}
+use Rattle.report_text.specs.Usage.{usage_text}
 use Rattle.sigaudit.specs.Aims.{Aim, for_lines, for_rule}
-use Rattle.sigaudit.specs.Transcript.{Outcome, outcome, usage_text, file_outcome, outcome_of, first_lines, told_outcome, ended_by, limited, asks_pairs, IsAimOutcome, IsAnswer, IsConfigOutcome, IsFileOutcome, IsScriptOutcome}
+use Rattle.sigaudit.specs.Transcript.{Outcome, outcome, file_outcome, outcome_of, first_lines, told_outcome, ended_by, limited, asks_pairs, IsAimOutcome, IsAnswer, IsConfigOutcome, IsFileOutcome, IsScriptOutcome}
 use Rattle.sigaudit.specs.Run.{World, world, RunsAs, CountsText, IsPairsRun, IsRun, HasCause, NeedsWords, IsCaused, TellsAll, ScriptCause, PutsOutcome, WritesBeginning, WritesFront, IsCutOff}
 use Rattle.sigaudit.specs.Script.{nothing_told}
 use Rattle.sigaudit.proofs.ScriptFacts.{told_nothing}

@@ -1,19 +1,14 @@
 // The verdicts of a session: those that are broken or undecided, or all of one hour.
-ghost use Rattle.std.specs.Prelude.{◌≡◌, ◌<◌, ◌++◌, true, [], IfOk, IsTrue, All, OnOk, length, nat_lt};
-ghost use Rattle.outside.specs.Sink.{Puts};
+ghost use Rattle.std.specs.Prelude.{◌≡◌, ◌<◌, ◌++◌, true, [], IfOk, IsTrue, OnOk, length, nat_lt};
 ghost use Rattle.session.specs.Sessions.{Grow};
-ghost use Rattle.report_text.specs.Audit.{IsLineIn};
-ghost use Rattle.sigaudit.specs.Audit.{AddsHour, AreFailing, AreVerdicts, IsAudited, audit_head, audit_start, failing_at, failing_of, is_kept, lines_text, verdicts_head};
+ghost use Rattle.sigaudit.specs.Audit.{AddsHour, AreFailing, AreVerdicts, IsAudited, failing_at, failing_of, is_kept};
 ghost use Rattle.sigaudit.specs.Run.{TakesBy};
 
 use crate::refused::refuse;
 use crate::status::Stopped;
-use hour_work::Partial;
-use itoa::Buffer;
-use outside::{PutFailed, Sink, put_parts};
-use report_text::{Refusal, put_audit_counts, put_audit_line};
-use ring_config::Config;
-use rule_audit::{AuditLine, Rule};
+use outside::Sink;
+use report_text::{Refusal, put_audit, put_verdicts};
+use rule_audit::AuditLine;
 use session::Session;
 use sig_base::{EditError, Hour, NoMemory, Reads, Verdict};
 use std::alloc::Global;
@@ -22,46 +17,6 @@ fn is_kept(verdict: Verdict) -> bool
     ensures { result ≡ is_kept verdict }
 {
     matches!(verdict, Verdict::Kept)
-}
-
-// Writes the lines in their order.
-fn put_lines<K: Sink>(config: &Config, lines: &[AuditLine], sink: &mut K) -> Result<(), PutFailed>
-    requires { All (IsLineIn config.now.window) lines.now }
-    ensures { Puts (K.taken sink.old) (K.taken sink.new) (lines_text config.now.window lines.now)
-        result }
-{
-    for line in lines {
-        match put_audit_line(config, line, sink) {
-            Ok(()) => {}
-            Err(failed) => return Err(failed),
-        }
-    }
-    Ok(())
-}
-
-fn put_head<K: Sink>(number: u32, sink: &mut K) -> Result<(), PutFailed>
-    ensures { Puts (K.taken sink.old) (K.taken sink.new) (audit_head number) result }
-{
-    let mut line = Buffer::new();
-    put_parts(sink, &[line.format(number).as_bytes(), b" audit", b"\n"])
-}
-
-// Writes the head of an audit, and how many verdicts each rule has in the window.
-fn put_start<K: Sink>(
-    number: u32,
-    config: &Config,
-    rules: &[Rule],
-    total: &Partial,
-    sink: &mut K,
-) -> Result<(), PutFailed>
-    ensures { Puts (K.taken sink.old) (K.taken sink.new)
-        (audit_start number config.now.specs rules.now total.now.rules) result }
-{
-    match put_head(number, sink) {
-        Ok(()) => {}
-        Err(failed) => return Err(failed),
-    }
-    put_audit_counts(config, rules, total, sink)
 }
 
 // Whether each verdict of the hour is kept, so that an audit has no line of it. No hour is opened.
@@ -150,35 +105,17 @@ pub fn audit_line<L, K: Sink>(
         (K.taken sink.old) (K.taken sink.new) session.now.store result }
     ensures grow { Grow reads.old reads.new }
 {
-    let failing = match failing_lines(alloc, session, reads) {
-        Ok(failing) => failing,
-        Err(_) => return Err(Stopped::Memory),
-    };
+    let failing = failing_lines(alloc, session, reads)?;
     let total = session.report().total();
-    match put_start(number, session.config(), session.rules(), total, sink) {
-        Ok(()) => {}
-        Err(_) => return Err(Stopped::Fault),
-    }
-    match put_lines(session.config(), &failing, sink) {
-        Ok(()) => Ok(false),
-        Err(_) => Err(Stopped::Fault),
-    }
-}
-
-fn put_verdicts_head<K: Sink>(number: u32, hour: Hour, sink: &mut K) -> Result<(), PutFailed>
-    ensures { Puts (K.taken sink.old) (K.taken sink.new) (verdicts_head number hour) result }
-{
-    let mut line = Buffer::new();
-    let mut of = Buffer::new();
-    put_parts(
+    put_audit(
+        number,
+        session.config(),
+        session.rules(),
+        total,
+        &failing,
         sink,
-        &[
-            line.format(number).as_bytes(),
-            b" verdicts ",
-            of.format(hour).as_bytes(),
-            b"\n",
-        ],
-    )
+    )?;
+    Ok(false)
 }
 
 // Writes the verdicts of an hour of the window.
@@ -196,18 +133,9 @@ fn hour_verdicts<L, K: Sink>(
     ensures grow { Grow reads.old reads.new }
 {
     let config = session.config();
-    let lines = match session.audit_hour(hour, true, reads) {
-        Ok(lines) => lines,
-        Err(_) => return Err(Stopped::Memory),
-    };
-    match put_verdicts_head(number, hour, sink) {
-        Ok(()) => {}
-        Err(_) => return Err(Stopped::Fault),
-    }
-    match put_lines(config, &lines, sink) {
-        Ok(()) => Ok(false),
-        Err(_) => Err(Stopped::Fault),
-    }
+    let all = session.audit_hour(hour, true, reads)?;
+    put_verdicts(number, hour, config, &all, sink)?;
+    Ok(false)
 }
 
 /// Writes all verdicts of one hour, the kept ones among them.

@@ -52,20 +52,16 @@ fn show_counts<L, K: Sink>(
         (K.taken sink.old) (K.taken sink.new) result }
     ensures reads { reads.new ≡ raised reads.old rows.now.hour }
 {
-    match put_counts(rows.show(reads), rows.repeats(), sink) {
-        Ok(()) => Ok(Ended::Done),
-        Err(_) => Err(Stopped::Fault),
-    }
+    put_counts(rows.show(reads), rows.repeats(), sink)?;
+    Ok(Ended::Done)
 }
 
 fn show_refusal<K: Sink>(window: &Window, error: RowError, sink: &mut K) -> Result<Ended, Stopped>
     ensures { PutsOutcome (outcome (refusal_text window.now None (Refusal.File error))
         Ended.SomeRefused) (K.taken sink.old) (K.taken sink.new) result }
 {
-    match put_refusal(window, None, &Refusal::File(error), sink) {
-        Ok(()) => Ok(Ended::SomeRefused),
-        Err(_) => Err(Stopped::Fault),
-    }
+    put_refusal(window, None, &Refusal::File(error), sink)?;
+    Ok(Ended::SomeRefused)
 }
 
 // Writes the count of what the bytes of the file say.
@@ -93,20 +89,16 @@ fn show_packed<K: Sink>(bytes: &[u8], sink: &mut K) -> Result<Ended, Stopped>
     ensures { PutsOutcome (outcome bytes.now Ended.Done) (K.taken sink.old) (K.taken sink.new)
         result }
 {
-    match sink.put(bytes) {
-        Ok(()) => Ok(Ended::Done),
-        Err(_) => Err(Stopped::Fault),
-    }
+    sink.put(bytes)?;
+    Ok(Ended::Done)
 }
 
 fn show_packed_refusal<K: Sink>(error: PackError, sink: &mut K) -> Result<Ended, Stopped>
     ensures { PutsOutcome (outcome (packed_text None error) Ended.SomeRefused) (K.taken sink.old)
         (K.taken sink.new) result }
 {
-    match put_packed_refusal(None, error, sink) {
-        Ok(()) => Ok(Ended::SomeRefused),
-        Err(_) => Err(Stopped::Fault),
-    }
+    put_packed_refusal(None, error, sink)?;
+    Ok(Ended::SomeRefused)
 }
 
 // Writes the packed hour of these rows.
@@ -126,10 +118,8 @@ fn pack_rows<L, K: Sink>(
         (K.taken sink.old) (K.taken sink.new) result }
     ensures reads { reads.new ≡ raised reads.old 0 }
 {
-    match pack(alloc, asked.signal, window, rows, reads) {
-        Ok(bytes) => show_packed(&bytes, sink),
-        Err(_) => Err(Stopped::Memory),
-    }
+    let bytes = pack(alloc, asked.signal, window, rows, reads)?;
+    show_packed(&bytes, sink)
 }
 
 // Writes the packed hour of what the bytes of the file say.

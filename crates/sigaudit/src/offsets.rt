@@ -132,12 +132,7 @@ pub fn offsets_line<L, K: Sink>(
     let Some((place, phase)) = advance_of(session.config(), name) else {
         return refuse(session.config(), number, Refusal::BadLine, sink);
     };
-    let (arrivals, shifts) = match shifts_of(alloc, place, phase, session, reads) {
-        Ok(found) => found,
-        Err(_) => return Err(Stopped::Memory),
-    };
-    match put_shifts(number, name.as_bytes(), arrivals, &shifts, sink) {
-        Ok(()) => Ok(false),
-        Err(_) => Err(Stopped::Fault),
-    }
+    let (arrivals, shifts) = shifts_of(alloc, place, phase, session, reads)?;
+    put_shifts(number, name.as_bytes(), arrivals, &shifts, sink)?;
+    Ok(false)
 }

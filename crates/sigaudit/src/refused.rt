@@ -22,10 +22,8 @@ pub fn refuse<K: Sink>(
     ensures { (s : Store) → TakesPut (refuses config.now number refusal s) (K.taken sink.old)
         (K.taken sink.new) s result }
 {
-    match put_refusal(config.window(), Some(number), &refusal, sink) {
-        Ok(()) => Ok(true),
-        Err(_) => Err(Stopped::Fault),
-    }
+    put_refusal(config.window(), Some(number), &refusal, sink)?;
+    Ok(true)
 }
 
 /// Refuses a line whose packed hour has this fault.
@@ -38,8 +36,6 @@ pub fn refuse_packed<K: Sink>(
     ensures { (s : Store) → TakesPut (refuses_file config.now number (Packed error) s)
         (K.taken sink.old) (K.taken sink.new) s result }
 {
-    match put_packed_refusal(Some(number), error, sink) {
-        Ok(()) => Ok(true),
-        Err(_) => Err(Stopped::Fault),
-    }
+    put_packed_refusal(Some(number), error, sink)?;
+    Ok(true)
 }

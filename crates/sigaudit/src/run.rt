@@ -6,15 +6,15 @@ ghost use Rattle.session.specs.Sessions.{Grow};
 ghost use Rattle.ring_config.specs.Settings.{config_of};
 ghost use Rattle.command_line.specs.Words.{IsReadable, seen};
 ghost use Rattle.sigaudit.specs.Asked.{asked_of};
-ghost use Rattle.sigaudit.specs.ConfigText.{config_text, is_config_memory};
+ghost use Rattle.report_text.specs.ConfigRefusal.{config_text, is_config_memory};
+ghost use Rattle.report_text.specs.Usage.{usage_text};
 ghost use Rattle.sigaudit.specs.Status.{status_of_run};
 ghost use Rattle.script_lines.specs.Lines.{lines_of};
 ghost use Rattle.sigaudit.specs.Aims.{aim_of, for_lines};
-ghost use Rattle.sigaudit.specs.Transcript.{asks_pairs, ended_by, limited, outcome, usage_text, BeginsWithFirstLines, HaveOneTranscript, IsAimOutcome, IsAnswer, IsConfigOutcome, IsDemoOutcome, IsFileOutcome, IsScriptOutcome};
+ghost use Rattle.sigaudit.specs.Transcript.{asks_pairs, ended_by, limited, outcome, BeginsWithFirstLines, HaveOneTranscript, IsAimOutcome, IsAnswer, IsConfigOutcome, IsDemoOutcome, IsFileOutcome, IsScriptOutcome};
 ghost use Rattle.sigaudit.specs.Counting.{OpensAnswer, OpensConfig, OpensFile, OpensText, WhereTaken};
 ghost use Rattle.sigaudit.specs.Run.{world, CountsCarried, CountsGrow, CountsText, FetchesText, DemoCause, FewBytes, IsCarriedOut, IsPairsRun, IsRun, LeavesShelf, RunsAs, HasCause, NeedsWords, NeverFall, PutsOutcome, ScriptCause};
 
-use crate::config_text::put_config_error;
 use crate::demo_shelf::DemoShelf;
 use crate::file::{FileAsked, Task, put_file};
 use crate::pairs::put_undecided;
@@ -27,14 +27,12 @@ use command_line::{Refused, Request, parse_words};
 use decisive::window_is_one;
 use hour_work::reports_are_one;
 use outside::{FetchError, Shelf, Sink};
+use report_text::{put_config_error, put_usage};
 use ring_config::{Config, ConfigError, read_config};
 use session::Session;
 use sig_base::Reads;
 use signal_log::some_history_agrees;
 use std::alloc::Global;
-
-const USAGE: &[u8] =
-    b"usage: sigaudit --config C --script S [--rule K --at T] | --count F --signal ID --hour H | --pack F --signal ID --hour H | --demo N\n";
 
 // The most bytes of a configuration, and of a script.
 const CONFIG_LIMIT: u64 = 1_048_576;
@@ -76,20 +74,16 @@ fn show_usage<K: Sink>(sink: &mut K) -> Result<Ended, Stopped>
     ensures { PutsOutcome (outcome usage_text Ended.Usage) (K.taken sink.old) (K.taken sink.new)
         result }
 {
-    match sink.put(USAGE) {
-        Ok(()) => Ok(Ended::Usage),
-        Err(_) => Err(Stopped::Fault),
-    }
+    put_usage(sink)?;
+    Ok(Ended::Usage)
 }
 
 fn show_config_error<K: Sink>(error: ConfigError, sink: &mut K) -> Result<Ended, Stopped>
     ensures { PutsOutcome (outcome (config_text error) Ended.BadConfig) (K.taken sink.old)
         (K.taken sink.new) result }
 {
-    match put_config_error(error, sink) {
-        Ok(()) => Ok(Ended::BadConfig),
-        Err(_) => Err(Stopped::Fault),
-    }
+    put_config_error(error, sink)?;
+    Ok(Ended::BadConfig)
 }
 
 // Carries out the lines of a script and writes their texts.

@@ -1,7 +1,7 @@
 use Rattle.std.proofs.Common.{◌≡◌, ◌∙◌, false, sym}
 use Rattle.ring_config.specs.Settings.{config_of}
 use Rattle.sigaudit.specs.Aims.{aim_of}
-use Rattle.sigaudit.specs.ConfigText.{is_config_memory}
+use Rattle.report_text.specs.ConfigRefusal.{is_config_memory}
 use Rattle.sigaudit.specs.Transcript.{IsConfigOutcome}
 use Rattle.sigaudit.proofs.RunFacts.{config_refused, run-of_nothing}
 use Rattle.sigaudit.proofs.run.run_config.Goals as goal

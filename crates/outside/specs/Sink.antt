@@ -1,21 +1,33 @@
 -- What a call that writes a text does to a sink.
-use Rattle.std.specs.Prelude.{◌≡◌, ◌<◌, ◌≤◌, ◌+◌, ◌++◌, ◌⊎◌, ℕ, List, length, Option, Result, Ok, Err}
+use Rattle.std.specs.Prelude.{◌≡◌, ◌<◌, ◌≤◌, ◌+◌, ◌++◌, ◌⊎◌, ℕ, List, length, Option, Some, Result, Ok, Err}
 use Rattle.sig_base.specs.Reads.{one_more}
 use Rattle.std.specs.Io.KnownBytes.{Appends}
 use Rattle.outside.specs.Counted.{Rose}
+
+-- what a sink took, where it is told, and how often it failed
+pub record Taken : Type 0 where
+  pub written : Option (List ℕ)
+  pub faults : ℕ
 
 -- known bytes grow by a front of the text
 abbrev pub AppendsFront : Option (List ℕ) → Option (List ℕ) → List ℕ → Type 0
 AppendsFront old new text = (front : List ℕ) × (rest : List ℕ) × (text ≡ front ++ rest) × Appends old new front
 
+-- the whole text was written and no fault came
+pub record Writes (old new : Taken) (text : List ℕ) : Type 0 where
+  pub same : new.faults ≡ old.faults
+  pub wrote : Appends old.written new.written text
+
 -- the count of faults rose, and a front of the text was written
-abbrev pub Stops : Option (List ℕ) → Option (List ℕ) → ℕ → ℕ → List ℕ → Type 0
-Stops old new before now text = (before ≤ now) × Rose before now × AppendsFront old new text
+pub record Stops (old new : Taken) (text : List ℕ) : Type 0 where
+  pub grew : old.faults ≤ new.faults
+  pub rose : Rose old.faults new.faults
+  pub front : AppendsFront old.written new.written text
 
 -- at Ok the whole text was written and no fault came; at an Err a front of it was, and the count of faults rose
-abbrev pub Puts : {T E : Type 0} → Option (List ℕ) → Option (List ℕ) → ℕ → ℕ → List ℕ → Result T E → Type 0
-Puts old new before now text (Ok _) = (now ≡ before) × Appends old new text
-Puts old new before now text (Err _) = Stops old new before now text
+abbrev pub Puts : {T E : Type 0} → Taken → Taken → List ℕ → Result T E → Type 0
+Puts old new text (Ok _) = Writes old new text
+Puts old new text (Err _) = Stops old new text
 
 -- what a sink in memory is: the bytes that it took, its room, how many puts came, the number of the put that fails, and its faults
 pub record SinkState : Type 0 where
@@ -24,6 +36,10 @@ pub record SinkState : Type 0 where
   pub puts : ℕ
   pub failing : ℕ
   pub faults : ℕ
+
+-- it tells its bytes
+abbrev pub taken_of : SinkState → Taken
+taken_of s = record { written = Some s.bytes; faults = s.faults }
 
 -- this put is the one that was told to fail, or its piece passes the room
 abbrev pub FailsPut : SinkState → List ℕ → Type 0

@@ -1,6 +1,6 @@
 // A sink in memory with a fixed room, which tells its bytes.
-ghost use Rattle.std.specs.Prelude.{◌≡◌, [], List, ℕ, Option, Some, IfOk};
-ghost use Rattle.outside.specs.Sink.{IsPut, Puts};
+ghost use Rattle.std.specs.Prelude.{◌≡◌, [], IfOk};
+ghost use Rattle.outside.specs.Sink.{IsPut, Puts, taken_of};
 
 use crate::{PutFailed, Sink};
 use sig_base::NoMemory;
@@ -72,13 +72,10 @@ impl MemSink {
 }
 
 impl Sink for MemSink {
-    ghost written = { λ s. Some s.bytes };
-
-    ghost faults = { λ s. s.faults };
+    ghost taken = { taken_of };
 
     fn put(&mut self, bytes: &[u8]) -> Result<(), PutFailed>
-        ensures puts { Puts (Some self.old.bytes) (Some self.new.bytes) self.old.faults
-            self.new.faults bytes.now result }
+        ensures puts { Puts (taken_of self.old) (taken_of self.new) bytes.now result }
 
         // The puts that fail are those that were told to, and those that pass the room.
         ensures exact { IsPut self.old self.new bytes.now result }

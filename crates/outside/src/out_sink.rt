@@ -31,9 +31,7 @@ impl<W: Write> OutSink<W> {
 }
 
 impl<W: Write> Sink for OutSink<W> {
-    ghost written = { λ s. None };
-
-    ghost faults = { λ s. s };
+    ghost taken = { λ s. record { written = None; faults = s } };
 
     fn put(&mut self, bytes: &[u8]) -> Result<(), PutFailed> {
         let mut rest = bytes;

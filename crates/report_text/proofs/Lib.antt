@@ -3,3 +3,4 @@ pub mod RuleLines
 pub mod NumberLines
 pub mod ApproachLines
 pub mod ShiftLines
+pub mod VerdictLines

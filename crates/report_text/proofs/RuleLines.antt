@@ -1,11 +1,10 @@
 -- How the lines of rules follow from their parts.
-use Rattle.std.proofs.Common.{◌≡◌, ◌<◌, ◌≤◌, ◌+◌, ◌++◌, ◌∷◌, [], ℕ, List, length, drop, false, Option, Result, refl, get_or, add-one}
+use Rattle.std.proofs.Common.{◌≡◌, ◌<◌, ◌≤◌, ◌+◌, ◌++◌, ◌∷◌, [], ℕ, List, length, drop, false, Result, refl, get_or, add-one}
 use Rattle.std.specs.Prelude.{slice_index_or}
 use Rattle.std.proofs.Math.Seq.{drop-cons}
 use Rattle.std.proofs.lemmas.List.{drop_all}
-use Rattle.std.specs.Io.KnownBytes.{Appends}
-use Rattle.outside.specs.Sink.{Puts, Stops}
-use Rattle.outside.proofs.PutsFacts.{puts-then, stops-front, stops-in}
+use Rattle.outside.specs.Sink.{Puts, Stops, Taken, Writes}
+use Rattle.outside.proofs.PutsFacts.{puts-then, stops-front, stops-then}
 use Rattle.channel_tables.specs.declared.spec.Spec.{Spec}
 use Rattle.rule_audit.specs.declared.rules.Rule.{Rule}
 use Rattle.hour_work.specs.declared.counts.RuleCount.{RuleCount}
@@ -18,22 +17,22 @@ pub line_of_rule : (specs : List Spec) (number : ℕ) (rule : Rule) (n : RuleCou
 line_of_rule specs number rule n e = rw e refl
 
 -- the line was cut off in its head, or in the rule's name
-pub head_stops : (specs : List Spec) (number : ℕ) (rule : Rule) (n : RuleCount) (w w' : Option (List ℕ)) (f f' : ℕ) → is_none_counted n ≡ false
-    → Stops w w' f f' (rule_head number) → Stops w w' f f' (rule_line specs number rule n)
-head_stops specs number rule n w w' f f' e h =
-    rw (line_of_rule specs number rule n e) (stops-front w w' f f' (rule_head number) (rule_name specs rule ++ counts_tail n) h)
+pub head_stops : (specs : List Spec) (number : ℕ) (rule : Rule) (n : RuleCount) (w w' : Taken) → is_none_counted n ≡ false
+    → Stops w w' (rule_head number) → Stops w w' (rule_line specs number rule n)
+head_stops specs number rule n w w' e h = rw (line_of_rule specs number rule n e) (stops-front w w' (rule_head number) (rule_name specs rule ++ counts_tail n) h)
 
-pub name_stops : (specs : List Spec) (number : ℕ) (rule : Rule) (n : RuleCount) (w w1 w2 : Option (List ℕ)) (f f1 f2 : ℕ) → is_none_counted n ≡ false
-    → f1 ≡ f → Appends w w1 (rule_head number) → Stops w1 w2 f1 f2 (rule_name specs rule) → Stops w w2 f f2 (rule_line specs number rule n)
-name_stops specs number rule n w w1 w2 f f1 f2 e same h k =
-    rw (line_of_rule specs number rule n e) (stops-in w w1 w2 f f1 f2 (rule_head number ++ (rule_name specs rule ++ counts_tail n)) (rule_head number) (rule_name specs rule) (counts_tail n) same h refl k)
+pub name_stops : (specs : List Spec) (number : ℕ) (rule : Rule) (n : RuleCount) (w w1 w2 : Taken) → is_none_counted n ≡ false
+    → Writes w w1 (rule_head number) → Stops w1 w2 (rule_name specs rule) → Stops w w2 (rule_line specs number rule n)
+name_stops specs number rule n w w1 w2 e h k =
+    rw (line_of_rule specs number rule n e)
+    (stops-then w w1 w2 (rule_head number) (rule_name specs rule ++ counts_tail n) h (stops-front w1 w2 (rule_name specs rule) (counts_tail n) k))
 
 -- head and name were written, and then what stands after them
-pub tail_puts : {T E : Type 0} (specs : List Spec) (number : ℕ) (rule : Rule) (n : RuleCount) (w w1 w2 w3 : Option (List ℕ)) (f f1 f2 f3 : ℕ) (r : Result T E) → is_none_counted n ≡ false
-    → f1 ≡ f → Appends w w1 (rule_head number) → f2 ≡ f1 → Appends w1 w2 (rule_name specs rule) → Puts w2 w3 f2 f3 (counts_tail n) r → Puts w w3 f f3 (rule_line specs number rule n) r
-tail_puts specs number rule n w w1 w2 w3 f f1 f2 f3 r e same h same' k p =
+pub tail_puts : {T E : Type 0} (specs : List Spec) (number : ℕ) (rule : Rule) (n : RuleCount) (w w1 w2 w3 : Taken) (r : Result T E) → is_none_counted n ≡ false
+    → Writes w w1 (rule_head number) → Writes w1 w2 (rule_name specs rule) → Puts w2 w3 (counts_tail n) r → Puts w w3 (rule_line specs number rule n) r
+tail_puts specs number rule n w w1 w2 w3 r e h k p =
     rw (line_of_rule specs number rule n e)
-    (puts-then w w1 w3 f f1 f3 (rule_head number) (rule_name specs rule ++ counts_tail n) r same h (puts-then w1 w2 w3 f1 f2 f3 (rule_name specs rule) (counts_tail n) r same' k p))
+    (puts-then w w1 w3 (rule_head number) (rule_name specs rule ++ counts_tail n) r h (puts-then w1 w2 w3 (rule_name specs rule) (counts_tail n) r k p))
 
 -- the line of the next rule, and those of the rules after it
 pub counts_step : (specs : List Spec) (counts : List RuleCount) (rules : List Rule) (i : ℕ) (d : Rule) → i < length rules

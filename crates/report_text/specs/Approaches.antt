@@ -76,3 +76,6 @@ cycle_line w x =
 -- a cycle, and its points in their order
 abbrev pub diagram_text : Settings → Diagram → List ℕ
 diagram_text c d = cycle_line c.window d.cycle ++ flat_map (point_line c) d.points
+
+abbrev pub diagrams_text : Settings → List Diagram → List ℕ
+diagrams_text c ds = flat_map (diagram_text c) ds

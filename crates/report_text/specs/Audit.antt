@@ -9,6 +9,7 @@ use Rattle.rule_audit.specs.declared.lines.AuditLine.{AuditLine}
 use Rattle.rule_audit.specs.declared.rules.Rule.{Rule}
 use Rattle.hour_work.specs.declared.counts.RuleCount.{RuleCount}
 use Rattle.report_text.specs.Line.{line_of}
+use Rattle.report_text.specs.Heads.{audit_head}
 use Rattle.report_text.specs.Rules.{joined, rule_name}
 
 -- ---- counts
@@ -69,3 +70,12 @@ text_by Undecided w l = verdict_text w (codes "undecided ") l
 -- the line of one verdict; an idle one has none
 abbrev pub audit_line_text : Span → AuditLine → List ℕ
 audit_line_text w l = text_by l.verdict w l
+
+-- the text of the lines in their order
+unfoldable pub lines_text : Span → List AuditLine → List ℕ
+lines_text w [] = []
+lines_text w (l ∷ ls) = audit_line_text w l ++ lines_text w ls
+
+-- the line before an audit, and how many verdicts each rule has
+abbrev pub audit_start : ℕ → List Spec → List Rule → List RuleCount → List ℕ
+audit_start n specs rules counts = audit_head n ++ counts_text specs rules counts

@@ -1,4 +1,7 @@
 pub mod Line
+pub mod Heads
+pub mod Usage
+pub mod ConfigRefusal
 pub mod Counts
 pub mod Refusals
 pub mod Packed

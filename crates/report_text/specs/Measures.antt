@@ -9,6 +9,7 @@ use Rattle.other_measures.specs.declared.sums.PreemptSum.{PreemptSum}
 use Rattle.other_measures.specs.declared.sums.CoordSum.{CoordSum}
 use Rattle.hour_work.specs.Numbers.{Numbers}
 use Rattle.report_text.specs.Line.{line_of}
+use Rattle.report_text.specs.Heads.{hour_head, window_head}
 use Rattle.report_text.specs.Rules.{joined}
 use Rattle.report_text.specs.Approaches.{approaches_text}
 
@@ -115,3 +116,10 @@ others_text c n = peds_text c n ++ (preempts_text c n ++ coordination_text c.coo
 -- the measures of an hour or of the window: what is held and known, a line for each phase, each pedestrian signal and each preempt, and for the coordination, and those of the approaches
 abbrev pub measures_text : Settings → Numbers → List ℕ
 measures_text c n = held_line n ++ (phases_text c n ++ (others_text c n ++ approaches_text c.approaches n.arrivals n.failures))
+
+-- those of the window and of one hour, in answer to a line of a script
+abbrev pub window_measures : ℕ → Settings → Numbers → List ℕ
+window_measures n c numbers = window_head n ++ measures_text c numbers
+
+abbrev pub hour_measures : ℕ → ℕ → Settings → Numbers → List ℕ
+hour_measures n hour c numbers = hour_head n hour ++ measures_text c numbers

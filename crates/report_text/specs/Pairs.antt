@@ -45,6 +45,15 @@ abbrev pub pair_text : Settings → ℕ → ℕ → Pair → List ℕ
 pair_text c rule at p =
     undecided_line c.window rule at ++ (side_text c (codes "keeps") p.keeps ++ side_text c (codes "breaks") p.breaks)
 
+-- there is no such line
+abbrev pub nothing_text : List ℕ
+nothing_text = codes "nothing undecided\n"
+
+-- the texts of the pairs of the rule at the tenth, or one line where there are none
+abbrev pub found_text : Settings → ℕ → ℕ → List Pair → List ℕ
+found_text c rule at [] = nothing_text
+found_text c rule at (p ∷ ps) = flat_map (pair_text c rule at) (p ∷ ps)
+
 -- the tenths of these fills are in the window
 abbrev pub AreFillsIn : Span → List Fill → Type 0
 AreFillsIn w fs = All (λ f. f.at < 36000 * w.hours) fs

@@ -14,8 +14,8 @@ pub fn put_applied<K: Sink>(
     applied: &Applied,
     sink: &mut K,
 ) -> Result<(), PutFailed>
-    ensures { Puts (K.written sink.old) (K.written sink.new) (K.faults sink.old) (K.faults sink.new)
-        (applied_text line loaded applied.now) result }
+    ensures { Puts (K.taken sink.old) (K.taken sink.new) (applied_text line loaded applied.now)
+        result }
 {
     match loaded {
         Some((rows, repeats)) => put_loaded(line, rows, repeats, applied, sink),
@@ -30,7 +30,7 @@ fn put_loaded<K: Sink>(
     applied: &Applied,
     sink: &mut K,
 ) -> Result<(), PutFailed>
-    ensures { Puts (K.written sink.old) (K.written sink.new) (K.faults sink.old) (K.faults sink.new)
+    ensures { Puts (K.taken sink.old) (K.taken sink.new)
         (applied_text line (Some (rows, repeats)) applied.now) result }
 {
     let mut number = Buffer::new();
@@ -56,8 +56,7 @@ fn put_loaded<K: Sink>(
 }
 
 fn put_moved<K: Sink>(line: u32, applied: &Applied, sink: &mut K) -> Result<(), PutFailed>
-    ensures { Puts (K.written sink.old) (K.written sink.new) (K.faults sink.old) (K.faults sink.new)
-        (applied_text line None applied.now) result }
+    ensures { Puts (K.taken sink.old) (K.taken sink.new) (applied_text line None applied.now) result }
 {
     let mut number = Buffer::new();
     let mut from = Buffer::new();

@@ -10,8 +10,7 @@ use ring_config::{Approach, Config};
 use split_measures::SplitSum;
 
 fn put_counts<K: Sink>(name: &[u8], sums: &ArrivalSum, sink: &mut K) -> Result<(), PutFailed>
-    ensures { Puts (K.written sink.old) (K.written sink.new) (K.faults sink.old) (K.faults sink.new)
-        (arrival_counts name.now sums.now) result }
+    ensures { Puts (K.taken sink.old) (K.taken sink.new) (arrival_counts name.now sums.now) result }
 {
     let mut arrivals = Buffer::new();
     let mut green = Buffer::new();
@@ -47,7 +46,7 @@ fn put_fraction<K: Sink>(
     denominator: u128,
     sink: &mut K,
 ) -> Result<(), PutFailed>
-    ensures { Puts (K.written sink.old) (K.written sink.new) (K.faults sink.old) (K.faults sink.new)
+    ensures { Puts (K.taken sink.old) (K.taken sink.new)
         (word.now ++ fraction numerator denominator) result }
 {
     if denominator == 0 {
@@ -68,7 +67,7 @@ fn put_fraction<K: Sink>(
 
 // Of the arrivals of which something is seen.
 fn put_share<K: Sink>(sums: &ArrivalSum, sink: &mut K) -> Result<(), PutFailed>
-    ensures { Puts (K.written sink.old) (K.written sink.new) (K.faults sink.old) (K.faults sink.new)
+    ensures { Puts (K.taken sink.old) (K.taken sink.new)
         (codes " share " ++ fraction sums.now.green (sums.now.arrivals - sums.now.unseen)) result }
 {
     let green = u128::from(sums.green);
@@ -78,7 +77,7 @@ fn put_share<K: Sink>(sums: &ArrivalSum, sink: &mut K) -> Result<(), PutFailed>
 
 // The counts of a u64 are multiplied in a u128, which has room for each product.
 fn put_platoon<K: Sink>(sums: &ArrivalSum, sink: &mut K) -> Result<(), PutFailed>
-    ensures { Puts (K.written sink.old) (K.written sink.new) (K.faults sink.old) (K.faults sink.new)
+    ensures { Puts (K.taken sink.old) (K.taken sink.new)
         (codes " platoon " ++ fraction (sums.now.cycle_green * sums.now.cycle_tenths)
         (sums.now.cycle_arrivals * sums.now.green_tenths)) result }
 {
@@ -88,34 +87,22 @@ fn put_platoon<K: Sink>(sums: &ArrivalSum, sink: &mut K) -> Result<(), PutFailed
 }
 
 fn put_shares<K: Sink>(sums: &ArrivalSum, sink: &mut K) -> Result<(), PutFailed>
-    ensures { Puts (K.written sink.old) (K.written sink.new) (K.faults sink.old) (K.faults sink.new)
-        (arrival_shares sums.now) result }
+    ensures { Puts (K.taken sink.old) (K.taken sink.new) (arrival_shares sums.now) result }
 {
-    match put_share(sums, sink) {
-        Ok(()) => {}
-        Err(failed) => return Err(failed),
-    }
-    match put_platoon(sums, sink) {
-        Ok(()) => {}
-        Err(failed) => return Err(failed),
-    }
+    put_share(sums, sink)?;
+    put_platoon(sums, sink)?;
     sink.put(b"\n")
 }
 
 fn put_arrivals<K: Sink>(name: &[u8], sums: &ArrivalSum, sink: &mut K) -> Result<(), PutFailed>
-    ensures { Puts (K.written sink.old) (K.written sink.new) (K.faults sink.old) (K.faults sink.new)
-        (arrivals_line name.now sums.now) result }
+    ensures { Puts (K.taken sink.old) (K.taken sink.new) (arrivals_line name.now sums.now) result }
 {
-    match put_counts(name, sums, sink) {
-        Ok(()) => {}
-        Err(failed) => return Err(failed),
-    }
+    put_counts(name, sums, sink)?;
     put_shares(sums, sink)
 }
 
 fn put_actuations<K: Sink>(name: &[u8], sums: &ArrivalSum, sink: &mut K) -> Result<(), PutFailed>
-    ensures { Puts (K.written sink.old) (K.written sink.new) (K.faults sink.old) (K.faults sink.new)
-        (actuations_line name.now sums.now) result }
+    ensures { Puts (K.taken sink.old) (K.taken sink.new) (actuations_line name.now sums.now) result }
 {
     let mut actuations = Buffer::new();
     let mut red = Buffer::new();
@@ -148,7 +135,7 @@ fn put_advance<K: Sink>(
     sums: &ArrivalSum,
     sink: &mut K,
 ) -> Result<(), PutFailed>
-    ensures { Puts (K.written sink.old) (K.written sink.new) (K.faults sink.old) (K.faults sink.new)
+    ensures { Puts (K.taken sink.old) (K.taken sink.new)
         (line_if (is_some approach.now.advance) (arrivals_line approach.now.name sums.now)) result }
 {
     if approach.advance.is_some() {
@@ -170,8 +157,7 @@ fn all_splits(sums: &SplitSum) -> u128
 }
 
 fn put_splits<K: Sink>(name: &[u8], sums: &SplitSum, sink: &mut K) -> Result<(), PutFailed>
-    ensures { Puts (K.written sink.old) (K.written sink.new) (K.faults sink.old) (K.faults sink.new)
-        (splits_line name.now sums.now) result }
+    ensures { Puts (K.taken sink.old) (K.taken sink.new) (splits_line name.now sums.now) result }
 {
     let all = all_splits(sums);
     let mut splits = Buffer::new();
@@ -208,13 +194,10 @@ fn put_at_bar<K: Sink>(
     splits: &SplitSum,
     sink: &mut K,
 ) -> Result<(), PutFailed>
-    ensures { Puts (K.written sink.old) (K.written sink.new) (K.faults sink.old) (K.faults sink.new)
+    ensures { Puts (K.taken sink.old) (K.taken sink.new)
         (actuations_line name.now sums.now ++ splits_line name.now splits.now) result }
 {
-    match put_actuations(name, sums, sink) {
-        Ok(()) => {}
-        Err(failed) => return Err(failed),
-    }
+    put_actuations(name, sums, sink)?;
     put_splits(name, splits, sink)
 }
 
@@ -225,7 +208,7 @@ fn put_stop_bar<K: Sink>(
     splits: &SplitSum,
     sink: &mut K,
 ) -> Result<(), PutFailed>
-    ensures { Puts (K.written sink.old) (K.written sink.new) (K.faults sink.old) (K.faults sink.new)
+    ensures { Puts (K.taken sink.old) (K.taken sink.new)
         (stop_bar_text approach.now sums.now splits.now) result }
 {
     if approach.stop_bar.is_some() {
@@ -241,13 +224,10 @@ fn put_approach<K: Sink>(
     splits: &SplitSum,
     sink: &mut K,
 ) -> Result<(), PutFailed>
-    ensures { Puts (K.written sink.old) (K.written sink.new) (K.faults sink.old) (K.faults sink.new)
+    ensures { Puts (K.taken sink.old) (K.taken sink.new)
         (approach_text approach.now sums.now splits.now) result }
 {
-    match put_advance(approach, sums, sink) {
-        Ok(()) => {}
-        Err(failed) => return Err(failed),
-    }
+    put_advance(approach, sums, sink)?;
     put_stop_bar(approach, sums, splits, sink)
 }
 
@@ -259,7 +239,7 @@ pub(crate) fn put_approaches<K: Sink>(
     splits: &[SplitSum],
     sink: &mut K,
 ) -> Result<(), PutFailed>
-    ensures { Puts (K.written sink.old) (K.written sink.new) (K.faults sink.old) (K.faults sink.new)
+    ensures { Puts (K.taken sink.old) (K.taken sink.new)
         (approaches_text config.now.approaches sums.now splits.now) result }
 {
     for place in 0..config.approach_count() {
@@ -272,10 +252,7 @@ pub(crate) fn put_approaches<K: Sink>(
         let Some(split) = splits.get(place as usize) else {
             return Ok(());
         };
-        match put_approach(approach, own, split, sink) {
-            Ok(()) => {}
-            Err(failed) => return Err(failed),
-        }
+        put_approach(approach, own, split, sink)?;
     }
     Ok(())
 }

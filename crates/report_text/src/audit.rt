@@ -34,16 +34,14 @@ fn count_at(counts: &[RuleCount], place: usize) -> RuleCount
 }
 
 fn put_head<K: Sink>(number: usize, sink: &mut K) -> Result<(), PutFailed>
-    ensures { Puts (K.written sink.old) (K.written sink.new) (K.faults sink.old) (K.faults sink.new)
-        (rule_head number) result }
+    ensures { Puts (K.taken sink.old) (K.taken sink.new) (rule_head number) result }
 {
     let mut buffer = Buffer::new();
     put_parts(sink, &[b"rule ", buffer.format(number).as_bytes(), b" "])
 }
 
 fn put_tail<K: Sink>(count: RuleCount, sink: &mut K) -> Result<(), PutFailed>
-    ensures { Puts (K.written sink.old) (K.written sink.new) (K.faults sink.old) (K.faults sink.new)
-        (counts_tail count) result }
+    ensures { Puts (K.taken sink.old) (K.taken sink.new) (counts_tail count) result }
 {
     let mut kept = Buffer::new();
     let mut broken = Buffer::new();
@@ -70,40 +68,31 @@ fn put_rule_line<K: Sink>(
     count: RuleCount,
     sink: &mut K,
 ) -> Result<(), PutFailed>
-    ensures { Puts (K.written sink.old) (K.written sink.new) (K.faults sink.old) (K.faults sink.new)
+    ensures { Puts (K.taken sink.old) (K.taken sink.new)
         (rule_line config.now.specs number rule.now count) result }
 {
     if is_none_counted(count) {
         return Ok(());
     }
-    match put_head(number, sink) {
-        Ok(()) => {}
-        Err(failed) => return Err(failed),
-    }
-    match put_rule_name(config, rule, sink) {
-        Ok(()) => {}
-        Err(failed) => return Err(failed),
-    }
+    put_head(number, sink)?;
+    put_rule_name(config, rule, sink)?;
     put_tail(count, sink)
 }
 
 /// Writes for each rule that has verdicts in an hour, or in the window, how many of them are kept,
 /// broken and undecided.
-pub fn put_audit_counts<K: Sink>(
+pub(crate) fn put_audit_counts<K: Sink>(
     config: &Config,
     rules: &[Rule],
     part: &Partial,
     sink: &mut K,
 ) -> Result<(), PutFailed>
-    ensures { Puts (K.written sink.old) (K.written sink.new) (K.faults sink.old) (K.faults sink.new)
+    ensures { Puts (K.taken sink.old) (K.taken sink.new)
         (counts_text config.now.specs rules.now part.now.rules) result }
 {
     let counts = part.rules();
     for (i, rule) in rules.iter().enumerate() {
-        match put_rule_line(config, i + 1, rule, count_at(counts, i), sink) {
-            Ok(()) => {}
-            Err(failed) => return Err(failed),
-        }
+        put_rule_line(config, i + 1, rule, count_at(counts, i), sink)?;
     }
     Ok(())
 }
@@ -117,8 +106,8 @@ fn put_plain<K: Sink>(
 ) -> Result<(), PutFailed>
     requires at { line.now.at < 36000 * window.now.hours }
     requires none { line.now.window ≡ None }
-    ensures { Puts (K.written sink.old) (K.written sink.new) (K.faults sink.old) (K.faults sink.new)
-        (verdict_text window.now word.now line.now) result }
+    ensures { Puts (K.taken sink.old) (K.taken sink.new) (verdict_text window.now word.now line.now)
+        result }
 {
     let stamp = window.stamp(line.at);
     let mut number = Buffer::new();
@@ -144,8 +133,8 @@ fn put_windowed<K: Sink>(
 ) -> Result<(), PutFailed>
     requires line { IsLineIn window.now line.now }
     requires ends { line.now.window ≡ Some ends }
-    ensures { Puts (K.written sink.old) (K.written sink.new) (K.faults sink.old) (K.faults sink.new)
-        (verdict_text window.now word.now line.now) result }
+    ensures { Puts (K.taken sink.old) (K.taken sink.new) (verdict_text window.now word.now line.now)
+        result }
 {
     let stamp = window.stamp(line.at);
     let from = window.stamp(ends.0);
@@ -174,8 +163,8 @@ fn put_verdict<K: Sink>(
     sink: &mut K,
 ) -> Result<(), PutFailed>
     requires { IsLineIn window.now line.now }
-    ensures { Puts (K.written sink.old) (K.written sink.new) (K.faults sink.old) (K.faults sink.new)
-        (verdict_text window.now word.now line.now) result }
+    ensures { Puts (K.taken sink.old) (K.taken sink.new) (verdict_text window.now word.now line.now)
+        result }
 {
     match line.window {
         None => put_plain(window, word, line, sink),
@@ -185,13 +174,13 @@ fn put_verdict<K: Sink>(
 
 /// Writes the line of one verdict: kept, broken or undecided, the rule's number, the tenth, and the
 /// window where the line has one. An idle one has no line.
-pub fn put_audit_line<K: Sink>(
+pub(crate) fn put_audit_line<K: Sink>(
     config: &Config,
     line: &AuditLine,
     sink: &mut K,
 ) -> Result<(), PutFailed>
     requires { IsLineIn config.now.window line.now }
-    ensures { Puts (K.written sink.old) (K.written sink.new) (K.faults sink.old) (K.faults sink.new)
+    ensures { Puts (K.taken sink.old) (K.taken sink.new)
         (audit_line_text config.now.window line.now) result }
 {
     let window = config.window();

@@ -7,8 +7,7 @@ use other_measures::CoordSum;
 use outside::{PutFailed, Sink, put_parts};
 
 fn put_states<K: Sink>(sums: &CoordSum, sink: &mut K) -> Result<(), PutFailed>
-    ensures { Puts (K.written sink.old) (K.written sink.new) (K.faults sink.old) (K.faults sink.new)
-        (coordination_states sums.now) result }
+    ensures { Puts (K.taken sink.old) (K.taken sink.new) (coordination_states sums.now) result }
 {
     let mut state0 = Buffer::new();
     let mut state1 = Buffer::new();
@@ -39,8 +38,7 @@ fn put_states<K: Sink>(sums: &CoordSum, sink: &mut K) -> Result<(), PutFailed>
 }
 
 fn put_rows<K: Sink>(sums: &CoordSum, sink: &mut K) -> Result<(), PutFailed>
-    ensures { Puts (K.written sink.old) (K.written sink.new) (K.faults sink.old) (K.faults sink.new)
-        (coordination_rows sums.now) result }
+    ensures { Puts (K.taken sink.old) (K.taken sink.new) (coordination_rows sums.now) result }
 {
     let mut undecided = Buffer::new();
     let mut patterns = Buffer::new();
@@ -66,13 +64,9 @@ fn put_rows<K: Sink>(sums: &CoordSum, sink: &mut K) -> Result<(), PutFailed>
 }
 
 fn put_line<K: Sink>(sums: &CoordSum, sink: &mut K) -> Result<(), PutFailed>
-    ensures { Puts (K.written sink.old) (K.written sink.new) (K.faults sink.old) (K.faults sink.new)
-        (coordination_line sums.now) result }
+    ensures { Puts (K.taken sink.old) (K.taken sink.new) (coordination_line sums.now) result }
 {
-    match put_states(sums, sink) {
-        Ok(()) => {}
-        Err(failed) => return Err(failed),
-    }
+    put_states(sums, sink)?;
     put_rows(sums, sink)
 }
 
@@ -82,8 +76,7 @@ pub(crate) fn put_coordination<K: Sink>(
     sums: &CoordSum,
     sink: &mut K,
 ) -> Result<(), PutFailed>
-    ensures { Puts (K.written sink.old) (K.written sink.new) (K.faults sink.old) (K.faults sink.new)
-        (coordination_text on sums.now) result }
+    ensures { Puts (K.taken sink.old) (K.taken sink.new) (coordination_text on sums.now) result }
 {
     if on { put_line(sums, sink) } else { Ok(()) }
 }

@@ -29,8 +29,7 @@ fn count_one(counts: &mut [u32; 256], code: u8)
 }
 
 fn put_code<K: Sink>(code: u8, count: u32, sink: &mut K) -> Result<(), PutFailed>
-    ensures { Puts (K.written sink.old) (K.written sink.new) (K.faults sink.old) (K.faults sink.new)
-        (code_count_line code count) result }
+    ensures { Puts (K.taken sink.old) (K.taken sink.new) (code_count_line code count) result }
 {
     if count == 0 {
         return Ok(());
@@ -52,7 +51,7 @@ fn put_code<K: Sink>(code: u8, count: u32, sink: &mut K) -> Result<(), PutFailed
 }
 
 fn put_head<K: Sink>(rows: u32, repeats: u32, sink: &mut K) -> Result<(), PutFailed>
-    ensures { Puts (K.written sink.old) (K.written sink.new) (K.faults sink.old) (K.faults sink.new)
+    ensures { Puts (K.taken sink.old) (K.taken sink.new)
         (line_of (codes "rows " ∷ decimal rows ∷ codes " repeats " ∷ decimal repeats ∷ [])) result }
 {
     let mut count = Buffer::new();
@@ -72,19 +71,12 @@ fn put_head<K: Sink>(rows: u32, repeats: u32, sink: &mut K) -> Result<(), PutFai
 /// Writes how many rows and repeats there are, and how many rows of each code.
 pub fn put_counts<K: Sink>(rows: &[Row], repeats: u32, sink: &mut K) -> Result<(), PutFailed>
     requires { length rows.now ≤ 400000 }
-    ensures { Puts (K.written sink.old) (K.written sink.new) (K.faults sink.old) (K.faults sink.new)
-        (count_text rows.now repeats) result }
+    ensures { Puts (K.taken sink.old) (K.taken sink.new) (count_text rows.now repeats) result }
 {
-    match put_head(rows.len() as u32, repeats, sink) {
-        Ok(()) => {}
-        Err(failed) => return Err(failed),
-    }
+    put_head(rows.len() as u32, repeats, sink)?;
     let counts = tally(rows);
     for code in 0..256u32 {
-        match put_code(code as u8, counts[code as usize], sink) {
-            Ok(()) => {}
-            Err(failed) => return Err(failed),
-        }
+        put_code(code as u8, counts[code as usize], sink)?;
     }
     Ok(())
 }

@@ -5,9 +5,11 @@
 mod applied;
 mod approaches;
 mod audit;
+mod config_refusal;
 mod coordination;
 mod counts;
 mod diagrams;
+mod heads;
 mod lines;
 mod measures;
 mod packed;
@@ -18,16 +20,21 @@ mod preempts;
 mod refusal;
 mod rules;
 mod shifts;
+mod undecided;
+mod usage;
+mod verdicts;
 
 pub use applied::put_applied;
-pub use audit::{put_audit_counts, put_audit_line};
+pub use config_refusal::put_config_error;
 pub use counts::put_counts;
-pub use diagrams::put_diagram;
-pub use measures::put_measures;
+pub use diagrams::put_diagrams;
+pub use measures::{put_hour_measures, put_window_measures};
 pub use packed::put_packed_refusal;
-pub use pairs::put_pair;
 pub use refusal::{Refusal, put_refusal};
 pub use shifts::put_shifts;
+pub use undecided::{put_nothing, put_pairs};
+pub use usage::put_usage;
+pub use verdicts::{put_audit, put_verdicts};
 
 #[cfg(test)]
 mod tests;

@@ -32,8 +32,7 @@ pub(crate) trait Numbered {
 
     /// Writes the line.
     fn put_line<K: Sink>(&self, number: u8, sink: &mut K) -> Result<(), PutFailed>
-        ensures { Puts (K.written sink.old) (K.written sink.new) (K.faults sink.old)
-            (K.faults sink.new) (line number self.now) result };
+        ensures { Puts (K.taken sink.old) (K.taken sink.new) (line number self.now) result };
 }
 
 /// Writes a line for each number, ascending. The sums stand by their numbers.
@@ -42,7 +41,7 @@ pub(crate) fn put_lines<T: Numbered, K: Sink>(
     sums: &[T],
     sink: &mut K,
 ) -> Result<(), PutFailed>
-    ensures { Puts (K.written sink.old) (K.written sink.new) (K.faults sink.old) (K.faults sink.new)
+    ensures { Puts (K.taken sink.old) (K.taken sink.new)
         (each_line T.line (numbers_of (T.has config.now)) sums.now) result }
 {
     let mut rest = sums;
@@ -53,10 +52,7 @@ pub(crate) fn put_lines<T: Numbered, K: Sink>(
         let Some((first, others)) = rest.split_first() else {
             return Ok(());
         };
-        match first.put_line(number, sink) {
-            Ok(()) => {}
-            Err(failed) => return Err(failed),
-        }
+        first.put_line(number, sink)?;
         rest = others;
     }
     Ok(())

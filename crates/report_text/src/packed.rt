@@ -8,8 +8,8 @@ use itoa::Buffer;
 use outside::{PutFailed, Sink};
 
 fn put_row_refusal<K: Sink>(line: Option<u32>, number: u32, sink: &mut K) -> Result<(), PutFailed>
-    ensures { Puts (K.written sink.old) (K.written sink.new) (K.faults sink.old) (K.faults sink.new)
-        (packed_text line (PackError.Row number)) result }
+    ensures { Puts (K.taken sink.old) (K.taken sink.new) (packed_text line (PackError.Row number))
+        result }
 {
     let mut buffer = Buffer::new();
     put_refused(
@@ -27,8 +27,7 @@ pub fn put_packed_refusal<K: Sink>(
     error: PackError,
     sink: &mut K,
 ) -> Result<(), PutFailed>
-    ensures { Puts (K.written sink.old) (K.written sink.new) (K.faults sink.old) (K.faults sink.new)
-        (packed_text line error) result }
+    ensures { Puts (K.taken sink.old) (K.taken sink.new) (packed_text line error) result }
 {
     match error {
         PackError::NotPacked => Ok(()),

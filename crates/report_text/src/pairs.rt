@@ -10,13 +10,11 @@ use filling_pair::{Fill, Pair, Strand};
 use itoa::Buffer;
 use outside::{PutFailed, Sink, put_parts};
 use ring_config::Config;
-use rule_audit::AuditLine;
 use sig_base::Window;
 
 fn put_fill<K: Sink>(window: &Window, fill: Fill, sink: &mut K) -> Result<(), PutFailed>
     requires { fill.at < 36000 * window.now.hours }
-    ensures { Puts (K.written sink.old) (K.written sink.new) (K.faults sink.old) (K.faults sink.new)
-        (fill_line window.now fill) result }
+    ensures { Puts (K.taken sink.old) (K.taken sink.new) (fill_line window.now fill) result }
 {
     let stamp = window.stamp(fill.at);
     let mut code = Buffer::new();
@@ -37,14 +35,11 @@ fn put_fill<K: Sink>(window: &Window, fill: Fill, sink: &mut K) -> Result<(), Pu
 
 fn put_fills<K: Sink>(window: &Window, fills: &[Fill], sink: &mut K) -> Result<(), PutFailed>
     requires { AreFillsIn window.now fills.now }
-    ensures { Puts (K.written sink.old) (K.written sink.new) (K.faults sink.old) (K.faults sink.new)
-        (flat_map (fill_line window.now) fills.now) result }
+    ensures { Puts (K.taken sink.old) (K.taken sink.new) (flat_map (fill_line window.now) fills.now)
+        result }
 {
     for fill in fills {
-        match put_fill(window, *fill, sink) {
-            Ok(()) => {}
-            Err(failed) => return Err(failed),
-        }
+        put_fill(window, *fill, sink)?;
     }
     Ok(())
 }
@@ -63,8 +58,7 @@ fn put_channel<K: Sink>(
     age: u64,
     sink: &mut K,
 ) -> Result<(), PutFailed>
-    ensures { Puts (K.written sink.old) (K.written sink.new) (K.faults sink.old) (K.faults sink.new)
-        (channel_line channel colour age) result }
+    ensures { Puts (K.taken sink.old) (K.taken sink.new) (channel_line channel colour age) result }
 {
     let mut number = Buffer::new();
     let mut since = Buffer::new();
@@ -85,7 +79,7 @@ fn put_channel<K: Sink>(
 }
 
 fn put_start<K: Sink>(spec: Option<&Spec>, strand: &Strand, sink: &mut K) -> Result<(), PutFailed>
-    ensures { Puts (K.written sink.old) (K.written sink.new) (K.faults sink.old) (K.faults sink.new)
+    ensures { Puts (K.taken sink.old) (K.taken sink.new)
         (start_line (option_map (λ s. s.now) spec.entry) strand.now) result }
 {
     match spec {
@@ -103,26 +97,19 @@ fn spec_at(config: &Config, place: u16) -> Option<&Spec>
 
 fn put_strand<K: Sink>(config: &Config, strand: &Strand, sink: &mut K) -> Result<(), PutFailed>
     requires { AreFillsIn config.now.window strand.now.fills }
-    ensures { Puts (K.written sink.old) (K.written sink.new) (K.faults sink.old) (K.faults sink.new)
-        (strand_text config.now strand.now) result }
+    ensures { Puts (K.taken sink.old) (K.taken sink.new) (strand_text config.now strand.now) result }
 {
-    match put_start(spec_at(config, strand.spec), strand, sink) {
-        Ok(()) => {}
-        Err(failed) => return Err(failed),
-    }
+    put_start(spec_at(config, strand.spec), strand, sink)?;
     put_fills(config.window(), strand.fills.list(), sink)
 }
 
 fn put_strands<K: Sink>(config: &Config, strands: &[Strand], sink: &mut K) -> Result<(), PutFailed>
     requires { AreStrandsIn config.now.window strands.now }
-    ensures { Puts (K.written sink.old) (K.written sink.new) (K.faults sink.old) (K.faults sink.new)
-        (strands_text config.now strands.now) result }
+    ensures { Puts (K.taken sink.old) (K.taken sink.new) (strands_text config.now strands.now)
+        result }
 {
     for strand in strands {
-        match put_strand(config, strand, sink) {
-            Ok(()) => {}
-            Err(failed) => return Err(failed),
-        }
+        put_strand(config, strand, sink)?;
     }
     Ok(())
 }
@@ -134,41 +121,39 @@ fn put_side<K: Sink>(
     sink: &mut K,
 ) -> Result<(), PutFailed>
     requires { AreStrandsIn config.now.window strands.now }
-    ensures { Puts (K.written sink.old) (K.written sink.new) (K.faults sink.old) (K.faults sink.new)
-        (side_text config.now word.now strands.now) result }
+    ensures { Puts (K.taken sink.old) (K.taken sink.new) (side_text config.now word.now strands.now)
+        result }
 {
-    match put_parts(sink, &[word, b"\n"]) {
-        Ok(()) => {}
-        Err(failed) => return Err(failed),
-    }
+    put_parts(sink, &[word, b"\n"])?;
     put_strands(config, strands, sink)
 }
 
 fn put_sides<K: Sink>(config: &Config, pair: &Pair, sink: &mut K) -> Result<(), PutFailed>
     requires { IsPairIn config.now.window pair.now }
-    ensures { Puts (K.written sink.old) (K.written sink.new) (K.faults sink.old) (K.faults sink.new)
-        (side_text config.now (codes "keeps") pair.now.keeps
-        ++ side_text config.now (codes "breaks") pair.now.breaks) result }
+    ensures { Puts (K.taken sink.old) (K.taken sink.new)
+        (side_text config.now (codes "keeps") pair.now.keeps ++ side_text config.now
+        (codes "breaks") pair.now.breaks) result }
 {
-    match put_side(config, b"keeps", pair.keeps.list(), sink) {
-        Ok(()) => {}
-        Err(failed) => return Err(failed),
-    }
+    put_side(config, b"keeps", pair.keeps.list(), sink)?;
     put_side(config, b"breaks", pair.breaks.list(), sink)
 }
 
-fn put_undecided<K: Sink>(window: &Window, line: &AuditLine, sink: &mut K) -> Result<(), PutFailed>
-    requires { line.now.at < 36000 * window.now.hours }
-    ensures { Puts (K.written sink.old) (K.written sink.new) (K.faults sink.old) (K.faults sink.new)
-        (undecided_line window.now line.now.rule line.now.at) result }
+fn put_undecided<K: Sink>(
+    window: &Window,
+    rule: u16,
+    at: u32,
+    sink: &mut K,
+) -> Result<(), PutFailed>
+    requires { at < 36000 * window.now.hours }
+    ensures { Puts (K.taken sink.old) (K.taken sink.new) (undecided_line window.now rule at) result }
 {
-    let stamp = window.stamp(line.at);
+    let stamp = window.stamp(at);
     let mut number = Buffer::new();
     put_parts(
         sink,
         &[
             b"undecided ",
-            number.format(line.rule).as_bytes(),
+            number.format(rule).as_bytes(),
             b" ",
             &stamp,
             b"\n",
@@ -176,24 +161,22 @@ fn put_undecided<K: Sink>(window: &Window, line: &AuditLine, sink: &mut K) -> Re
     )
 }
 
-/// Writes the number of an undecided line's rule and the tenth, and then each channel's start and
-/// fills: those with which the rule is kept there, and those with which it is broken. A start is
+/// Writes the number of a rule and a tenth at which it is undecided, and then each channel's start
+/// and fills: those with which the rule is kept there, and those with which it is broken. A start is
 /// the channel, its colour, and for how many tenths it has had it when the window begins. The
-/// window has the tenths of the line and of the fills.
-pub fn put_pair<K: Sink>(
+/// window has this tenth and those of the fills.
+pub(crate) fn put_pair<K: Sink>(
     config: &Config,
-    line: &AuditLine,
+    rule: u16,
+    at: u32,
     pair: &Pair,
     sink: &mut K,
 ) -> Result<(), PutFailed>
-    requires at { line.now.at < 36000 * config.now.window.hours }
+    requires at { at < 36000 * config.now.window.hours }
     requires pair { IsPairIn config.now.window pair.now }
-    ensures { Puts (K.written sink.old) (K.written sink.new) (K.faults sink.old) (K.faults sink.new)
-        (pair_text config.now line.now.rule line.now.at pair.now) result }
+    ensures { Puts (K.taken sink.old) (K.taken sink.new) (pair_text config.now rule at pair.now)
+        result }
 {
-    match put_undecided(config.window(), line, sink) {
-        Ok(()) => {}
-        Err(failed) => return Err(failed),
-    }
+    put_undecided(config.window(), rule, at, sink)?;
     put_sides(config, pair, sink)
 }

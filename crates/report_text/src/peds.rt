@@ -11,8 +11,7 @@ use outside::{PutFailed, Sink, put_parts};
 use ring_config::Config;
 
 fn put_delays<K: Sink>(number: u8, sums: &PedSum, sink: &mut K) -> Result<(), PutFailed>
-    ensures { Puts (K.written sink.old) (K.written sink.new) (K.faults sink.old) (K.faults sink.new)
-        (ped_delays number sums.now) result }
+    ensures { Puts (K.taken sink.old) (K.taken sink.new) (ped_delays number sums.now) result }
 {
     let mut ped = Buffer::new();
     let mut walks = Buffer::new();
@@ -37,8 +36,7 @@ fn put_delays<K: Sink>(number: u8, sums: &PedSum, sink: &mut K) -> Result<(), Pu
 }
 
 fn put_states<K: Sink>(sums: &PedSum, sink: &mut K) -> Result<(), PutFailed>
-    ensures { Puts (K.written sink.old) (K.written sink.new) (K.faults sink.old) (K.faults sink.new)
-        (ped_states sums.now) result }
+    ensures { Puts (K.taken sink.old) (K.taken sink.new) (ped_states sums.now) result }
 {
     let mut uncalled = Buffer::new();
     let mut partial = Buffer::new();
@@ -61,13 +59,9 @@ fn put_states<K: Sink>(sums: &PedSum, sink: &mut K) -> Result<(), PutFailed>
 }
 
 fn put_ped<K: Sink>(number: u8, sums: &PedSum, sink: &mut K) -> Result<(), PutFailed>
-    ensures { Puts (K.written sink.old) (K.written sink.new) (K.faults sink.old) (K.faults sink.new)
-        (ped_line number sums.now) result }
+    ensures { Puts (K.taken sink.old) (K.taken sink.new) (ped_line number sums.now) result }
 {
-    match put_delays(number, sums, sink) {
-        Ok(()) => {}
-        Err(failed) => return Err(failed),
-    }
+    put_delays(number, sums, sink)?;
     put_states(sums, sink)
 }
 

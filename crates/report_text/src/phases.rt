@@ -11,8 +11,7 @@ use ring_config::Config;
 use split_measures::PhaseSum;
 
 fn put_splits<K: Sink>(number: u8, sums: &PhaseSum, sink: &mut K) -> Result<(), PutFailed>
-    ensures { Puts (K.written sink.old) (K.written sink.new) (K.faults sink.old) (K.faults sink.new)
-        (phase_splits number sums.now) result }
+    ensures { Puts (K.taken sink.old) (K.taken sink.new) (phase_splits number sums.now) result }
 {
     let mut phase = Buffer::new();
     let mut services = Buffer::new();
@@ -37,8 +36,7 @@ fn put_splits<K: Sink>(number: u8, sums: &PhaseSum, sink: &mut K) -> Result<(), 
 }
 
 fn put_ends<K: Sink>(sums: &PhaseSum, sink: &mut K) -> Result<(), PutFailed>
-    ensures { Puts (K.written sink.old) (K.written sink.new) (K.faults sink.old) (K.faults sink.new)
-        (phase_ends sums.now) result }
+    ensures { Puts (K.taken sink.old) (K.taken sink.new) (phase_ends sums.now) result }
 {
     let mut gap = Buffer::new();
     let mut max = Buffer::new();
@@ -67,13 +65,9 @@ fn put_ends<K: Sink>(sums: &PhaseSum, sink: &mut K) -> Result<(), PutFailed>
 }
 
 fn put_phase<K: Sink>(number: u8, sums: &PhaseSum, sink: &mut K) -> Result<(), PutFailed>
-    ensures { Puts (K.written sink.old) (K.written sink.new) (K.faults sink.old) (K.faults sink.new)
-        (phase_line number sums.now) result }
+    ensures { Puts (K.taken sink.old) (K.taken sink.new) (phase_line number sums.now) result }
 {
-    match put_splits(number, sums, sink) {
-        Ok(()) => {}
-        Err(failed) => return Err(failed),
-    }
+    put_splits(number, sums, sink)?;
     put_ends(sums, sink)
 }
 

@@ -11,8 +11,7 @@ use outside::{PutFailed, Sink, put_parts};
 use ring_config::Config;
 
 fn put_delays<K: Sink>(number: u8, sums: &PreemptSum, sink: &mut K) -> Result<(), PutFailed>
-    ensures { Puts (K.written sink.old) (K.written sink.new) (K.faults sink.old) (K.faults sink.new)
-        (preempt_delays number sums.now) result }
+    ensures { Puts (K.taken sink.old) (K.taken sink.new) (preempt_delays number sums.now) result }
 {
     let mut preempt = Buffer::new();
     let mut entries = Buffer::new();
@@ -46,8 +45,7 @@ fn put_delays<K: Sink>(number: u8, sums: &PreemptSum, sink: &mut K) -> Result<()
 }
 
 fn put_states<K: Sink>(sums: &PreemptSum, sink: &mut K) -> Result<(), PutFailed>
-    ensures { Puts (K.written sink.old) (K.written sink.new) (K.faults sink.old) (K.faults sink.new)
-        (preempt_states sums.now) result }
+    ensures { Puts (K.taken sink.old) (K.taken sink.new) (preempt_states sums.now) result }
 {
     let mut on = Buffer::new();
     let mut unsure = Buffer::new();
@@ -79,13 +77,9 @@ fn put_states<K: Sink>(sums: &PreemptSum, sink: &mut K) -> Result<(), PutFailed>
 }
 
 fn put_preempt<K: Sink>(number: u8, sums: &PreemptSum, sink: &mut K) -> Result<(), PutFailed>
-    ensures { Puts (K.written sink.old) (K.written sink.new) (K.faults sink.old) (K.faults sink.new)
-        (preempt_line number sums.now) result }
+    ensures { Puts (K.taken sink.old) (K.taken sink.new) (preempt_line number sums.now) result }
 {
-    match put_delays(number, sums, sink) {
-        Ok(()) => {}
-        Err(failed) => return Err(failed),
-    }
+    put_delays(number, sums, sink)?;
     put_states(sums, sink)
 }
 

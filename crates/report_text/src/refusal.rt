@@ -26,8 +26,7 @@ pub enum Refusal {
 }
 
 fn put_head<K: Sink>(line: Option<u32>, sink: &mut K) -> Result<(), PutFailed>
-    ensures { Puts (K.written sink.old) (K.written sink.new) (K.faults sink.old) (K.faults sink.new)
-        (refused line) result }
+    ensures { Puts (K.taken sink.old) (K.taken sink.new) (refused line) result }
 {
     let Some(line) = line else {
         return sink.put(b"refused ");
@@ -42,13 +41,9 @@ pub(crate) fn put_refused<K: Sink>(
     reason: &[&[u8]],
     sink: &mut K,
 ) -> Result<(), PutFailed>
-    ensures { Puts (K.written sink.old) (K.written sink.new) (K.faults sink.old) (K.faults sink.new)
-        (refused line ++ texts reason.now) result }
+    ensures { Puts (K.taken sink.old) (K.taken sink.new) (refused line ++ texts reason.now) result }
 {
-    match put_head(line, sink) {
-        Ok(()) => {}
-        Err(failed) => return Err(failed),
-    }
+    put_head(line, sink)?;
     put_parts(sink, reason)
 }
 
@@ -57,8 +52,8 @@ pub(crate) fn put_reason<K: Sink>(
     reason: &[u8],
     sink: &mut K,
 ) -> Result<(), PutFailed>
-    ensures { Puts (K.written sink.old) (K.written sink.new) (K.faults sink.old) (K.faults sink.new)
-        (refused line ++ line_of (reason.now ∷ [])) result }
+    ensures { Puts (K.taken sink.old) (K.taken sink.new) (refused line ++ line_of (reason.now ∷ []))
+        result }
 {
     put_refused(line, &[reason, b"\n"], sink)
 }
@@ -69,7 +64,7 @@ fn put_record<K: Sink>(
     test: &[u8],
     sink: &mut K,
 ) -> Result<(), PutFailed>
-    ensures { Puts (K.written sink.old) (K.written sink.new) (K.faults sink.old) (K.faults sink.new)
+    ensures { Puts (K.taken sink.old) (K.taken sink.new)
         (refused line ++ record_reason number test.now) result }
 {
     let mut buffer = Buffer::new();
@@ -85,8 +80,7 @@ fn put_file_refusal<K: Sink>(
     error: RowError,
     sink: &mut K,
 ) -> Result<(), PutFailed>
-    ensures { Puts (K.written sink.old) (K.written sink.new) (K.faults sink.old) (K.faults sink.new)
-        (file_text line error) result }
+    ensures { Puts (K.taken sink.old) (K.taken sink.new) (file_text line error) result }
 {
     match error {
         RowError::TooManyRows => put_reason(line, b"too many rows", sink),
@@ -107,7 +101,7 @@ fn put_contradiction<K: Sink>(
     sink: &mut K,
 ) -> Result<(), PutFailed>
     requires { row.at < 36000 * window.now.hours }
-    ensures { Puts (K.written sink.old) (K.written sink.new) (K.faults sink.old) (K.faults sink.new)
+    ensures { Puts (K.taken sink.old) (K.taken sink.new)
         (edit_text window.now line (EditError.Contradiction row)) result }
 {
     let stamp = window.stamp(row.at);
@@ -135,8 +129,7 @@ fn put_edit_refusal<K: Sink>(
     sink: &mut K,
 ) -> Result<(), PutFailed>
     requires { NamesRowIn window.now error }
-    ensures { Puts (K.written sink.old) (K.written sink.new) (K.faults sink.old) (K.faults sink.new)
-        (edit_text window.now line error) result }
+    ensures { Puts (K.taken sink.old) (K.taken sink.new) (edit_text window.now line error) result }
 {
     match error {
         EditError::OutOfWindow => put_reason(line, b"out of window", sink),
@@ -159,8 +152,8 @@ pub fn put_refusal<K: Sink>(
     sink: &mut K,
 ) -> Result<(), PutFailed>
     requires { IsOfWindow window.now refusal.now }
-    ensures { Puts (K.written sink.old) (K.written sink.new) (K.faults sink.old) (K.faults sink.new)
-        (refusal_text window.now line refusal.now) result }
+    ensures { Puts (K.taken sink.old) (K.taken sink.new) (refusal_text window.now line refusal.now)
+        result }
 {
     match *refusal {
         Refusal::BadLine => put_reason(line, b"bad line", sink),

@@ -36,8 +36,7 @@ pub(crate) fn colour_text(kind: Kind, colour: u8) -> &'static str
 }
 
 fn put_coloured<K: Sink>(channel: Channel, colour: u8, sink: &mut K) -> Result<(), PutFailed>
-    ensures { Puts (K.written sink.old) (K.written sink.new) (K.faults sink.old) (K.faults sink.new)
-        (coloured_text channel colour) result }
+    ensures { Puts (K.taken sink.old) (K.taken sink.new) (coloured_text channel colour) result }
 {
     let mut number = Buffer::new();
     put_parts(
@@ -53,8 +52,7 @@ fn put_coloured<K: Sink>(channel: Channel, colour: u8, sink: &mut K) -> Result<(
 }
 
 fn put_bound<K: Sink>(bound: AgeBound, sink: &mut K) -> Result<(), PutFailed>
-    ensures { Puts (K.written sink.old) (K.written sink.new) (K.faults sink.old) (K.faults sink.new)
-        (bound_text bound) result }
+    ensures { Puts (K.taken sink.old) (K.taken sink.new) (bound_text bound) result }
 {
     let mut age = Buffer::new();
     match bound {
@@ -69,21 +67,18 @@ fn put_interval<K: Sink>(
     item: IntervalItem,
     sink: &mut K,
 ) -> Result<(), PutFailed>
-    ensures { Puts (K.written sink.old) (K.written sink.new) (K.faults sink.old) (K.faults sink.new)
+    ensures { Puts (K.taken sink.old) (K.taken sink.new)
         (interval_text (option_map (λ s. s.now) spec.entry) item) result }
 {
     let Some(spec) = spec else {
         return Ok(());
     };
-    match put_coloured(spec.channel, item.colour, sink) {
-        Ok(()) => {}
-        Err(failed) => return Err(failed),
-    }
+    put_coloured(spec.channel, item.colour, sink)?;
     put_bound(item.bound, sink)
 }
 
 fn put_pair<K: Sink>(a: u8, b: u8, sink: &mut K) -> Result<(), PutFailed>
-    ensures { Puts (K.written sink.old) (K.written sink.new) (K.faults sink.old) (K.faults sink.new)
+    ensures { Puts (K.taken sink.old) (K.taken sink.new)
         (joined (codes "conflict " ∷ decimal a ∷ codes " " ∷ decimal b ∷ [])) result }
 {
     let mut first = Buffer::new();
@@ -100,8 +95,8 @@ fn put_pair<K: Sink>(a: u8, b: u8, sink: &mut K) -> Result<(), PutFailed>
 }
 
 fn put_numbered<K: Sink>(word: &[u8], number: u8, sink: &mut K) -> Result<(), PutFailed>
-    ensures { Puts (K.written sink.old) (K.written sink.new) (K.faults sink.old) (K.faults sink.new)
-        (joined (word.now ∷ decimal number ∷ [])) result }
+    ensures { Puts (K.taken sink.old) (K.taken sink.new) (joined (word.now ∷ decimal number ∷ []))
+        result }
 {
     let mut of = Buffer::new();
     put_parts(sink, &[word, of.format(number).as_bytes()])
@@ -114,8 +109,8 @@ pub(crate) fn put_rule_name<K: Sink>(
     rule: &Rule,
     sink: &mut K,
 ) -> Result<(), PutFailed>
-    ensures { Puts (K.written sink.old) (K.written sink.new) (K.faults sink.old) (K.faults sink.new)
-        (rule_name config.now.specs rule.now) result }
+    ensures { Puts (K.taken sink.old) (K.taken sink.new) (rule_name config.now.specs rule.now)
+        result }
 {
     match rule {
         Rule::Interval(item) => {

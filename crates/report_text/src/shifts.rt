@@ -8,8 +8,7 @@ use offset_search::Shifts;
 use outside::{PutFailed, Sink, put_parts};
 
 fn put_head<K: Sink>(line: u32, name: &[u8], sink: &mut K) -> Result<(), PutFailed>
-    ensures { Puts (K.written sink.old) (K.written sink.new) (K.faults sink.old) (K.faults sink.new)
-        (shifts_head line name.now) result }
+    ensures { Puts (K.taken sink.old) (K.taken sink.new) (shifts_head line name.now) result }
 {
     let mut number = Buffer::new();
     put_parts(
@@ -19,8 +18,7 @@ fn put_head<K: Sink>(line: u32, name: &[u8], sink: &mut K) -> Result<(), PutFail
 }
 
 fn put_best<K: Sink>(shifts: &Shifts, arrivals: usize, sink: &mut K) -> Result<(), PutFailed>
-    ensures { Puts (K.written sink.old) (K.written sink.new) (K.faults sink.old) (K.faults sink.new)
-        (best_line shifts.now arrivals) result }
+    ensures { Puts (K.taken sink.old) (K.taken sink.new) (best_line shifts.now arrivals) result }
 {
     let Some((shift, count)) = shifts.best() else {
         return put_parts(sink, &[b"best -", b"\n"]);
@@ -43,8 +41,7 @@ fn put_best<K: Sink>(shifts: &Shifts, arrivals: usize, sink: &mut K) -> Result<(
 }
 
 fn put_shift<K: Sink>(shift: usize, count: u64, sink: &mut K) -> Result<(), PutFailed>
-    ensures { Puts (K.written sink.old) (K.written sink.new) (K.faults sink.old) (K.faults sink.new)
-        (shift_line shift count) result }
+    ensures { Puts (K.taken sink.old) (K.taken sink.new) (shift_line shift count) result }
 {
     let mut by = Buffer::new();
     let mut meet = Buffer::new();
@@ -61,26 +58,19 @@ fn put_shift<K: Sink>(shift: usize, count: u64, sink: &mut K) -> Result<(), PutF
 }
 
 fn put_each<K: Sink>(counts: &[u64], sink: &mut K) -> Result<(), PutFailed>
-    ensures { Puts (K.written sink.old) (K.written sink.new) (K.faults sink.old) (K.faults sink.new)
-        (shift_lines 0 counts.now) result }
+    ensures { Puts (K.taken sink.old) (K.taken sink.new) (shift_lines 0 counts.now) result }
 {
     for (shift, count) in counts.iter().enumerate() {
-        match put_shift(shift, *count, sink) {
-            Ok(()) => {}
-            Err(failed) => return Err(failed),
-        }
+        put_shift(shift, *count, sink)?;
     }
     Ok(())
 }
 
 fn put_found<K: Sink>(shifts: &Shifts, arrivals: usize, sink: &mut K) -> Result<(), PutFailed>
-    ensures { Puts (K.written sink.old) (K.written sink.new) (K.faults sink.old) (K.faults sink.new)
+    ensures { Puts (K.taken sink.old) (K.taken sink.new)
         (best_line shifts.now arrivals ++ shift_lines 0 shifts.now) result }
 {
-    match put_best(shifts, arrivals, sink) {
-        Ok(()) => {}
-        Err(failed) => return Err(failed),
-    }
+    put_best(shifts, arrivals, sink)?;
     put_each(shifts.counts(), sink)
 }
 
@@ -94,12 +84,9 @@ pub fn put_shifts<K: Sink>(
     shifts: &Shifts,
     sink: &mut K,
 ) -> Result<(), PutFailed>
-    ensures { Puts (K.written sink.old) (K.written sink.new) (K.faults sink.old) (K.faults sink.new)
+    ensures { Puts (K.taken sink.old) (K.taken sink.new)
         (shifts_text line name.now shifts.now arrivals) result }
 {
-    match put_head(line, name, sink) {
-        Ok(()) => {}
-        Err(failed) => return Err(failed),
-    }
+    put_head(line, name, sink)?;
     put_found(shifts, arrivals, sink)
 }

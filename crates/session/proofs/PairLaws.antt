@@ -7,16 +7,9 @@ use Rattle.hour_store.specs.Store.{Store}
 use Rattle.ring_config.specs.Settings.{Settings}
 use Rattle.rule_audit.specs.declared.lines.AuditLine.{AuditLine}
 use Rattle.rule_audit.specs.Rules.{rules_for}
-use Rattle.strand_search.specs.Events as strands
 use Rattle.filling_pair.specs.declared.strands.Pair.{Pair}
 use Rattle.filling_pair.specs.Asks.{IsPair}
 use Rattle.session.specs.Pairs.{ArePairsOf, is_open_at, is_undecided}
-use Rattle.sig_base.specs.Reads.{Grow}
-
--- no count fell, by the one word or the other
-pub grow_of_pair : (a b : List ℕ) → strands.Grow a b → Grow a b
-unfolding Grow strands.Grow
-grow_of_pair a b h = h
 
 -- a line more and its pair
 pub pairs_more : (c : Settings) (s : Store) (ls : List AuditLine) (ps : List Pair) (l : AuditLine) (p : Pair) → ArePairsOf c s ls ps → IsPair c.specs s (rules_for c) l p → ArePairsOf c s (ls ++ l ∷ []) (ps ++ p ∷ [])

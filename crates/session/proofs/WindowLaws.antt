@@ -23,7 +23,6 @@ use Rattle.rule_audit.specs.Rules.{rules_for}
 use Rattle.rule_audit.specs.Obligations.{Obligation, end_obligations, is_due, is_timed_by, obligation, obligations_from, row_obligations, rows_obligations, tenth_obligations}
 use Rattle.rule_audit.specs.Judged.{IsRuleVerdict}
 use Rattle.rule_audit.specs.Lines.{AreLinesOf, line_of, lines_of}
-use Rattle.decisive.specs.Searches as searches
 use Rattle.decisive.specs.Window.{IsBrokenLine, IsPlaceIn}
 use Rattle.filling_pair.specs.Asks.{IsUndecided}
 use Rattle.filling_pair.specs.Kept.{IsLineOf, IsPlaceOf}
@@ -32,7 +31,6 @@ use Rattle.hour_work.specs.Rows.{hour_rows}
 use Rattle.hour_work.specs.Verdicts.{AreAuditLines, HasStoreVerdict, obligations_in, states_in}
 use Rattle.hour_work.proofs.PlacedLaws.{Each, FitPlace, IsPlaced, all_placed, each_all, rules_fit}
 use Rattle.session.specs.HourLines.{AreLinesIn, HasOwnWindow, IsLineAfter, IsLineIn}
-use Rattle.sig_base.specs.Reads.{Grow}
 use Rattle.session.specs.Windows.{AreHourLines, AreWithWindows, HasWindow, is_broken, with_window}
 
 join : {X : Type 0} (P : X → Type 0) (xs ys : List X) → Each P xs → Each P ys → Each P (xs ++ ys)
@@ -223,9 +221,3 @@ pub not_broken : (x : Verdict) → (x ≡ Idle) ⊎ ((x ≡ Kept) ⊎ (x ≡ Und
 not_broken x (inl e) = ap is_broken e
 not_broken x (inr (inl e)) = ap is_broken e
 not_broken x (inr (inr e)) = ap is_broken e
-
--- ---- counts
-
-pub grow_of : (a b : List ℕ) → searches.Grow a b → Grow a b
-unfolding Grow searches.Grow
-grow_of a b h = h

@@ -6,9 +6,7 @@ use Rattle.std.proofs.Math.Seq.{drop-cons}
 use Rattle.std.proofs.lemmas.Bool.{cases_Bool, eqb-true, lt-ltb, le-ltb}
 use Rattle.std.proofs.lemmas.List.Elements.{All-append, All-cons, All-get_or, All-head, All-nil, All-same, All-tail, All-weaker, filter_passes}
 use Rattle.std.proofs.lemmas.List.{drop_all}
-use Rattle.std.specs.Io.KnownBytes.{Appends}
-use Rattle.outside.specs.Sink.{Stops}
-use Rattle.outside.proofs.PutsFacts.{appends-then, puts-then, stops-front}
+use Rattle.outside.specs.Sink.{Stops, Taken, Writes}
 use Rattle.sig_base.specs.Window.{Span}
 use Rattle.sig_base.specs.declared.values.Row.{Row}
 use Rattle.sig_base.specs.declared.values.Verdict.{Verdict}
@@ -33,30 +31,15 @@ use Rattle.hour_work.specs.Rows.{hour_rows}
 use Rattle.sig_base.specs.declared.values.EditError.TheVariants.{OutOfWindow}
 use Rattle.report_text.specs.declared.refusal.Refusal.TheVariants.{Edit}
 use Rattle.sigaudit.specs.Turns.{refuses, writes}
-use Rattle.report_text.specs.Audit.{EndIn, IsLineIn, audit_line_text}
-use Rattle.sigaudit.specs.Audit.{AddsHour, AreFailing, AreVerdicts, IsAudited, IsReportOf, audit_start, failing_at, failing_of, is_kept, lines_text, verdicts_head}
+use Rattle.report_text.specs.Audit.{EndIn, IsLineIn, audit_line_text, audit_start, lines_text}
+use Rattle.report_text.specs.Heads.{verdicts_head}
+use Rattle.report_text.proofs.VerdictLines.{no_line}
+use Rattle.sigaudit.specs.Audit.{AddsHour, AreFailing, AreVerdicts, IsAudited, IsReportOf, failing_at, failing_of, is_kept}
 use Rattle.sigaudit.specs.Run.{TakesBy, TakesPut}
 use Rattle.sigaudit.proofs.EditFacts.{known_within}
 use Rattle.sigaudit.proofs.TakeFacts.{by_refusal}
 use Rattle.sigaudit.specs.declared.status.Stopped.{Stopped}
 use Rattle.sigaudit.specs.declared.status.Stopped.TheVariants as stopped
-
--- ---- one line after another
-
--- stands where a list has no line
-abbrev pub no_line : AuditLine
-no_line = record { rule = 0; at = 0; place = BeforeRow 0; verdict = Idle; window = None }
-
-pub lines_next : (w : Span) (lines : List AuditLine) (i : ℕ) → i < length lines
-    → lines_text w (drop i lines) ≡ audit_line_text w (get_or lines i no_line) ++ lines_text w (drop (i + 1) lines)
-unfolding lines_text
-lines_next w lines i h =
-    let e : drop i lines ≡ get_or lines i no_line ∷ drop (i + 1) lines = rw add-one (drop-cons lines i no_line h) in
-    rw e refl
-
-pub lines_over : (w : Span) (lines : List AuditLine) (i : ℕ) → length lines ≤ i → lines_text w (drop i lines) ≡ []
-unfolding lines_text
-lines_over w lines i h = rw (drop_all i lines h) refl
 
 -- ---- each line is at a tenth of its hour
 
@@ -241,62 +224,42 @@ audit_turn : (c : Settings) (n : ℕ) (s : Store) (all : List Numbers) (lines : 
     → IsAudited c n s (writes (audit_start n c.specs (rules_for c) (total_of all).rules ++ lines_text c.window lines) s)
 audit_turn c n s all lines report failing = (all, lines, report, failing, refl)
 
--- what stands before the lines was cut off
-pub audit_cut : (c c' : Settings) (n : ℕ) (s : Store) (all : List Numbers) (rules : List Rule) (total : Numbers) (lines : List AuditLine) (w w' : Option (List ℕ)) (f f' : ℕ) → c' ≡ c → rules ≡ rules_for c → total ≡ total_of all
-    → IsReportOf c s all → AreFailing c s 0 c.window.hours lines → Stops w w' f f' (audit_start n c'.specs rules total.rules) → TakesBy (IsAudited c n s) w w' f f' s (Err stopped.Fault)
-audit_cut c c' n s all rules total lines w w' f f' ec er et report failing h =
-    let h' = rw (ec, er, et) at h in
-    (writes (audit_start n c.specs (rules_for c) (total_of all).rules ++ lines_text c.window lines) s, audit_turn c n s all lines report failing, stops-front w w' f f' (audit_start n c.specs (rules_for c) (total_of all).rules) (lines_text c.window lines) h')
+-- it was written, or cut off in it
+pub audit_done : (c c' : Settings) (n : ℕ) (s : Store) (all : List Numbers) (rules : List Rule) (total : Numbers) (lines lines' : List AuditLine) (w w' : Taken) → c' ≡ c → rules ≡ rules_for c → total ≡ total_of all
+    → IsReportOf c s all → AreFailing c s 0 c.window.hours lines → lines' ≡ lines → Writes w w' (audit_start n c'.specs rules total.rules ++ lines_text c'.window lines') → TakesBy (IsAudited c n s) w w' s (Ok false)
+audit_done c c' n s all rules total lines lines' w w' ec er et report failing el h =
+    let h' = rw (ec, er, et, el) at h in
+    (writes (audit_start n c.specs (rules_for c) (total_of all).rules ++ lines_text c.window lines) s, audit_turn c n s all lines report failing, h', refl, refl)
 
-pub audit_done : (c c' c'' : Settings) (n : ℕ) (s : Store) (all : List Numbers) (rules : List Rule) (total : Numbers) (lines lines' : List AuditLine) (w w1 w2 : Option (List ℕ)) (f f1 f2 : ℕ) → c' ≡ c → c'' ≡ c → rules ≡ rules_for c → total ≡ total_of all
-    → IsReportOf c s all → AreFailing c s 0 c.window.hours lines → lines' ≡ lines → f1 ≡ f → Appends w w1 (audit_start n c'.specs rules total.rules) → f2 ≡ f1 → Appends w1 w2 (lines_text c''.window lines')
-    → TakesBy (IsAudited c n s) w w2 f f2 s (Ok false)
-audit_done c c' c'' n s all rules total lines lines' w w1 w2 f f1 f2 ec ed er et report failing el e a e' b =
-    let start = audit_start n c.specs (rules_for c) (total_of all).rules in
-    let a' = rw (ec, er, et) at a in
-    let b' = rw (ed, el) at b in
-    (writes (start ++ lines_text c.window lines) s, audit_turn c n s all lines report failing, appends-then w w1 w2 start (lines_text c.window lines) a' b', e' ∙ e, refl, refl)
-
-pub audit_stop : (c c' c'' : Settings) (n : ℕ) (s : Store) (all : List Numbers) (rules : List Rule) (total : Numbers) (lines lines' : List AuditLine) (w w1 w2 : Option (List ℕ)) (f f1 f2 : ℕ) → c' ≡ c → c'' ≡ c → rules ≡ rules_for c → total ≡ total_of all
-    → IsReportOf c s all → AreFailing c s 0 c.window.hours lines → lines' ≡ lines → f1 ≡ f → Appends w w1 (audit_start n c'.specs rules total.rules) → Stops w1 w2 f1 f2 (lines_text c''.window lines')
-    → TakesBy (IsAudited c n s) w w2 f f2 s (Err stopped.Fault)
-audit_stop c c' c'' n s all rules total lines lines' w w1 w2 f f1 f2 ec ed er et report failing el e a k =
-    let start = audit_start n c.specs (rules_for c) (total_of all).rules in
-    let a' = rw (ec, er, et) at a in
-    let k' = rw (ed, el) at k in
-    (writes (start ++ lines_text c.window lines) s, audit_turn c n s all lines report failing, puts-then {T = Unit {0}} {E = Unit {0}} w w1 w2 f f1 f2 start (lines_text c.window lines) (Err tt) e a' k')
+pub audit_cut : (c c' : Settings) (n : ℕ) (s : Store) (all : List Numbers) (rules : List Rule) (total : Numbers) (lines lines' : List AuditLine) (w w' : Taken) → c' ≡ c → rules ≡ rules_for c → total ≡ total_of all
+    → IsReportOf c s all → AreFailing c s 0 c.window.hours lines → lines' ≡ lines → Stops w w' (audit_start n c'.specs rules total.rules ++ lines_text c'.window lines') → TakesBy (IsAudited c n s) w w' s (Err stopped.Fault)
+audit_cut c c' n s all rules total lines lines' w w' ec er et report failing el h =
+    let h' = rw (ec, er, et, el) at h in
+    (writes (audit_start n c.specs (rules_for c) (total_of all).rules ++ lines_text c.window lines) s, audit_turn c n s all lines report failing, h')
 
 -- ---- the verdicts of an hour
 
 verdicts_turn : (c : Settings) (n hour : ℕ) (s : Store) (lines : List AuditLine) → HasHistory (log_of c.specs s) → AreHourLines c s hour true lines → AreVerdicts c n hour s true (writes (verdicts_head n hour ++ lines_text c.window lines) s)
 verdicts_turn c n hour s lines some h = (lines, some, h, refl)
 
-pub verdicts_cut : (c : Settings) (n hour : ℕ) (s : Store) (lines : List AuditLine) (w w' : Option (List ℕ)) (f f' : ℕ) → HasHistory (log_of c.specs s) → AreHourLines c s hour true lines
-    → Stops w w' f f' (verdicts_head n hour) → TakesBy (AreVerdicts c n hour s true) w w' f f' s (Err stopped.Fault)
-verdicts_cut c n hour s lines w w' f f' some h k =
-    (writes (verdicts_head n hour ++ lines_text c.window lines) s, verdicts_turn c n hour s lines some h, stops-front w w' f f' (verdicts_head n hour) (lines_text c.window lines) k)
+pub verdicts_done : (c c' : Settings) (n hour : ℕ) (s : Store) (lines lines' : List AuditLine) (w w' : Taken) → c' ≡ c → lines' ≡ lines → HasHistory (log_of c.specs s) → AreHourLines c s hour true lines
+    → Writes w w' (verdicts_head n hour ++ lines_text c'.window lines') → TakesBy (AreVerdicts c n hour s true) w w' s (Ok false)
+verdicts_done c c' n hour s lines lines' w w' ec el some h k =
+    let k' = rw (ec, el) at k in
+    (writes (verdicts_head n hour ++ lines_text c.window lines) s, verdicts_turn c n hour s lines some h, k', refl, refl)
 
-pub verdicts_stop : (c c' : Settings) (n hour : ℕ) (s : Store) (lines lines' : List AuditLine) (w w1 w2 : Option (List ℕ)) (f f1 f2 : ℕ) → c' ≡ c → lines' ≡ lines → HasHistory (log_of c.specs s) → AreHourLines c s hour true lines → f1 ≡ f
-    → Appends w w1 (verdicts_head n hour) → Stops w1 w2 f1 f2 (lines_text c'.window lines') → TakesBy (AreVerdicts c n hour s true) w w2 f f2 s (Err stopped.Fault)
-verdicts_stop c c' n hour s lines lines' w w1 w2 f f1 f2 ec el some h e a k =
-    let k' = rw (ec, el) at k in (
-      writes (verdicts_head n hour ++ lines_text c.window lines) s,
-      verdicts_turn c n hour s lines some h,
-      puts-then {T = Unit {0}} {E = Unit {0}} w w1 w2 f f1 f2 (verdicts_head n hour) (lines_text c.window lines) (Err tt) e a k',
-    )
-
-pub verdicts_done : (c c' : Settings) (n hour : ℕ) (s : Store) (lines lines' : List AuditLine) (w w1 w2 : Option (List ℕ)) (f f1 f2 : ℕ) → c' ≡ c → lines' ≡ lines → HasHistory (log_of c.specs s) → AreHourLines c s hour true lines → f1 ≡ f
-    → Appends w w1 (verdicts_head n hour) → f2 ≡ f1 → Appends w1 w2 (lines_text c'.window lines') → TakesBy (AreVerdicts c n hour s true) w w2 f f2 s (Ok false)
-verdicts_done c c' n hour s lines lines' w w1 w2 f f1 f2 ec el some h e a e' b =
-    let b' = rw (ec, el) at b in
-    (writes (verdicts_head n hour ++ lines_text c.window lines) s, verdicts_turn c n hour s lines some h, appends-then w w1 w2 (verdicts_head n hour) (lines_text c.window lines) a b', e' ∙ e, refl, refl)
+pub verdicts_cut : (c c' : Settings) (n hour : ℕ) (s : Store) (lines lines' : List AuditLine) (w w' : Taken) → c' ≡ c → lines' ≡ lines → HasHistory (log_of c.specs s) → AreHourLines c s hour true lines
+    → Stops w w' (verdicts_head n hour ++ lines_text c'.window lines') → TakesBy (AreVerdicts c n hour s true) w w' s (Err stopped.Fault)
+verdicts_cut c c' n hour s lines lines' w w' ec el some h k =
+    let k' = rw (ec, el) at k in
+    (writes (verdicts_head n hour ++ lines_text c.window lines) s, verdicts_turn c n hour s lines some h, k')
 
 -- an hour that the window has, or hasn't
-pub verdicts_inside : (c : Settings) (n hour : ℕ) (s : Store) (w w' : Option (List ℕ)) (f f' : ℕ) (r : Result Bool Stopped) → hour < c.window.hours
-    → TakesBy (AreVerdicts c n hour s true) w w' f f' s r → TakesBy (AreVerdicts c n hour s (nat_lt hour c.window.hours)) w w' f f' s r
-verdicts_inside c n hour s w w' f f' r lt h = rw (lt-ltb hour c.window.hours lt) h
+pub verdicts_inside : (c : Settings) (n hour : ℕ) (s : Store) (w w' : Taken) (r : Result Bool Stopped) → hour < c.window.hours
+    → TakesBy (AreVerdicts c n hour s true) w w' s r → TakesBy (AreVerdicts c n hour s (nat_lt hour c.window.hours)) w w' s r
+verdicts_inside c n hour s w w' r lt h = rw (lt-ltb hour c.window.hours lt) h
 
-pub verdicts_outside : (c c' : Settings) (n hour : ℕ) (s : Store) (w w' : Option (List ℕ)) (f f' : ℕ) (r : Result Bool Stopped) → c' ≡ c → c.window.hours ≤ hour
-    → ((x : Store) → TakesPut (refuses c' n (Edit OutOfWindow) x) w w' f f' x r) → TakesBy (AreVerdicts c n hour s (nat_lt hour c.window.hours)) w w' f f' s r
-verdicts_outside c c' n hour s w w' f f' r ec past h =
-    rw (le-ltb hour c.window.hours past) (by_refusal (AreVerdicts c n hour s false) c c' n (Edit OutOfWindow) s w w' f f' r ec refl h)
+pub verdicts_outside : (c c' : Settings) (n hour : ℕ) (s : Store) (w w' : Taken) (r : Result Bool Stopped) → c' ≡ c → c.window.hours ≤ hour
+    → ((x : Store) → TakesPut (refuses c' n (Edit OutOfWindow) x) w w' x r) → TakesBy (AreVerdicts c n hour s (nat_lt hour c.window.hours)) w w' s r
+verdicts_outside c c' n hour s w w' r ec past h =
+    rw (le-ltb hour c.window.hours past) (by_refusal (AreVerdicts c n hour s false) c c' n (Edit OutOfWindow) s w w' r ec refl h)

@@ -26,7 +26,7 @@ use Rattle.rule_audit.specs.declared.rules.Rule.{Rule}
 use Rattle.session.specs.Windows.{AreWithWindows, with_window}
 use Rattle.session.specs.Windows.{is_broken as is_windowed}
 use Rattle.sigaudit.specs.Audit.{AddsHour, failing_of, is_kept}
-use Rattle.sigaudit.proofs.AuditFacts.{no_line}
+use Rattle.report_text.proofs.VerdictLines.{no_line}
 
 -- ---- no line is idle
 

@@ -1,6 +1,7 @@
 -- A demonstration is a run over a shelf of its own, on which nothing is missing.
 use Rattle.std.proofs.Common.{◌≡◌, ◌≤◌, ℕ, List, length, Option, Some, None, Ok, Err, refl, ap, subst, inl, inr, arith, Bool, true, false}
 use Rattle.std.proofs.lemmas.Bool.Decides.{nat_tests}
+use Rattle.outside.specs.Sink.{Taken}
 use Rattle.outside.specs.Counted.{Rose}
 use Rattle.outside.specs.Shelf.{Counts, Files}
 use Rattle.ring_config.specs.Reading.{Read}
@@ -21,20 +22,20 @@ use Rattle.sigaudit.specs.declared.status.Ended.TheVariants as ended
 use Rattle.sigaudit.proofs.RunFacts.{run_as}
 
 -- a fault of a run over the shelf of a demonstration is the sink's
-sink_fault : (m l m' l' : ℕ) (w w' : Option (List ℕ)) (f f' : ℕ) → HasFault (world (demo_counts m l) w f) (world (demo_counts m' l') w' f') → Rose f f'
-sink_fault m l m' l' w w' f f' (inl h) = absurd (omega (arith, h))
-sink_fault m l m' l' w w' f f' (inr h) = h
+sink_fault : (m l m' l' : ℕ) (w w' : Taken) → HasFault (world (demo_counts m l) w) (world (demo_counts m' l') w') → Rose w.faults w'.faults
+sink_fault m l m' l' w w' (inl h) = absurd (omega (arith, h))
+sink_fault m l m' l' w w' (inr h) = h
 
 -- a run over the shelf of a demonstration is one whatever the counts of another shelf are
-pub demo_told : (Is : (List ℕ → List (List ℕ)) → Outcome → Type 0) (m l m' l' : ℕ) (k : Counts) (w w' : Option (List ℕ)) (f f' : ℕ) (st : Status)
-    → RunsAs Is (world (demo_counts m l) w f) (world (demo_counts m' l') w' f') st → RunsAs Is (world k w f) (world k w' f') st
-demo_told Is m l m' l' k w w' f f' outer.Done h = (h.0, h.1, (h.2.0, (refl, h.2.1.1)))
-demo_told Is m l m' l' k w w' f f' outer.SomeRefused h = (h.0, h.1, (h.2.0, (refl, h.2.1.1)))
-demo_told Is m l m' l' k w w' f f' outer.Usage h = (h.0, h.1, (h.2.0, (refl, h.2.1.1)))
-demo_told Is m l m' l' k w w' f f' outer.BadConfig h = (h.0, h.1, (h.2.0, (refl, h.2.1.1)))
-demo_told Is m l m' l' k w w' f f' outer.NoFile h = (h.0, h.1, (h.2.0, (refl, h.2.1.1)))
-demo_told Is m l m' l' k w w' f f' outer.Fault h = (inr (sink_fault m l m' l' w w' f f' h.0), h.1)
-demo_told Is m l m' l' k w w' f f' outer.Memory h = h
+pub demo_told : (Is : (List ℕ → List (List ℕ)) → Outcome → Type 0) (m l m' l' : ℕ) (k : Counts) (w w' : Taken) (st : Status)
+    → RunsAs Is (world (demo_counts m l) w) (world (demo_counts m' l') w') st → RunsAs Is (world k w) (world k w') st
+demo_told Is m l m' l' k w w' outer.Done h = (h.0, h.1, (h.2.0, (refl, h.2.1.1)))
+demo_told Is m l m' l' k w w' outer.SomeRefused h = (h.0, h.1, (h.2.0, (refl, h.2.1.1)))
+demo_told Is m l m' l' k w w' outer.Usage h = (h.0, h.1, (h.2.0, (refl, h.2.1.1)))
+demo_told Is m l m' l' k w w' outer.BadConfig h = (h.0, h.1, (h.2.0, (refl, h.2.1.1)))
+demo_told Is m l m' l' k w w' outer.NoFile h = (h.0, h.1, (h.2.0, (refl, h.2.1.1)))
+demo_told Is m l m' l' k w w' outer.Fault h = (inr (sink_fault m l m' l' w w' h.0), h.1)
+demo_told Is m l m' l' k w w' outer.Memory h = h
 
 pub same_hours : (n hours : ℕ) (old new : World) (st : Status) → n ≡ hours → RunsAs (IsDemoOutcome n) old new st → RunsAs (IsDemoOutcome hours) old new st
 same_hours n hours old new st e h = subst (λ (k : ℕ). RunsAs (IsDemoOutcome k) old new st) e h
@@ -75,16 +76,16 @@ demo_found hours bytes h o =
     file_found (demo_files hours) script_name (limited 1048576 (demo_files hours config_name)) bytes (config_text hours) (script_text hours) (config_there hours h) (script_there hours h) o
 
 -- why a demonstration ended so
-pub demo_cause : (hours m l m' l' : ℕ) (w w' : Option (List ℕ)) (f f' : ℕ) (st : Status) → hours ≤ 168
-    → RunsAs (IsDemoOutcome hours) (world (demo_counts m l) w f) (world (demo_counts m' l') w' f') st
-    → ScriptCause (world (demo_counts m l) w f) (world (demo_counts m' l') w' f') st → DemoCause f f' st
-demo_cause hours m l m' l' w w' f f' outer.Done few told h = h.1
-demo_cause hours m l m' l' w w' f f' outer.SomeRefused few told h = h.1
-demo_cause hours m l m' l' w w' f f' outer.Usage few told h = h
-demo_cause hours m l m' l' w w' f f' outer.BadConfig few told h = h.1.1
-demo_cause hours m l m' l' w w' f f' outer.NoFile few told h = demo_found hours told.0 few told.1
-demo_cause hours m l m' l' w w' f f' outer.Fault few told h = sink_fault m l m' l' w w' f f' h
-demo_cause hours m l m' l' w w' f f' outer.Memory few told h = tt
+pub demo_cause : (hours m l m' l' : ℕ) (w w' : Taken) (st : Status) → hours ≤ 168
+    → RunsAs (IsDemoOutcome hours) (world (demo_counts m l) w) (world (demo_counts m' l') w') st
+    → ScriptCause (world (demo_counts m l) w) (world (demo_counts m' l') w') st → DemoCause w.faults w'.faults st
+demo_cause hours m l m' l' w w' outer.Done few told h = h.1
+demo_cause hours m l m' l' w w' outer.SomeRefused few told h = h.1
+demo_cause hours m l m' l' w w' outer.Usage few told h = h
+demo_cause hours m l m' l' w w' outer.BadConfig few told h = h.1.1
+demo_cause hours m l m' l' w w' outer.NoFile few told h = demo_found hours told.0 few told.1
+demo_cause hours m l m' l' w w' outer.Fault few told h = sink_fault m l m' l' w w' h
+demo_cause hours m l m' l' w w' outer.Memory few told h = tt
 
 -- ---- what the words ask for
 

@@ -5,8 +5,7 @@ use Rattle.std.proofs.Math.ListN.{get_or-eq_default}
 use Rattle.std.proofs.lemmas.Bool.{cases_Bool, cases_lt, and_parts}
 use Rattle.std.proofs.lemmas.List.{length-set}
 use Rattle.std.proofs.lemmas.List.Elements.{All-get_or, filter_passes}
-use Rattle.std.specs.Io.KnownBytes.{Appends}
-use Rattle.outside.specs.Sink.{Stops}
+use Rattle.outside.specs.Sink.{Stops, Taken, Writes}
 use Rattle.sig_base.specs.HourRows.{Shown}
 use Rattle.sig_base.specs.declared.values.Row.{Row}
 use Rattle.sig_base.specs.declared.values.Applied.{Applied}
@@ -117,45 +116,45 @@ refused_turn c n loaded s new ch to TooManyBlanks ne h = (h.0, rw h.1 refl)
 refused_turn c n loaded s new ch to (Contradiction row) ne h = (h.0, rw h.1.1 (inr (row, h.1.2, h.1.3, refl)))
 refused_turn c n loaded s new ch to Memory ne h = absurd (cc)
 
-pub edit_refused : (c c' : Settings) (n : ℕ) (loaded : Option (ℕ × ℕ)) (s new : Store) (ch : Change) (to : Result Store EditError) (e : EditError) (w w' : Option (List ℕ)) (f f' : ℕ) (r : Result Bool Stopped)
-    → is_edit_memory e ≡ false → c' ≡ c → Steps c to s new (Err e) → ((x : Store) → TakesPut (refuses c' n (Edit e) x) w w' f f' x r)
-    → TakesBy (IsMade c n loaded s ch to) w w' f f' new r
-edit_refused c c' n loaded s new ch to e w w' f f' r ne ec h p =
+pub edit_refused : (c c' : Settings) (n : ℕ) (loaded : Option (ℕ × ℕ)) (s new : Store) (ch : Change) (to : Result Store EditError) (e : EditError) (w w' : Taken) (r : Result Bool Stopped)
+    → is_edit_memory e ≡ false → c' ≡ c → Steps c to s new (Err e) → ((x : Store) → TakesPut (refuses c' n (Edit e) x) w w' x r)
+    → TakesBy (IsMade c n loaded s ch to) w w' new r
+edit_refused c c' n loaded s new ch to e w w' r ne ec h p =
     let k = refused_turn c n loaded s new ch to e ne h in
-    rw (k.0) (by_refusal (IsMade c n loaded s ch to) c c' n (Edit e) s w w' f f' r ec k.1 p)
+    rw (k.0) (by_refusal (IsMade c n loaded s ch to) c c' n (Edit e) s w w' r ec k.1 p)
 
 -- an edit that was made is a turn of the line
 made_turn : (c : Settings) (n : ℕ) (loaded : Option (ℕ × ℕ)) (s new : Store) (ch : Change) (to : Result Store EditError) (a : Applied) → to ≡ Ok new → HasHistory (log_of c.specs new) → Moves c s new ch a → IsMade c n loaded s ch to (accepts n loaded a new)
 made_turn c n loaded s new ch to a e h m = rw e (inl (h, a, m, refl))
 
-pub edit_made : (c : Settings) (n : ℕ) (loaded : Option (ℕ × ℕ)) (s new : Store) (ch : Change) (to : Result Store EditError) (a : Applied) (w w' : Option (List ℕ)) (f f' : ℕ)
-    → Steps c to s new (Ok a) → Moves c s new ch a → f' ≡ f → Appends w w' (applied_text n loaded a) → TakesBy (IsMade c n loaded s ch to) w w' f f' new (Ok false)
-edit_made c n loaded s new ch to a w w' f f' h m ef p = (accepts n loaded a new, made_turn c n loaded s new ch to a h.0 h.1 m, p, ef, refl, refl)
+pub edit_made : (c : Settings) (n : ℕ) (loaded : Option (ℕ × ℕ)) (s new : Store) (ch : Change) (to : Result Store EditError) (a : Applied) (w w' : Taken)
+    → Steps c to s new (Ok a) → Moves c s new ch a → Writes w w' (applied_text n loaded a) → TakesBy (IsMade c n loaded s ch to) w w' new (Ok false)
+edit_made c n loaded s new ch to a w w' h m p = (accepts n loaded a new, made_turn c n loaded s new ch to a h.0 h.1 m, p, refl, refl)
 
-pub edit_cut : (c : Settings) (n : ℕ) (loaded : Option (ℕ × ℕ)) (s new : Store) (ch : Change) (to : Result Store EditError) (a : Applied) (w w' : Option (List ℕ)) (f f' : ℕ)
-    → Steps c to s new (Ok a) → Moves c s new ch a → Stops w w' f f' (applied_text n loaded a) → TakesBy (IsMade c n loaded s ch to) w w' f f' new (Err stopped.Fault)
-edit_cut c n loaded s new ch to a w w' f f' h m p = (accepts n loaded a new, made_turn c n loaded s new ch to a h.0 h.1 m, p)
+pub edit_cut : (c : Settings) (n : ℕ) (loaded : Option (ℕ × ℕ)) (s new : Store) (ch : Change) (to : Result Store EditError) (a : Applied) (w w' : Taken)
+    → Steps c to s new (Ok a) → Moves c s new ch a → Stops w w' (applied_text n loaded a) → TakesBy (IsMade c n loaded s ch to) w w' new (Err stopped.Fault)
+edit_cut c n loaded s new ch to a w w' h m p = (accepts n loaded a new, made_turn c n loaded s new ch to a h.0 h.1 m, p)
 
 -- ---- rows of a file
 
 -- a refused file
-pub bytes_refused : (c c' : Settings) (n hour : ℕ) (make : Shown → Change) (s : Store) (signal : List ℕ) (window : Span) (bytes : List ℕ) (e : Unread) (w w' : Option (List ℕ)) (f f' : ℕ) (r : Result Bool Stopped)
+pub bytes_refused : (c c' : Settings) (n hour : ℕ) (make : Shown → Change) (s : Store) (signal : List ℕ) (window : Span) (bytes : List ℕ) (e : Unread) (w w' : Taken) (r : Result Bool Stopped)
     → c' ≡ c → signal ≡ c'.signal → window ≡ c'.window → hour_said (record { signal = signal; hour = hour; window = window }) bytes ≡ Err e
-    → ((x : Store) → TakesPut (refuses_file c' n e x) w w' f f' x r) → TakesBy (IsRead c n make s (hour_said (wanted_for c hour) bytes)) w w' f f' s r
-bytes_refused c c' n hour make s signal window bytes e w w' f f' r ec es ew h p =
+    → ((x : Store) → TakesPut (refuses_file c' n e x) w w' x r) → TakesBy (IsRead c n make s (hour_said (wanted_for c hour) bytes)) w w' s r
+bytes_refused c c' n hour make s signal window bytes e w w' r ec es ew h p =
     let sig : signal ≡ c.signal = es ∙ ap (λ (k : Settings). k.signal) ec in
     let win : window ≡ c.window = ew ∙ ap (λ (k : Settings). k.window) ec in
     let h' : hour_said (wanted_for c hour) bytes ≡ Err e = rw (sig, win) at h in
     let p' = rw ec at (p s) in
     let is : IsRead c n make s (hour_said (wanted_for c hour) bytes) (refuses_file c n e s) = rw h' refl in
-    by_put (IsRead c n make s (hour_said (wanted_for c hour) bytes)) (refuses_file c n e s) w w' f f' s r is p'
+    by_put (IsRead c n make s (hour_said (wanted_for c hour) bytes)) (refuses_file c n e s) w w' s r is p'
 
 -- the rows of a good file, which are loaded or replace the held ones
-pub bytes_loaded : (c c' : Settings) (n hour : ℕ) (make : Shown → Change) (s s' : Store) (signal : List ℕ) (window : Span) (bytes : List ℕ) (shown : Shown) (count repeats : ℕ) (ch : Change) (w w' : Option (List ℕ)) (f f' : ℕ) (r : Result Bool Stopped)
+pub bytes_loaded : (c c' : Settings) (n hour : ℕ) (make : Shown → Change) (s s' : Store) (signal : List ℕ) (window : Span) (bytes : List ℕ) (shown : Shown) (count repeats : ℕ) (ch : Change) (w w' : Taken) (r : Result Bool Stopped)
     → c' ≡ c → signal ≡ c'.signal → window ≡ c'.window → hour_said (record { signal = signal; hour = hour; window = window }) bytes ≡ Ok shown
     → count ≡ length shown.rows → repeats ≡ shown.repeats → ch ≡ make shown
-    → TakesBy (IsEdited c n (Some (count, repeats)) s ch) w w' f f' s' r → TakesBy (IsRead c n make s (hour_said (wanted_for c hour) bytes)) w w' f f' s' r
-bytes_loaded c c' n hour make s s' signal window bytes shown count repeats ch w w' f f' r ec es ew h ek er em p =
+    → TakesBy (IsEdited c n (Some (count, repeats)) s ch) w w' s' r → TakesBy (IsRead c n make s (hour_said (wanted_for c hour) bytes)) w w' s' r
+bytes_loaded c c' n hour make s s' signal window bytes shown count repeats ch w w' r ec es ew h ek er em p =
     let sig : signal ≡ c.signal = es ∙ ap (λ (k : Settings). k.signal) ec in
     let win : window ≡ c.window = ew ∙ ap (λ (k : Settings). k.window) ec in
     let h' : hour_said (wanted_for c hour) bytes ≡ Ok shown = rw (sig, win) at h in

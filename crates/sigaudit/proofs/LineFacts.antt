@@ -2,16 +2,15 @@
 use Rattle.std.proofs.Common.{◌≡◌, ◌<◌, ◌≤◌, ◌++◌, ◌∙◌, ℕ, List, [], length, Bool, true, false, Option, Some, None, Result, Ok, Err, refl, subst, nat_lt, IfSome}
 use Rattle.std.proofs.lemmas.Bool.{lt-ltb, le-ltb}
 use Rattle.std.specs.Prelude.{slice_get}
-use Rattle.std.specs.Io.KnownBytes.{Appends}
 use Rattle.outside.specs.Shelf.{Counts, Files}
-use Rattle.outside.specs.Sink.{Stops}
-use Rattle.outside.proofs.PutsFacts.{appends-nothing, appends-then, puts-then, stops-front}
+use Rattle.outside.specs.Sink.{Stops, Taken, Writes}
+use Rattle.outside.proofs.PutsFacts.{appends-nothing}
 use Rattle.sig_base.specs.HourRows.{Shown}
 use Rattle.sig_base.specs.declared.values.EditError.TheVariants.{OutOfWindow}
 use Rattle.sigaudit.specs.HourFile.{hour_said}
 use Rattle.hour_store.specs.Store.{Store}
 use Rattle.hour_work.specs.Numbers.{Numbers, total_of}
-use Rattle.report_text.specs.Measures.{measures_text}
+use Rattle.report_text.specs.Measures.{hour_measures, window_measures}
 use Rattle.report_text.specs.declared.refusal.Refusal.{Refusal}
 use Rattle.report_text.specs.declared.refusal.Refusal.TheVariants.{BadLine, FileTooLong, Edit}
 use Rattle.ring_config.specs.Settings.{Settings}
@@ -23,7 +22,7 @@ use Rattle.sigaudit.specs.Turns.{Turn, passes, refuses, writes}
 use Rattle.sigaudit.specs.Audit.{AreVerdicts, IsAudited, IsReportOf}
 use Rattle.sigaudit.specs.Points.{points_of_phase}
 use Rattle.sigaudit.specs.Offsets.{offsets_of}
-use Rattle.sigaudit.specs.Script.{edit_said, hour_bytes, hour_change, hour_file, hour_head, wanted_for, window_head, IsEdited, IsFetched, IsMeasured, IsMeasuredOf, IsRead, IsTurn}
+use Rattle.sigaudit.specs.Script.{edit_said, hour_bytes, hour_change, hour_file, wanted_for, IsEdited, IsFetched, IsMeasured, IsMeasuredOf, IsRead, IsTurn}
 use Rattle.sigaudit.specs.Run.{World, world, Takes, TakesBy, TakesPut}
 use Rattle.sigaudit.specs.declared.status.Stopped.{Stopped}
 use Rattle.sigaudit.specs.declared.status.Stopped.TheVariants as stopped
@@ -48,24 +47,24 @@ file_long file bytes e long =
     rw e k
 
 -- an hour file that can't be read
-pub fetch_refused : (c c' : Settings) (n hour : ℕ) (make : Shown → Change) (s : Store) (want : Result (List ℕ) Refusal) (refusal : Refusal) (w w' : Option (List ℕ)) (f f' : ℕ) (r : Result Bool Stopped)
-    → c' ≡ c → want ≡ Err refusal → ((x : Store) → TakesPut (refuses c' n refusal x) w w' f f' x r) → TakesBy (IsFetched c n hour make s want) w w' f f' s r
-fetch_refused c c' n hour make s want refusal w w' f f' r ec e h =
-    rw e (by_refusal (IsFetched c n hour make s (Err refusal)) c c' n refusal s w w' f f' r ec refl h)
+pub fetch_refused : (c c' : Settings) (n hour : ℕ) (make : Shown → Change) (s : Store) (want : Result (List ℕ) Refusal) (refusal : Refusal) (w w' : Taken) (r : Result Bool Stopped)
+    → c' ≡ c → want ≡ Err refusal → ((x : Store) → TakesPut (refuses c' n refusal x) w w' x r) → TakesBy (IsFetched c n hour make s want) w w' s r
+fetch_refused c c' n hour make s want refusal w w' r ec e h =
+    rw e (by_refusal (IsFetched c n hour make s (Err refusal)) c c' n refusal s w w' r ec refl h)
 
 -- one that was read
-pub fetch_read : (c : Settings) (n hour : ℕ) (make : Shown → Change) (s s' : Store) (want : Result (List ℕ) Refusal) (bytes bytes' : List ℕ) (w w' : Option (List ℕ)) (f f' : ℕ) (r : Result Bool Stopped)
-    → want ≡ Ok bytes → bytes' ≡ bytes → TakesBy (IsRead c n make s (hour_said (wanted_for c hour) bytes')) w w' f f' s' r → TakesBy (IsFetched c n hour make s want) w w' f f' s' r
-fetch_read c n hour make s s' want bytes bytes' w w' f f' r e eb h =
+pub fetch_read : (c : Settings) (n hour : ℕ) (make : Shown → Change) (s s' : Store) (want : Result (List ℕ) Refusal) (bytes bytes' : List ℕ) (w w' : Taken) (r : Result Bool Stopped)
+    → want ≡ Ok bytes → bytes' ≡ bytes → TakesBy (IsRead c n make s (hour_said (wanted_for c hour) bytes')) w w' s' r → TakesBy (IsFetched c n hour make s want) w w' s' r
+fetch_read c n hour make s s' want bytes bytes' w w' r e eb h =
     let h' = rw eb at h in
     rw e h'
 
 -- an hour that the window hasn't, or has
-pub outside_line : (files : Files) (c c' : Settings) (n hour : ℕ) (name : List ℕ) (make : Shown → Change) (s : Store) (w w' : Option (List ℕ)) (f f' : ℕ) (r : Result Bool Stopped)
-    → c' ≡ c → c.window.hours ≤ hour → ((x : Store) → TakesPut (refuses c' n (Edit OutOfWindow) x) w w' f f' x r) → TakesBy (IsFetched c n hour make s (hour_bytes files c hour name)) w w' f f' s r
-outside_line files c c' n hour name make s w w' f f' r ec past h =
+pub outside_line : (files : Files) (c c' : Settings) (n hour : ℕ) (name : List ℕ) (make : Shown → Change) (s : Store) (w w' : Taken) (r : Result Bool Stopped)
+    → c' ≡ c → c.window.hours ≤ hour → ((x : Store) → TakesPut (refuses c' n (Edit OutOfWindow) x) w w' x r) → TakesBy (IsFetched c n hour make s (hour_bytes files c hour name)) w w' s r
+outside_line files c c' n hour name make s w w' r ec past h =
     let e : hour_bytes files c hour name ≡ Err (Edit OutOfWindow) = rw (le-ltb hour c.window.hours past) refl in
-    fetch_refused c c' n hour make s (hour_bytes files c hour name) (Edit OutOfWindow) w w' f f' r ec e h
+    fetch_refused c c' n hour make s (hour_bytes files c hour name) (Edit OutOfWindow) w w' r ec e h
 
 pub inside_line : (files : Files) (c : Settings) (n hour : ℕ) (name : List ℕ) (make : Shown → Change) (s s' : Store) (old new : World) (r : Result Bool Stopped)
     → hour < c.window.hours → Takes (IsFetched c n hour make s (hour_file (files name))) old new s' r → Takes (IsFetched c n hour make s (hour_bytes files c hour name)) old new s' r
@@ -75,57 +74,37 @@ inside_line files c n hour name make s s' old new r lt h =
 
 -- ---- measures
 
-measured : (c : Settings) (n : ℕ) (s : Store) (all : List Numbers) → IsReportOf c s all → IsMeasured c n s (writes (window_head n ++ measures_text c (total_of all)) s)
-measured c n s all h = (all, h, refl)
+pub measures_done : (c c' : Settings) (n : ℕ) (s : Store) (all : List Numbers) (x : Numbers) (w w' : Taken) → c' ≡ c → IsReportOf c s all → x ≡ total_of all → Writes w w' (window_measures n c' x) → TakesBy (IsMeasured c n s) w w' s (Ok false)
+measures_done c c' n s all x w w' ec h ex k =
+    let k' = rw (ec, ex) at k in
+    (writes (window_measures n c (total_of all)) s, (all, h, refl), k', refl, refl)
 
-pub measures_cut : (c : Settings) (n : ℕ) (s : Store) (all : List Numbers) (w w' : Option (List ℕ)) (f f' : ℕ) → IsReportOf c s all → Stops w w' f f' (window_head n) → TakesBy (IsMeasured c n s) w w' f f' s (Err stopped.Fault)
-measures_cut c n s all w w' f f' h k =
-    (writes (window_head n ++ measures_text c (total_of all)) s, measured c n s all h, stops-front w w' f f' (window_head n) (measures_text c (total_of all)) k)
-
-pub measures_stop : (c c' : Settings) (n : ℕ) (s : Store) (all : List Numbers) (x : Numbers) (w w1 w2 : Option (List ℕ)) (f f1 f2 : ℕ) → c' ≡ c → IsReportOf c s all → x ≡ total_of all → f1 ≡ f → Appends w w1 (window_head n)
-    → Stops w1 w2 f1 f2 (measures_text c' x) → TakesBy (IsMeasured c n s) w w2 f f2 s (Err stopped.Fault)
-measures_stop c c' n s all x w w1 w2 f f1 f2 ec h ex e a k =
-    let k' = rw (ec, ex) at k in (
-      writes (window_head n ++ measures_text c (total_of all)) s,
-      measured c n s all h,
-      puts-then {T = Unit {0}} {E = Unit {0}} w w1 w2 f f1 f2 (window_head n) (measures_text c (total_of all)) (Err tt) e a k',
-    )
-
-pub measures_done : (c c' : Settings) (n : ℕ) (s : Store) (all : List Numbers) (x : Numbers) (w w1 w2 : Option (List ℕ)) (f f1 f2 : ℕ) → c' ≡ c → IsReportOf c s all → x ≡ total_of all → f1 ≡ f → Appends w w1 (window_head n)
-    → f2 ≡ f1 → Appends w1 w2 (measures_text c' x) → TakesBy (IsMeasured c n s) w w2 f f2 s (Ok false)
-measures_done c c' n s all x w w1 w2 f f1 f2 ec h ex e a e' b =
-    let b' = rw (ec, ex) at b in
-    (writes (window_head n ++ measures_text c (total_of all)) s, measured c n s all h, appends-then w w1 w2 (window_head n) (measures_text c (total_of all)) a b', e' ∙ e, refl, refl)
+pub measures_cut : (c c' : Settings) (n : ℕ) (s : Store) (all : List Numbers) (x : Numbers) (w w' : Taken) → c' ≡ c → IsReportOf c s all → x ≡ total_of all → Stops w w' (window_measures n c' x) → TakesBy (IsMeasured c n s) w w' s (Err stopped.Fault)
+measures_cut c c' n s all x w w' ec h ex k =
+    let k' = rw (ec, ex) at k in
+    (writes (window_measures n c (total_of all)) s, (all, h, refl), k')
 
 -- the measures of an hour, which are there
-hour_measured : (c : Settings) (n hour : ℕ) (s : Store) (all : List Numbers) (x : Numbers) → IsReportOf c s all → Some x ≡ slice_get all hour → IsMeasuredOf c n hour s (writes (hour_head n hour ++ measures_text c x) s)
+hour_measured : (c : Settings) (n hour : ℕ) (s : Store) (all : List Numbers) (x : Numbers) → IsReportOf c s all → Some x ≡ slice_get all hour → IsMeasuredOf c n hour s (writes (hour_measures n hour c x) s)
 hour_measured c n hour s all x h e = (all, h, rw (← e) refl)
 
-pub hour_outside : (c c' : Settings) (n hour : ℕ) (s : Store) (all : List Numbers) (w w' : Option (List ℕ)) (f f' : ℕ) (r : Result Bool Stopped) → c' ≡ c → IsReportOf c s all → None ≡ slice_get all hour
-    → ((x : Store) → TakesPut (refuses c' n (Edit OutOfWindow) x) w w' f f' x r) → TakesBy (IsMeasuredOf c n hour s) w w' f f' s r
-hour_outside c c' n hour s all w w' f f' r ec h e k =
+pub hour_outside : (c c' : Settings) (n hour : ℕ) (s : Store) (all : List Numbers) (w w' : Taken) (r : Result Bool Stopped) → c' ≡ c → IsReportOf c s all → None ≡ slice_get all hour
+    → ((x : Store) → TakesPut (refuses c' n (Edit OutOfWindow) x) w w' x r) → TakesBy (IsMeasuredOf c n hour s) w w' s r
+hour_outside c c' n hour s all w w' r ec h e k =
     let is : IsMeasuredOf c n hour s (refuses c n (Edit OutOfWindow) s) = (all, h, rw (← e) refl) in
-    by_refusal (IsMeasuredOf c n hour s) c c' n (Edit OutOfWindow) s w w' f f' r ec is k
+    by_refusal (IsMeasuredOf c n hour s) c c' n (Edit OutOfWindow) s w w' r ec is k
 
-pub hour_cut : (c : Settings) (n hour : ℕ) (s : Store) (all : List Numbers) (x : Numbers) (w w' : Option (List ℕ)) (f f' : ℕ) → IsReportOf c s all → Some x ≡ slice_get all hour → Stops w w' f f' (hour_head n hour)
-    → TakesBy (IsMeasuredOf c n hour s) w w' f f' s (Err stopped.Fault)
-hour_cut c n hour s all x w w' f f' h e k =
-    (writes (hour_head n hour ++ measures_text c x) s, hour_measured c n hour s all x h e, stops-front w w' f f' (hour_head n hour) (measures_text c x) k)
+pub hour_done : (c c' : Settings) (n hour : ℕ) (s : Store) (all : List Numbers) (x : Numbers) (w w' : Taken) → c' ≡ c → IsReportOf c s all → Some x ≡ slice_get all hour → Writes w w' (hour_measures n hour c' x)
+    → TakesBy (IsMeasuredOf c n hour s) w w' s (Ok false)
+hour_done c c' n hour s all x w w' ec h e k =
+    let k' = rw ec at k in
+    (writes (hour_measures n hour c x) s, hour_measured c n hour s all x h e, k', refl, refl)
 
-pub hour_stop : (c c' : Settings) (n hour : ℕ) (s : Store) (all : List Numbers) (x : Numbers) (w w1 w2 : Option (List ℕ)) (f f1 f2 : ℕ) → c' ≡ c → IsReportOf c s all → Some x ≡ slice_get all hour → f1 ≡ f → Appends w w1 (hour_head n hour)
-    → Stops w1 w2 f1 f2 (measures_text c' x) → TakesBy (IsMeasuredOf c n hour s) w w2 f f2 s (Err stopped.Fault)
-hour_stop c c' n hour s all x w w1 w2 f f1 f2 ec h e ef a k =
-    let k' = rw ec at k in (
-      writes (hour_head n hour ++ measures_text c x) s,
-      hour_measured c n hour s all x h e,
-      puts-then {T = Unit {0}} {E = Unit {0}} w w1 w2 f f1 f2 (hour_head n hour) (measures_text c x) (Err tt) ef a k',
-    )
-
-pub hour_done : (c c' : Settings) (n hour : ℕ) (s : Store) (all : List Numbers) (x : Numbers) (w w1 w2 : Option (List ℕ)) (f f1 f2 : ℕ) → c' ≡ c → IsReportOf c s all → Some x ≡ slice_get all hour → f1 ≡ f → Appends w w1 (hour_head n hour)
-    → f2 ≡ f1 → Appends w1 w2 (measures_text c' x) → TakesBy (IsMeasuredOf c n hour s) w w2 f f2 s (Ok false)
-hour_done c c' n hour s all x w w1 w2 f f1 f2 ec h e ef a eg b =
-    let b' = rw ec at b in
-    (writes (hour_head n hour ++ measures_text c x) s, hour_measured c n hour s all x h e, appends-then w w1 w2 (hour_head n hour) (measures_text c x) a b', eg ∙ ef, refl, refl)
+pub hour_cut : (c c' : Settings) (n hour : ℕ) (s : Store) (all : List Numbers) (x : Numbers) (w w' : Taken) → c' ≡ c → IsReportOf c s all → Some x ≡ slice_get all hour → Stops w w' (hour_measures n hour c' x)
+    → TakesBy (IsMeasuredOf c n hour s) w w' s (Err stopped.Fault)
+hour_cut c c' n hour s all x w w' ec h e k =
+    let k' = rw ec at k in
+    (writes (hour_measures n hour c x) s, hour_measured c n hour s all x h e, k')
 
 -- ---- what the lines do, by what they say
 
@@ -187,10 +166,10 @@ turn_edit files c n (line.points p) ch s e t h = absurd (cc)
 turn_edit files c n (line.offsets name) ch s e t h = absurd (cc)
 
 -- a line that used the sink alone
-pub line_by : (files : Files) (c : Settings) (n : ℕ) (x y : Said) (s0 : Store) (Is : Turn → Type 0) (k : Counts) (w w' : Option (List ℕ)) (f f' : ℕ) (s : Store) (r : Result Bool Stopped) → x ≡ y
-    → ((t : Turn) → Is t → IsTurn files c n y s0 t) → TakesBy Is w w' f f' s r → Takes (IsTurn files c n x s0) (world k w f) (world k w' f') s r
-line_by files c n x y s0 Is k w w' f f' s r e turn h =
-    rw e (takes_as Is (IsTurn files c n y s0) (world k w f) (world k w' f') s r turn (takes_of_by Is k k w w' f f' s r refl h))
+pub line_by : (files : Files) (c : Settings) (n : ℕ) (x y : Said) (s0 : Store) (Is : Turn → Type 0) (k : Counts) (w w' : Taken) (s : Store) (r : Result Bool Stopped) → x ≡ y
+    → ((t : Turn) → Is t → IsTurn files c n y s0 t) → TakesBy Is w w' s r → Takes (IsTurn files c n x s0) (world k w) (world k w') s r
+line_by files c n x y s0 Is k w w' s r e turn h =
+    rw e (takes_as Is (IsTurn files c n y s0) (world k w) (world k w') s r turn (takes_of_by Is k k w w' s r refl h))
 
 -- one that used the shelf too
 pub line_as : (files : Files) (c : Settings) (n : ℕ) (x y : Said) (s0 : Store) (Is : Turn → Type 0) (old new : World) (s : Store) (r : Result Bool Stopped) → x ≡ y
@@ -198,10 +177,10 @@ pub line_as : (files : Files) (c : Settings) (n : ℕ) (x y : Said) (s0 : Store)
 line_as files c n x y s0 Is old new s r e turn h = rw e (takes_as Is (IsTurn files c n y s0) old new s r turn h)
 
 -- a line that is passed over
-pub line_skipped : (files : Files) (c : Settings) (n : ℕ) (x : Said) (s : Store) (k : Counts) (w : Option (List ℕ)) (f : ℕ) → x ≡ line.skip → Takes (IsTurn files c n x s) (world k w f) (world k w f) s (Ok false)
-line_skipped files c n x s k w f e = rw e (passes s, turn_skip files c n s (passes s) refl, appends-nothing w, (refl, refl), refl, refl)
+pub line_skipped : (files : Files) (c : Settings) (n : ℕ) (x : Said) (s : Store) (k : Counts) (w : Taken) → x ≡ line.skip → Takes (IsTurn files c n x s) (world k w) (world k w) s (Ok false)
+line_skipped files c n x s k w e = rw e (passes s, turn_skip files c n s (passes s) refl, appends-nothing w.written, (refl, refl), refl, refl)
 
 -- a bad line
-pub by_bad : (c c' : Settings) (n : ℕ) (refusal : Refusal) (s : Store) (w w' : Option (List ℕ)) (f f' : ℕ) (r : Result Bool Stopped) → c' ≡ c → ((x : Store) → TakesPut (refuses c' n refusal x) w w' f f' x r)
-    → TakesBy (λ t. t ≡ refuses c n refusal s) w w' f f' s r
-by_bad c c' n refusal s w w' f f' r ec h = by_refusal (λ t. t ≡ refuses c n refusal s) c c' n refusal s w w' f f' r ec refl h
+pub by_bad : (c c' : Settings) (n : ℕ) (refusal : Refusal) (s : Store) (w w' : Taken) (r : Result Bool Stopped) → c' ≡ c → ((x : Store) → TakesPut (refuses c' n refusal x) w w' x r)
+    → TakesBy (λ t. t ≡ refuses c n refusal s) w w' s r
+by_bad c c' n refusal s w w' r ec h = by_refusal (λ t. t ≡ refuses c n refusal s) c c' n refusal s w w' r ec refl h

@@ -5,8 +5,7 @@ use Rattle.std.proofs.lemmas.Bool.{and_parts, cases_Bool, leb-true}
 use Rattle.std.proofs.lemmas.List.{take_all, take_more}
 use Rattle.std.proofs.lemmas.List.Concat.{flat_map-append}
 use Rattle.std.proofs.lemmas.List.Elements.{All-append, All-cons, All-get_or, All-head, All-nil, All-tail, All-weaker}
-use Rattle.std.specs.Io.KnownBytes.{Appends}
-use Rattle.outside.specs.Sink.{Stops}
+use Rattle.outside.specs.Sink.{Stops, Taken, Writes}
 use Rattle.hour_store.specs.Store.{Store}
 use Rattle.service_cut.specs.declared.items.Cycle.{Cycle}
 use Rattle.service_cut.specs.Whole.{CycleFits}
@@ -95,26 +94,26 @@ taken_none place d b start e f = let n : is_taken d.cycle ≡ false = sym e ∙ 
 
 -- ---- the turn
 
-pub offsets_absent : (c c' c'' : Settings) (n : ℕ) (name : List ℕ) (s : Store) (w w' : Option (List ℕ)) (f f' : ℕ) (r : Result Bool Stopped) → c' ≡ c → c'' ≡ c → None ≡ advance_of c' name
-    → ((x : Store) → TakesPut (refuses c'' n BadLine x) w w' f f' x r) → TakesBy (λ t. t ≡ offsets_of c n name s) w w' f f' s r
-offsets_absent c c' c'' n name s w w' f f' r ec ed e h =
+pub offsets_absent : (c c' c'' : Settings) (n : ℕ) (name : List ℕ) (s : Store) (w w' : Taken) (r : Result Bool Stopped) → c' ≡ c → c'' ≡ c → None ≡ advance_of c' name
+    → ((x : Store) → TakesPut (refuses c'' n BadLine x) w w' x r) → TakesBy (λ t. t ≡ offsets_of c n name s) w w' s r
+offsets_absent c c' c'' n name s w w' r ec ed e h =
     let absent : None ≡ advance_of c name = e ∙ ap (λ (k : Settings). advance_of k name) ec in
-    subst (λ (o : Option (ℕ × ℕ)). TakesBy (λ t. t ≡ offsets_turn c n name s o) w w' f f' s r) absent (by_refusal (λ t. t ≡ refuses c n BadLine s) c c'' n BadLine s w w' f f' r ed refl h)
+    subst (λ (o : Option (ℕ × ℕ)). TakesBy (λ t. t ≡ offsets_turn c n name s o) w w' s r) absent (by_refusal (λ t. t ≡ refuses c n BadLine s) c c'' n BadLine s w w' r ed refl h)
 
 same_text : (c : Settings) (n : ℕ) (name : List ℕ) (s : Store) (at : ℕ × ℕ) (count : ℕ) (counts : List ℕ) → counts ≡ counts_of (store_arrivals c s at) → count ≡ length (store_arrivals c s at)
     → shifts_text n name counts count ≡ offsets_text n name (store_arrivals c s at)
 same_text c n name s at count counts e k = rw (e, k) refl
 
-pub offsets_done : (c c' : Settings) (n : ℕ) (name : List ℕ) (s : Store) (at : ℕ × ℕ) (count : ℕ) (counts : List ℕ) (w w' : Option (List ℕ)) (f f' : ℕ) → c' ≡ c → Some at ≡ advance_of c' name
-    → count ≡ length (store_arrivals c s at) → counts ≡ counts_of (store_arrivals c s at) → f' ≡ f → Appends w w' (shifts_text n name counts count) → TakesBy (λ t. t ≡ offsets_of c n name s) w w' f f' s (Ok false)
-offsets_done c c' n name s at count counts w w' f f' ec e el es ef a =
+pub offsets_done : (c c' : Settings) (n : ℕ) (name : List ℕ) (s : Store) (at : ℕ × ℕ) (count : ℕ) (counts : List ℕ) (w w' : Taken) → c' ≡ c → Some at ≡ advance_of c' name
+    → count ≡ length (store_arrivals c s at) → counts ≡ counts_of (store_arrivals c s at) → Writes w w' (shifts_text n name counts count) → TakesBy (λ t. t ≡ offsets_of c n name s) w w' s (Ok false)
+offsets_done c c' n name s at count counts w w' ec e el es a =
     let there : Some at ≡ advance_of c name = e ∙ ap (λ (k : Settings). advance_of k name) ec in
-    let a' = subst (λ (text : List ℕ). Appends w w' text) (same_text c n name s at count counts es el) a in
-    subst (λ (o : Option (ℕ × ℕ)). TakesBy (λ t. t ≡ offsets_turn c n name s o) w w' f f' s (Ok false)) there (offsets_turn c n name s (Some at), refl, a', ef, refl, refl)
+    let a' = subst (λ (text : List ℕ). Writes w w' text) (same_text c n name s at count counts es el) a in
+    subst (λ (o : Option (ℕ × ℕ)). TakesBy (λ t. t ≡ offsets_turn c n name s o) w w' s (Ok false)) there (offsets_turn c n name s (Some at), refl, a', refl, refl)
 
-pub offsets_cut : (c c' : Settings) (n : ℕ) (name : List ℕ) (s : Store) (at : ℕ × ℕ) (count : ℕ) (counts : List ℕ) (w w' : Option (List ℕ)) (f f' : ℕ) → c' ≡ c → Some at ≡ advance_of c' name
-    → count ≡ length (store_arrivals c s at) → counts ≡ counts_of (store_arrivals c s at) → Stops w w' f f' (shifts_text n name counts count) → TakesBy (λ t. t ≡ offsets_of c n name s) w w' f f' s (Err stopped.Fault)
-offsets_cut c c' n name s at count counts w w' f f' ec e el es a =
+pub offsets_cut : (c c' : Settings) (n : ℕ) (name : List ℕ) (s : Store) (at : ℕ × ℕ) (count : ℕ) (counts : List ℕ) (w w' : Taken) → c' ≡ c → Some at ≡ advance_of c' name
+    → count ≡ length (store_arrivals c s at) → counts ≡ counts_of (store_arrivals c s at) → Stops w w' (shifts_text n name counts count) → TakesBy (λ t. t ≡ offsets_of c n name s) w w' s (Err stopped.Fault)
+offsets_cut c c' n name s at count counts w w' ec e el es a =
     let there : Some at ≡ advance_of c name = e ∙ ap (λ (k : Settings). advance_of k name) ec in
-    let a' = subst (λ (text : List ℕ). Stops w w' f f' text) (same_text c n name s at count counts es el) a in
-    subst (λ (o : Option (ℕ × ℕ)). TakesBy (λ t. t ≡ offsets_turn c n name s o) w w' f f' s (Err stopped.Fault)) there (offsets_turn c n name s (Some at), refl, a')
+    let a' = subst (λ (text : List ℕ). Stops w w' text) (same_text c n name s at count counts es el) a in
+    subst (λ (o : Option (ℕ × ℕ)). TakesBy (λ t. t ≡ offsets_turn c n name s o) w w' s (Err stopped.Fault)) there (offsets_turn c n name s (Some at), refl, a')

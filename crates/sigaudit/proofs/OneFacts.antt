@@ -26,7 +26,7 @@ use Rattle.hour_work.specs.Verdicts.{AreAuditLines}
 use Rattle.hour_work.specs.Reports.{IsReport}
 use Rattle.report_text.specs.declared.refusal.Refusal.{Refusal}
 use Rattle.report_text.specs.declared.refusal.Refusal.TheVariants.{Edit}
-use Rattle.report_text.specs.Measures.{measures_text}
+use Rattle.report_text.specs.Measures.{window_measures}
 use Rattle.session.specs.Edits.{Change, step_of}
 use Rattle.sigaudit.proofs.MovedFacts.{moved_once}
 use Rattle.session.specs.Edits as change
@@ -38,8 +38,10 @@ use Rattle.script_lines.specs.Lines.{lines_of}
 use Rattle.sigaudit.specs.Aims.{for_lines}
 use Rattle.sigaudit.specs.Asked.{asked_of}
 use Rattle.sigaudit.specs.Turns.{Turn, refuses, writes}
-use Rattle.sigaudit.specs.Audit.{AreFailing, AreVerdicts, IsAudited, audit_start, lines_text, verdicts_head}
-use Rattle.sigaudit.specs.Script.{accepts, IsEdited, IsMade, IsFetched, IsMeasured, IsMeasuredOf, IsRead, IsTold, IsTurn, Told, followed, hour_bytes, hour_change, numbers_turn, wanted_for, window_head}
+use Rattle.report_text.specs.Audit.{audit_start, lines_text}
+use Rattle.report_text.specs.Heads.{verdicts_head}
+use Rattle.sigaudit.specs.Audit.{AreFailing, AreVerdicts, IsAudited}
+use Rattle.sigaudit.specs.Script.{accepts, IsEdited, IsMade, IsFetched, IsMeasured, IsMeasuredOf, IsRead, IsTold, IsTurn, Told, followed, hour_bytes, hour_change, numbers_turn, wanted_for}
 use Rattle.sigaudit.specs.Transcript.{BeginsWithFirstLines, HaveOneTranscript, IsAnswer, IsConfigOutcome, IsFileOutcome, IsScriptOutcome, Outcome, asks_pairs, first_lines, limited, outcome, told_outcome}
 
 -- where some history agrees an hour has one list of lines
@@ -87,7 +89,7 @@ one_fetched laws c n hour make s (Err refusal) t t' h k = both h k
 one_measured : Laws → (c : Settings) (n : ℕ) (s : Store) (t t' : Turn) → IsMeasured c n s t → IsMeasured c n s t' → t ≡ t'
 one_measured laws c n s t t' h k =
     let same = laws.report c s h.0 k.0 h.1.0 h.1.1 k.1.1 in
-    h.2 ∙ ap (λ (all : List Numbers). writes (window_head n ++ measures_text c (total_of all)) s) same ∙ sym k.2
+    h.2 ∙ ap (λ (all : List Numbers). writes (window_measures n c (total_of all)) s) same ∙ sym k.2
 
 one_measured_of : Laws → (c : Settings) (n hour : ℕ) (s : Store) (t t' : Turn) → IsMeasuredOf c n hour s t → IsMeasuredOf c n hour s t' → t ≡ t'
 one_measured_of laws c n hour s t t' h k =

@@ -3,7 +3,7 @@ use Rattle.std.proofs.Common.{◌≡◌, ◌<◌, ◌≤◌, ◌*◌, ℕ, List,
 use Rattle.std.specs.Prelude.{flat_map}
 use Rattle.std.specs.List.{All}
 use Rattle.std.proofs.lemmas.List.Elements.{All-cons, All-nil}
-use Rattle.outside.specs.Sink.{Stops}
+use Rattle.outside.specs.Sink.{Stops, Taken}
 use Rattle.outside.specs.Shelf.{Counts, Files}
 use Rattle.outside.proofs.PutsFacts.{appends-nothing}
 use Rattle.hour_store.specs.Store.{Store}
@@ -20,9 +20,9 @@ use Rattle.filling_pair.specs.Strands.{AreAllStrands, AreFills}
 use Rattle.session.specs.Pairs.{ArePairsAt, ArePairsOf}
 use Rattle.session.specs.Sessions.{Kept}
 use Rattle.script_lines.specs.Lines.{lines_of}
-use Rattle.report_text.specs.Pairs.{AreFillsIn, AreStrandsIn, IsPairIn, pair_text}
+use Rattle.report_text.specs.Pairs.{AreFillsIn, AreStrandsIn, IsPairIn, found_text, nothing_text}
 use Rattle.sigaudit.specs.Aims.{for_rule}
-use Rattle.sigaudit.specs.Pairs.{AreFound, found_text, nothing_text, place_of}
+use Rattle.sigaudit.specs.Pairs.{AreFound, place_of}
 use Rattle.sigaudit.specs.Run.{IsCarriedOut, PutsOne, RunsAs, ScriptCause, world}
 use Rattle.sigaudit.specs.Status.{status_of_run}
 use Rattle.sigaudit.specs.Transcript.{IsAimOutcome, ended_by, outcome}
@@ -59,59 +59,50 @@ pairs_in c s rule at ps e h = pairs_of_in c s _ ps (rw e (omega arith)) h.2
 
 -- ---- their texts
 
--- there are none, or some
-pub none_found : (c : Settings) (rule at : ℕ) (ps : List Pair) → length ps ≡ 0 → found_text c rule at ps ≡ nothing_text
-none_found c rule at [] h = refl
-none_found c rule at (p ∷ ps) h = absurd (omega arith)
-
-pub some_found : (c : Settings) (rule at : ℕ) (ps : List Pair) → 0 < length ps → found_text c rule at ps ≡ flat_map (pair_text c rule at) ps
-some_found c rule at [] h = absurd (omega arith)
-some_found c rule at (p ∷ ps) h = refl
-
 -- a rule and a tenth aren't there
-pub nothing_stops : (c : Settings) (s : Store) (place : Option (ℕ × ℕ)) (w w' : Option (List ℕ)) (f f' : ℕ) → place ≡ None → Stops w w' f f' nothing_text → PutsOne {T = Unit {0}} (AreFound c s place) w w' f f' (Err stopped.Fault)
-nothing_stops c s place w w' f f' e h = (nothing_text, rw e refl, h)
+pub nothing_stops : (c : Settings) (s : Store) (place : Option (ℕ × ℕ)) (w w' : Taken) → place ≡ None → Stops w w' nothing_text → PutsOne {T = Unit {0}} (AreFound c s place) w w' (Err stopped.Fault)
+nothing_stops c s place w w' e h = (nothing_text, rw e refl, h)
 
 pub is_none-of : {A : Type 0} (o : Option A) → ((x : A) → o ≡ Some x → ⊥) → o ≡ None
 is_none-of None h = refl
 is_none-of (Some x) h = absurd (h x refl)
 
 -- they are there
-pub found_there : {T : Type 0} (c : Settings) (s : Store) (place : Option (ℕ × ℕ)) (rule at : ℕ) (w w' : Option (List ℕ)) (f f' : ℕ) (r : Result T Stopped) → place ≡ Some (rule, at) → PutsOne (AreFound c s (Some (rule, at))) w w' f f' r → PutsOne (AreFound c s place) w w' f f' r
-found_there c s place rule at w w' f f' r e h = rw e h
+pub found_there : {T : Type 0} (c : Settings) (s : Store) (place : Option (ℕ × ℕ)) (rule at : ℕ) (w w' : Taken) (r : Result T Stopped) → place ≡ Some (rule, at) → PutsOne (AreFound c s (Some (rule, at))) w w' r → PutsOne (AreFound c s place) w w' r
+found_there c s place rule at w w' r e h = rw e h
 
-pub found_stops : (c c' : Settings) (s : Store) (rule at : ℕ) (ps ps' : List Pair) (w w' : Option (List ℕ)) (f f' : ℕ) → c' ≡ c → ps' ≡ ps → HasHistory (log_of c.specs s) → ArePairsAt c s rule at ps → Stops w w' f f' (found_text c' rule at ps')
-    → PutsOne {T = Unit {0}} (AreFound c s (Some (rule, at))) w w' f f' (Err stopped.Fault)
-found_stops c c' s rule at ps ps' w w' f f' ec ep history pairs h =
+pub found_stops : (c c' : Settings) (s : Store) (rule at : ℕ) (ps ps' : List Pair) (w w' : Taken) → c' ≡ c → ps' ≡ ps → HasHistory (log_of c.specs s) → ArePairsAt c s rule at ps → Stops w w' (found_text c' rule at ps')
+    → PutsOne {T = Unit {0}} (AreFound c s (Some (rule, at))) w w' (Err stopped.Fault)
+found_stops c c' s rule at ps ps' w w' ec ep history pairs h =
     (found_text c rule at ps, (ps, history, pairs, refl), rw (ec, ep) at h)
 
 -- ---- the run of them
 
 -- all was written
-pub pairs_told : (files : Files) (c : Settings) (rule : ℕ) (at script : List ℕ) (session : Kept) (refused : Bool) (k k' : Counts) (w w' : Option (List ℕ)) (f f' : ℕ) → k'.failed ≡ k.failed
+pub pairs_told : (files : Files) (c : Settings) (rule : ℕ) (at script : List ℕ) (session : Kept) (refused : Bool) (k k' : Counts) (w w' : Taken) → k'.failed ≡ k.failed
     → IsCarriedOut files c (lines_of script) (Ok (session, refused))
-    → PutsOne {T = Unit {0}} (AreFound session.config session.store (place_of session.config rule (stamp_in session.config.window at))) w w' f f' (Ok tt)
-    → RunsAs (IsAimOutcome files c (for_rule rule at) (Some script)) (world k w f) (world k' w' f') (status_of_run (Ok (ended_by refused)))
-pairs_told files c rule at script session true k k' w w' f f' failed carried put =
+    → PutsOne {T = Unit {0}} (AreFound session.config session.store (place_of session.config rule (stamp_in session.config.window at))) w w' (Ok tt)
+    → RunsAs (IsAimOutcome files c (for_rule rule at) (Some script)) (world k w) (world k' w') (status_of_run (Ok (ended_by refused)))
+pairs_told files c rule at script session true k k' w w' failed carried put =
     let found = subst (λ (x : Kept). AreFound x.config x.store (place_of x.config rule (stamp_in x.config.window at)) put.0) carried.2 put.1 in
-    (put.0, (carried.0, carried.1, (put.0, found, ap (λ (b : Bool). outcome put.0 (ended_by b)) carried.3)), (put.2, (failed, put.3)))
-pairs_told files c rule at script session false k k' w w' f f' failed carried put =
+    (put.0, (carried.0, carried.1, (put.0, found, ap (λ (b : Bool). outcome put.0 (ended_by b)) carried.3)), (put.2.wrote, (failed, put.2.same)))
+pairs_told files c rule at script session false k k' w w' failed carried put =
     let found = subst (λ (x : Kept). AreFound x.config x.store (place_of x.config rule (stamp_in x.config.window at)) put.0) carried.2 put.1 in
-    (put.0, (carried.0, carried.1, (put.0, found, ap (λ (b : Bool). outcome put.0 (ended_by b)) carried.3)), (put.2, (failed, put.3)))
+    (put.0, (carried.0, carried.1, (put.0, found, ap (λ (b : Bool). outcome put.0 (ended_by b)) carried.3)), (put.2.wrote, (failed, put.2.same)))
 
 -- it was cut off in it
-pub pairs_cut : (files : Files) (c : Settings) (rule : ℕ) (at script : List ℕ) (session : Kept) (refused : Bool) (k k' : Counts) (w w' : Option (List ℕ)) (f f' : ℕ) (s : Stopped)
+pub pairs_cut : (files : Files) (c : Settings) (rule : ℕ) (at script : List ℕ) (session : Kept) (refused : Bool) (k k' : Counts) (w w' : Taken) (s : Stopped)
     → IsCarriedOut files c (lines_of script) (Ok (session, refused))
-    → PutsOne {T = Unit {0}} (AreFound session.config session.store (place_of session.config rule (stamp_in session.config.window at))) w w' f f' (Err s)
-    → RunsAs (IsAimOutcome files c (for_rule rule at) (Some script)) (world k w f) (world k' w' f') (status_of_run (Err s))
-pairs_cut files c rule at script session refused k k' w w' f f' stopped.Fault carried put =
+    → PutsOne {T = Unit {0}} (AreFound session.config session.store (place_of session.config rule (stamp_in session.config.window at))) w w' (Err s)
+    → RunsAs (IsAimOutcome files c (for_rule rule at) (Some script)) (world k w) (world k' w') (status_of_run (Err s))
+pairs_cut files c rule at script session refused k k' w w' stopped.Fault carried put =
     let found = subst (λ (x : Kept). AreFound x.config x.store (place_of x.config rule (stamp_in x.config.window at)) put.0) carried.2 put.1 in
-    (inr put.2.1, inr (0, outcome put.0 (ended_by carried.0.refused), (carried.0, carried.1, (put.0, found, refl)), put.2.2))
-pairs_cut files c rule at script session refused k k' w w' f f' stopped.Memory carried put = inl (rw put.0 (appends-nothing w))
+    (inr put.2.rose, inr (0, outcome put.0 (ended_by carried.0.refused), (carried.0, carried.1, (put.0, found, refl)), put.2.front))
+pairs_cut files c rule at script session refused k k' w w' stopped.Memory carried put = inl (rw put (appends-nothing w.written))
 
 -- ---- why it ended so
 
-pub told_cause : (Is : List ℕ → Type 0) (refused : Bool) (k k' : Counts) (w w' : Option (List ℕ)) (f f' : ℕ) → k'.failed ≡ k.failed → PutsOne {T = Unit {0}} Is w w' f f' (Ok tt)
-    → ScriptCause (world k w f) (world k' w' f') (status_of_run (Ok (ended_by refused)))
-told_cause Is true k k' w w' f f' failed put = (failed, put.3)
-told_cause Is false k k' w w' f f' failed put = (failed, put.3)
+pub told_cause : (Is : List ℕ → Type 0) (refused : Bool) (k k' : Counts) (w w' : Taken) → k'.failed ≡ k.failed → PutsOne {T = Unit {0}} Is w w' (Ok tt)
+    → ScriptCause (world k w) (world k' w') (status_of_run (Ok (ended_by refused)))
+told_cause Is true k k' w w' failed put = (failed, put.2.same)
+told_cause Is false k k' w w' failed put = (failed, put.2.same)

@@ -3,9 +3,7 @@ use Rattle.std.proofs.Common.{◌≡◌, ◌<◌, ◌≤◌, ◌+◌, ◌*◌, �
 use Rattle.std.specs.List.{All, cons_option}
 use Rattle.std.specs.Prelude.{◌==◌}
 use Rattle.std.proofs.lemmas.List.Elements.{All-cons, All-filter, All-head, All-map, All-nil, All-push, All-same, All-tail, All-weaker, filter_passes}
-use Rattle.std.specs.Io.KnownBytes.{Appends}
-use Rattle.outside.specs.Sink.{Stops}
-use Rattle.outside.proofs.PutsFacts.{appends-then, puts-then, stops-front}
+use Rattle.outside.specs.Sink.{Stops, Taken, Writes}
 use Rattle.sig_base.specs.declared.values.PhaseItem.{PhaseItem}
 use Rattle.sig_base.specs.declared.values.Row.{Row}
 use Rattle.hour_store.specs.Store.{Store, is_known, known_rows, rows_of}
@@ -19,26 +17,16 @@ use Rattle.ring_config.specs.Values.{has_phase as is_configured}
 use Rattle.arrival_measures.specs.declared.points.Diagram.{Diagram}
 use Rattle.arrival_measures.specs.Hours.{cycles_of}
 use Rattle.arrival_measures.specs.Points.{diagram_of, diagrams_of, points_from}
-use Rattle.report_text.specs.Approaches.{diagram_text}
-use Rattle.report_text.proofs.ApproachLines.{points_next, points_end}
+use Rattle.report_text.specs.Approaches.{diagrams_text}
 use Rattle.report_text.specs.declared.refusal.Refusal.TheVariants.{BadLine}
 use Rattle.sigaudit.specs.Turns.{refuses}
-use Rattle.sigaudit.specs.Points.{diagrams_text, points_head, points_of_phase, points_turn}
+use Rattle.report_text.specs.Heads.{points_head}
+use Rattle.sigaudit.specs.Points.{points_of_phase, points_turn}
 use Rattle.sigaudit.specs.Run.{TakesBy, TakesPut}
 use Rattle.sigaudit.proofs.TakeFacts.{by_refusal}
 use Rattle.sigaudit.proofs.EditFacts.{known_within}
 use Rattle.sigaudit.specs.declared.status.Stopped.{Stopped}
 use Rattle.sigaudit.specs.declared.status.Stopped.TheVariants as stopped
-
--- ---- one diagram after another
-
-pub diagrams_next : (c : Settings) (ds : List Diagram) (i : ℕ) (d : Diagram) → i < length ds → d ≡ get_or ds i d
-    → diagrams_text c (drop i ds) ≡ diagram_text c d ++ diagrams_text c (drop (i + 1) ds)
-diagrams_next c ds i d h e =
-    subst (λ (x : Diagram). diagrams_text c (drop i ds) ≡ diagram_text c x ++ diagrams_text c (drop (i + 1) ds)) (sym e) (points_next (diagram_text c) ds i d h)
-
-pub diagrams_over : (c : Settings) (ds : List Diagram) (i : ℕ) → length ds ≤ i → diagrams_text c (drop i ds) ≡ []
-diagrams_over c ds i h = points_end (diagram_text c) ds i h
 
 -- ---- each cycle begins at one of the rows
 
@@ -119,33 +107,28 @@ same_text : (c c' : Settings) (s : Store) (p : ℕ) (ds ds' : List Diagram) → 
     → diagrams_text c' ds' ≡ diagrams_text c (diagrams_of (is_known s) c p (known_rows s))
 same_text c c' s p ds ds' ec e e' = ap (λ (k : Settings). diagrams_text k ds') ec ∙ ap (λ (xs : List Diagram). diagrams_text c xs) (e' ∙ e)
 
-pub points_cut : (c : Settings) (n p : ℕ) (s : Store) (w w' : Option (List ℕ)) (f f' : ℕ) → Stops w w' f f' (points_head n p) → TakesBy (λ t. t ≡ points_turn c n p s true) w w' f f' s (Err stopped.Fault)
-points_cut c n p s w w' f f' k =
-    (points_turn c n p s true, refl, stops-front w w' f f' (points_head n p) (diagrams_text c (diagrams_of (is_known s) c p (known_rows s))) k)
+-- they were written, or cut off
+pub points_done : (c c' : Settings) (n p : ℕ) (s : Store) (ds ds' : List Diagram) (w w' : Taken) → c' ≡ c → ds ≡ diagrams_of (is_known s) c p (known_rows s) → ds' ≡ ds → Writes w w' (points_head n p ++ diagrams_text c' ds')
+    → TakesBy (λ t. t ≡ points_turn c n p s true) w w' s (Ok false)
+points_done c c' n p s ds ds' w w' ec e e' h =
+    let h' = subst (λ (xs : List ℕ). Writes w w' (points_head n p ++ xs)) (same_text c c' s p ds ds' ec e e') h in
+    (points_turn c n p s true, refl, h', refl, refl)
 
-pub points_stop : (c c' : Settings) (n p : ℕ) (s : Store) (ds ds' : List Diagram) (w w1 w2 : Option (List ℕ)) (f f1 f2 : ℕ) → c' ≡ c → ds ≡ diagrams_of (is_known s) c p (known_rows s) → ds' ≡ ds → f1 ≡ f
-    → Appends w w1 (points_head n p) → Stops w1 w2 f1 f2 (diagrams_text c' ds') → TakesBy (λ t. t ≡ points_turn c n p s true) w w2 f f2 s (Err stopped.Fault)
-points_stop c c' n p s ds ds' w w1 w2 f f1 f2 ec e e' ef a k =
-    let text = diagrams_text c (diagrams_of (is_known s) c p (known_rows s)) in
-    let k' = subst (λ (xs : List ℕ). Stops w1 w2 f1 f2 xs) (same_text c c' s p ds ds' ec e e') k in
-    (points_turn c n p s true, refl, puts-then {T = Unit {0}} {E = Unit {0}} w w1 w2 f f1 f2 (points_head n p) text (Err tt) ef a k')
-
-pub points_done : (c c' : Settings) (n p : ℕ) (s : Store) (ds ds' : List Diagram) (w w1 w2 : Option (List ℕ)) (f f1 f2 : ℕ) → c' ≡ c → ds ≡ diagrams_of (is_known s) c p (known_rows s) → ds' ≡ ds → f1 ≡ f
-    → Appends w w1 (points_head n p) → f2 ≡ f1 → Appends w1 w2 (diagrams_text c' ds') → TakesBy (λ t. t ≡ points_turn c n p s true) w w2 f f2 s (Ok false)
-points_done c c' n p s ds ds' w w1 w2 f f1 f2 ec e e' ef a eg b =
-    let text = diagrams_text c (diagrams_of (is_known s) c p (known_rows s)) in
-    let b' = subst (λ (xs : List ℕ). Appends w1 w2 xs) (same_text c c' s p ds ds' ec e e') b in
-    (points_turn c n p s true, refl, appends-then w w1 w2 (points_head n p) text a b', eg ∙ ef, refl, refl)
+pub points_cut : (c c' : Settings) (n p : ℕ) (s : Store) (ds ds' : List Diagram) (w w' : Taken) → c' ≡ c → ds ≡ diagrams_of (is_known s) c p (known_rows s) → ds' ≡ ds → Stops w w' (points_head n p ++ diagrams_text c' ds')
+    → TakesBy (λ t. t ≡ points_turn c n p s true) w w' s (Err stopped.Fault)
+points_cut c c' n p s ds ds' w w' ec e e' h =
+    let h' = subst (λ (xs : List ℕ). Stops w w' (points_head n p ++ xs)) (same_text c c' s p ds ds' ec e e') h in
+    (points_turn c n p s true, refl, h')
 
 -- a phase that is configured, or isn't
-pub phase_there : (c c' : Settings) (n p : ℕ) (s : Store) (b : Bool) (w w' : Option (List ℕ)) (f f' : ℕ) (r : Result Bool Stopped) → c' ≡ c → b ≡ is_configured c'.phases p → b ≡ true
-    → TakesBy (λ t. t ≡ points_turn c n p s true) w w' f f' s r → TakesBy (λ t. t ≡ points_of_phase c n p s) w w' f f' s r
-phase_there c c' n p s b w w' f f' r ec e y h =
+pub phase_there : (c c' : Settings) (n p : ℕ) (s : Store) (b : Bool) (w w' : Taken) (r : Result Bool Stopped) → c' ≡ c → b ≡ is_configured c'.phases p → b ≡ true
+    → TakesBy (λ t. t ≡ points_turn c n p s true) w w' s r → TakesBy (λ t. t ≡ points_of_phase c n p s) w w' s r
+phase_there c c' n p s b w w' r ec e y h =
     let there : true ≡ is_configured c.phases p = sym y ∙ e ∙ ap (λ (k : Settings). is_configured k.phases p) ec in
-    subst (λ (x : Bool). TakesBy (λ t. t ≡ points_turn c n p s x) w w' f f' s r) there h
+    subst (λ (x : Bool). TakesBy (λ t. t ≡ points_turn c n p s x) w w' s r) there h
 
-pub phase_absent : (c c' c'' : Settings) (n p : ℕ) (s : Store) (b : Bool) (w w' : Option (List ℕ)) (f f' : ℕ) (r : Result Bool Stopped) → c' ≡ c → c'' ≡ c → b ≡ is_configured c'.phases p → b ≡ false
-    → ((x : Store) → TakesPut (refuses c'' n BadLine x) w w' f f' x r) → TakesBy (λ t. t ≡ points_of_phase c n p s) w w' f f' s r
-phase_absent c c' c'' n p s b w w' f f' r ec ed e y h =
+pub phase_absent : (c c' c'' : Settings) (n p : ℕ) (s : Store) (b : Bool) (w w' : Taken) (r : Result Bool Stopped) → c' ≡ c → c'' ≡ c → b ≡ is_configured c'.phases p → b ≡ false
+    → ((x : Store) → TakesPut (refuses c'' n BadLine x) w w' x r) → TakesBy (λ t. t ≡ points_of_phase c n p s) w w' s r
+phase_absent c c' c'' n p s b w w' r ec ed e y h =
     let absent : false ≡ is_configured c.phases p = sym y ∙ e ∙ ap (λ (k : Settings). is_configured k.phases p) ec in
-    subst (λ (x : Bool). TakesBy (λ t. t ≡ points_turn c n p s x) w w' f f' s r) absent (by_refusal (λ t. t ≡ refuses c n BadLine s) c c'' n BadLine s w w' f f' r ed refl h)
+    subst (λ (x : Bool). TakesBy (λ t. t ≡ points_turn c n p s x) w w' s r) absent (by_refusal (λ t. t ≡ refuses c n BadLine s) c c'' n BadLine s w w' r ed refl h)

@@ -1,6 +1,7 @@
 -- How a run goes on from its parts.
 use Rattle.std.proofs.Common.{◌≡◌, ◌≤◌, ◌++◌, ◌^◌, ◌*◌, ℕ, List, [], length, Option, Some, None, Result, Ok, Err, refl, sym, ap, subst, ◌∙◌, inl, inr, arith, IfSome, Bool, true, false}
 use Rattle.std.specs.Io.KnownBytes.{Appends}
+use Rattle.outside.specs.Sink.{Taken}
 use Rattle.outside.specs.Shelf.{Counts, Files}
 use Rattle.outside.proofs.PutsFacts.{appends-nothing}
 use Rattle.std.proofs.Common.{Bor, map, codes, ◌∷◌, ℤ, pos, negsuc, to_z, of_z, w64}
@@ -19,9 +20,10 @@ use Rattle.sigaudit.specs.declared.file.Task.{Task}
 use Rattle.sigaudit.specs.declared.file.Task.TheVariants.{Count, Pack}
 use Rattle.sigaudit.specs.Asked.{HourAsked, hour_asked, asked_of}
 use Rattle.sigaudit.specs.Status.{status_of_run}
-use Rattle.sigaudit.specs.ConfigText.{config_text, is_config_memory}
+use Rattle.report_text.specs.ConfigRefusal.{config_text, is_config_memory}
+use Rattle.report_text.specs.Usage.{usage_text}
 use Rattle.sigaudit.specs.Aims.{Aim, for_lines, for_rule}
-use Rattle.sigaudit.specs.Transcript.{Outcome, outcome, usage_text, file_outcome, outcome_of, first_lines, told_outcome, ended_by, limited, asks_pairs, IsAimOutcome, IsAnswer, IsConfigOutcome, IsFileOutcome, IsScriptOutcome}
+use Rattle.sigaudit.specs.Transcript.{Outcome, outcome, file_outcome, outcome_of, first_lines, told_outcome, ended_by, limited, asks_pairs, IsAimOutcome, IsAnswer, IsConfigOutcome, IsFileOutcome, IsScriptOutcome}
 use Rattle.sigaudit.specs.Run.{World, world, RunsAs, CountsText, IsPairsRun, IsRun, HasCause, NeedsWords, IsCaused, TellsAll, ScriptCause, PutsOutcome, WritesBeginning, WritesFront, IsCutOff}
 use Rattle.sigaudit.specs.Script.{nothing_told}
 use Rattle.sigaudit.proofs.ScriptFacts.{told_nothing}
@@ -33,19 +35,19 @@ use Rattle.sigaudit.specs.declared.status.Ended.TheVariants as ended
 use Rattle.sigaudit.specs.declared.status.Stopped.{Stopped}
 use Rattle.sigaudit.specs.declared.status.Stopped.TheVariants as stopped
 
-still : (w w' : Option (List ℕ)) → w' ≡ w → Appends w w' []
-still w w' e = rw e (appends-nothing w)
+still : (w w' : Taken) → w' ≡ w → Appends w.written w'.written []
+still w w' e = rw e (appends-nothing w.written)
 
 -- a call that wrote an outcome that a script's lines don't matter to, in a run that did nothing else
-pub run-of_put : (Is : (List ℕ → List (List ℕ)) → Outcome → Type 0) (o : Outcome) (k k' : Counts) (w w' : Option (List ℕ)) (f f' : ℕ) (r : Result Ended Stopped)
-    → k' ≡ k → ((lines : List ℕ → List (List ℕ)) → Is lines o) → PutsOutcome o w w' f f' r → RunsAs Is (world k w f) (world k' w' f') (status_of_run r)
-run-of_put Is o k k' w w' f f' (Ok ended.Done) e is h = (o.bytes, subst (λ (x : Ended). Is lines_of (outcome o.bytes x)) h.0 (is lines_of), (h.1, (ap (λ (c : Counts). c.failed) e, h.2)))
-run-of_put Is o k k' w w' f f' (Ok ended.SomeRefused) e is h = (o.bytes, subst (λ (x : Ended). Is lines_of (outcome o.bytes x)) h.0 (is lines_of), (h.1, (ap (λ (c : Counts). c.failed) e, h.2)))
-run-of_put Is o k k' w w' f f' (Ok ended.Usage) e is h = (o.bytes, subst (λ (x : Ended). Is lines_of (outcome o.bytes x)) h.0 (is lines_of), (h.1, (ap (λ (c : Counts). c.failed) e, h.2)))
-run-of_put Is o k k' w w' f f' (Ok ended.BadConfig) e is h = (o.bytes, subst (λ (x : Ended). Is lines_of (outcome o.bytes x)) h.0 (is lines_of), (h.1, (ap (λ (c : Counts). c.failed) e, h.2)))
-run-of_put Is o k k' w w' f f' (Ok ended.NoFile) e is h = (o.bytes, subst (λ (x : Ended). Is lines_of (outcome o.bytes x)) h.0 (is lines_of), (h.1, (ap (λ (c : Counts). c.failed) e, h.2)))
-run-of_put Is o k k' w w' f f' (Err stopped.Fault) e is h = (inr h.1, inr (0, o, is (first_lines 0), h.2))
-run-of_put Is o k k' w w' f f' (Err stopped.Memory) e is h = inl (still w w' h.0)
+pub run-of_put : (Is : (List ℕ → List (List ℕ)) → Outcome → Type 0) (o : Outcome) (k k' : Counts) (w w' : Taken) (r : Result Ended Stopped)
+    → k' ≡ k → ((lines : List ℕ → List (List ℕ)) → Is lines o) → PutsOutcome o w w' r → RunsAs Is (world k w) (world k' w') (status_of_run r)
+run-of_put Is o k k' w w' (Ok ended.Done) e is h = (o.bytes, subst (λ (x : Ended). Is lines_of (outcome o.bytes x)) h.0 (is lines_of), (h.1.wrote, (ap (λ (c : Counts). c.failed) e, h.1.same)))
+run-of_put Is o k k' w w' (Ok ended.SomeRefused) e is h = (o.bytes, subst (λ (x : Ended). Is lines_of (outcome o.bytes x)) h.0 (is lines_of), (h.1.wrote, (ap (λ (c : Counts). c.failed) e, h.1.same)))
+run-of_put Is o k k' w w' (Ok ended.Usage) e is h = (o.bytes, subst (λ (x : Ended). Is lines_of (outcome o.bytes x)) h.0 (is lines_of), (h.1.wrote, (ap (λ (c : Counts). c.failed) e, h.1.same)))
+run-of_put Is o k k' w w' (Ok ended.BadConfig) e is h = (o.bytes, subst (λ (x : Ended). Is lines_of (outcome o.bytes x)) h.0 (is lines_of), (h.1.wrote, (ap (λ (c : Counts). c.failed) e, h.1.same)))
+run-of_put Is o k k' w w' (Ok ended.NoFile) e is h = (o.bytes, subst (λ (x : Ended). Is lines_of (outcome o.bytes x)) h.0 (is lines_of), (h.1.wrote, (ap (λ (c : Counts). c.failed) e, h.1.same)))
+run-of_put Is o k k' w w' (Err stopped.Fault) e is h = (inr h.rose, inr (0, o, is (first_lines 0), h.front))
+run-of_put Is o k k' w w' (Err stopped.Memory) e is h = inl (still w w' h)
 
 -- a file that is there and not too long
 file-there : (task : Task) (a : HourAsked) (file : Option (List ℕ)) (there bytes : List ℕ)
@@ -61,13 +63,13 @@ if_some-weaker None P Q h p = tt
 if_some-weaker (Some x) P Q h p = h x p
 
 -- the file of a run
-pub run-of_file : (task : Task) (a : HourAsked) (file : Option (List ℕ)) (bytes old new : List ℕ) (k k' : Counts) (w w' : Option (List ℕ)) (f f' : ℕ) (r : Result Ended Stopped)
-    → k' ≡ k → PutsOutcome (outcome_of task a bytes) w w' f f' r
+pub run-of_file : (task : Task) (a : HourAsked) (file : Option (List ℕ)) (bytes old new : List ℕ) (k k' : Counts) (w w' : Taken) (r : Result Ended Stopped)
+    → k' ≡ k → PutsOutcome (outcome_of task a bytes) w w' r
     → bytes ≡ new → old ≡ [] → (there : List ℕ) × (file ≡ Some there) × (length there ≤ 33554432) × (new ≡ old ++ there)
-    → RunsAs (λ lines o. o ≡ file_outcome task a file) (world k w f) (world k' w' f') (status_of_run r)
-run-of_file task a file bytes old new k k' w w' f f' r e put b o h =
+    → RunsAs (λ lines o. o ≡ file_outcome task a file) (world k w) (world k' w') (status_of_run r)
+run-of_file task a file bytes old new k k' w w' r e put b o h =
     let q : bytes ≡ [] ++ h.0 = b ∙ (rw o at h.3) in
-    run-of_put (λ lines o. o ≡ file_outcome task a file) (outcome_of task a bytes) k k' w w' f f' r e (λ lines. sym (file-there task a file h.0 bytes h.1 h.2 q)) put
+    run-of_put (λ lines o. o ≡ file_outcome task a file) (outcome_of task a bytes) k k' w w' r e (λ lines. sym (file-there task a file h.0 bytes h.1 h.2 q)) put
 
 -- ---- a script
 
@@ -114,19 +116,19 @@ answer_begun (Some (for_pack file signal day hour)) files e = (file_outcome Pack
 answer_begun (Some (for_demo hours)) files e = file_begun (demo_files hours) script_name (limited (2 ^ 20) (demo_files hours config_name))
 
 -- a run that stopped before it wrote anything
-pub run-of_nothing : (Is : (List ℕ → List (List ℕ)) → Outcome → Type 0) (k : Counts) (w : Option (List ℕ)) (f : ℕ) → RunsAs Is (world k w f) (world k w f) (status_of_run (Err stopped.Memory))
-run-of_nothing Is k w f = inl (appends-nothing w)
+pub run-of_nothing : (Is : (List ℕ → List (List ℕ)) → Outcome → Type 0) (k : Counts) (w : Taken) → RunsAs Is (world k w) (world k w) (status_of_run (Err stopped.Memory))
+run-of_nothing Is k w = inl (appends-nothing w.written)
 
 -- a fetch that cut the run off before it wrote anything
-pub stop_told : (Is : (List ℕ → List (List ℕ)) → Outcome → Type 0) (k k' : Counts) (w : Option (List ℕ)) (f : ℕ) (s : Stopped) → CountsText k k' (Stop s)
-    → RunsAs Is (world k w f) (world k' w f) (status_of_run (Err s))
-stop_told Is k k' w f stopped.Fault counts = (inl counts.3, inl (appends-nothing w))
-stop_told Is k k' w f stopped.Memory counts = inl (appends-nothing w)
+pub stop_told : (Is : (List ℕ → List (List ℕ)) → Outcome → Type 0) (k k' : Counts) (w : Taken) (s : Stopped) → CountsText k k' (Stop s)
+    → RunsAs Is (world k w) (world k' w) (status_of_run (Err s))
+stop_told Is k k' w stopped.Fault counts = (inl counts.3, inl (appends-nothing w.written))
+stop_told Is k k' w stopped.Memory counts = inl (appends-nothing w.written)
 
 -- a text that isn't there, before anything was written
-pub nothing_there : (Is : Option (List ℕ) → (List ℕ → List (List ℕ)) → Outcome → Type 0) (want : Option (List ℕ)) (k k' : Counts) (w : Option (List ℕ)) (f : ℕ) → want ≡ None → Is None lines_of (outcome [] ended.NoFile) → CountsText k k' Nothing
-    → RunsAs (Is want) (world k w f) (world k' w f) (status_of_run (Ok ended.NoFile))
-nothing_there Is want k k' w f e is counts = ([], rw e is, (appends-nothing w, (counts.1, refl)))
+pub nothing_there : (Is : Option (List ℕ) → (List ℕ → List (List ℕ)) → Outcome → Type 0) (want : Option (List ℕ)) (k k' : Counts) (w : Taken) → want ≡ None → Is None lines_of (outcome [] ended.NoFile) → CountsText k k' Nothing
+    → RunsAs (Is want) (world k w) (world k' w) (status_of_run (Ok ended.NoFile))
+nothing_there Is want k k' w e is counts = ([], rw e is, (appends-nothing w.written, (counts.1, refl)))
 
 -- a script that isn't there
 pub nothing_aim : (files : Files) (c : Settings) (aim : Aim) → IsAimOutcome files c aim None lines_of (outcome [] ended.NoFile)
@@ -134,9 +136,9 @@ nothing_aim files c for_lines = refl
 nothing_aim files c (for_rule rule at) = refl
 
 -- a text that is there
-pub text_there : (Is : Option (List ℕ) → (List ℕ → List (List ℕ)) → Outcome → Type 0) (want : Option (List ℕ)) (bytes bytes' : List ℕ) (k k' : Counts) (w : Option (List ℕ)) (f : ℕ) (new : World) (st : Status)
-    → want ≡ Some bytes → bytes' ≡ bytes → k' ≡ k → RunsAs (Is (Some bytes')) (world k' w f) new st → RunsAs (Is want) (world k w f) new st
-text_there Is want bytes bytes' k k' w f new st e eb ek h =
+pub text_there : (Is : Option (List ℕ) → (List ℕ → List (List ℕ)) → Outcome → Type 0) (want : Option (List ℕ)) (bytes bytes' : List ℕ) (k k' : Counts) (w : Taken) (new : World) (st : Status)
+    → want ≡ Some bytes → bytes' ≡ bytes → k' ≡ k → RunsAs (Is (Some bytes')) (world k' w) new st → RunsAs (Is want) (world k w) new st
+text_there Is want bytes bytes' k k' w new st e eb ek h =
     let h' = rw (eb, ek) at h in
     rw e h'
 
@@ -151,10 +153,10 @@ config_fails said (TooMany at) ne h = h
 config_fails said Memory ne h = absurd (cc)
 
 -- a configuration that is refused has its line, whatever lines a script has
-pub config_refused : (files : Files) (aim : Aim) (script : List ℕ) (said : Read Settings) (e : ConfigError) (k : Counts) (w w' : Option (List ℕ)) (f f' : ℕ) (r : Result Ended Stopped) → is_config_memory e ≡ false → Fails e said
-    → PutsOutcome (outcome (config_text e) ended.BadConfig) w w' f f' r → RunsAs (IsConfigOutcome files aim script said) (world k w f) (world k w' f') (status_of_run r)
-config_refused files aim script said e k w w' f f' r ne h put =
-    rw (config_fails said e ne h) (run-of_put (IsConfigOutcome files aim script (Err e)) (outcome (config_text e) ended.BadConfig) k k w w' f f' r refl (λ lines. refl) put)
+pub config_refused : (files : Files) (aim : Aim) (script : List ℕ) (said : Read Settings) (e : ConfigError) (k : Counts) (w w' : Taken) (r : Result Ended Stopped) → is_config_memory e ≡ false → Fails e said
+    → PutsOutcome (outcome (config_text e) ended.BadConfig) w w' r → RunsAs (IsConfigOutcome files aim script said) (world k w) (world k w') (status_of_run r)
+config_refused files aim script said e k w w' r ne h put =
+    rw (config_fails said e ne h) (run-of_put (IsConfigOutcome files aim script (Err e)) (outcome (config_text e) ended.BadConfig) k k w w' r refl (λ lines. refl) put)
 
 -- a session that holds nothing yet
 pub lines_told : (files : Files) (c : Settings) (script : List ℕ) (session : Kept) (last : Store) (old new : World) (refused : Bool) → session ≡ record { config = c; store = nothing_held c.window.hours }
@@ -254,19 +256,19 @@ pub needs_as : (words : List (List ℕ)) (x : Asked) (old new : World) (st : Sta
 needs_as words x old new st e = rw e (needs_some x old new st)
 
 -- the usage line was written
-pub usage_told : (words : List (List ℕ)) (files : Files) (k : Counts) (w w' : Option (List ℕ)) (f f' : ℕ) (r : Result Ended Stopped) → asked_of words ≡ None
-    → PutsOutcome (outcome usage_text ended.Usage) w w' f f' r → RunsAs (IsAnswer (asked_of words) files) (world k w f) (world k w' f') (status_of_run r)
-usage_told words files k w w' f f' r e h = rw e (run-of_put (IsAnswer None files) (outcome usage_text ended.Usage) k k w w' f f' r refl (answer_none files) h)
+pub usage_told : (words : List (List ℕ)) (files : Files) (k : Counts) (w w' : Taken) (r : Result Ended Stopped) → asked_of words ≡ None
+    → PutsOutcome (outcome usage_text ended.Usage) w w' r → RunsAs (IsAnswer (asked_of words) files) (world k w) (world k w') (status_of_run r)
+usage_told words files k w w' r e h = rw e (run-of_put (IsAnswer None files) (outcome usage_text ended.Usage) k k w w' r refl (answer_none files) h)
 
-pub usage_cause : (words : List (List ℕ)) (k : Counts) (w w' : Option (List ℕ)) (f f' : ℕ) (r : Result Ended Stopped) → asked_of words ≡ None
-    → PutsOutcome (outcome usage_text ended.Usage) w w' f f' r → HasCause (asked_of words) (world k w f) (world k w' f') (status_of_run r)
-usage_cause words k w w' f f' (Ok ended.Usage) e h = (e, refl, (refl, h.2))
-usage_cause words k w w' f f' (Ok ended.Done) e h = absurd (let k = h.0 in cc)
-usage_cause words k w w' f f' (Ok ended.SomeRefused) e h = absurd (let k = h.0 in cc)
-usage_cause words k w w' f f' (Ok ended.BadConfig) e h = absurd (let k = h.0 in cc)
-usage_cause words k w w' f f' (Ok ended.NoFile) e h = absurd (let k = h.0 in cc)
-usage_cause words k w w' f f' (Err stopped.Fault) e h = inr h.1
-usage_cause words k w w' f f' (Err stopped.Memory) e h = tt
+pub usage_cause : (words : List (List ℕ)) (k : Counts) (w w' : Taken) (r : Result Ended Stopped) → asked_of words ≡ None
+    → PutsOutcome (outcome usage_text ended.Usage) w w' r → HasCause (asked_of words) (world k w) (world k w') (status_of_run r)
+usage_cause words k w w' (Ok ended.Usage) e h = (e, refl, (refl, h.1.same))
+usage_cause words k w w' (Ok ended.Done) e h = absurd (let k = h.0 in cc)
+usage_cause words k w w' (Ok ended.SomeRefused) e h = absurd (let k = h.0 in cc)
+usage_cause words k w w' (Ok ended.BadConfig) e h = absurd (let k = h.0 in cc)
+usage_cause words k w w' (Ok ended.NoFile) e h = absurd (let k = h.0 in cc)
+usage_cause words k w w' (Err stopped.Fault) e h = inr h.rose
+usage_cause words k w w' (Err stopped.Memory) e h = tt
 
 pub if_some-from : {A : Type 0} (o : Option A) (P : A → Type 0) → ((x : A) → o ≡ Some x → P x) → IfSome o P
 if_some-from None P h = tt

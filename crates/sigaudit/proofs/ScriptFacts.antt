@@ -49,25 +49,25 @@ unfolding IsTold
 told_nothing files c n s = refl
 
 -- the lines before line n were taken, and these are left
-pub record IsOn (files : Files) (c : Settings) (lines : List (List ℕ)) (s0 : Store) (w0 w : Option (List ℕ)) (f0 f n : ℕ) (rest : List (List ℕ)) (s : Store) (refused : Bool) : Type 0 where
+pub record IsOn (files : Files) (c : Settings) (lines : List (List ℕ)) (s0 : Store) (old mid : World) (n : ℕ) (rest : List (List ℕ)) (s : Store) (refused : Bool) : Type 0 where
   pub done : List (List ℕ)
   pub told : Told
   pub all : lines ≡ done ++ rest
   pub number : n ≡ 1 + length done
   pub is_told : IsTold files c 1 done s0 told
-  pub wrote : Appends w0 w told.text
-  pub same : f ≡ f0
+  pub wrote : Appends old.written mid.written told.text
+  pub same : mid.faults ≡ old.faults
   pub store : s ≡ told.store
   pub answer : refused ≡ told.refused
 
-pub is_on_start : (files : Files) (c : Settings) (lines : List (List ℕ)) (s : Store) (w : Option (List ℕ)) (f n : ℕ) → n ≡ 1 → IsOn files c lines s w w f f n lines s false
-is_on_start files c lines s w f n e = record {
+pub is_on_start : (files : Files) (c : Settings) (lines : List (List ℕ)) (s : Store) (old : World) (n : ℕ) → n ≡ 1 → IsOn files c lines s old old n lines s false
+is_on_start files c lines s old n e = record {
   done = [];
   told = nothing_told s;
   all = refl;
   number = e;
   is_told = told_nothing files c 1 s;
-  wrote = appends-nothing w;
+  wrote = appends-nothing old.written;
   same = refl;
   store = refl;
   answer = refl;
@@ -83,12 +83,12 @@ lines_over [] h = refl
 lines_over (b ∷ bs) h = absurd (omega arith)
 
 -- one more line was taken whole
-pub line_more : (files : Files) (c : Settings) (lines : List (List ℕ)) (s0 : Store) (w0 : Option (List ℕ)) (f0 n m : ℕ) (text line after : List ℕ) (mid new : World) (s s' : Store) (refused r : Bool)
+pub line_more : (files : Files) (c : Settings) (lines : List (List ℕ)) (s0 : Store) (n m : ℕ) (text line after : List ℕ) (old mid new : World) (s s' : Store) (refused r : Bool)
     → 0 < length text → line ≡ first_line text → after ≡ after_line text → m ≡ n + 1
-    → IsOn files c lines s0 w0 mid.written f0 mid.faults n (lines_of text) s refused
+    → IsOn files c lines s0 old mid n (lines_of text) s refused
     → Takes (IsTurn files c n (said c.window line) s) mid new s' (Ok r)
-    → IsOn files c lines s0 w0 new.written f0 new.faults m (lines_of after) s' (refused || r)
-line_more files c lines s0 w0 f0 n m text line after mid new s s' refused r some l a em on k =
+    → IsOn files c lines s0 old new m (lines_of after) s' (refused || r)
+line_more files c lines s0 n m text line after old mid new s s' refused r some l a em on k =
     let turn = rw on.store at k.1 in
     record {
       done = on.done ++ line ∷ [];
@@ -96,7 +96,7 @@ line_more files c lines s0 w0 f0 n m text line after mid new s s' refused r some
       all = on.all ∙ (rw (lines_next text some, ← l, ← a, append_assoc) refl);
       number = let e = on.number in rw length-append (omega arith);
       is_told = told_more files c 1 n on.done line s0 on.told k.0 on.number on.is_told turn;
-      wrote = appends-then w0 mid.written new.written on.told.text k.0.text on.wrote k.2;
+      wrote = appends-then old.written mid.written new.written on.told.text k.0.text on.wrote k.2;
       same = k.3.1 ∙ on.same;
       store = k.4;
       answer = rw (on.answer, k.5) refl;
@@ -107,13 +107,13 @@ front_lines : (lines done rest : List (List ℕ)) → lines ≡ done ++ rest →
 front_lines lines done rest e = rw e (take-append_seam done rest)
 
 -- the run was cut off in a line
-cut_first : (files : Files) (c : Settings) (lines : List (List ℕ)) (s0 : Store) (f0 f n : ℕ) (text line : List ℕ) (old mid new : World) (s : Store) (refused : Bool)
-    → 0 < length text → line ≡ first_line text → IsOn files c lines s0 old.written mid.written f0 f n (lines_of text) s refused
+cut_first : (files : Files) (c : Settings) (lines : List (List ℕ)) (s0 : Store) (n : ℕ) (text line : List ℕ) (old mid new : World) (s : Store) (refused : Bool)
+    → 0 < length text → line ≡ first_line text → IsOn files c lines s0 old mid n (lines_of text) s refused
     → BeginsTurn (IsTurn files c n (said c.window line) s) mid.written new.written → TellsFirst files c lines s0 old new
-cut_first files c lines s0 f0 f n text line old mid new s refused some l on (inl k) =
+cut_first files c lines s0 n text line old mid new s refused some l on (inl k) =
     let first = front_lines lines on.done (lines_of text) on.all in
     (length on.done, on.told, rw first on.is_told, (on.told.text, [], rw append-nil refl, rw append-nil at (appends-then old.written mid.written new.written on.told.text [] on.wrote k)))
-cut_first files c lines s0 f0 f n text line old mid new s refused some l on (inr k) =
+cut_first files c lines s0 n text line old mid new s refused some l on (inr k) =
     let turn = rw on.store at k.1 in
     let all : lines ≡ (on.done ++ line ∷ []) ++ lines_of (after_line text) = on.all ∙ (rw (lines_next text some, ← l, append_assoc) refl) in
     let first = front_lines lines (on.done ++ line ∷ []) (lines_of (after_line text)) all in (
@@ -125,12 +125,12 @@ cut_first files c lines s0 f0 f n text line old mid new s refused some l on (inr
 
 pub line_cut : (files : Files) (c : Settings) (lines : List (List ℕ)) (s0 : Store) (n : ℕ) (text line : List ℕ) (old mid new : World) (s s' : Store) (refused : Bool) (e : Stopped)
     → 0 < length text → line ≡ first_line text → mid.counts.failed ≡ old.counts.failed
-    → IsOn files c lines s0 old.written mid.written old.faults mid.faults n (lines_of text) s refused
+    → IsOn files c lines s0 old mid n (lines_of text) s refused
     → Takes (IsTurn files c n (said c.window line) s) mid new s' (Err e) → TellsAll files c lines s0 s' old new (Err e)
 line_cut files c lines s0 n text line old mid new s s' refused stopped.Fault some l ef on k =
-    (rw (← ef, ← on.same) k.0, cut_first files c lines s0 old.faults mid.faults n text line old mid new s refused some l on k.1)
+    (rw (← ef, ← on.same) k.0, cut_first files c lines s0 n text line old mid new s refused some l on k.1)
 line_cut files c lines s0 n text line old mid new s s' refused stopped.Memory some l ef on k =
-    cut_first files c lines s0 old.faults mid.faults n text line old mid new s refused some l on k
+    cut_first files c lines s0 n text line old mid new s refused some l on k
 
 pub cut_caused : (old mid new : World) (e : Stopped) → mid.counts.failed ≡ old.counts.failed → mid.faults ≡ old.faults → IsCaused {T = Bool} mid new (Err e) → IsCaused {T = Bool} old new (Err e)
 cut_caused old mid new stopped.Fault ef eg h = rw (← ef, ← eg) h
@@ -138,7 +138,7 @@ cut_caused old mid new stopped.Memory ef eg h = tt
 
 -- no line is left
 pub lines_done : (files : Files) (c : Settings) (lines : List (List ℕ)) (s0 : Store) (n : ℕ) (text : List ℕ) (old new : World) (s : Store) (refused : Bool)
-    → length text ≡ 0 → new.counts.failed ≡ old.counts.failed → IsOn files c lines s0 old.written new.written old.faults new.faults n (lines_of text) s refused → TellsAll files c lines s0 s old new (Ok refused)
+    → length text ≡ 0 → new.counts.failed ≡ old.counts.failed → IsOn files c lines s0 old new n (lines_of text) s refused → TellsAll files c lines s0 s old new (Ok refused)
 lines_done files c lines s0 n text old new s refused none ef on =
     let all : lines ≡ on.done = on.all ∙ (rw (lines_over text none, append-nil) refl) in
     (on.told, rw all on.is_told, on.wrote, (ef, on.same), on.answer, on.store)

@@ -1,6 +1,7 @@
 -- How a line's turn follows from what it wrote.
-use Rattle.std.proofs.Common.{◌≡◌, ◌≤◌, ℕ, List, [], Bool, Option, Result, Ok, Err, refl, inl, inr, arith}
+use Rattle.std.proofs.Common.{◌≡◌, ◌≤◌, ℕ, List, [], Bool, Option, Result, Ok, Err, refl, ap, inl, inr, arith}
 use Rattle.std.specs.Io.KnownBytes.{Appends}
+use Rattle.outside.specs.Sink.{Taken}
 use Rattle.outside.specs.Shelf.{Counts}
 use Rattle.outside.proofs.PutsFacts.{appends-nothing}
 use Rattle.hour_store.specs.Store.{Store}
@@ -11,35 +12,35 @@ use Rattle.sigaudit.specs.Run.{World, world, BeginsTurn, IsCaused, NeverFall, Ta
 use Rattle.sigaudit.specs.declared.status.Stopped.{Stopped}
 use Rattle.sigaudit.specs.declared.status.Stopped.TheVariants as stopped
 
-unwritten : (w w' : Option (List ℕ)) → w' ≡ w → Appends w w' []
-unwritten w w' e = rw e (appends-nothing w)
+unwritten : (w w' : Taken) → w' ≡ w → Appends w.written w'.written []
+unwritten w w' e = rw e (appends-nothing w.written)
 
 -- nothing was done of a line
-pub by_nothing : (Is : Turn → Type 0) (w : Option (List ℕ)) (f : ℕ) (s : Store) → TakesBy Is w w f f s (Err stopped.Memory)
-by_nothing Is w f s = (refl, inl (appends-nothing w))
+pub by_nothing : (Is : Turn → Type 0) (w : Taken) (s : Store) → TakesBy Is w w s (Err stopped.Memory)
+by_nothing Is w s = (refl, inl (appends-nothing w.written))
 
 -- a line whose turn is known
-pub by_put : (Is : Turn → Type 0) (t : Turn) (w w' : Option (List ℕ)) (f f' : ℕ) (s : Store) (r : Result Bool Stopped) → Is t → TakesPut t w w' f f' s r → TakesBy Is w w' f f' s r
-by_put Is t w w' f f' s (Ok b) i h = (t, i, h.0, h.1, h.2, h.3)
-by_put Is t w w' f f' s (Err stopped.Fault) i h = (t, i, h)
-by_put Is t w w' f f' s (Err stopped.Memory) i h = (h.1, inl (unwritten w w' h.0))
+pub by_put : (Is : Turn → Type 0) (t : Turn) (w w' : Taken) (s : Store) (r : Result Bool Stopped) → Is t → TakesPut t w w' s r → TakesBy Is w w' s r
+by_put Is t w w' s (Ok b) i h = (t, i, h.0, h.1, h.2)
+by_put Is t w w' s (Err stopped.Fault) i h = (t, i, h)
+by_put Is t w w' s (Err stopped.Memory) i h = (ap (λ (x : Taken). x.faults) h, inl (unwritten w w' h))
 
 -- a line that is refused, told in the words of the configuration before it
-pub by_refusal : (Is : Turn → Type 0) (c c' : Settings) (n : ℕ) (refusal : Refusal) (s : Store) (w w' : Option (List ℕ)) (f f' : ℕ) (r : Result Bool Stopped)
-    → c' ≡ c → Is (refuses c n refusal s) → ((x : Store) → TakesPut (refuses c' n refusal x) w w' f f' x r) → TakesBy Is w w' f f' s r
-by_refusal Is c c' n refusal s w w' f f' r ec i h =
+pub by_refusal : (Is : Turn → Type 0) (c c' : Settings) (n : ℕ) (refusal : Refusal) (s : Store) (w w' : Taken) (r : Result Bool Stopped)
+    → c' ≡ c → Is (refuses c n refusal s) → ((x : Store) → TakesPut (refuses c' n refusal x) w w' x r) → TakesBy Is w w' s r
+by_refusal Is c c' n refusal s w w' r ec i h =
     let h' = rw ec at (h s) in
-    by_put Is (refuses c n refusal s) w w' f f' s r i h'
+    by_put Is (refuses c n refusal s) w w' s r i h'
 
 begins_as : (Is Is' : Turn → Type 0) (w w' : Option (List ℕ)) → ((t : Turn) → Is t → Is' t) → BeginsTurn Is w w' → BeginsTurn Is' w w'
 begins_as Is Is' w w' k (inl h) = inl h
 begins_as Is Is' w w' k (inr h) = inr (h.0, k h.0 h.1, h.2)
 
 -- what is a turn of the line by other words
-pub by_as : (Is Is' : Turn → Type 0) (w w' : Option (List ℕ)) (f f' : ℕ) (s : Store) (r : Result Bool Stopped) → ((t : Turn) → Is t → Is' t) → TakesBy Is w w' f f' s r → TakesBy Is' w w' f f' s r
-by_as Is Is' w w' f f' s (Ok b) k h = (h.0, k h.0 h.1, h.2, h.3, h.4, h.5)
-by_as Is Is' w w' f f' s (Err stopped.Fault) k h = (h.0, k h.0 h.1, h.2)
-by_as Is Is' w w' f f' s (Err stopped.Memory) k h = (h.0, begins_as Is Is' w w' k h.1)
+pub by_as : (Is Is' : Turn → Type 0) (w w' : Taken) (s : Store) (r : Result Bool Stopped) → ((t : Turn) → Is t → Is' t) → TakesBy Is w w' s r → TakesBy Is' w w' s r
+by_as Is Is' w w' s (Ok b) k h = (h.0, k h.0 h.1, h.2, h.3, h.4)
+by_as Is Is' w w' s (Err stopped.Fault) k h = (h.0, k h.0 h.1, h.2)
+by_as Is Is' w w' s (Err stopped.Memory) k h = (h.0, begins_as Is Is' w.written w'.written k h.1)
 
 pub takes_as : (Is Is' : Turn → Type 0) (old new : World) (s : Store) (r : Result Bool Stopped) → ((t : Turn) → Is t → Is' t) → Takes Is old new s r → Takes Is' old new s r
 takes_as Is Is' old new s (Ok b) k h = (h.0, k h.0 h.1, h.2, h.3, h.4, h.5)
@@ -47,27 +48,27 @@ takes_as Is Is' old new s (Err stopped.Fault) k h = (h.0, begins_as Is Is' old.w
 takes_as Is Is' old new s (Err stopped.Memory) k h = begins_as Is Is' old.written new.written k h
 
 -- a line that used the sink alone, while no fetch failed
-pub takes_of_by : (Is : Turn → Type 0) (k k' : Counts) (w w' : Option (List ℕ)) (f f' : ℕ) (s : Store) (r : Result Bool Stopped)
-    → k'.failed ≡ k.failed → TakesBy Is w w' f f' s r → Takes Is (world k w f) (world k' w' f') s r
-takes_of_by Is k k' w w' f f' s (Ok b) e h = (h.0, h.1, h.2, (e, h.3), h.4, h.5)
-takes_of_by Is k k' w w' f f' s (Err stopped.Fault) e h = (inr h.2.1, inr (h.0, h.1, h.2.2))
-takes_of_by Is k k' w w' f f' s (Err stopped.Memory) e h = h.1
+pub takes_of_by : (Is : Turn → Type 0) (k k' : Counts) (w w' : Taken) (s : Store) (r : Result Bool Stopped)
+    → k'.failed ≡ k.failed → TakesBy Is w w' s r → Takes Is (world k w) (world k' w') s r
+takes_of_by Is k k' w w' s (Ok b) e h = (h.0, h.1, h.2.wrote, (e, h.2.same), h.3, h.4)
+takes_of_by Is k k' w w' s (Err stopped.Fault) e h = (inr h.2.rose, inr (h.0, h.1, h.2.front))
+takes_of_by Is k k' w w' s (Err stopped.Memory) e h = h.1
 
-pub caused_of_by : (Is : Turn → Type 0) (k k' : Counts) (w w' : Option (List ℕ)) (f f' : ℕ) (s : Store) (r : Result Bool Stopped)
-    → k'.failed ≡ k.failed → TakesBy Is w w' f f' s r → IsCaused (world k w f) (world k' w' f') r
-caused_of_by Is k k' w w' f f' s (Ok b) e h = (e, h.3)
-caused_of_by Is k k' w w' f f' s (Err stopped.Fault) e h = inr h.2.1
-caused_of_by Is k k' w w' f f' s (Err stopped.Memory) e h = tt
+pub caused_of_by : (Is : Turn → Type 0) (k k' : Counts) (w w' : Taken) (s : Store) (r : Result Bool Stopped)
+    → k'.failed ≡ k.failed → TakesBy Is w w' s r → IsCaused (world k w) (world k' w') r
+caused_of_by Is k k' w w' s (Ok b) e h = (e, h.2.same)
+caused_of_by Is k k' w w' s (Err stopped.Fault) e h = inr h.2.rose
+caused_of_by Is k k' w w' s (Err stopped.Memory) e h = tt
 
-pub never_of_by : (Is : Turn → Type 0) (k k' : Counts) (w w' : Option (List ℕ)) (f f' : ℕ) (s : Store) (r : Result Bool Stopped)
-    → k.missing ≤ k'.missing → k.failed ≤ k'.failed → k.long ≤ k'.long → TakesBy Is w w' f f' s r → NeverFall (world k w f) (world k' w' f')
-never_of_by Is k k' w w' f f' s (Ok b) a b' c h = record { missing = a; failed = b'; long = c; faults = let e = h.3 in omega arith }
-never_of_by Is k k' w w' f f' s (Err stopped.Fault) a b' c h = record { missing = a; failed = b'; long = c; faults = h.2.0 }
-never_of_by Is k k' w w' f f' s (Err stopped.Memory) a b' c h = record { missing = a; failed = b'; long = c; faults = let e = h.0 in omega arith }
+pub never_of_by : (Is : Turn → Type 0) (k k' : Counts) (w w' : Taken) (s : Store) (r : Result Bool Stopped)
+    → k.missing ≤ k'.missing → k.failed ≤ k'.failed → k.long ≤ k'.long → TakesBy Is w w' s r → NeverFall (world k w) (world k' w')
+never_of_by Is k k' w w' s (Ok b) a b' c h = record { missing = a; failed = b'; long = c; faults = let e = h.2.same in omega arith }
+never_of_by Is k k' w w' s (Err stopped.Fault) a b' c h = record { missing = a; failed = b'; long = c; faults = h.2.grew }
+never_of_by Is k k' w w' s (Err stopped.Memory) a b' c h = record { missing = a; failed = b'; long = c; faults = let e = h.0 in omega arith }
 
 -- a call that changed nothing
-pub never_still : (k : Counts) (w : Option (List ℕ)) (f : ℕ) → NeverFall (world k w f) (world k w f)
-never_still k w f = record { missing = omega arith; failed = omega arith; long = omega arith; faults = omega arith }
+pub never_still : (k : Counts) (w : Taken) → NeverFall (world k w) (world k w)
+never_still k w = record { missing = omega arith; failed = omega arith; long = omega arith; faults = omega arith }
 
 pub never_on : (a b c : World) → NeverFall a b → NeverFall b c → NeverFall a c
 never_on a b c h k = record {

@@ -1,23 +1,19 @@
 -- The lines of an audit of a store.
-use Rattle.std.specs.Prelude.{◌≡◌, ℕ, zero, suc, ◌+◌, List, [], ◌∷◌, ◌++◌, codes, decimal, flat_map, if◌then◌else◌, Bool, true, false}
-use Rattle.sig_base.specs.Window.{Span}
+use Rattle.std.specs.Prelude.{◌≡◌, ℕ, zero, suc, ◌+◌, List, [], ◌∷◌, ◌++◌, flat_map, if◌then◌else◌, Bool, true, false}
 use Rattle.sig_base.specs.declared.values.EditError.TheVariants.{OutOfWindow}
 use Rattle.sig_base.specs.declared.values.Verdict.{Verdict}
 use Rattle.sig_base.specs.declared.values.Verdict.TheVariants.{Idle, Kept, Broken, Undecided}
 use Rattle.hour_store.specs.Store.{Store}
-use Rattle.channel_tables.specs.declared.spec.Spec.{Spec}
 use Rattle.ring_config.specs.Settings.{Settings}
 use Rattle.signal_log.specs.Log.{HasHistory, log_of}
 use Rattle.rule_audit.specs.declared.lines.AuditLine.{AuditLine}
-use Rattle.rule_audit.specs.declared.rules.Rule.{Rule}
 use Rattle.rule_audit.specs.Rules.{rules_for}
 use Rattle.hour_work.specs.Numbers.{Numbers, total_of}
-use Rattle.hour_work.specs.declared.counts.RuleCount.{RuleCount}
 use Rattle.hour_work.specs.Reports.{IsReport}
 use Rattle.session.specs.Windows.{AreHourLines}
 use Rattle.report_text.specs.declared.refusal.Refusal.TheVariants.{Edit}
-use Rattle.report_text.specs.Line.{line_of}
-use Rattle.report_text.specs.Audit.{audit_line_text, counts_text}
+use Rattle.report_text.specs.Heads.{verdicts_head}
+use Rattle.report_text.specs.Audit.{audit_start, lines_text}
 use Rattle.sigaudit.specs.Turns.{Turn, refuses, writes}
 
 abbrev pub is_kept : Verdict → Bool
@@ -25,11 +21,6 @@ is_kept Idle = false
 is_kept Kept = true
 is_kept Broken = false
 is_kept Undecided = false
-
--- the text of the lines in their order
-unfoldable pub lines_text : Span → List AuditLine → List ℕ
-lines_text w [] = []
-lines_text w (l ∷ ls) = audit_line_text w l ++ lines_text w ls
 
 -- a line, unless it is kept; those of lines in their order
 abbrev pub failing_at : AuditLine → List AuditLine
@@ -51,17 +42,6 @@ AddsHour c s hour old new = (lines : List AuditLine) × AreHourLines c s hour tr
 -- this is the report of a store with which some history agrees, so that no obligation has two verdicts
 abbrev pub IsReportOf : Settings → Store → List Numbers → Type 0
 IsReportOf c s all = HasHistory (log_of c.specs s) × IsReport c s all
-
--- the line before an audit, and that before the verdicts of one hour
-abbrev pub audit_head : ℕ → List ℕ
-audit_head n = line_of (decimal n ∷ codes " audit" ∷ [])
-
-abbrev pub verdicts_head : ℕ → ℕ → List ℕ
-verdicts_head n hour = line_of (decimal n ∷ codes " verdicts " ∷ decimal hour ∷ [])
-
--- the line before an audit, and how many verdicts each rule has
-abbrev pub audit_start : ℕ → List Spec → List Rule → List RuleCount → List ℕ
-audit_start n specs rules counts = audit_head n ++ counts_text specs rules counts
 
 -- an audit: how many verdicts each rule has in the window, by the store's report, and then the broken and undecided ones hour by hour, each broken one with its window
 abbrev pub IsAudited : Settings → ℕ → Store → Turn → Type 0

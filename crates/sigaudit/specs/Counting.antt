@@ -20,6 +20,7 @@ use Rattle.script_lines.specs.Words.{Said, said}
 use Rattle.script_lines.specs.Words as line
 use Rattle.report_text.specs.declared.refusal.Refusal.{Refusal}
 use Rattle.sigaudit.specs.declared.hour_file.Unread.{Unread}
+use Rattle.sigaudit.specs.declared.script.LoadLine.{LoadLine}
 use Rattle.sigaudit.specs.declared.status.Status.{Status}
 use Rattle.sigaudit.specs.declared.status.Status.TheVariants.{Done, SomeRefused, Usage, BadConfig, Fault, Memory, NoFile}
 use Rattle.sigaudit.specs.Aims.{Aim, for_lines, for_rule}
@@ -52,6 +53,13 @@ ReadTally c make s (Err e) h m k = (m ≡ 0) × (k ≡ 0)
 abbrev pub FetchTally : Settings → ℕ → (Shown → Change) → Store → Result (List ℕ) Refusal → ℕ → ℕ → ℕ → Type 0
 FetchTally c hour make s (Ok bytes) h m k = ReadTally c make s (hour_said (wanted_for c hour) bytes) h m k
 FetchTally c hour make s (Err refusal) h m k = (m ≡ 0) × (k ≡ 0)
+
+-- by the line of a load or a replacement, of these bytes of its file, or of this at its name
+abbrev pub BytesTally : Settings → LoadLine → Store → List ℕ → ℕ → ℕ → ℕ → Type 0
+BytesTally c load s bytes h m k = ReadTally c (hour_change load.replaces) s (hour_said (wanted_for c load.hour) bytes) h m k
+
+abbrev pub LoadTally : Settings → LoadLine → Store → Result (List ℕ) Refusal → ℕ → ℕ → ℕ → Type 0
+LoadTally c load s want h m k = FetchTally c load.hour (hour_change load.replaces) s want h m k
 
 -- the line is an edit, asks for measures, is bad or is skipped
 abbrev pub IsPlain : Said → Type 0

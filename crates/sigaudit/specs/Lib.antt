@@ -1,7 +1,6 @@
 pub mod Asked
 pub mod Request
 pub mod Status
-pub mod ConfigText
 pub mod HourFile
 pub mod Turns
 pub mod Audit

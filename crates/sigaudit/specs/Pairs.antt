@@ -1,5 +1,5 @@
 -- What is printed of lines that a rule leaves undecided.
-use Rattle.std.specs.Prelude.{◌≡◌, ◌*◌, ◌&&◌, nat_le, nat_lt, if◌then◌else◌, ℕ, ℤ, pos, negsuc, List, [], ◌∷◌, codes, flat_map, length, Option, Some, None, option_and_then}
+use Rattle.std.specs.Prelude.{◌≡◌, ◌*◌, ◌&&◌, nat_le, nat_lt, if◌then◌else◌, ℕ, ℤ, pos, negsuc, List, length, Option, Some, None, option_and_then}
 use Rattle.hour_store.specs.Store.{Store}
 use Rattle.ring_config.specs.Settings.{Settings}
 use Rattle.row_reader.specs.Stamp.{both}
@@ -7,16 +7,7 @@ use Rattle.rule_audit.specs.Rules.{rules_for}
 use Rattle.signal_log.specs.Log.{HasHistory, log_of}
 use Rattle.filling_pair.specs.declared.strands.Pair.{Pair}
 use Rattle.session.specs.Pairs.{ArePairsAt}
-use Rattle.report_text.specs.Pairs.{pair_text}
-
--- there is no such line
-abbrev pub nothing_text : List ℕ
-nothing_text = codes "nothing undecided\n"
-
--- the texts of the pairs of the rule at the tenth, or one line where there are none
-abbrev pub found_text : Settings → ℕ → ℕ → List Pair → List ℕ
-found_text c rule at [] = nothing_text
-found_text c rule at (p ∷ ps) = flat_map (pair_text c rule at) (p ∷ ps)
+use Rattle.report_text.specs.Pairs.{found_text, nothing_text}
 
 -- the number, if one of so many rules has it
 abbrev pub rule_within : ℕ → ℕ → Option ℕ

@@ -1,21 +1,13 @@
 -- The diagrams of a phase of a store.
-use Rattle.std.specs.Prelude.{ℕ, List, [], ◌∷◌, ◌++◌, codes, decimal, flat_map, Bool, true, false}
+use Rattle.std.specs.Prelude.{ℕ, ◌++◌, Bool, true, false}
 use Rattle.hour_store.specs.Store.{Store, is_known, known_rows}
 use Rattle.ring_config.specs.Settings.{Settings}
 use Rattle.ring_config.specs.Values.{has_phase}
-use Rattle.arrival_measures.specs.declared.points.Diagram.{Diagram}
 use Rattle.arrival_measures.specs.Points.{diagrams_of}
 use Rattle.report_text.specs.declared.refusal.Refusal.TheVariants.{BadLine}
-use Rattle.report_text.specs.Line.{line_of}
-use Rattle.report_text.specs.Approaches.{diagram_text}
+use Rattle.report_text.specs.Heads.{points_head}
+use Rattle.report_text.specs.Approaches.{diagrams_text}
 use Rattle.sigaudit.specs.Turns.{Turn, refuses, writes}
-
--- the line before the diagrams of a phase
-abbrev pub points_head : ℕ → ℕ → List ℕ
-points_head n p = line_of (decimal n ∷ codes " points " ∷ decimal p ∷ [])
-
-abbrev pub diagrams_text : Settings → List Diagram → List ℕ
-diagrams_text c ds = flat_map (diagram_text c) ds
 
 -- the whole cycles of a phase with the arrivals in them; a phase that isn't configured makes a bad line
 abbrev pub points_turn : Settings → ℕ → ℕ → Store → Bool → Turn

@@ -3,7 +3,7 @@ use Rattle.std.specs.Prelude.{◌≡◌, ◌≤◌, ◌⊎◌, ℕ, List, [], le
 use Rattle.std.specs.Io.KnownBytes.{Appends}
 use Rattle.outside.specs.Counted.{Rose}
 use Rattle.outside.specs.Shelf.{Counts, Files}
-use Rattle.outside.specs.Sink.{AppendsFront, Stops}
+use Rattle.outside.specs.Sink.{AppendsFront, Stops, Taken, Writes}
 use Rattle.hour_store.specs.Store.{Store, nothing_held}
 use Rattle.sig_base.specs.Window.{Span}
 use Rattle.report_text.specs.declared.refusal.Refusal.{Refusal}
@@ -32,8 +32,8 @@ pub record World : Type 0 where
   pub written : Option (List ℕ)
   pub faults : ℕ
 
-abbrev pub world : Counts → Option (List ℕ) → ℕ → World
-world counts written faults = record { counts = counts; written = written; faults = faults }
+abbrev pub world : Counts → Taken → World
+world counts taken = record { counts = counts; written = taken.written; faults = taken.faults }
 
 -- no fetch failed and the sink had no fault
 abbrev pub NoFault : World → World → Type 0
@@ -132,10 +132,10 @@ pub record NeverFall (old new : World) : Type 0 where
   pub faults : old.faults ≤ new.faults
 
 -- a call that writes an outcome ends as it says, or stops in it by a counted fault, or runs out of memory before it writes anything
-abbrev pub PutsOutcome : Outcome → Option (List ℕ) → Option (List ℕ) → ℕ → ℕ → Result Ended Stopped → Type 0
-PutsOutcome o old new before now (Ok e) = (o.ended ≡ e) × Appends old new o.bytes × (now ≡ before)
-PutsOutcome o old new before now (Err stopped.Fault) = Stops old new before now o.bytes
-PutsOutcome o old new before now (Err stopped.Memory) = (new ≡ old) × (now ≡ before)
+abbrev pub PutsOutcome : Outcome → Taken → Taken → Result Ended Stopped → Type 0
+PutsOutcome o old new (Ok e) = (o.ended ≡ e) × Writes old new o.bytes
+PutsOutcome o old new (Err stopped.Fault) = Stops old new o.bytes
+PutsOutcome o old new (Err stopped.Memory) = new ≡ old
 
 -- why a part of a run ended so
 abbrev pub IsCaused : {T : Type 0} → World → World → Result T Stopped → Type 0
@@ -154,16 +154,16 @@ Takes Is old new store (Err stopped.Fault) = HasFault old new × BeginsTurn Is o
 Takes Is old new store (Err stopped.Memory) = BeginsTurn Is old.written new.written
 
 -- the same of a call that uses no shelf
-abbrev pub TakesBy : (Turn → Type 0) → Option (List ℕ) → Option (List ℕ) → ℕ → ℕ → Store → Result Bool Stopped → Type 0
-TakesBy Is old new before now store (Ok refused) = (t : Turn) × Is t × Appends old new t.text × (now ≡ before) × (store ≡ t.store) × (refused ≡ t.refused)
-TakesBy Is old new before now store (Err stopped.Fault) = (t : Turn) × Is t × Stops old new before now t.text
-TakesBy Is old new before now store (Err stopped.Memory) = (now ≡ before) × BeginsTurn Is old new
+abbrev pub TakesBy : (Turn → Type 0) → Taken → Taken → Store → Result Bool Stopped → Type 0
+TakesBy Is old new store (Ok refused) = (t : Turn) × Is t × Writes old new t.text × (store ≡ t.store) × (refused ≡ t.refused)
+TakesBy Is old new store (Err stopped.Fault) = (t : Turn) × Is t × Stops old new t.text
+TakesBy Is old new store (Err stopped.Memory) = (new.faults ≡ old.faults) × BeginsTurn Is old.written new.written
 
 -- the same where the line has this turn
-abbrev pub TakesPut : Turn → Option (List ℕ) → Option (List ℕ) → ℕ → ℕ → Store → Result Bool Stopped → Type 0
-TakesPut t old new before now store (Ok refused) = Appends old new t.text × (now ≡ before) × (store ≡ t.store) × (refused ≡ t.refused)
-TakesPut t old new before now store (Err stopped.Fault) = Stops old new before now t.text
-TakesPut t old new before now store (Err stopped.Memory) = (new ≡ old) × (now ≡ before)
+abbrev pub TakesPut : Turn → Taken → Taken → Store → Result Bool Stopped → Type 0
+TakesPut t old new store (Ok refused) = Writes old new t.text × (store ≡ t.store) × (refused ≡ t.refused)
+TakesPut t old new store (Err stopped.Fault) = Stops old new t.text
+TakesPut t old new store (Err stopped.Memory) = new ≡ old
 
 -- a front of the text of the first k lines was written, for some k
 abbrev pub TellsFirst : Files → Settings → List (List ℕ) → Store → World → World → Type 0
@@ -193,10 +193,10 @@ pub record CountsGrow (old new : Counts) : Type 0 where
   pub long : old.long ≤ new.long
 
 -- a call that writes a text that there may be wrote all of it, or stopped in it by a counted fault, or ran out of memory before it wrote anything
-abbrev pub PutsOne : {T : Type 0} → (List ℕ → Type 0) → Option (List ℕ) → Option (List ℕ) → ℕ → ℕ → Result T Stopped → Type 0
-PutsOne Is old new before now (Ok _) = (text : List ℕ) × Is text × Appends old new text × (now ≡ before)
-PutsOne Is old new before now (Err stopped.Fault) = (text : List ℕ) × Is text × Stops old new before now text
-PutsOne Is old new before now (Err stopped.Memory) = (new ≡ old) × (now ≡ before)
+abbrev pub PutsOne : {T : Type 0} → (List ℕ → Type 0) → Taken → Taken → Result T Stopped → Type 0
+PutsOne Is old new (Ok _) = (text : List ℕ) × Is text × Writes old new text
+PutsOne Is old new (Err stopped.Fault) = (text : List ℕ) × Is text × Stops old new text
+PutsOne Is old new (Err stopped.Memory) = new ≡ old
 
 -- an hour file was fetched, or there is a reason why not; of an empty buffer
 abbrev pub FetchesHour : Result (List ℕ) Refusal → List ℕ → Fetched → Type 0

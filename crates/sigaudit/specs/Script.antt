@@ -1,5 +1,5 @@
 -- The transcript of a script.
-use Rattle.std.specs.Prelude.{◌≡◌, ◌⊎◌, ℕ, ◌+◌, ◌||◌, ◌*◌, ◌^◌, nat_lt, List, [], ◌∷◌, ◌++◌, length, slice_get, codes, decimal, if◌then◌else◌, Option, Some, None, Result, Ok, Err, Bool, true, false}
+use Rattle.std.specs.Prelude.{◌≡◌, ◌⊎◌, ℕ, ◌+◌, ◌||◌, ◌*◌, ◌^◌, nat_lt, List, [], ◌∷◌, ◌++◌, length, slice_get, if◌then◌else◌, Option, Some, None, Result, Ok, Err, Bool, true, false}
 use Rattle.outside.specs.Shelf.{Files}
 use Rattle.sig_base.specs.HourRows.{Shown}
 use Rattle.sig_base.specs.declared.values.Applied.{Applied}
@@ -19,10 +19,10 @@ use Rattle.script_lines.specs.Words.{Said, said}
 use Rattle.script_lines.specs.Words as line
 use Rattle.report_text.specs.declared.refusal.Refusal.{Refusal}
 use Rattle.report_text.specs.declared.refusal.Refusal.TheVariants.{BadLine, MissingFile, FileTooLong, Edit}
-use Rattle.report_text.specs.Line.{line_of}
 use Rattle.report_text.specs.Applied.{applied_text}
-use Rattle.report_text.specs.Measures.{measures_text}
+use Rattle.report_text.specs.Measures.{hour_measures, window_measures}
 use Rattle.sigaudit.specs.declared.hour_file.Unread.{Unread}
+use Rattle.sigaudit.specs.declared.script.LoadLine.{LoadLine}
 use Rattle.sigaudit.specs.HourFile.{hour_said}
 use Rattle.sigaudit.specs.Turns.{Turn, passes, refuses, refuses_file, writes}
 use Rattle.sigaudit.specs.Audit.{AreVerdicts, IsAudited, IsReportOf}
@@ -82,20 +82,24 @@ abbrev pub hour_change : Bool → Shown → Change
 hour_change true = change.replace
 hour_change false = change.load
 
--- the line before the measures of the window, and that before those of one hour
-abbrev pub window_head : ℕ → List ℕ
-window_head n = line_of (decimal n ∷ codes " measures" ∷ [])
+-- what a line that loads or replaces an hour does where these are the bytes of its file, and where there is this at its name or a reason why there is nothing to read
+abbrev pub ReadsLoad : Settings → LoadLine → Store → List ℕ → Turn → Type 0
+ReadsLoad c load s bytes t = IsRead c load.number (hour_change load.replaces) s (hour_said (wanted_for c load.hour) bytes) t
 
-abbrev pub hour_head : ℕ → ℕ → List ℕ
-hour_head n hour = line_of (decimal n ∷ codes " measures " ∷ decimal hour ∷ [])
+abbrev pub TakesLoad : Settings → LoadLine → Store → Result (List ℕ) Refusal → Turn → Type 0
+TakesLoad c load s want t = IsFetched c load.number load.hour (hour_change load.replaces) s want t
+
+-- what there is at its name, where the window has its hour
+abbrev pub load_bytes : Files → Settings → LoadLine → Result (List ℕ) Refusal
+load_bytes files c load = hour_bytes files c load.hour load.name.now
 
 -- the measures of the window, by the store's report
 abbrev pub IsMeasured : Settings → ℕ → Store → Turn → Type 0
-IsMeasured c n s t = (report : List Numbers) × IsReportOf c s report × (t ≡ writes (window_head n ++ measures_text c (total_of report)) s)
+IsMeasured c n s t = (report : List Numbers) × IsReportOf c s report × (t ≡ writes (window_measures n c (total_of report)) s)
 
 -- the measures of one hour; an hour past the window has no numbers in the report
 abbrev pub numbers_turn : Settings → ℕ → ℕ → Store → Option Numbers → Turn
-numbers_turn c n hour s (Some numbers) = writes (hour_head n hour ++ measures_text c numbers) s
+numbers_turn c n hour s (Some numbers) = writes (hour_measures n hour c numbers) s
 numbers_turn c n hour s None = refuses c n (Edit OutOfWindow) s
 
 abbrev pub IsMeasuredOf : Settings → ℕ → ℕ → Store → Turn → Type 0

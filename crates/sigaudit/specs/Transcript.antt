@@ -1,5 +1,5 @@
 -- What a run writes and how it ends, of the words and the files alone.
-use Rattle.std.specs.Prelude.{◌≡◌, ◌++◌, ◌*◌, ◌^◌, nat_le, if◌then◌else◌, ℕ, List, [], length, take, codes, Option, Some, None, Result, Ok, Err, Bool, true, false}
+use Rattle.std.specs.Prelude.{◌≡◌, ◌++◌, ◌*◌, ◌^◌, nat_le, if◌then◌else◌, ℕ, List, [], length, take, Option, Some, None, Result, Ok, Err, Bool, true, false}
 use Rattle.outside.specs.Shelf.{Files}
 use Rattle.sig_base.specs.HourRows.{Shown}
 use Rattle.sig_base.specs.Window.{Span}
@@ -7,8 +7,10 @@ use Rattle.row_reader.specs.declared.row_error.RowError.{RowError}
 use Rattle.row_reader.specs.Rows.{Wanted, rows_of}
 use Rattle.row_reader.specs.Stamp.{stamp_in}
 use Rattle.report_text.specs.declared.refusal.Refusal.TheVariants.{File}
+use Rattle.report_text.specs.ConfigRefusal.{config_text}
 use Rattle.report_text.specs.Counts.{count_text}
 use Rattle.report_text.specs.Refusals.{refusal_text}
+use Rattle.report_text.specs.Usage.{usage_text}
 use Rattle.hour_pack.specs.Grammar.{packed}
 use Rattle.ring_config.specs.Reading.{Read}
 use Rattle.ring_config.specs.Settings.{Settings, config_of}
@@ -18,7 +20,6 @@ use Rattle.demonstration.specs.Files.{config_name, demo_files, script_name}
 use Rattle.script_lines.specs.Lines.{lines_of}
 use Rattle.sigaudit.specs.Aims.{Aim, for_lines, for_rule}
 use Rattle.sigaudit.specs.Asked.{HourAsked, hour_asked, asked_of}
-use Rattle.sigaudit.specs.ConfigText.{config_text}
 use Rattle.sigaudit.specs.declared.file.Task.{Task}
 use Rattle.sigaudit.specs.declared.file.Task.TheVariants.{Count, Pack}
 use Rattle.sigaudit.specs.declared.hour_file.Unread.{Unread}
@@ -35,9 +36,6 @@ pub record Outcome : Type 0 where
 
 abbrev pub outcome : List ℕ → Ended → Outcome
 outcome bytes ended = record { bytes = bytes; ended = ended }
-
-abbrev pub usage_text : List ℕ
-usage_text = codes "usage: sigaudit --config C --script S [--rule K --at T] | --count F --signal ID --hour H | --pack F --signal ID --hour H | --demo N\n"
 
 -- a window of the one hour that is asked for
 abbrev pub window_of : HourAsked → Span

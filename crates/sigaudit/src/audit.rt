@@ -1,19 +1,14 @@
 // The verdicts of a session: those that are broken or undecided, or all of one hour.
-ghost use Rattle.std.specs.Prelude.{◌≡◌, ◌<◌, ◌++◌, true, [], IfOk, IsTrue, All, OnOk, length, nat_lt};
-ghost use Rattle.outside.specs.Sink.{Puts};
+ghost use Rattle.std.specs.Prelude.{◌≡◌, ◌<◌, ◌++◌, true, [], IfOk, IsTrue, OnOk, length, nat_lt};
 ghost use Rattle.sig_base.specs.Reads.{Grow};
-ghost use Rattle.report_text.specs.Audit.{IsLineIn};
-ghost use Rattle.sigaudit.specs.Audit.{AddsHour, AreFailing, AreVerdicts, IsAudited, audit_head, audit_start, failing_at, failing_of, is_kept, lines_text, verdicts_head};
+ghost use Rattle.sigaudit.specs.Audit.{AddsHour, AreFailing, AreVerdicts, IsAudited, failing_at, failing_of, is_kept};
 ghost use Rattle.sigaudit.specs.Run.{TakesBy};
 
 use crate::refused::refuse;
 use crate::status::Stopped;
-use hour_work::Partial;
-use itoa::Buffer;
-use outside::{PutFailed, Sink, put_parts};
-use report_text::{Refusal, put_audit_counts, put_audit_line};
-use ring_config::Config;
-use rule_audit::{AuditLine, Rule};
+use outside::Sink;
+use report_text::{Refusal, put_audit, put_verdicts};
+use rule_audit::AuditLine;
 use session::Session;
 use sig_base::{EditError, Hour, NoMemory, Reads, Verdict};
 use std::alloc::Global;
@@ -22,47 +17,6 @@ fn is_kept(verdict: Verdict) -> bool
     ensures { result ≡ is_kept verdict }
 {
     matches!(verdict, Verdict::Kept)
-}
-
-// Writes the lines in their order.
-fn put_lines<K: Sink>(config: &Config, lines: &[AuditLine], sink: &mut K) -> Result<(), PutFailed>
-    requires { All (IsLineIn config.now.window) lines.now }
-    ensures { Puts (K.written sink.old) (K.written sink.new) (K.faults sink.old) (K.faults sink.new)
-        (lines_text config.now.window lines.now) result }
-{
-    for line in lines {
-        match put_audit_line(config, line, sink) {
-            Ok(()) => {}
-            Err(failed) => return Err(failed),
-        }
-    }
-    Ok(())
-}
-
-fn put_head<K: Sink>(number: u32, sink: &mut K) -> Result<(), PutFailed>
-    ensures { Puts (K.written sink.old) (K.written sink.new) (K.faults sink.old) (K.faults sink.new)
-        (audit_head number) result }
-{
-    let mut line = Buffer::new();
-    put_parts(sink, &[line.format(number).as_bytes(), b" audit", b"\n"])
-}
-
-// Writes the head of an audit, and how many verdicts each rule has in the window.
-fn put_start<K: Sink>(
-    number: u32,
-    config: &Config,
-    rules: &[Rule],
-    total: &Partial,
-    sink: &mut K,
-) -> Result<(), PutFailed>
-    ensures { Puts (K.written sink.old) (K.written sink.new) (K.faults sink.old) (K.faults sink.new)
-        (audit_start number config.now.specs rules.now total.now.rules) result }
-{
-    match put_head(number, sink) {
-        Ok(()) => {}
-        Err(failed) => return Err(failed),
-    }
-    put_audit_counts(config, rules, total, sink)
 }
 
 // Whether each verdict of the hour is kept, so that an audit has no line of it. No hour is opened.
@@ -148,40 +102,20 @@ pub fn audit_line<L, K: Sink>(
     reads: &mut Reads<L>,
 ) -> Result<bool, Stopped>
     ensures turn { TakesBy (IsAudited session.now.config number session.now.store)
-        (K.written sink.old) (K.written sink.new) (K.faults sink.old) (K.faults sink.new)
-        session.now.store result }
+        (K.taken sink.old) (K.taken sink.new) session.now.store result }
     ensures grow { Grow reads.old reads.new }
 {
-    let failing = match failing_lines(alloc, session, reads) {
-        Ok(failing) => failing,
-        Err(_) => return Err(Stopped::Memory),
-    };
+    let failing = failing_lines(alloc, session, reads)?;
     let total = session.report().total();
-    match put_start(number, session.config(), session.rules(), total, sink) {
-        Ok(()) => {}
-        Err(_) => return Err(Stopped::Fault),
-    }
-    match put_lines(session.config(), &failing, sink) {
-        Ok(()) => Ok(false),
-        Err(_) => Err(Stopped::Fault),
-    }
-}
-
-fn put_verdicts_head<K: Sink>(number: u32, hour: Hour, sink: &mut K) -> Result<(), PutFailed>
-    ensures { Puts (K.written sink.old) (K.written sink.new) (K.faults sink.old) (K.faults sink.new)
-        (verdicts_head number hour) result }
-{
-    let mut line = Buffer::new();
-    let mut of = Buffer::new();
-    put_parts(
+    put_audit(
+        number,
+        session.config(),
+        session.rules(),
+        total,
+        &failing,
         sink,
-        &[
-            line.format(number).as_bytes(),
-            b" verdicts ",
-            of.format(hour).as_bytes(),
-            b"\n",
-        ],
-    )
+    )?;
+    Ok(false)
 }
 
 // Writes the verdicts of an hour of the window.
@@ -195,23 +129,13 @@ fn hour_verdicts<L, K: Sink>(
 ) -> Result<bool, Stopped>
     requires { hour < session.now.config.window.hours }
     ensures turn { TakesBy (AreVerdicts session.now.config number hour session.now.store true)
-        (K.written sink.old) (K.written sink.new) (K.faults sink.old) (K.faults sink.new)
-        session.now.store result }
+        (K.taken sink.old) (K.taken sink.new) session.now.store result }
     ensures grow { Grow reads.old reads.new }
 {
     let config = session.config();
-    let lines = match session.audit_hour(hour, true, reads) {
-        Ok(lines) => lines,
-        Err(_) => return Err(Stopped::Memory),
-    };
-    match put_verdicts_head(number, hour, sink) {
-        Ok(()) => {}
-        Err(_) => return Err(Stopped::Fault),
-    }
-    match put_lines(config, &lines, sink) {
-        Ok(()) => Ok(false),
-        Err(_) => Err(Stopped::Fault),
-    }
+    let all = session.audit_hour(hour, true, reads)?;
+    put_verdicts(number, hour, config, &all, sink)?;
+    Ok(false)
 }
 
 /// Writes all verdicts of one hour, the kept ones among them.
@@ -224,8 +148,8 @@ pub fn verdicts_line<L, K: Sink>(
     reads: &mut Reads<L>,
 ) -> Result<bool, Stopped>
     ensures turn { TakesBy (AreVerdicts session.now.config number hour session.now.store
-        (nat_lt hour session.now.config.window.hours)) (K.written sink.old) (K.written sink.new)
-        (K.faults sink.old) (K.faults sink.new) session.now.store result }
+        (nat_lt hour session.now.config.window.hours)) (K.taken sink.old) (K.taken sink.new)
+        session.now.store result }
     ensures grow { Grow reads.old reads.new }
 {
     if hour >= session.config().window().hours() {

@@ -49,24 +49,19 @@ fn show_counts<L, K: Sink>(
     reads: &mut Reads<L>,
 ) -> Result<Ended, Stopped>
     ensures put { PutsOutcome (outcome (count_text rows.now.rows rows.now.repeats) Ended.Done)
-        (K.written sink.old) (K.written sink.new) (K.faults sink.old) (K.faults sink.new) result }
+        (K.taken sink.old) (K.taken sink.new) result }
     ensures reads { reads.new ≡ raised reads.old rows.now.hour }
 {
-    match put_counts(rows.show(reads), rows.repeats(), sink) {
-        Ok(()) => Ok(Ended::Done),
-        Err(_) => Err(Stopped::Fault),
-    }
+    put_counts(rows.show(reads), rows.repeats(), sink)?;
+    Ok(Ended::Done)
 }
 
 fn show_refusal<K: Sink>(window: &Window, error: RowError, sink: &mut K) -> Result<Ended, Stopped>
     ensures { PutsOutcome (outcome (refusal_text window.now None (Refusal.File error))
-        Ended.SomeRefused) (K.written sink.old) (K.written sink.new) (K.faults sink.old)
-        (K.faults sink.new) result }
+        Ended.SomeRefused) (K.taken sink.old) (K.taken sink.new) result }
 {
-    match put_refusal(window, None, &Refusal::File(error), sink) {
-        Ok(()) => Ok(Ended::SomeRefused),
-        Err(_) => Err(Stopped::Fault),
-    }
+    put_refusal(window, None, &Refusal::File(error), sink)?;
+    Ok(Ended::SomeRefused)
 }
 
 // Writes the count of what the bytes of the file say.
@@ -80,7 +75,7 @@ fn put_count<L, K: Sink>(
 ) -> Result<Ended, Stopped>
     requires { window.now ≡ window_of (plain_asked asked.now) }
     ensures put { PutsOutcome (outcome_of Task.Count (plain_asked asked.now) bytes.now)
-        (K.written sink.old) (K.written sink.new) (K.faults sink.old) (K.faults sink.new) result }
+        (K.taken sink.old) (K.taken sink.new) result }
     ensures reads { (reads.new ≡ reads.old) ⊎ (reads.new ≡ raised reads.old 0) }
 {
     match read_rows::<L>(alloc, bytes, asked.signal, 0, window) {
@@ -91,23 +86,19 @@ fn put_count<L, K: Sink>(
 }
 
 fn show_packed<K: Sink>(bytes: &[u8], sink: &mut K) -> Result<Ended, Stopped>
-    ensures { PutsOutcome (outcome bytes.now Ended.Done) (K.written sink.old) (K.written sink.new)
-        (K.faults sink.old) (K.faults sink.new) result }
+    ensures { PutsOutcome (outcome bytes.now Ended.Done) (K.taken sink.old) (K.taken sink.new)
+        result }
 {
-    match sink.put(bytes) {
-        Ok(()) => Ok(Ended::Done),
-        Err(_) => Err(Stopped::Fault),
-    }
+    sink.put(bytes)?;
+    Ok(Ended::Done)
 }
 
 fn show_packed_refusal<K: Sink>(error: PackError, sink: &mut K) -> Result<Ended, Stopped>
-    ensures { PutsOutcome (outcome (packed_text None error) Ended.SomeRefused) (K.written sink.old)
-        (K.written sink.new) (K.faults sink.old) (K.faults sink.new) result }
+    ensures { PutsOutcome (outcome (packed_text None error) Ended.SomeRefused) (K.taken sink.old)
+        (K.taken sink.new) result }
 {
-    match put_packed_refusal(None, error, sink) {
-        Ok(()) => Ok(Ended::SomeRefused),
-        Err(_) => Err(Stopped::Fault),
-    }
+    put_packed_refusal(None, error, sink)?;
+    Ok(Ended::SomeRefused)
 }
 
 // Writes the packed hour of these rows.
@@ -124,13 +115,11 @@ fn pack_rows<L, K: Sink>(
     requires hour { rows.now.hour ≡ 0 }
     requires no_repeat { HasNoRepeat [] rows.now.rows }
     ensures put { PutsOutcome (pack_outcome (plain_asked asked.now) (Ok rows.now))
-        (K.written sink.old) (K.written sink.new) (K.faults sink.old) (K.faults sink.new) result }
+        (K.taken sink.old) (K.taken sink.new) result }
     ensures reads { reads.new ≡ raised reads.old 0 }
 {
-    match pack(alloc, asked.signal, window, rows, reads) {
-        Ok(bytes) => show_packed(&bytes, sink),
-        Err(_) => Err(Stopped::Memory),
-    }
+    let bytes = pack(alloc, asked.signal, window, rows, reads)?;
+    show_packed(&bytes, sink)
 }
 
 // Writes the packed hour of what the bytes of the file say.
@@ -145,7 +134,7 @@ fn put_pack<L, K: Sink>(
     requires window { window.now ≡ window_of (plain_asked asked.now) }
     requires signal { is_signal asked.now.signal.now ≡ true }
     ensures put { PutsOutcome (outcome_of Task.Pack (plain_asked asked.now) bytes.now)
-        (K.written sink.old) (K.written sink.new) (K.faults sink.old) (K.faults sink.new) result }
+        (K.taken sink.old) (K.taken sink.new) result }
     ensures reads { (reads.new ≡ reads.old) ⊎ (reads.new ≡ raised reads.old 0) }
 {
     match read_hour::<L>(alloc, bytes, asked.signal, 0, window) {
@@ -168,7 +157,7 @@ fn put_outcome<L, K: Sink>(
     requires window { window.now ≡ window_of (plain_asked asked.now) }
     requires signal { is_signal asked.now.signal.now ≡ true }
     ensures put { PutsOutcome (outcome_of asked.now.task (plain_asked asked.now) bytes.now)
-        (K.written sink.old) (K.written sink.new) (K.faults sink.old) (K.faults sink.new) result }
+        (K.taken sink.old) (K.taken sink.new) result }
     ensures reads { (reads.new ≡ reads.old) ⊎ (reads.new ≡ raised reads.old 0) }
 {
     match asked.task {
@@ -188,16 +177,14 @@ pub fn put_file<L, S: Shelf, K: Sink>(
     requires day { IsDay asked.now.day }
     requires hour { asked.now.hour < 24 }
     requires signal { is_signal asked.now.signal.now ≡ true }
-    ensures told { IfSome (S.files shelf.old) (λ files. RunsAs (λ lines o. o
-        ≡ file_outcome asked.now.task (plain_asked asked.now) (files asked.now.file.now))
-        (world (S.counts shelf.old) (K.written sink.old) (K.faults sink.old))
-        (world (S.counts shelf.new) (K.written sink.new) (K.faults sink.new))
-        (status_of_run result)) }
-    ensures cause { FileCause (world (S.counts shelf.old) (K.written sink.old) (K.faults sink.old))
-        (world (S.counts shelf.new) (K.written sink.new) (K.faults sink.new))
-        (status_of_run result) }
-    ensures never_fall { NeverFall (world (S.counts shelf.old) (K.written sink.old)
-        (K.faults sink.old)) (world (S.counts shelf.new) (K.written sink.new) (K.faults sink.new)) }
+    ensures told { IfSome (S.files shelf.old) (λ files. RunsAs
+        (λ lines o. o ≡ file_outcome asked.now.task (plain_asked asked.now)
+        (files asked.now.file.now)) (world (S.counts shelf.old) (K.taken sink.old))
+        (world (S.counts shelf.new) (K.taken sink.new)) (status_of_run result)) }
+    ensures cause { FileCause (world (S.counts shelf.old) (K.taken sink.old))
+        (world (S.counts shelf.new) (K.taken sink.new)) (status_of_run result) }
+    ensures never_fall { NeverFall (world (S.counts shelf.old) (K.taken sink.old))
+        (world (S.counts shelf.new) (K.taken sink.new)) }
     ensures reads { (reads.new ≡ reads.old) ⊎ (reads.new ≡ raised reads.old 0) }
 {
     let Some(window) = Window::new(asked.day, asked.hour, 1) else {

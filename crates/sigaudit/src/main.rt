@@ -5,7 +5,6 @@
 #![tactic(auto)]
 
 mod audit;
-mod config_text;
 mod demo_shelf;
 mod file;
 mod hour_file;

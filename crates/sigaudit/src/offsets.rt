@@ -126,19 +126,13 @@ pub fn offsets_line<L, K: Sink>(
     reads: &mut Reads<L>,
 ) -> Result<bool, Stopped>
     ensures turn { TakesBy (λ t. t ≡ offsets_of session.now.config number name.now
-        session.now.store) (K.written sink.old) (K.written sink.new) (K.faults sink.old)
-        (K.faults sink.new) session.now.store result }
+        session.now.store) (K.taken sink.old) (K.taken sink.new) session.now.store result }
     ensures grow { Grow reads.old reads.new }
 {
     let Some((place, phase)) = advance_of(session.config(), name) else {
         return refuse(session.config(), number, Refusal::BadLine, sink);
     };
-    let (arrivals, shifts) = match shifts_of(alloc, place, phase, session, reads) {
-        Ok(found) => found,
-        Err(_) => return Err(Stopped::Memory),
-    };
-    match put_shifts(number, name.as_bytes(), arrivals, &shifts, sink) {
-        Ok(()) => Ok(false),
-        Err(_) => Err(Stopped::Fault),
-    }
+    let (arrivals, shifts) = shifts_of(alloc, place, phase, session, reads)?;
+    put_shifts(number, name.as_bytes(), arrivals, &shifts, sink)?;
+    Ok(false)
 }

@@ -1,22 +1,19 @@
 // What keeps and what breaks the lines that a rule leaves undecided.
-ghost use Rattle.std.specs.Prelude.{◌≡◌, ◌*◌, ◌<◌, ◌≤◌, All, IfSome, Some, flat_map, length};
-ghost use Rattle.outside.specs.Sink.{Puts};
+ghost use Rattle.std.specs.Prelude.{◌≡◌, ◌*◌, ◌<◌, ◌≤◌, IfSome, Some, length};
 ghost use Rattle.row_reader.specs.Stamp.{stamp_in};
 ghost use Rattle.rule_audit.specs.Rules.{rules_for};
 ghost use Rattle.sig_base.specs.Reads.{Grow};
-ghost use Rattle.report_text.specs.Pairs.{IsPairIn, pair_text};
-ghost use Rattle.sigaudit.specs.Pairs.{AreFound, found_text, nothing_text, place_of, rule_within, tenth_within};
+ghost use Rattle.sigaudit.specs.Pairs.{AreFound, place_of, rule_within, tenth_within};
 ghost use Rattle.sigaudit.specs.Run.{PutsOne};
 
 use crate::status::Stopped;
-use filling_pair::Pair;
-use outside::{PutFailed, Sink};
-use report_text::put_pair;
+use outside::Sink;
+use report_text::{put_nothing, put_pairs};
 use ring_config::Config;
 use row_reader::read_stamp;
-use rule_audit::{AuditLine, Place, Rule};
+use rule_audit::Rule;
 use session::Session;
-use sig_base::{Reads, Tenth, Verdict};
+use sig_base::{Reads, Tenth};
 
 // The number, if one of the rules has it.
 fn rule_within(rules: &[Rule], number: u32) -> Option<u16>
@@ -59,55 +56,10 @@ fn place_of(config: &Config, rules: &[Rule], rule: u32, at: &str) -> Option<(u16
     }
 }
 
-fn put_nothing<K: Sink>(sink: &mut K) -> Result<(), PutFailed>
-    ensures { Puts (K.written sink.old) (K.written sink.new) (K.faults sink.old) (K.faults sink.new)
-        nothing_text result }
-{
-    sink.put(b"nothing undecided\n")
-}
-
-fn put_each<K: Sink>(
-    config: &Config,
-    line: &AuditLine,
-    pairs: &[Pair],
-    sink: &mut K,
-) -> Result<(), PutFailed>
-    requires at { line.now.at < 36000 * config.now.window.hours }
-    requires pairs { All (IsPairIn config.now.window) pairs.now }
-    ensures { Puts (K.written sink.old) (K.written sink.new) (K.faults sink.old) (K.faults sink.new)
-        (flat_map (pair_text config.now line.now.rule line.now.at) pairs.now) result }
-{
-    for pair in pairs {
-        match put_pair(config, line, pair, sink) {
-            Ok(()) => {}
-            Err(failed) => return Err(failed),
-        }
-    }
-    Ok(())
-}
-
-// Writes the pairs of a line, or that there are none.
-fn put_found<K: Sink>(
-    config: &Config,
-    line: &AuditLine,
-    pairs: &[Pair],
-    sink: &mut K,
-) -> Result<(), PutFailed>
-    requires at { line.now.at < 36000 * config.now.window.hours }
-    requires pairs { All (IsPairIn config.now.window) pairs.now }
-    ensures { Puts (K.written sink.old) (K.written sink.new) (K.faults sink.old) (K.faults sink.new)
-        (found_text config.now line.now.rule line.now.at pairs.now) result }
-{
-    if pairs.is_empty() {
-        return put_nothing(sink);
-    }
-    put_each(config, line, pairs, sink)
-}
-
 // Writes the pairs of a rule and a tenth that are there. All of them are found before anything is
 // written.
 #[tactic(auto, using(crate::proofs::GrowFacts::grow_same))]
-fn put_pairs<L, K: Sink>(
+fn put_place<L, K: Sink>(
     rule: u16,
     at: u32,
     session: &Session<L>,
@@ -118,25 +70,13 @@ fn put_pairs<L, K: Sink>(
     requires last { rule ≤ length (rules_for session.now.config) }
     requires at { at < 36000 * session.now.config.window.hours }
     ensures text { PutsOne (AreFound session.now.config session.now.store (Some (rule, at)))
-        (K.written sink.old) (K.written sink.new) (K.faults sink.old) (K.faults sink.new) result }
+        (K.taken sink.old) (K.taken sink.new) result }
     ensures grow { Grow reads.old reads.new }
 {
     let config = session.config();
-    let pairs = match session.pairs(rule, at, reads) {
-        Ok(pairs) => pairs,
-        Err(_) => return Err(Stopped::Memory),
-    };
-    let line = AuditLine {
-        rule,
-        at,
-        place: Place::EndOfTenth,
-        verdict: Verdict::Undecided,
-        window: None,
-    };
-    match put_found(config, &line, pairs.list(), sink) {
-        Ok(()) => Ok(()),
-        Err(_) => Err(Stopped::Fault),
-    }
+    let pairs = session.pairs(rule, at, reads)?;
+    put_pairs(config, rule, at, pairs.list(), sink)?;
+    Ok(())
 }
 
 /// Writes for each line of the audit that says undecided, of the rule of this number at this stamp,
@@ -152,14 +92,12 @@ pub fn put_undecided<L, K: Sink>(
 ) -> Result<(), Stopped>
     ensures text { PutsOne (AreFound session.now.config session.now.store
         (place_of session.now.config rule (stamp_in session.now.config.window at.now)))
-        (K.written sink.old) (K.written sink.new) (K.faults sink.old) (K.faults sink.new) result }
+        (K.taken sink.old) (K.taken sink.new) result }
     ensures grow { Grow reads.old reads.new }
 {
     if let Some((rule, at)) = place_of(session.config(), session.rules(), rule, at) {
-        return put_pairs(rule, at, session, sink, reads);
+        return put_place(rule, at, session, sink, reads);
     }
-    match put_nothing(sink) {
-        Ok(()) => Ok(()),
-        Err(_) => Err(Stopped::Fault),
-    }
+    put_nothing(sink)?;
+    Ok(())
 }

@@ -8,9 +8,7 @@ use outside::{PutFailed, Sink};
 pub struct QuietSink;
 
 impl Sink for QuietSink {
-    ghost written = { λ s. None };
-
-    ghost faults = { λ s. 0 };
+    ghost taken = { λ s. record { written = None; faults = 0 } };
 
     fn put(&mut self, _bytes: &[u8]) -> Result<(), PutFailed> {
         Ok(())

@@ -19,13 +19,11 @@ pub fn refuse<K: Sink>(
     sink: &mut K,
 ) -> Result<bool, Stopped>
     requires { IsOfWindow config.now.window refusal }
-    ensures { (s : Store) → TakesPut (refuses config.now number refusal s) (K.written sink.old)
-        (K.written sink.new) (K.faults sink.old) (K.faults sink.new) s result }
+    ensures { (s : Store) → TakesPut (refuses config.now number refusal s) (K.taken sink.old)
+        (K.taken sink.new) s result }
 {
-    match put_refusal(config.window(), Some(number), &refusal, sink) {
-        Ok(()) => Ok(true),
-        Err(_) => Err(Stopped::Fault),
-    }
+    put_refusal(config.window(), Some(number), &refusal, sink)?;
+    Ok(true)
 }
 
 /// Refuses a line whose packed hour has this fault.
@@ -36,10 +34,8 @@ pub fn refuse_packed<K: Sink>(
     sink: &mut K,
 ) -> Result<bool, Stopped>
     ensures { (s : Store) → TakesPut (refuses_file config.now number (Packed error) s)
-        (K.written sink.old) (K.written sink.new) (K.faults sink.old) (K.faults sink.new) s result }
+        (K.taken sink.old) (K.taken sink.new) s result }
 {
-    match put_packed_refusal(Some(number), error, sink) {
-        Ok(()) => Ok(true),
-        Err(_) => Err(Stopped::Fault),
-    }
+    put_packed_refusal(Some(number), error, sink)?;
+    Ok(true)
 }

@@ -6,15 +6,15 @@ ghost use Rattle.sig_base.specs.Reads.{Grow};
 ghost use Rattle.ring_config.specs.Settings.{config_of};
 ghost use Rattle.command_line.specs.Words.{IsReadable, seen};
 ghost use Rattle.sigaudit.specs.Asked.{asked_of};
-ghost use Rattle.sigaudit.specs.ConfigText.{config_text, is_config_memory};
+ghost use Rattle.report_text.specs.ConfigRefusal.{config_text, is_config_memory};
+ghost use Rattle.report_text.specs.Usage.{usage_text};
 ghost use Rattle.sigaudit.specs.Status.{status_of_run};
 ghost use Rattle.script_lines.specs.Lines.{lines_of};
 ghost use Rattle.sigaudit.specs.Aims.{aim_of, for_lines};
-ghost use Rattle.sigaudit.specs.Transcript.{asks_pairs, ended_by, limited, outcome, usage_text, BeginsWithFirstLines, HaveOneTranscript, IsAimOutcome, IsAnswer, IsConfigOutcome, IsDemoOutcome, IsFileOutcome, IsScriptOutcome};
+ghost use Rattle.sigaudit.specs.Transcript.{asks_pairs, ended_by, limited, outcome, BeginsWithFirstLines, HaveOneTranscript, IsAimOutcome, IsAnswer, IsConfigOutcome, IsDemoOutcome, IsFileOutcome, IsScriptOutcome};
 ghost use Rattle.sigaudit.specs.Counting.{OpensAnswer, OpensConfig, OpensFile, OpensText, WhereTaken};
 ghost use Rattle.sigaudit.specs.Run.{world, CountsCarried, CountsGrow, CountsText, FetchesText, DemoCause, FewBytes, IsCarriedOut, IsPairsRun, IsRun, LeavesShelf, RunsAs, HasCause, NeedsWords, NeverFall, PutsOutcome, ScriptCause};
 
-use crate::config_text::put_config_error;
 use crate::demo_shelf::DemoShelf;
 use crate::file::{FileAsked, Task, put_file};
 use crate::pairs::put_undecided;
@@ -27,14 +27,12 @@ use command_line::{Refused, Request, parse_words};
 use decisive::window_is_one;
 use hour_work::reports_are_one;
 use outside::{FetchError, Shelf, Sink};
+use report_text::{put_config_error, put_usage};
 use ring_config::{Config, ConfigError, read_config};
 use session::Session;
 use sig_base::Reads;
 use signal_log::some_history_agrees;
 use std::alloc::Global;
-
-const USAGE: &[u8] =
-    b"usage: sigaudit --config C --script S [--rule K --at T] | --count F --signal ID --hour H | --pack F --signal ID --hour H | --demo N\n";
 
 // The most bytes of a configuration, and of a script.
 const CONFIG_LIMIT: u64 = 1_048_576;
@@ -73,23 +71,19 @@ fn fetch_text<S: Shelf>(
 }
 
 fn show_usage<K: Sink>(sink: &mut K) -> Result<Ended, Stopped>
-    ensures { PutsOutcome (outcome usage_text Ended.Usage) (K.written sink.old) (K.written sink.new)
-        (K.faults sink.old) (K.faults sink.new) result }
+    ensures { PutsOutcome (outcome usage_text Ended.Usage) (K.taken sink.old) (K.taken sink.new)
+        result }
 {
-    match sink.put(USAGE) {
-        Ok(()) => Ok(Ended::Usage),
-        Err(_) => Err(Stopped::Fault),
-    }
+    put_usage(sink)?;
+    Ok(Ended::Usage)
 }
 
 fn show_config_error<K: Sink>(error: ConfigError, sink: &mut K) -> Result<Ended, Stopped>
-    ensures { PutsOutcome (outcome (config_text error) Ended.BadConfig) (K.written sink.old)
-        (K.written sink.new) (K.faults sink.old) (K.faults sink.new) result }
+    ensures { PutsOutcome (outcome (config_text error) Ended.BadConfig) (K.taken sink.old)
+        (K.taken sink.new) result }
 {
-    match put_config_error(error, sink) {
-        Ok(()) => Ok(Ended::BadConfig),
-        Err(_) => Err(Stopped::Fault),
-    }
+    put_config_error(error, sink)?;
+    Ok(Ended::BadConfig)
 }
 
 // Carries out the lines of a script and writes their texts.
@@ -105,14 +99,12 @@ fn tell_lines<L, S: Shelf, K: Sink>(
     requires { length script.now ≤ 4194304 }
     ensures told { (files : Files) → S.files shelf.old ≡ Some files
         → RunsAs (IsScriptOutcome files config (Some script.now))
-        (world (S.counts shelf.old) (K.written sink.old) (K.faults sink.old))
-        (world (S.counts shelf.new) (K.written sink.new) (K.faults sink.new))
-        (status_of_run result) }
-    ensures cause { ScriptCause (world (S.counts shelf.old) (K.written sink.old)
-        (K.faults sink.old)) (world (S.counts shelf.new) (K.written sink.new) (K.faults sink.new))
-        (status_of_run result) }
-    ensures never_fall { NeverFall (world (S.counts shelf.old) (K.written sink.old)
-        (K.faults sink.old)) (world (S.counts shelf.new) (K.written sink.new) (K.faults sink.new)) }
+        (world (S.counts shelf.old) (K.taken sink.old))
+        (world (S.counts shelf.new) (K.taken sink.new)) (status_of_run result) }
+    ensures cause { ScriptCause (world (S.counts shelf.old) (K.taken sink.old))
+        (world (S.counts shelf.new) (K.taken sink.new)) (status_of_run result) }
+    ensures never_fall { NeverFall (world (S.counts shelf.old) (K.taken sink.old))
+        (world (S.counts shelf.new) (K.taken sink.new)) }
     ensures opens { (files : Files) → S.files shelf.old ≡ Some files → WhereTaken
         (status_of_run result) (OpensText files config for_lines
         reads.old reads.new (Some script.now)) }
@@ -168,14 +160,12 @@ fn run_lines<L, S: Shelf, K: Sink>(
     requires { length script.now ≤ 4194304 }
     ensures told { (files : Files) → S.files shelf.old ≡ Some files
         → RunsAs (IsAimOutcome files config (aim_of purpose.entry) (Some script.now))
-        (world (S.counts shelf.old) (K.written sink.old) (K.faults sink.old))
-        (world (S.counts shelf.new) (K.written sink.new) (K.faults sink.new))
-        (status_of_run result) }
-    ensures cause { ScriptCause (world (S.counts shelf.old) (K.written sink.old)
-        (K.faults sink.old)) (world (S.counts shelf.new) (K.written sink.new) (K.faults sink.new))
-        (status_of_run result) }
-    ensures never_fall { NeverFall (world (S.counts shelf.old) (K.written sink.old)
-        (K.faults sink.old)) (world (S.counts shelf.new) (K.written sink.new) (K.faults sink.new)) }
+        (world (S.counts shelf.old) (K.taken sink.old))
+        (world (S.counts shelf.new) (K.taken sink.new)) (status_of_run result) }
+    ensures cause { ScriptCause (world (S.counts shelf.old) (K.taken sink.old))
+        (world (S.counts shelf.new) (K.taken sink.new)) (status_of_run result) }
+    ensures never_fall { NeverFall (world (S.counts shelf.old) (K.taken sink.old))
+        (world (S.counts shelf.new) (K.taken sink.new)) }
     ensures opens { (files : Files) → S.files shelf.old ≡ Some files → WhereTaken
         (status_of_run result) (OpensText files config (aim_of purpose.entry)
         reads.old reads.new (Some script.now)) }
@@ -218,14 +208,12 @@ fn run_script_file<L, S: Shelf, K: Sink>(
 ) -> Result<Ended, Stopped>
     ensures told { (files : Files) → S.files shelf.old ≡ Some files
         → RunsAs (IsAimOutcome files config (aim_of purpose.entry)
-        (limited 4194304 (files name.now))) (world (S.counts shelf.old) (K.written sink.old)
-        (K.faults sink.old)) (world (S.counts shelf.new) (K.written sink.new) (K.faults sink.new))
-        (status_of_run result) }
-    ensures cause { ScriptCause (world (S.counts shelf.old) (K.written sink.old)
-        (K.faults sink.old)) (world (S.counts shelf.new) (K.written sink.new) (K.faults sink.new))
-        (status_of_run result) }
-    ensures never_fall { NeverFall (world (S.counts shelf.old) (K.written sink.old)
-        (K.faults sink.old)) (world (S.counts shelf.new) (K.written sink.new) (K.faults sink.new)) }
+        (limited 4194304 (files name.now))) (world (S.counts shelf.old) (K.taken sink.old))
+        (world (S.counts shelf.new) (K.taken sink.new)) (status_of_run result) }
+    ensures cause { ScriptCause (world (S.counts shelf.old) (K.taken sink.old))
+        (world (S.counts shelf.new) (K.taken sink.new)) (status_of_run result) }
+    ensures never_fall { NeverFall (world (S.counts shelf.old) (K.taken sink.old))
+        (world (S.counts shelf.new) (K.taken sink.new)) }
     ensures opens { (files : Files) → S.files shelf.old ≡ Some files
         → WhereTaken (status_of_run result) (OpensText files config (aim_of purpose.entry)
         reads.old reads.new (limited 4194304 (files name.now))) }
@@ -258,14 +246,12 @@ fn run_config<L, S: Shelf, K: Sink>(
 ) -> Result<Ended, Stopped>
     ensures told { (files : Files) → S.files shelf.old ≡ Some files
         → RunsAs (IsConfigOutcome files (aim_of purpose.entry) script.now (config_of bytes.now))
-        (world (S.counts shelf.old) (K.written sink.old) (K.faults sink.old))
-        (world (S.counts shelf.new) (K.written sink.new) (K.faults sink.new))
-        (status_of_run result) }
-    ensures cause { ScriptCause (world (S.counts shelf.old) (K.written sink.old)
-        (K.faults sink.old)) (world (S.counts shelf.new) (K.written sink.new) (K.faults sink.new))
-        (status_of_run result) }
-    ensures never_fall { NeverFall (world (S.counts shelf.old) (K.written sink.old)
-        (K.faults sink.old)) (world (S.counts shelf.new) (K.written sink.new) (K.faults sink.new)) }
+        (world (S.counts shelf.old) (K.taken sink.old))
+        (world (S.counts shelf.new) (K.taken sink.new)) (status_of_run result) }
+    ensures cause { ScriptCause (world (S.counts shelf.old) (K.taken sink.old))
+        (world (S.counts shelf.new) (K.taken sink.new)) (status_of_run result) }
+    ensures never_fall { NeverFall (world (S.counts shelf.old) (K.taken sink.old))
+        (world (S.counts shelf.new) (K.taken sink.new)) }
     ensures opens { (files : Files) → S.files shelf.old ≡ Some files
         → WhereTaken (status_of_run result) (OpensConfig files (aim_of purpose.entry)
         script.now reads.old reads.new (config_of bytes.now)) }
@@ -295,14 +281,12 @@ fn run_files<L, S: Shelf, K: Sink>(
 ) -> Result<Ended, Stopped>
     ensures told { (files : Files) → S.files shelf.old ≡ Some files
         → RunsAs (IsFileOutcome files (aim_of purpose.entry) script.now
-        (limited 1048576 (files config.now))) (world (S.counts shelf.old) (K.written sink.old)
-        (K.faults sink.old)) (world (S.counts shelf.new) (K.written sink.new) (K.faults sink.new))
-        (status_of_run result) }
-    ensures cause { ScriptCause (world (S.counts shelf.old) (K.written sink.old)
-        (K.faults sink.old)) (world (S.counts shelf.new) (K.written sink.new) (K.faults sink.new))
-        (status_of_run result) }
-    ensures never_fall { NeverFall (world (S.counts shelf.old) (K.written sink.old)
-        (K.faults sink.old)) (world (S.counts shelf.new) (K.written sink.new) (K.faults sink.new)) }
+        (limited 1048576 (files config.now))) (world (S.counts shelf.old) (K.taken sink.old))
+        (world (S.counts shelf.new) (K.taken sink.new)) (status_of_run result) }
+    ensures cause { ScriptCause (world (S.counts shelf.old) (K.taken sink.old))
+        (world (S.counts shelf.new) (K.taken sink.new)) (status_of_run result) }
+    ensures never_fall { NeverFall (world (S.counts shelf.old) (K.taken sink.old))
+        (world (S.counts shelf.new) (K.taken sink.new)) }
     ensures opens { (files : Files) → S.files shelf.old ≡ Some files
         → WhereTaken (status_of_run result) (OpensFile files (aim_of purpose.entry)
         script.now reads.old reads.new (limited 1048576 (files config.now))) }
@@ -326,11 +310,11 @@ fn run_demo<L, K: Sink>(
 ) -> Result<Ended, Stopped>
     requires some { 1 ≤ hours }
     requires few { hours ≤ 168 }
-    ensures told { (k : Counts) → RunsAs (IsDemoOutcome hours)
-        (world k (K.written sink.old) (K.faults sink.old))
-        (world k (K.written sink.new) (K.faults sink.new)) (status_of_run result) }
-    ensures cause { DemoCause (K.faults sink.old) (K.faults sink.new) (status_of_run result) }
-    ensures never_fall { K.faults sink.old ≤ K.faults sink.new }
+    ensures told { (k : Counts) → RunsAs (IsDemoOutcome hours) (world k (K.taken sink.old))
+        (world k (K.taken sink.new)) (status_of_run result) }
+    ensures cause { DemoCause (K.taken sink.old).faults (K.taken sink.new).faults
+        (status_of_run result) }
+    ensures never_fall { (K.taken sink.old).faults ≤ (K.taken sink.new).faults }
     ensures grow { Grow reads.old reads.new }
 {
     let mut shelf = match DemoShelf::new(alloc, hours) {
@@ -360,19 +344,16 @@ fn run_request<L, S: Shelf, K: Sink>(
     requires { IsReadable request }
     ensures told { (files : Files) → S.files shelf.old ≡ Some files
         → RunsAs (IsAnswer (Some (seen request.entry)) files)
-        (world (S.counts shelf.old) (K.written sink.old) (K.faults sink.old))
-        (world (S.counts shelf.new) (K.written sink.new) (K.faults sink.new))
-        (status_of_run result) }
+        (world (S.counts shelf.old) (K.taken sink.old))
+        (world (S.counts shelf.new) (K.taken sink.new)) (status_of_run result) }
     ensures cause { HasCause (Some (seen request.entry))
-        (world (S.counts shelf.old) (K.written sink.old) (K.faults sink.old))
-        (world (S.counts shelf.new) (K.written sink.new) (K.faults sink.new))
-        (status_of_run result) }
+        (world (S.counts shelf.old) (K.taken sink.old))
+        (world (S.counts shelf.new) (K.taken sink.new)) (status_of_run result) }
     ensures alone { LeavesShelf (Some (seen request.entry))
-        (world (S.counts shelf.old) (K.written sink.old) (K.faults sink.old))
-        (world (S.counts shelf.new) (K.written sink.new) (K.faults sink.new))
-        (status_of_run result) }
-    ensures never_fall { NeverFall (world (S.counts shelf.old) (K.written sink.old)
-        (K.faults sink.old)) (world (S.counts shelf.new) (K.written sink.new) (K.faults sink.new)) }
+        (world (S.counts shelf.old) (K.taken sink.old))
+        (world (S.counts shelf.new) (K.taken sink.new)) (status_of_run result) }
+    ensures never_fall { NeverFall (world (S.counts shelf.old) (K.taken sink.old))
+        (world (S.counts shelf.new) (K.taken sink.new)) }
     ensures opens { (files : Files) → S.files shelf.old ≡ Some files
         → WhereTaken (status_of_run result) (OpensAnswer files reads.old reads.new
         (Some (seen request.entry))) }
@@ -420,20 +401,17 @@ fn run_to_end<L, S: Shelf, K: Sink>(
     reads: &mut Reads<L>,
 ) -> Result<Ended, Stopped>
     ensures told { (files : Files) → S.files shelf.old ≡ Some files
-        → RunsAs (IsAnswer (asked_of words.now) files) (world (S.counts shelf.old)
-        (K.written sink.old) (K.faults sink.old)) (world (S.counts shelf.new) (K.written sink.new)
-        (K.faults sink.new)) (status_of_run result) }
-    ensures cause { HasCause (asked_of words.now) (world (S.counts shelf.old) (K.written sink.old)
-        (K.faults sink.old)) (world (S.counts shelf.new) (K.written sink.new) (K.faults sink.new))
-        (status_of_run result) }
-    ensures usage { NeedsWords (asked_of words.now) (world (S.counts shelf.old) (K.written sink.old)
-        (K.faults sink.old)) (world (S.counts shelf.new) (K.written sink.new) (K.faults sink.new))
-        (status_of_run result) }
-    ensures alone { LeavesShelf (asked_of words.now) (world (S.counts shelf.old)
-        (K.written sink.old) (K.faults sink.old)) (world (S.counts shelf.new) (K.written sink.new)
-        (K.faults sink.new)) (status_of_run result) }
-    ensures never_fall { NeverFall (world (S.counts shelf.old) (K.written sink.old)
-        (K.faults sink.old)) (world (S.counts shelf.new) (K.written sink.new) (K.faults sink.new)) }
+        → RunsAs (IsAnswer (asked_of words.now) files)
+        (world (S.counts shelf.old) (K.taken sink.old))
+        (world (S.counts shelf.new) (K.taken sink.new)) (status_of_run result) }
+    ensures cause { HasCause (asked_of words.now) (world (S.counts shelf.old) (K.taken sink.old))
+        (world (S.counts shelf.new) (K.taken sink.new)) (status_of_run result) }
+    ensures usage { NeedsWords (asked_of words.now) (world (S.counts shelf.old) (K.taken sink.old))
+        (world (S.counts shelf.new) (K.taken sink.new)) (status_of_run result) }
+    ensures alone { LeavesShelf (asked_of words.now) (world (S.counts shelf.old) (K.taken sink.old))
+        (world (S.counts shelf.new) (K.taken sink.new)) (status_of_run result) }
+    ensures never_fall { NeverFall (world (S.counts shelf.old) (K.taken sink.old))
+        (world (S.counts shelf.new) (K.taken sink.new)) }
     ensures opens { (files : Files) → S.files shelf.old ≡ Some files
         → WhereTaken (status_of_run result) (OpensAnswer files reads.old reads.new
         (asked_of words.now)) }
@@ -464,30 +442,25 @@ pub fn run<L, S: Shelf, K: Sink>(
     reads: &mut Reads<L>,
 ) -> Status
     ensures headline { IfSome (S.files shelf.old) (λ files. asks_pairs (asked_of words.now) ≡ false
-        → IsRun words.now files (world (S.counts shelf.old) (K.written sink.old)
-        (K.faults sink.old)) (world (S.counts shelf.new) (K.written sink.new) (K.faults sink.new))
-        result) }
+        → IsRun words.now files (world (S.counts shelf.old) (K.taken sink.old))
+        (world (S.counts shelf.new) (K.taken sink.new)) result) }
 
     // Words that ask for what a rule leaves undecided have more than one transcript.
     ensures pairs { IfSome (S.files shelf.old) (λ files. asks_pairs (asked_of words.now) ≡ true
-        → IsPairsRun words.now files (world (S.counts shelf.old) (K.written sink.old)
-        (K.faults sink.old)) (world (S.counts shelf.new) (K.written sink.new) (K.faults sink.new))
-        result) }
+        → IsPairsRun words.now files (world (S.counts shelf.old) (K.taken sink.old))
+        (world (S.counts shelf.new) (K.taken sink.new)) result) }
 
     // Each answer has its cause, whatever the shelf and the sink tell.
-    ensures cause { HasCause (asked_of words.now) (world (S.counts shelf.old) (K.written sink.old)
-        (K.faults sink.old)) (world (S.counts shelf.new) (K.written sink.new) (K.faults sink.new))
-        result }
-    ensures usage { NeedsWords (asked_of words.now) (world (S.counts shelf.old) (K.written sink.old)
-        (K.faults sink.old)) (world (S.counts shelf.new) (K.written sink.new) (K.faults sink.new))
-        result }
+    ensures cause { HasCause (asked_of words.now) (world (S.counts shelf.old) (K.taken sink.old))
+        (world (S.counts shelf.new) (K.taken sink.new)) result }
+    ensures usage { NeedsWords (asked_of words.now) (world (S.counts shelf.old) (K.taken sink.old))
+        (world (S.counts shelf.new) (K.taken sink.new)) result }
 
     // A demonstration is made of its own files, and stops at a fault of the sink alone.
-    ensures alone { LeavesShelf (asked_of words.now) (world (S.counts shelf.old)
-        (K.written sink.old) (K.faults sink.old)) (world (S.counts shelf.new) (K.written sink.new)
-        (K.faults sink.new)) result }
-    ensures never_fall { NeverFall (world (S.counts shelf.old) (K.written sink.old)
-        (K.faults sink.old)) (world (S.counts shelf.new) (K.written sink.new) (K.faults sink.new)) }
+    ensures alone { LeavesShelf (asked_of words.now) (world (S.counts shelf.old) (K.taken sink.old))
+        (world (S.counts shelf.new) (K.taken sink.new)) result }
+    ensures never_fall { NeverFall (world (S.counts shelf.old) (K.taken sink.old))
+        (world (S.counts shelf.new) (K.taken sink.new)) }
 
     // Where a script has edits, measures, bad and skipped lines alone and all are taken, each hour
     // is opened at least as often as it moves by accepted edits, and at most three times as often

@@ -1,18 +1,15 @@
 // A script, line by line.
-ghost use Rattle.std.specs.Prelude.{◌≡◌, ◌<◌, ◌≤◌, ◌^◌, Some, None, ◌∷◌, [], codes, decimal, length, option_map, OnOk};
+ghost use Rattle.std.specs.Prelude.{◌≡◌, ◌<◌, ◌≤◌, ◌^◌, Some, None, [], length, option_map, OnOk};
 ghost use Rattle.outside.specs.Shelf.{Files};
-ghost use Rattle.outside.specs.Sink.{Puts};
-ghost use Rattle.report_text.specs.Line.{line_of};
 ghost use Rattle.sig_base.specs.HourRows.{Shown};
 ghost use Rattle.hour_store.specs.Store.{Store};
-ghost use Rattle.sigaudit.specs.HourFile.{hour_said};
 ghost use Rattle.session.specs.Edits.{change_of};
 ghost use Rattle.sig_base.specs.Reads.{Grow};
 ghost use Rattle.script_lines.specs.Lines.{lines_of};
 ghost use Rattle.script_lines.specs.Words.{said};
 ghost use Rattle.script_lines.specs.Seen.{seen};
-ghost use Rattle.sigaudit.specs.Script.{edit_said, hour_head, window_head, is_edit_memory, hour_bytes, hour_change, hour_file, wanted_for, IsEdited, IsFetched, IsMeasured, IsMeasuredOf, IsRead, IsTurn};
-ghost use Rattle.sigaudit.specs.Counting.{AreCounted, ArePlain, EditTally, FetchTally, IsPlain, LineTally, ReadTally, ScriptTally};
+ghost use Rattle.sigaudit.specs.Script.{edit_said, is_edit_memory, hour_change, hour_file, load_bytes, IsEdited, IsMeasured, IsMeasuredOf, IsTurn, ReadsLoad, TakesLoad};
+ghost use Rattle.sigaudit.specs.Counting.{AreCounted, ArePlain, BytesTally, EditTally, IsPlain, LineTally, LoadTally, ScriptTally};
 ghost use Rattle.sigaudit.specs.Run.{world, CountsFetch, FetchesHour, NamesNoRow, IsCaused, NeverFall, Takes, TakesBy, TellsAll};
 
 use crate::audit::{audit_line, verdicts_line};
@@ -21,9 +18,8 @@ use crate::offsets::offsets_line;
 use crate::points::points_line;
 use crate::refused::{refuse, refuse_packed};
 use crate::status::Stopped;
-use itoa::Buffer;
-use outside::{FetchError, PutFailed, Shelf, Sink, put_parts};
-use report_text::{Refusal, put_applied, put_measures};
+use outside::{FetchError, Shelf, Sink};
+use report_text::{Refusal, put_applied, put_hour_measures, put_window_measures};
 use script_lines::{Line, read_line, split_line};
 use session::{Edit, Session};
 use sig_base::{EditError, Hour, HourRows, Reads};
@@ -35,6 +31,16 @@ enum Fetched {
     There,
     Missed(Refusal),
     Cut(Stopped),
+}
+
+// What a line says that loads an hour, or replaces it: the line's number, the hour, the name of its
+// file, and whether it replaces.
+#[derive(Clone, Copy)]
+struct LoadLine<'a> {
+    number: u32,
+    hour: Hour,
+    name: &'a str,
+    replaces: bool,
 }
 
 // The most bytes of an hour file.
@@ -56,8 +62,7 @@ fn edit_line<L, K: Sink>(
     reads: &mut Reads<L>,
 ) -> Result<bool, Stopped>
     ensures turn { TakesBy (IsEdited session.old.config number loaded session.old.store
-        (change_of edit)) (K.written sink.old) (K.written sink.new) (K.faults sink.old)
-        (K.faults sink.new) session.new.store result }
+        (change_of edit)) (K.taken sink.old) (K.taken sink.new) session.new.store result }
     ensures config { session.new.config ≡ session.old.config }
     ensures opens { OnOk result (AreCounted
         (EditTally session.old.config session.old.store (change_of edit)) reads.old reads.new) }
@@ -92,40 +97,29 @@ fn edit_of<L>(rows: HourRows<L>, replaces: bool) -> Edit<L>
 #[tactic(auto, using(crate::proofs::GrowFacts::grow_same))]
 fn bytes_line<L, K: Sink>(
     alloc: Global,
-    number: u32,
-    hour: Hour,
+    load: &LoadLine<'_>,
     bytes: &[u8],
-    replaces: bool,
     session: &mut Session<L>,
     sink: &mut K,
     reads: &mut Reads<L>,
 ) -> Result<bool, Stopped>
-    requires { hour < session.old.config.window.hours }
-    ensures turn { TakesBy (IsRead session.old.config number (hour_change replaces)
-        session.old.store (hour_said (wanted_for session.old.config hour) bytes.now))
-        (K.written sink.old) (K.written sink.new) (K.faults sink.old) (K.faults sink.new)
-        session.new.store result }
+    requires { load.now.hour < session.old.config.window.hours }
+    ensures turn { TakesBy (ReadsLoad session.old.config load.now session.old.store bytes.now)
+        (K.taken sink.old) (K.taken sink.new) session.new.store result }
     ensures config { session.new.config ≡ session.old.config }
-    ensures opens { OnOk result (AreCounted
-        (ReadTally session.old.config (hour_change replaces) session.old.store
-        (hour_said (wanted_for session.old.config hour) bytes.now)) reads.old reads.new) }
+    ensures opens { OnOk result (AreCounted (BytesTally session.old.config load.now
+        session.old.store bytes.now) reads.old reads.new) }
     ensures grow { Grow reads.old reads.new }
 {
     let config = session.config();
-    match read_hour::<L>(alloc, bytes, config.signal(), hour, config.window()) {
+    match read_hour::<L>(alloc, bytes, config.signal(), load.hour, config.window()) {
         Ok(rows) => {
             let loaded = Some((rows.len(), rows.repeats()));
-            edit_line(
-                number,
-                loaded,
-                edit_of(rows, replaces),
-                session,
-                sink,
-                reads,
-            )
+            let edit = edit_of(rows, load.replaces);
+            edit_line(load.number, loaded, edit, session, sink, reads)
         }
-        Err(Unread::Records(error)) => refuse(config, number, Refusal::File(error), sink),
-        Err(Unread::Packed(error)) => refuse_packed(config, number, error, sink),
+        Err(Unread::Records(error)) => refuse(config, load.number, Refusal::File(error), sink),
+        Err(Unread::Packed(error)) => refuse_packed(config, load.number, error, sink),
         Err(Unread::Memory) => Err(Stopped::Memory),
     }
 }
@@ -152,36 +146,32 @@ fn fetch_hour<S: Shelf>(alloc: Global, name: &str, shelf: &mut S, bytes: &mut Ve
 #[tactic(auto, using(crate::proofs::GrowFacts::grow_same))]
 fn fetch_line<L, S: Shelf, K: Sink>(
     alloc: Global,
-    number: u32,
-    hour: Hour,
-    name: &str,
-    replaces: bool,
+    load: &LoadLine<'_>,
     session: &mut Session<L>,
     shelf: &mut S,
     sink: &mut K,
     reads: &mut Reads<L>,
 ) -> Result<bool, Stopped>
-    requires { hour < session.old.config.window.hours }
+    requires { load.now.hour < session.old.config.window.hours }
     ensures turn { (files : Files) → S.files shelf.old ≡ Some files
-        → Takes (IsFetched session.old.config number hour (hour_change replaces) session.old.store
-        (hour_file (files name.now))) (world (S.counts shelf.old) (K.written sink.old)
-        (K.faults sink.old)) (world (S.counts shelf.new) (K.written sink.new) (K.faults sink.new))
-        session.new.store result }
-    ensures cause { IsCaused (world (S.counts shelf.old) (K.written sink.old) (K.faults sink.old))
-        (world (S.counts shelf.new) (K.written sink.new) (K.faults sink.new)) result }
-    ensures never_fall { NeverFall (world (S.counts shelf.old) (K.written sink.old)
-        (K.faults sink.old)) (world (S.counts shelf.new) (K.written sink.new) (K.faults sink.new)) }
+        → Takes (TakesLoad session.old.config load.now session.old.store
+        (hour_file (files load.now.name.now))) (world (S.counts shelf.old) (K.taken sink.old))
+        (world (S.counts shelf.new) (K.taken sink.new)) session.new.store result }
+    ensures cause { IsCaused (world (S.counts shelf.old) (K.taken sink.old))
+        (world (S.counts shelf.new) (K.taken sink.new)) result }
+    ensures never_fall { NeverFall (world (S.counts shelf.old) (K.taken sink.old))
+        (world (S.counts shelf.new) (K.taken sink.new)) }
     ensures files { S.files shelf.new ≡ S.files shelf.old }
     ensures config { session.new.config ≡ session.old.config }
-    ensures opens { (files : Files) → S.files shelf.old ≡ Some files → OnOk result (AreCounted
-        (FetchTally session.old.config hour (hour_change replaces) session.old.store
-        (hour_file (files name.now))) reads.old reads.new) }
+    ensures opens { (files : Files) → S.files shelf.old ≡ Some files
+        → OnOk result (AreCounted (LoadTally session.old.config load.now session.old.store
+        (hour_file (files load.now.name.now))) reads.old reads.new) }
     ensures grow { Grow reads.old reads.new }
 {
     let mut bytes = Vec::new(alloc);
-    match fetch_hour(alloc, name, shelf, &mut bytes) {
-        Fetched::There => bytes_line(alloc, number, hour, &bytes, replaces, session, sink, reads),
-        Fetched::Missed(refusal) => refuse(session.config(), number, refusal, sink),
+    match fetch_hour(alloc, load.name, shelf, &mut bytes) {
+        Fetched::There => bytes_line(alloc, load, &bytes, session, sink, reads),
+        Fetched::Missed(refusal) => refuse(session.config(), load.number, refusal, sink),
         Fetched::Cut(stopped) => Err(stopped),
     }
 }
@@ -190,68 +180,37 @@ fn fetch_line<L, S: Shelf, K: Sink>(
 #[tactic(auto, using(crate::proofs::GrowFacts::grow_same))]
 fn file_line<L, S: Shelf, K: Sink>(
     alloc: Global,
-    number: u32,
-    hour: Hour,
-    name: &str,
-    replaces: bool,
+    load: &LoadLine<'_>,
     session: &mut Session<L>,
     shelf: &mut S,
     sink: &mut K,
     reads: &mut Reads<L>,
 ) -> Result<bool, Stopped>
     ensures turn { (files : Files) → S.files shelf.old ≡ Some files
-        → Takes (IsFetched session.old.config number hour (hour_change replaces) session.old.store
-        (hour_bytes files session.old.config hour name.now))
-        (world (S.counts shelf.old) (K.written sink.old) (K.faults sink.old))
-        (world (S.counts shelf.new) (K.written sink.new) (K.faults sink.new)) session.new.store
-        result }
-    ensures cause { IsCaused (world (S.counts shelf.old) (K.written sink.old) (K.faults sink.old))
-        (world (S.counts shelf.new) (K.written sink.new) (K.faults sink.new)) result }
-    ensures never_fall { NeverFall (world (S.counts shelf.old) (K.written sink.old)
-        (K.faults sink.old)) (world (S.counts shelf.new) (K.written sink.new) (K.faults sink.new)) }
+        → Takes (TakesLoad session.old.config load.now session.old.store
+        (load_bytes files session.old.config load.now))
+        (world (S.counts shelf.old) (K.taken sink.old))
+        (world (S.counts shelf.new) (K.taken sink.new)) session.new.store result }
+    ensures cause { IsCaused (world (S.counts shelf.old) (K.taken sink.old))
+        (world (S.counts shelf.new) (K.taken sink.new)) result }
+    ensures never_fall { NeverFall (world (S.counts shelf.old) (K.taken sink.old))
+        (world (S.counts shelf.new) (K.taken sink.new)) }
     ensures files { S.files shelf.new ≡ S.files shelf.old }
     ensures config { session.new.config ≡ session.old.config }
-    ensures opens { (files : Files) → S.files shelf.old ≡ Some files → OnOk result (AreCounted
-        (FetchTally session.old.config hour (hour_change replaces) session.old.store
-        (hour_bytes files session.old.config hour name.now)) reads.old reads.new) }
+    ensures opens { (files : Files) → S.files shelf.old ≡ Some files
+        → OnOk result (AreCounted (LoadTally session.old.config load.now session.old.store
+        (load_bytes files session.old.config load.now)) reads.old reads.new) }
     ensures grow { Grow reads.old reads.new }
 {
-    if hour >= session.config().window().hours() {
+    if load.hour >= session.config().window().hours() {
         return refuse(
             session.config(),
-            number,
+            load.number,
             Refusal::Edit(EditError::OutOfWindow),
             sink,
         );
     }
-    fetch_line(
-        alloc, number, hour, name, replaces, session, shelf, sink, reads,
-    )
-}
-
-fn put_head<K: Sink>(number: u32, sink: &mut K) -> Result<(), PutFailed>
-    ensures { Puts (K.written sink.old) (K.written sink.new) (K.faults sink.old) (K.faults sink.new)
-        (window_head number) result }
-{
-    let mut line = Buffer::new();
-    put_parts(sink, &[line.format(number).as_bytes(), b" measures", b"\n"])
-}
-
-fn put_hour_head<K: Sink>(number: u32, hour: Hour, sink: &mut K) -> Result<(), PutFailed>
-    ensures { Puts (K.written sink.old) (K.written sink.new) (K.faults sink.old) (K.faults sink.new)
-        (hour_head number hour) result }
-{
-    let mut line = Buffer::new();
-    let mut of = Buffer::new();
-    put_parts(
-        sink,
-        &[
-            line.format(number).as_bytes(),
-            b" measures ",
-            of.format(hour).as_bytes(),
-            b"\n",
-        ],
-    )
+    fetch_line(alloc, load, session, shelf, sink, reads)
 }
 
 // Writes the measures of the window.
@@ -260,18 +219,12 @@ fn measures_line<L, K: Sink>(
     session: &Session<L>,
     sink: &mut K,
 ) -> Result<bool, Stopped>
-    ensures { TakesBy (IsMeasured session.now.config number session.now.store) (K.written sink.old)
-        (K.written sink.new) (K.faults sink.old) (K.faults sink.new) session.now.store result }
+    ensures { TakesBy (IsMeasured session.now.config number session.now.store) (K.taken sink.old)
+        (K.taken sink.new) session.now.store result }
 {
     let total = session.report().total();
-    match put_head(number, sink) {
-        Ok(()) => {}
-        Err(_) => return Err(Stopped::Fault),
-    }
-    match put_measures(session.config(), total, sink) {
-        Ok(()) => Ok(false),
-        Err(_) => Err(Stopped::Fault),
-    }
+    put_window_measures(number, session.config(), total, sink)?;
+    Ok(false)
 }
 
 // Writes the measures of one hour.
@@ -282,21 +235,14 @@ fn hour_line<L, K: Sink>(
     sink: &mut K,
 ) -> Result<bool, Stopped>
     ensures { TakesBy (IsMeasuredOf session.now.config number hour session.now.store)
-        (K.written sink.old) (K.written sink.new) (K.faults sink.old) (K.faults sink.new)
-        session.now.store result }
+        (K.taken sink.old) (K.taken sink.new) session.now.store result }
 {
     let config = session.config();
     let Some(part) = session.report().hour(hour) else {
         return refuse(config, number, Refusal::Edit(EditError::OutOfWindow), sink);
     };
-    match put_hour_head(number, hour, sink) {
-        Ok(()) => {}
-        Err(_) => return Err(Stopped::Fault),
-    }
-    match put_measures(config, part, sink) {
-        Ok(()) => Ok(false),
-        Err(_) => Err(Stopped::Fault),
-    }
+    put_hour_measures(number, hour, config, part, sink)?;
+    Ok(false)
 }
 
 // The edit of a line that needs no file.
@@ -324,13 +270,12 @@ fn take_said<L, S: Shelf, K: Sink>(
 ) -> Result<bool, Stopped>
     ensures turn { (files : Files) → S.files shelf.old ≡ Some files
         → Takes (IsTurn files session.old.config number (seen line.entry) session.old.store)
-        (world (S.counts shelf.old) (K.written sink.old) (K.faults sink.old))
-        (world (S.counts shelf.new) (K.written sink.new) (K.faults sink.new)) session.new.store
-        result }
-    ensures cause { IsCaused (world (S.counts shelf.old) (K.written sink.old) (K.faults sink.old))
-        (world (S.counts shelf.new) (K.written sink.new) (K.faults sink.new)) result }
-    ensures never_fall { NeverFall (world (S.counts shelf.old) (K.written sink.old)
-        (K.faults sink.old)) (world (S.counts shelf.new) (K.written sink.new) (K.faults sink.new)) }
+        (world (S.counts shelf.old) (K.taken sink.old))
+        (world (S.counts shelf.new) (K.taken sink.new)) session.new.store result }
+    ensures cause { IsCaused (world (S.counts shelf.old) (K.taken sink.old))
+        (world (S.counts shelf.new) (K.taken sink.new)) result }
+    ensures never_fall { NeverFall (world (S.counts shelf.old) (K.taken sink.old))
+        (world (S.counts shelf.new) (K.taken sink.new)) }
     ensures files { S.files shelf.new ≡ S.files shelf.old }
     ensures config { session.new.config ≡ session.old.config }
     ensures opens { (files : Files) → S.files shelf.old ≡ Some files → IsPlain (seen line.entry)
@@ -345,12 +290,22 @@ fn take_said<L, S: Shelf, K: Sink>(
         Line::Skip => Ok(false),
         Line::Bad => refuse(session.config(), number, Refusal::BadLine, sink),
         Line::Load(hour, name) => {
-            file_line(
-                alloc, number, hour, name, false, session, shelf, sink, reads,
-            )
+            let load = LoadLine {
+                number,
+                hour,
+                name,
+                replaces: false,
+            };
+            file_line(alloc, &load, session, shelf, sink, reads)
         }
         Line::Replace(hour, name) => {
-            file_line(alloc, number, hour, name, true, session, shelf, sink, reads)
+            let load = LoadLine {
+                number,
+                hour,
+                name,
+                replaces: true,
+            };
+            file_line(alloc, &load, session, shelf, sink, reads)
         }
         Line::Audit => audit_line(alloc, number, session, sink, reads),
         Line::Verdicts(hour) => verdicts_line(number, hour, session, sink, reads),
@@ -376,13 +331,12 @@ fn take_line<L, S: Shelf, K: Sink>(
 ) -> Result<bool, Stopped>
     ensures turn { (files : Files) → S.files shelf.old ≡ Some files
         → Takes (IsTurn files session.old.config number (said session.old.config.window line.now)
-        session.old.store) (world (S.counts shelf.old) (K.written sink.old) (K.faults sink.old))
-        (world (S.counts shelf.new) (K.written sink.new) (K.faults sink.new)) session.new.store
-        result }
-    ensures cause { IsCaused (world (S.counts shelf.old) (K.written sink.old) (K.faults sink.old))
-        (world (S.counts shelf.new) (K.written sink.new) (K.faults sink.new)) result }
-    ensures never_fall { NeverFall (world (S.counts shelf.old) (K.written sink.old)
-        (K.faults sink.old)) (world (S.counts shelf.new) (K.written sink.new) (K.faults sink.new)) }
+        session.old.store) (world (S.counts shelf.old) (K.taken sink.old))
+        (world (S.counts shelf.new) (K.taken sink.new)) session.new.store result }
+    ensures cause { IsCaused (world (S.counts shelf.old) (K.taken sink.old))
+        (world (S.counts shelf.new) (K.taken sink.new)) result }
+    ensures never_fall { NeverFall (world (S.counts shelf.old) (K.taken sink.old))
+        (world (S.counts shelf.new) (K.taken sink.new)) }
     ensures files { S.files shelf.new ≡ S.files shelf.old }
     ensures config { session.new.config ≡ session.old.config }
     ensures opens { (files : Files) → S.files shelf.old ≡ Some files
@@ -409,12 +363,12 @@ pub fn run_script<L, S: Shelf, K: Sink>(
     requires { length script.now < 2 ^ 32 }
     ensures transcript { (files : Files) → S.files shelf.old ≡ Some files
         → TellsAll files session.old.config (lines_of script.now) session.old.store
-        session.new.store (world (S.counts shelf.old) (K.written sink.old) (K.faults sink.old))
-        (world (S.counts shelf.new) (K.written sink.new) (K.faults sink.new)) result }
-    ensures cause { IsCaused (world (S.counts shelf.old) (K.written sink.old) (K.faults sink.old))
-        (world (S.counts shelf.new) (K.written sink.new) (K.faults sink.new)) result }
-    ensures never_fall { NeverFall (world (S.counts shelf.old) (K.written sink.old)
-        (K.faults sink.old)) (world (S.counts shelf.new) (K.written sink.new) (K.faults sink.new)) }
+        session.new.store (world (S.counts shelf.old) (K.taken sink.old))
+        (world (S.counts shelf.new) (K.taken sink.new)) result }
+    ensures cause { IsCaused (world (S.counts shelf.old) (K.taken sink.old))
+        (world (S.counts shelf.new) (K.taken sink.new)) result }
+    ensures never_fall { NeverFall (world (S.counts shelf.old) (K.taken sink.old))
+        (world (S.counts shelf.new) (K.taken sink.new)) }
     ensures opens { (files : Files) → S.files shelf.old ≡ Some files
         → ArePlain session.old.config.window (lines_of script.now)
         → OnOk result (AreCounted (ScriptTally files session.old.config (lines_of script.now)

@@ -1,6 +1,10 @@
 // How a run ends.
 ghost use Rattle.std.specs.Prelude.{◌≡◌};
 ghost use Rattle.sigaudit.specs.Status.{exit_status, status_of_ended, status_of_run};
+ghost use Rattle.sigaudit.specs.declared.status.Stopped.TheVariants.{Fault, Memory};
+
+use outside::PutFailed;
+use sig_base::NoMemory;
 
 /// The answer of a run.
 #[derive(Clone, Copy, Debug, PartialEq, Eq)]
@@ -36,6 +40,22 @@ pub enum Ended {
 pub enum Stopped {
     Fault,
     Memory,
+}
+
+impl From<PutFailed> for Stopped {
+    ghost from_gives = { λ _ e. e ≡ Fault };
+
+    fn from(_: PutFailed) -> Self {
+        Stopped::Fault
+    }
+}
+
+impl From<NoMemory> for Stopped {
+    ghost from_gives = { λ _ e. e ≡ Memory };
+
+    fn from(_: NoMemory) -> Self {
+        Stopped::Memory
+    }
 }
 
 /// The answer of a run that ended or was cut off.

@@ -1,5 +1,5 @@
-use Rattle.std.proofs.Common.{◌++◌, ◌*◌, ◌-◌, ◌∷◌, [], ℕ, List, codes, refl}
-use Rattle.outside.proofs.PutsFacts.{puts-then, stops-front, stops-in}
+use Rattle.std.proofs.Common.{◌++◌, ◌*◌, ◌-◌, ◌∷◌, [], ℕ, List, codes}
+use Rattle.outside.proofs.PutsFacts.{front-stopped, middle-stopped, puts-then}
 use Rattle.arrival_measures.specs.declared.sums.ArrivalSum.{ArrivalSum}
 use Rattle.report_text.specs.Approaches.{arrival_shares, fraction}
 use Rattle.report_text.proofs.approaches.put_shares.Goals as goal
@@ -10,20 +10,17 @@ share s = codes " share " ++ fraction s.green (s.arrivals - s.unseen)
 abbrev platoon : ArrivalSum → List ℕ
 platoon s = codes " platoon " ++ fraction (s.cycle_green * s.cycle_tenths) (s.cycle_arrivals * s.green_tenths)
 
-pub returns-in-Err : goal.returns-in-Err
-returns-in-Err g c =
+pub returns-in_err-put_share : goal.returns-in_err-put_share
+returns-in_err-put_share g c =
     let s = c.args.sums.now in
-    stops-front _ _ _ _ (share s) (platoon s ++ 10 ∷ []) c.in-Err.ensures
+    front-stopped _ _ (share s) (platoon s ++ 10 ∷ []) _ c.from_residual.ensures.0 c.in_err-put_share.ensures
 
-pub returns-in-Err-put_platoon : goal.returns-in-Err-put_platoon
-returns-in-Err-put_platoon g c =
+pub returns-in_err-put_platoon : goal.returns-in_err-put_platoon
+returns-in_err-put_platoon g c =
     let s = c.args.sums.now in
-    stops-in _ _ _ _ _ _ (arrival_shares s) (share s) (platoon s) (10 ∷ []) c.in-Ok.ensures.0 c.in-Ok.ensures.1 refl c.in-Err-put_platoon.ensures
+    middle-stopped _ _ _ (share s) (platoon s) (10 ∷ []) _ c.from_residual-in_err-put_platoon.ensures.0 c.in_ok-put_share.ensures c.in_err-put_platoon.ensures
 
 pub returns : goal.returns
 returns g c =
     let s = c.args.sums.now in
-    puts-then _ _ _ _ _ _ (share s) (platoon s ++ 10 ∷ []) c.put.result
-    c.in-Ok.ensures.0
-    c.in-Ok.ensures.1
-    (puts-then _ _ _ _ _ _ (platoon s) (10 ∷ []) c.put.result c.in-Ok-put_platoon.ensures.0 c.in-Ok-put_platoon.ensures.1 c.put.ensures)
+    puts-then _ _ _ (share s) (platoon s ++ 10 ∷ []) c.put.result c.in_ok-put_share.ensures (puts-then _ _ _ (platoon s) (10 ∷ []) c.put.result c.in_ok-put_platoon.ensures c.put.ensures)

@@ -6,5 +6,5 @@ use Rattle.report_text.proofs.audit.put_audit_counts.Given as goal
 -- the lines of the rules so far were written
 abbrev pub invariant-loop-i : goal.invariant-loop-i
 invariant-loop-i g l =
-    Going (g.K.Sink.written l.fn.sink) (g.K.Sink.written l.sink) (g.K.Sink.faults l.fn.sink) (g.K.Sink.faults l.sink)
+    Going (g.K.Sink.taken l.fn.sink) (g.K.Sink.taken l.sink)
     (counts_text l.config.specs l.rules l.part.rules) (counts_from l.config.specs l.part.rules l.i (drop l.i l.rules))

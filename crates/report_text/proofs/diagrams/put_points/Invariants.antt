@@ -6,5 +6,5 @@ use Rattle.report_text.proofs.diagrams.put_points.Given as goal
 -- the lines of the points so far were written
 abbrev pub invariant-loop-point : goal.invariant-loop-point
 invariant-loop-point g l =
-    Going (g.K.Sink.written l.fn.sink) (g.K.Sink.written l.sink) (g.K.Sink.faults l.fn.sink) (g.K.Sink.faults l.sink)
+    Going (g.K.Sink.taken l.fn.sink) (g.K.Sink.taken l.sink)
     (flat_map (point_line l.config) l.points) (flat_map (point_line l.config) (drop l.point-index l.points))

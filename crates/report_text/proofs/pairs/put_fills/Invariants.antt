@@ -6,5 +6,5 @@ use Rattle.report_text.proofs.pairs.put_fills.Given as goal
 -- the lines of the fills so far were written
 abbrev pub invariant-loop-fill : goal.invariant-loop-fill
 invariant-loop-fill g l =
-    Going (g.K.Sink.written l.fn.sink) (g.K.Sink.written l.sink) (g.K.Sink.faults l.fn.sink) (g.K.Sink.faults l.sink)
+    Going (g.K.Sink.taken l.fn.sink) (g.K.Sink.taken l.sink)
     (flat_map (fill_line l.window) l.fills) (flat_map (fill_line l.window) (drop l.fill-index l.fills))

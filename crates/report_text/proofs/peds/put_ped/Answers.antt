@@ -1,9 +1,9 @@
-use Rattle.outside.proofs.PutsFacts.{puts-then, stops-front}
+use Rattle.outside.proofs.PutsFacts.{front-stopped, puts-then}
 use Rattle.report_text.specs.Measures.{ped_delays, ped_states}
 use Rattle.report_text.proofs.peds.put_ped.Goals as goal
 
-pub returns-in-Err : goal.returns-in-Err
-returns-in-Err g c = stops-front _ _ _ _ (ped_delays c.args.number c.args.sums.now) (ped_states c.args.sums.now) c.in-Err.ensures
+pub returns-in_err-put_delays : goal.returns-in_err-put_delays
+returns-in_err-put_delays g c = front-stopped _ _ (ped_delays c.args.number c.args.sums.now) (ped_states c.args.sums.now) _ c.from_residual.ensures.0 c.in_err-put_delays.ensures
 
 pub returns : goal.returns
-returns g c = puts-then _ _ _ _ _ _ (ped_delays c.args.number c.args.sums.now) (ped_states c.args.sums.now) c.put_states.result c.in-Ok.ensures.0 c.in-Ok.ensures.1 c.put_states.ensures
+returns g c = puts-then _ _ _ (ped_delays c.args.number c.args.sums.now) (ped_states c.args.sums.now) c.put_states.result c.in_ok-put_delays.ensures c.put_states.ensures

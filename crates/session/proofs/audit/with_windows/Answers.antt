@@ -6,7 +6,7 @@ use Rattle.signal_log.specs.Log.{log_of}
 use Rattle.signal_log.specs.Points.{ArePastsAt}
 use Rattle.session.specs.HourLines.{AreWindowed, IsLineIn}
 use Rattle.session.proofs.GrowLaws.{grow_on, grow_same}
-use Rattle.session.proofs.WindowLaws.{grow_of, no_line}
+use Rattle.session.proofs.WindowLaws.{no_line}
 use Rattle.session.proofs.audit.with_windows.Goals as goal
 
 pub new-requires-clause-within : goal.new-requires-clause-within
@@ -42,10 +42,10 @@ returns-in-None g c = record {
 }
 
 pub returns-in_err-moves-in-Some-clause-grow : goal.returns-in_err-moves-in-Some-clause-grow
-returns-in_err-moves-in-Some-clause-grow g c = grow_of _ _ c.new.ensures.grow
+returns-in_err-moves-in-Some-clause-grow g c = c.new.ensures.grow
 
 pub returns-in_ok-moves-in-Some-clause-grow : goal.returns-in_ok-moves-in-Some-clause-grow
-returns-in_ok-moves-in-Some-clause-grow g c = grow_on _ _ _ (grow_of _ _ c.new.ensures.grow) c.windowed.ensures.grow
+returns-in_ok-moves-in-Some-clause-grow g c = grow_on _ _ _ c.new.ensures.grow c.windowed.ensures.grow
 
 pub returns-in_ok-moves-in-Some-clause-windows : goal.returns-in_ok-moves-in-Some-clause-windows
 returns-in_ok-moves-in-Some-clause-windows g c = IfOk-weaker c.windowed.result _ _ (λ v h. h c.args.before.now) c.windowed.ensures.windows

@@ -4,7 +4,7 @@ use Rattle.rule_audit.specs.Rules.{rules_for}
 use Rattle.filling_pair.specs.Asks.{IsPair}
 use Rattle.session.specs.Pairs.{ArePairsOf, is_open_at}
 use Rattle.session.proofs.GrowLaws.{grow_on}
-use Rattle.session.proofs.PairLaws.{grow_of_pair, open_more, pairs_more, says_undecided}
+use Rattle.session.proofs.PairLaws.{open_more, pairs_more, says_undecided}
 use Rattle.session.proofs.WindowLaws.{no_line}
 use Rattle.session.proofs.pairs.pairs_of.Goals as goal
 
@@ -18,10 +18,10 @@ find_pair-requires-clause-undecided g c =
     rw c.requires.rules ((c.requires.lines.1 c.loop-line.line-index no_line c.loop-line-test.true).undecided (says_undecided c.args.asked.rule c.args.asked.at line said))
 
 pub returns-in_err-pair-clause-grow : goal.returns-in_err-pair-clause-grow
-returns-in_err-pair-clause-grow g c = grow_on _ _ _ c.loop-line.invariant.grow (grow_of_pair _ _ c.in_err-pair.ensures.grow)
+returns-in_err-pair-clause-grow g c = grow_on _ _ _ c.loop-line.invariant.grow c.in_err-pair.ensures.grow
 
 pub returns-in_err-push-clause-grow : goal.returns-in_err-push-clause-grow
-returns-in_err-push-clause-grow g c = grow_on _ _ _ c.loop-line.invariant.grow (grow_of_pair _ _ c.in_ok-pair.ensures.grow)
+returns-in_err-push-clause-grow g c = grow_on _ _ _ c.loop-line.invariant.grow c.in_ok-pair.ensures.grow
 
 pub loop-line-preserved : goal.loop-line-preserved
 loop-line-preserved g c =
@@ -37,5 +37,5 @@ loop-line-preserved g c =
     let pairs : ArePairsOf cfg s (filter p (take i lines) ++ line ∷ []) (c.loop-line.pairs ++ c.in_ok-pair.pair ∷ []) = pairs_more cfg s (filter p (take i lines)) c.loop-line.pairs line c.in_ok-pair.pair c.loop-line.invariant.pairs made in
     record {
       pairs = rw (more, c.in_ok-push.ensures.ok) pairs;
-      grow = grow_on _ _ _ c.loop-line.invariant.grow (grow_of_pair _ _ c.in_ok-pair.ensures.grow);
+      grow = grow_on _ _ _ c.loop-line.invariant.grow c.in_ok-pair.ensures.grow;
     }

@@ -1,6 +1,6 @@
 use Rattle.std.proofs.Common.{sym, refl, append-nil}
 use Rattle.sigaudit.specs.Audit.{failing_at}
-use Rattle.sigaudit.proofs.AuditFacts.{no_line}
+use Rattle.report_text.proofs.VerdictLines.{no_line}
 use Rattle.sigaudit.proofs.OffsetFacts.{flat_end, flat_next}
 use Rattle.sigaudit.proofs.audit.add_lines.Goals as goal
 

@@ -1,28 +1,23 @@
 use Rattle.sigaudit.specs.Audit.{IsAudited}
+use Rattle.sigaudit.proofs.AuditFacts.{audit_cut, audit_done, failing_in}
+use Rattle.sigaudit.proofs.StopFacts.{fault_at, memory_at}
 use Rattle.sigaudit.proofs.TakeFacts.{by_nothing}
-use Rattle.sigaudit.proofs.AuditFacts.{audit_cut, audit_done, audit_stop, failing_in}
 use Rattle.sigaudit.proofs.audit.audit_line.Goals as goal
 
-pub returns-in-Err-clause-turn : goal.returns-in-Err-clause-turn
-returns-in-Err-clause-turn g c = by_nothing (IsAudited c.args.session.now.config c.args.number c.args.session.now.store) (g.K.Sink.written c.args.sink.now) (g.K.Sink.faults c.args.sink.now) c.args.session.now.store
+pub returns-in_err-failing-clause-turn : goal.returns-in_err-failing-clause-turn
+returns-in_err-failing-clause-turn g c = rw (memory_at c.from_residual.result c.from_residual.ensures.1) (by_nothing (IsAudited c.args.session.now.config c.args.number c.args.session.now.store) (g.K.Sink.taken c.args.sink.now) c.args.session.now.store)
 
-pub put_lines-requires : goal.put_lines-requires
-put_lines-requires g c =
-    failing_in c.args.session.now.config c.config-2.result.now c.args.session.now.store c.in-Ok.failing.items c.deref.result.now c.config-2.ensures.value c.config-2.ensures.hours c.in-Ok.ensures.lines c.deref.ensures.value
+pub put_audit-requires : goal.put_audit-requires
+put_audit-requires g c =
+    failing_in c.args.session.now.config c.config.result.now c.args.session.now.store c.in_ok-failing.failing.items c.deref.result.now c.config.ensures.value c.config.ensures.hours c.in_ok-failing.ensures.lines c.deref.ensures.value
 
-pub returns-in-Err-put_start-clause-turn : goal.returns-in-Err-put_start-clause-turn
-returns-in-Err-put_start-clause-turn g c =
-    audit_cut c.args.session.now.config c.config.result.now c.args.number c.args.session.now.store c.report.result.now c.rules.result.now c.total-total.result.now c.in-Ok.failing.items _ _ _ _ c.config.ensures.value c.rules.ensures c.total-total.ensures
-    (c.report.ensures.history, c.report.ensures.report) c.in-Ok.ensures.lines c.in-Err-put_start.ensures
-
-pub returns-in-Ok-put_lines-clause-turn : goal.returns-in-Ok-put_lines-clause-turn
-returns-in-Ok-put_lines-clause-turn g c =
-    audit_done c.args.session.now.config c.config.result.now c.config-2.result.now c.args.number c.args.session.now.store c.report.result.now c.rules.result.now c.total-total.result.now c.in-Ok.failing.items c.deref.result.now _ _ _ _ _ _
-    c.config.ensures.value c.config-2.ensures.value c.rules.ensures c.total-total.ensures (c.report.ensures.history, c.report.ensures.report) c.in-Ok.ensures.lines c.deref.ensures.value
-    c.in-Ok-put_start.ensures.0 c.in-Ok-put_start.ensures.1 c.in-Ok-put_lines.ensures.0 c.in-Ok-put_lines.ensures.1
+pub returns-in_err-put_audit-clause-turn : goal.returns-in_err-put_audit-clause-turn
+returns-in_err-put_audit-clause-turn g c =
+    rw (fault_at c.from_residual-in_err-put_audit.result c.from_residual-in_err-put_audit.ensures.1)
+    (audit_cut c.args.session.now.config c.config.result.now c.args.number c.args.session.now.store c.report.result.now c.rules.result.now c.total-total.result.now c.in_ok-failing.failing.items c.deref.result.now _ _
+    c.config.ensures.value c.rules.ensures c.total-total.ensures (c.report.ensures.history, c.report.ensures.report) c.in_ok-failing.ensures.lines c.deref.ensures.value c.in_err-put_audit.ensures)
 
 pub returns-clause-turn : goal.returns-clause-turn
 returns-clause-turn g c =
-    audit_stop c.args.session.now.config c.config.result.now c.config-2.result.now c.args.number c.args.session.now.store c.report.result.now c.rules.result.now c.total-total.result.now c.in-Ok.failing.items c.deref.result.now _ _ _ _ _ _
-    c.config.ensures.value c.config-2.ensures.value c.rules.ensures c.total-total.ensures (c.report.ensures.history, c.report.ensures.report) c.in-Ok.ensures.lines c.deref.ensures.value
-    c.in-Ok-put_start.ensures.0 c.in-Ok-put_start.ensures.1 c.in-Err-put_lines.ensures
+    audit_done c.args.session.now.config c.config.result.now c.args.number c.args.session.now.store c.report.result.now c.rules.result.now c.total-total.result.now c.in_ok-failing.failing.items c.deref.result.now _ _
+    c.config.ensures.value c.rules.ensures c.total-total.ensures (c.report.ensures.history, c.report.ensures.report) c.in_ok-failing.ensures.lines c.deref.ensures.value c.in_ok-put_audit.ensures

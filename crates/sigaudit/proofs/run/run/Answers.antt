@@ -8,12 +8,12 @@ use Rattle.sigaudit.proofs.run.run.Goals as goal
 
 pub returns-clause-headline : goal.returns-clause-headline
 returns-clause-headline g c =
-    run-of_answer c.args.words.now (g.S.Shelf.files c.args.shelf.now) (world (g.S.Shelf.counts c.args.shelf.now) (g.K.Sink.written c.args.sink.now) (g.K.Sink.faults c.args.sink.now)) (world (g.S.Shelf.counts c.run_to_end.new.shelf) (g.K.Sink.written c.run_to_end.new.sink) (g.K.Sink.faults c.run_to_end.new.sink))
+    run-of_answer c.args.words.now (g.S.Shelf.files c.args.shelf.now) (world (g.S.Shelf.counts c.args.shelf.now) (g.K.Sink.taken c.args.sink.now)) (world (g.S.Shelf.counts c.run_to_end.new.shelf) (g.K.Sink.taken c.run_to_end.new.sink))
     c.status_of.result (status_of_run c.run_to_end.result) c.status_of.ensures
-    (if_some-from (g.S.Shelf.files c.args.shelf.now) (λ (files : Files). RunsAs (IsAnswer (asked_of c.args.words.now) files) (world (g.S.Shelf.counts c.args.shelf.now) (g.K.Sink.written c.args.sink.now) (g.K.Sink.faults c.args.sink.now)) (world (g.S.Shelf.counts c.run_to_end.new.shelf) (g.K.Sink.written c.run_to_end.new.sink) (g.K.Sink.faults c.run_to_end.new.sink)) (status_of_run c.run_to_end.result)) c.run_to_end.ensures.told)
+    (if_some-from (g.S.Shelf.files c.args.shelf.now) (λ (files : Files). RunsAs (IsAnswer (asked_of c.args.words.now) files) (world (g.S.Shelf.counts c.args.shelf.now) (g.K.Sink.taken c.args.sink.now)) (world (g.S.Shelf.counts c.run_to_end.new.shelf) (g.K.Sink.taken c.run_to_end.new.sink)) (status_of_run c.run_to_end.result)) c.run_to_end.ensures.told)
 
 pub returns-clause-pairs : goal.returns-clause-pairs
 returns-clause-pairs g c =
-    pairs-of_answer c.args.words.now (g.S.Shelf.files c.args.shelf.now) (world (g.S.Shelf.counts c.args.shelf.now) (g.K.Sink.written c.args.sink.now) (g.K.Sink.faults c.args.sink.now)) (world (g.S.Shelf.counts c.run_to_end.new.shelf) (g.K.Sink.written c.run_to_end.new.sink) (g.K.Sink.faults c.run_to_end.new.sink))
+    pairs-of_answer c.args.words.now (g.S.Shelf.files c.args.shelf.now) (world (g.S.Shelf.counts c.args.shelf.now) (g.K.Sink.taken c.args.sink.now)) (world (g.S.Shelf.counts c.run_to_end.new.shelf) (g.K.Sink.taken c.run_to_end.new.sink))
     c.status_of.result (status_of_run c.run_to_end.result) c.status_of.ensures c.run_to_end.ensures.cause
-    (if_some-from (g.S.Shelf.files c.args.shelf.now) (λ (files : Files). RunsAs (IsAnswer (asked_of c.args.words.now) files) (world (g.S.Shelf.counts c.args.shelf.now) (g.K.Sink.written c.args.sink.now) (g.K.Sink.faults c.args.sink.now)) (world (g.S.Shelf.counts c.run_to_end.new.shelf) (g.K.Sink.written c.run_to_end.new.sink) (g.K.Sink.faults c.run_to_end.new.sink)) (status_of_run c.run_to_end.result)) c.run_to_end.ensures.told)
+    (if_some-from (g.S.Shelf.files c.args.shelf.now) (λ (files : Files). RunsAs (IsAnswer (asked_of c.args.words.now) files) (world (g.S.Shelf.counts c.args.shelf.now) (g.K.Sink.taken c.args.sink.now)) (world (g.S.Shelf.counts c.run_to_end.new.shelf) (g.K.Sink.taken c.run_to_end.new.sink)) (status_of_run c.run_to_end.result)) c.run_to_end.ensures.told)

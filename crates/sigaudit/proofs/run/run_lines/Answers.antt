@@ -15,15 +15,13 @@ returns-in-Lines-clause-told g c = λ files told. rw c.in-Lines.is (c.tell_lines
 pub returns-in-Ok-put_undecided-clause-told : goal.returns-in-Ok-put_undecided-clause-told
 returns-in-Ok-put_undecided-clause-told g c = λ files told.
     rw (c.in-Undecided.is, c.ended_by.ensures)
-    (pairs_told files c.args.config c.in-Undecided.rule c.in-Undecided.at.now c.args.script.now c.in-Ok.done.0 c.in-Ok.done.1 (g.S.Shelf.counts c.args.shelf.now) (g.S.Shelf.counts c.carry_out.new.shelf) (g.K.Sink.written c.args.sink.now) (g.K.Sink.written c.put_undecided.new.sink) (g.K.Sink.faults c.args.sink.now) (g.K.Sink.faults c.put_undecided.new.sink)
-    c.in-Ok.ensures.cause (c.in-Ok.ensures.told files told) c.in-Ok-put_undecided.ensures.text)
+    (pairs_told files c.args.config c.in-Undecided.rule c.in-Undecided.at.now c.args.script.now c.in-Ok.done.0 c.in-Ok.done.1 (g.S.Shelf.counts c.args.shelf.now) (g.S.Shelf.counts c.carry_out.new.shelf) (g.K.Sink.taken c.args.sink.now) (g.K.Sink.taken c.put_undecided.new.sink) c.in-Ok.ensures.cause (c.in-Ok.ensures.told files told) c.in-Ok-put_undecided.ensures.text)
 
 pub returns-in-Ok-put_undecided-clause-cause : goal.returns-in-Ok-put_undecided-clause-cause
 returns-in-Ok-put_undecided-clause-cause g c =
     let s = c.in-Ok.done.0 in
     rw c.ended_by.ensures
-    (told_cause (AreFound s.config s.store (place_of s.config c.in-Undecided.rule (stamp_in s.config.window c.in-Undecided.at.now))) c.in-Ok.done.1 (g.S.Shelf.counts c.args.shelf.now) (g.S.Shelf.counts c.carry_out.new.shelf) (g.K.Sink.written c.args.sink.now) (g.K.Sink.written c.put_undecided.new.sink) (g.K.Sink.faults c.args.sink.now) (g.K.Sink.faults c.put_undecided.new.sink)
-    c.in-Ok.ensures.cause c.in-Ok-put_undecided.ensures.text)
+    (told_cause (AreFound s.config s.store (place_of s.config c.in-Undecided.rule (stamp_in s.config.window c.in-Undecided.at.now))) c.in-Ok.done.1 (g.S.Shelf.counts c.args.shelf.now) (g.S.Shelf.counts c.carry_out.new.shelf) (g.K.Sink.taken c.args.sink.now) (g.K.Sink.taken c.put_undecided.new.sink) c.in-Ok.ensures.cause c.in-Ok-put_undecided.ensures.text)
 
 pub returns-in-Ok-put_undecided-clause-grow : goal.returns-in-Ok-put_undecided-clause-grow
 returns-in-Ok-put_undecided-clause-grow g c = grow_on _ _ _ c.in-Ok.ensures.grow c.in-Ok-put_undecided.ensures.grow
@@ -31,8 +29,7 @@ returns-in-Ok-put_undecided-clause-grow g c = grow_on _ _ _ c.in-Ok.ensures.grow
 pub returns-clause-told : goal.returns-clause-told
 returns-clause-told g c = λ files told.
     rw c.in-Undecided.is
-    (pairs_cut files c.args.config c.in-Undecided.rule c.in-Undecided.at.now c.args.script.now c.in-Ok.done.0 c.in-Ok.done.1 (g.S.Shelf.counts c.args.shelf.now) (g.S.Shelf.counts c.carry_out.new.shelf) (g.K.Sink.written c.args.sink.now) (g.K.Sink.written c.put_undecided.new.sink) (g.K.Sink.faults c.args.sink.now) (g.K.Sink.faults c.put_undecided.new.sink)
-    c.in-Err-put_undecided.stopped (c.in-Ok.ensures.told files told) c.in-Err-put_undecided.ensures.text)
+    (pairs_cut files c.args.config c.in-Undecided.rule c.in-Undecided.at.now c.args.script.now c.in-Ok.done.0 c.in-Ok.done.1 (g.S.Shelf.counts c.args.shelf.now) (g.S.Shelf.counts c.carry_out.new.shelf) (g.K.Sink.taken c.args.sink.now) (g.K.Sink.taken c.put_undecided.new.sink) c.in-Err-put_undecided.stopped (c.in-Ok.ensures.told files told) c.in-Err-put_undecided.ensures.text)
 
 pub returns-clause-grow : goal.returns-clause-grow
 returns-clause-grow g c = grow_on _ _ _ c.in-Ok.ensures.grow c.in-Err-put_undecided.ensures.grow

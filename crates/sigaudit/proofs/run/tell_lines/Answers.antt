@@ -7,11 +7,11 @@ use Rattle.sigaudit.proofs.run.tell_lines.Goals as goal
 
 pub returns-in-Err-clause-told : goal.returns-in-Err-clause-told
 returns-in-Err-clause-told g c = λ files told.
-    run-of_nothing (IsScriptOutcome files c.args.config (Some c.args.script.now)) (g.S.Shelf.counts c.args.shelf.now) (g.K.Sink.written c.args.sink.now) (g.K.Sink.faults c.args.sink.now)
+    run-of_nothing (IsScriptOutcome files c.args.config (Some c.args.script.now)) (g.S.Shelf.counts c.args.shelf.now) (g.K.Sink.taken c.args.sink.now)
 
 pub returns-clause-told : goal.returns-clause-told
 returns-clause-told g c = λ files told.
-    lines_cut files c.args.config c.args.script.now c.in-Ok.session c.run_script.new.session.store (world (g.S.Shelf.counts c.args.shelf.now) (g.K.Sink.written c.args.sink.now) (g.K.Sink.faults c.args.sink.now)) (world (g.S.Shelf.counts c.run_script.new.shelf) (g.K.Sink.written c.run_script.new.sink) (g.K.Sink.faults c.run_script.new.sink)) c.in-Err-run_script.stopped c.in-Ok.ensures (c.in-Err-run_script.ensures.transcript files told)
+    lines_cut files c.args.config c.args.script.now c.in-Ok.session c.run_script.new.session.store (world (g.S.Shelf.counts c.args.shelf.now) (g.K.Sink.taken c.args.sink.now)) (world (g.S.Shelf.counts c.run_script.new.shelf) (g.K.Sink.taken c.run_script.new.sink)) c.in-Err-run_script.stopped c.in-Ok.ensures (c.in-Err-run_script.ensures.transcript files told)
 
 pub returns-in-Ok-run_script-clause-opens : goal.returns-in-Ok-run_script-clause-opens
 returns-in-Ok-run_script-clause-opens g c = λ files told.

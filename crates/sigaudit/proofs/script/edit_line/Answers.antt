@@ -10,17 +10,15 @@ use Rattle.sigaudit.proofs.script.edit_line.Goals as goal
 
 pub returns-in-Ok-put_applied-clause-turn : goal.returns-in-Ok-put_applied-clause-turn
 returns-in-Ok-put_applied-clause-turn g c =
-    edit_made c.args.session.now.config c.args.number c.args.loaded c.args.session.now.store c.apply.new.self.store (change_of c.args.edit) (step_of c.args.session.now.store (change_of c.args.edit)) c.in-Ok.applied _ _ _ _
-    c.in-Ok.ensures.step c.in-Ok.ensures.moved c.in-Ok-put_applied.ensures.0 c.in-Ok-put_applied.ensures.1
+    edit_made c.args.session.now.config c.args.number c.args.loaded c.args.session.now.store c.apply.new.self.store (change_of c.args.edit) (step_of c.args.session.now.store (change_of c.args.edit)) c.in-Ok.applied _ _ c.in-Ok.ensures.step c.in-Ok.ensures.moved c.in-Ok-put_applied.ensures
 
 pub returns-in-Err-put_applied-clause-turn : goal.returns-in-Err-put_applied-clause-turn
 returns-in-Err-put_applied-clause-turn g c =
-    edit_cut c.args.session.now.config c.args.number c.args.loaded c.args.session.now.store c.apply.new.self.store (change_of c.args.edit) (step_of c.args.session.now.store (change_of c.args.edit)) c.in-Ok.applied _ _ _ _
-    c.in-Ok.ensures.step c.in-Ok.ensures.moved c.in-Err-put_applied.ensures
+    edit_cut c.args.session.now.config c.args.number c.args.loaded c.args.session.now.store c.apply.new.self.store (change_of c.args.edit) (step_of c.args.session.now.store (change_of c.args.edit)) c.in-Ok.applied _ _ c.in-Ok.ensures.step c.in-Ok.ensures.moved c.in-Err-put_applied.ensures
 
 pub returns-then-is_edit_memory-clause-turn : goal.returns-then-is_edit_memory-clause-turn
 returns-then-is_edit_memory-clause-turn g c =
-    by_nothing (IsEdited c.args.session.now.config c.args.number c.args.loaded c.args.session.now.store (change_of c.args.edit)) (g.K.Sink.written c.args.sink.now) (g.K.Sink.faults c.args.sink.now) c.apply.new.self.store
+    by_nothing (IsEdited c.args.session.now.config c.args.number c.args.loaded c.args.session.now.store (change_of c.args.edit)) (g.K.Sink.taken c.args.sink.now) c.apply.new.self.store
 
 pub refuse-requires : goal.refuse-requires
 refuse-requires g c =
@@ -32,8 +30,7 @@ pub returns-else-is_edit_memory : goal.returns-else-is_edit_memory
 returns-else-is_edit_memory g c =
     let ne : is_edit_memory c.in-Err.error ≡ false = sym c.is_edit_memory.ensures ∙ c.if-is_edit_memory.false in
     record {
-      turn = edit_refused c.args.session.now.config c.config.result.now c.args.number c.args.loaded c.args.session.now.store c.apply.new.self.store (change_of c.args.edit) (step_of c.args.session.now.store (change_of c.args.edit)) c.in-Err.error _ _ _ _ c.refuse.result
-          ne (c.config.ensures.value ∙ c.in-Err.ensures.config) c.in-Err.ensures.step c.refuse.ensures;
+      turn = edit_refused c.args.session.now.config c.config.result.now c.args.number c.args.loaded c.args.session.now.store c.apply.new.self.store (change_of c.args.edit) (step_of c.args.session.now.store (change_of c.args.edit)) c.in-Err.error _ _ c.refuse.result ne (c.config.ensures.value ∙ c.in-Err.ensures.config) c.in-Err.ensures.step c.refuse.ensures;
       config = c.in-Err.ensures.config;
       opens = on_ok c.refuse.result (AreCounted (EditTally c.args.session.now.config c.args.session.now.store (change_of c.args.edit)) c.args.reads.now c.apply.new.reads)
           (refusal_counted c.args.session.now.config c.args.session.now.store c.apply.new.self.store (change_of c.args.edit) (step_of c.args.session.now.store (change_of c.args.edit)) c.in-Err.error c.args.reads.now c.apply.new.reads ne c.in-Err.ensures.step c.in-Err.ensures.opens);

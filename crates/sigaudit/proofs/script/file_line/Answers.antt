@@ -14,37 +14,36 @@ use Rattle.sigaudit.proofs.script.file_line.Goals as goal
 pub fetch_line-requires : goal.fetch_line-requires
 fetch_line-requires g c =
     let same : c.hours.result ≡ c.args.session.now.config.window.hours = c.hours.ensures.value ∙ ap (λ (w : Span). w.hours) c.window.ensures ∙ ap (λ (k : Settings). k.window.hours) c.config.ensures.value in
-    let within = c.if-hour-hours.false in
+    let within = c.if-load-hours.false in
     omega arith
 
-pub returns-then-hour-hours-clause-turn : goal.returns-then-hour-hours-clause-turn
-returns-then-hour-hours-clause-turn g c = λ files told.
+pub returns-then-load-hours-clause-turn : goal.returns-then-load-hours-clause-turn
+returns-then-load-hours-clause-turn g c = λ files told.
     let same : c.hours.result ≡ c.args.session.now.config.window.hours = c.hours.ensures.value ∙ ap (λ (w : Span). w.hours) c.window.ensures ∙ ap (λ (k : Settings). k.window.hours) c.config.ensures.value in
-    let past : c.args.session.now.config.window.hours ≤ c.args.hour = let t = c.if-hour-hours.true in omega arith in
-    takes_of_by (IsFetched c.args.session.now.config c.args.number c.args.hour (hour_change c.args.replaces) c.args.session.now.store (hour_bytes files c.args.session.now.config c.args.hour c.args.name.now)) (g.S.Shelf.counts c.args.shelf.now) (g.S.Shelf.counts c.args.shelf.now) _ _ _ _ c.args.session.now.store c.refuse.result refl
-    (outside_line files c.args.session.now.config c.config-then-hour-hours.result.now c.args.number c.args.hour c.args.name.now (hour_change c.args.replaces) c.args.session.now.store _ _ _ _ c.refuse.result c.config-then-hour-hours.ensures.value past c.refuse.ensures)
+    let past : c.args.session.now.config.window.hours ≤ c.args.load.now.hour = let t = c.if-load-hours.true in omega arith in
+    takes_of_by (IsFetched c.args.session.now.config c.args.load.now.number c.args.load.now.hour (hour_change c.args.load.now.replaces) c.args.session.now.store (hour_bytes files c.args.session.now.config c.args.load.now.hour c.args.load.now.name.now)) (g.S.Shelf.counts c.args.shelf.now) (g.S.Shelf.counts c.args.shelf.now) _ _ c.args.session.now.store c.refuse.result refl (outside_line files c.args.session.now.config c.config-then-load-hours.result.now c.args.load.now.number c.args.load.now.hour c.args.load.now.name.now (hour_change c.args.load.now.replaces) c.args.session.now.store _ _ c.refuse.result c.config-then-load-hours.ensures.value past c.refuse.ensures)
 
-pub returns-then-hour-hours-clause-cause : goal.returns-then-hour-hours-clause-cause
-returns-then-hour-hours-clause-cause g c = caused_of_by (λ (t : Turn). t ≡ refuses c.args.session.now.config c.args.number (Edit OutOfWindow) c.args.session.now.store) (g.S.Shelf.counts c.args.shelf.now) (g.S.Shelf.counts c.args.shelf.now) _ _ _ _ c.args.session.now.store c.refuse.result refl (by_bad c.args.session.now.config c.config-then-hour-hours.result.now c.args.number (Edit OutOfWindow) c.args.session.now.store _ _ _ _ c.refuse.result c.config-then-hour-hours.ensures.value c.refuse.ensures)
+pub returns-then-load-hours-clause-cause : goal.returns-then-load-hours-clause-cause
+returns-then-load-hours-clause-cause g c = caused_of_by (λ (t : Turn). t ≡ refuses c.args.session.now.config c.args.load.now.number (Edit OutOfWindow) c.args.session.now.store) (g.S.Shelf.counts c.args.shelf.now) (g.S.Shelf.counts c.args.shelf.now) _ _ c.args.session.now.store c.refuse.result refl (by_bad c.args.session.now.config c.config-then-load-hours.result.now c.args.load.now.number (Edit OutOfWindow) c.args.session.now.store _ _ c.refuse.result c.config-then-load-hours.ensures.value c.refuse.ensures)
 
-pub returns-then-hour-hours-clause-never_fall : goal.returns-then-hour-hours-clause-never_fall
-returns-then-hour-hours-clause-never_fall g c = never_of_by (λ (t : Turn). t ≡ refuses c.args.session.now.config c.args.number (Edit OutOfWindow) c.args.session.now.store) (g.S.Shelf.counts c.args.shelf.now) (g.S.Shelf.counts c.args.shelf.now) _ _ _ _ c.args.session.now.store c.refuse.result (omega arith) (omega arith) (omega arith) (by_bad c.args.session.now.config c.config-then-hour-hours.result.now c.args.number (Edit OutOfWindow) c.args.session.now.store _ _ _ _ c.refuse.result c.config-then-hour-hours.ensures.value c.refuse.ensures)
+pub returns-then-load-hours-clause-never_fall : goal.returns-then-load-hours-clause-never_fall
+returns-then-load-hours-clause-never_fall g c = never_of_by (λ (t : Turn). t ≡ refuses c.args.session.now.config c.args.load.now.number (Edit OutOfWindow) c.args.session.now.store) (g.S.Shelf.counts c.args.shelf.now) (g.S.Shelf.counts c.args.shelf.now) _ _ c.args.session.now.store c.refuse.result (omega arith) (omega arith) (omega arith) (by_bad c.args.session.now.config c.config-then-load-hours.result.now c.args.load.now.number (Edit OutOfWindow) c.args.session.now.store _ _ c.refuse.result c.config-then-load-hours.ensures.value c.refuse.ensures)
 
 pub returns-clause-turn : goal.returns-clause-turn
 returns-clause-turn g c = λ files told.
     let same : c.hours.result ≡ c.args.session.now.config.window.hours = c.hours.ensures.value ∙ ap (λ (w : Span). w.hours) c.window.ensures ∙ ap (λ (k : Settings). k.window.hours) c.config.ensures.value in
-    let within : c.args.hour < c.args.session.now.config.window.hours = let t = c.if-hour-hours.false in omega arith in
-    inside_line files c.args.session.now.config c.args.number c.args.hour c.args.name.now (hour_change c.args.replaces) c.args.session.now.store c.fetch_line.new.session.store
-    (world (g.S.Shelf.counts c.args.shelf.now) (g.K.Sink.written c.args.sink.now) (g.K.Sink.faults c.args.sink.now)) (world (g.S.Shelf.counts c.fetch_line.new.shelf) (g.K.Sink.written c.fetch_line.new.sink) (g.K.Sink.faults c.fetch_line.new.sink)) c.fetch_line.result within (c.fetch_line.ensures.turn files told)
+    let within : c.args.load.now.hour < c.args.session.now.config.window.hours = let t = c.if-load-hours.false in omega arith in
+    inside_line files c.args.session.now.config c.args.load.now.number c.args.load.now.hour c.args.load.now.name.now (hour_change c.args.load.now.replaces) c.args.session.now.store c.fetch_line.new.session.store
+    (world (g.S.Shelf.counts c.args.shelf.now) (g.K.Sink.taken c.args.sink.now)) (world (g.S.Shelf.counts c.fetch_line.new.shelf) (g.K.Sink.taken c.fetch_line.new.sink)) c.fetch_line.result within (c.fetch_line.ensures.turn files told)
 
-pub returns-then-hour-hours-clause-opens : goal.returns-then-hour-hours-clause-opens
-returns-then-hour-hours-clause-opens g c = λ files told.
+pub returns-then-load-hours-clause-opens : goal.returns-then-load-hours-clause-opens
+returns-then-load-hours-clause-opens g c = λ files told.
     let same : c.hours.result ≡ c.args.session.now.config.window.hours = c.hours.ensures.value ∙ ap (λ (w : Span). w.hours) c.window.ensures ∙ ap (λ (k : Settings). k.window.hours) c.config.ensures.value in
-    let past : c.args.session.now.config.window.hours ≤ c.args.hour = let t = c.if-hour-hours.true in omega arith in
-    outside_counted files c.args.session.now.config c.args.hour c.args.name.now (hour_change c.args.replaces) c.args.session.now.store c.args.reads.now c.refuse.result past
+    let past : c.args.session.now.config.window.hours ≤ c.args.load.now.hour = let t = c.if-load-hours.true in omega arith in
+    outside_counted files c.args.session.now.config c.args.load.now.hour c.args.load.now.name.now (hour_change c.args.load.now.replaces) c.args.session.now.store c.args.reads.now c.refuse.result past
 
 pub returns-clause-opens : goal.returns-clause-opens
 returns-clause-opens g c = λ files told.
     let same : c.hours.result ≡ c.args.session.now.config.window.hours = c.hours.ensures.value ∙ ap (λ (w : Span). w.hours) c.window.ensures ∙ ap (λ (k : Settings). k.window.hours) c.config.ensures.value in
-    let inside : c.args.hour < c.args.session.now.config.window.hours = let t = c.if-hour-hours.false in omega arith in
-    inside_counted files c.args.session.now.config c.args.hour c.args.name.now (hour_change c.args.replaces) c.args.session.now.store c.args.reads.now c.fetch_line.new.reads c.fetch_line.result inside (c.fetch_line.ensures.opens files told)
+    let inside : c.args.load.now.hour < c.args.session.now.config.window.hours = let t = c.if-load-hours.false in omega arith in
+    inside_counted files c.args.session.now.config c.args.load.now.hour c.args.load.now.name.now (hour_change c.args.load.now.replaces) c.args.session.now.store c.args.reads.now c.fetch_line.new.reads c.fetch_line.result inside (c.fetch_line.ensures.opens files told)

@@ -20,9 +20,9 @@ loop-rest-init g c = record {
   config = refl;
   failed = refl;
   faults = refl;
-  never = never_still _ _ _;
+  never = never_still _ _;
   grow = grow_same c.args.reads.now;
-  told = λ files told. is_on_start files c.args.session.now.config (lines_of c.args.script.now) c.args.session.now.store (g.K.Sink.written c.args.sink.now) (g.K.Sink.faults c.args.sink.now) 1 refl;
+  told = λ files told. is_on_start files c.args.session.now.config (lines_of c.args.script.now) c.args.session.now.store (world (g.S.Shelf.counts c.args.shelf.now) (g.K.Sink.taken c.args.sink.now)) 1 refl;
   opens = λ files told plain. counted_start files c.args.session.now.config (lines_of c.args.script.now) c.args.session.now.store 1 c.args.reads.now refl;
 }
 
@@ -35,15 +35,15 @@ pub returns-in-Err-clause-transcript : goal.returns-in-Err-clause-transcript
 returns-in-Err-clause-transcript g c = λ files told.
     let some : 0 < length c.loop-rest.rest.now = nonempty c.loop-rest.rest.now c.is_empty.result c.is_empty.ensures c.loop-rest-test.true in
     let i = c.loop-rest.invariant in
-    let turn = subst (λ (k : Settings). Takes (IsTurn files k (c.loop-rest.number + 1) (said k.window c.split_line.result.0.now) c.loop-rest.session.store) (world (g.S.Shelf.counts c.loop-rest.shelf) (g.K.Sink.written c.loop-rest.sink) (g.K.Sink.faults c.loop-rest.sink)) (world (g.S.Shelf.counts c.take_line.new.shelf) (g.K.Sink.written c.take_line.new.sink) (g.K.Sink.faults c.take_line.new.sink)) c.take_line.new.session.store (Err c.in-Err.stopped)) i.config (c.in-Err.ensures.turn files (i.files ∙ told)) in
-    line_cut files c.args.session.now.config (lines_of c.args.script.now) c.args.session.now.store (c.loop-rest.number + 1) c.loop-rest.rest.now c.split_line.result.0.now (world (g.S.Shelf.counts c.args.shelf.now) (g.K.Sink.written c.args.sink.now) (g.K.Sink.faults c.args.sink.now)) (world (g.S.Shelf.counts c.loop-rest.shelf) (g.K.Sink.written c.loop-rest.sink) (g.K.Sink.faults c.loop-rest.sink)) (world (g.S.Shelf.counts c.take_line.new.shelf) (g.K.Sink.written c.take_line.new.sink) (g.K.Sink.faults c.take_line.new.sink)) c.loop-rest.session.store c.take_line.new.session.store c.loop-rest.refused c.in-Err.stopped
+    let turn = subst (λ (k : Settings). Takes (IsTurn files k (c.loop-rest.number + 1) (said k.window c.split_line.result.0.now) c.loop-rest.session.store) (world (g.S.Shelf.counts c.loop-rest.shelf) (g.K.Sink.taken c.loop-rest.sink)) (world (g.S.Shelf.counts c.take_line.new.shelf) (g.K.Sink.taken c.take_line.new.sink)) c.take_line.new.session.store (Err c.in-Err.stopped)) i.config (c.in-Err.ensures.turn files (i.files ∙ told)) in
+    line_cut files c.args.session.now.config (lines_of c.args.script.now) c.args.session.now.store (c.loop-rest.number + 1) c.loop-rest.rest.now c.split_line.result.0.now (world (g.S.Shelf.counts c.args.shelf.now) (g.K.Sink.taken c.args.sink.now)) (world (g.S.Shelf.counts c.loop-rest.shelf) (g.K.Sink.taken c.loop-rest.sink)) (world (g.S.Shelf.counts c.take_line.new.shelf) (g.K.Sink.taken c.take_line.new.sink)) c.loop-rest.session.store c.take_line.new.session.store c.loop-rest.refused c.in-Err.stopped
     some c.split_line.ensures.line i.failed (i.told files told) turn
 
 pub returns-in-Err-clause-cause : goal.returns-in-Err-clause-cause
-returns-in-Err-clause-cause g c = cut_caused (world (g.S.Shelf.counts c.args.shelf.now) (g.K.Sink.written c.args.sink.now) (g.K.Sink.faults c.args.sink.now)) (world (g.S.Shelf.counts c.loop-rest.shelf) (g.K.Sink.written c.loop-rest.sink) (g.K.Sink.faults c.loop-rest.sink)) (world (g.S.Shelf.counts c.take_line.new.shelf) (g.K.Sink.written c.take_line.new.sink) (g.K.Sink.faults c.take_line.new.sink)) c.in-Err.stopped c.loop-rest.invariant.failed c.loop-rest.invariant.faults c.in-Err.ensures.cause
+returns-in-Err-clause-cause g c = cut_caused (world (g.S.Shelf.counts c.args.shelf.now) (g.K.Sink.taken c.args.sink.now)) (world (g.S.Shelf.counts c.loop-rest.shelf) (g.K.Sink.taken c.loop-rest.sink)) (world (g.S.Shelf.counts c.take_line.new.shelf) (g.K.Sink.taken c.take_line.new.sink)) c.in-Err.stopped c.loop-rest.invariant.failed c.loop-rest.invariant.faults c.in-Err.ensures.cause
 
 pub returns-in-Err-clause-never_fall : goal.returns-in-Err-clause-never_fall
-returns-in-Err-clause-never_fall g c = never_on (world (g.S.Shelf.counts c.args.shelf.now) (g.K.Sink.written c.args.sink.now) (g.K.Sink.faults c.args.sink.now)) (world (g.S.Shelf.counts c.loop-rest.shelf) (g.K.Sink.written c.loop-rest.sink) (g.K.Sink.faults c.loop-rest.sink)) (world (g.S.Shelf.counts c.take_line.new.shelf) (g.K.Sink.written c.take_line.new.sink) (g.K.Sink.faults c.take_line.new.sink)) c.loop-rest.invariant.never c.in-Err.ensures.never_fall
+returns-in-Err-clause-never_fall g c = never_on (world (g.S.Shelf.counts c.args.shelf.now) (g.K.Sink.taken c.args.sink.now)) (world (g.S.Shelf.counts c.loop-rest.shelf) (g.K.Sink.taken c.loop-rest.sink)) (world (g.S.Shelf.counts c.take_line.new.shelf) (g.K.Sink.taken c.take_line.new.sink)) c.loop-rest.invariant.never c.in-Err.ensures.never_fall
 
 pub returns-in-Err-clause-grow : goal.returns-in-Err-clause-grow
 returns-in-Err-clause-grow g c = grow_on _ _ _ c.loop-rest.invariant.grow c.in-Err.ensures.grow
@@ -61,8 +61,8 @@ loop-rest-preserved g c =
       never = never_on _ _ _ i.never c.in-Ok.ensures.never_fall;
       grow = grow_on _ _ _ i.grow c.in-Ok.ensures.grow;
       told = λ files told.
-          let turn = subst (λ (k : Settings). Takes (IsTurn files k (c.loop-rest.number + 1) (said k.window c.split_line.result.0.now) c.loop-rest.session.store) (world (g.S.Shelf.counts c.loop-rest.shelf) (g.K.Sink.written c.loop-rest.sink) (g.K.Sink.faults c.loop-rest.sink)) (world (g.S.Shelf.counts c.take_line.new.shelf) (g.K.Sink.written c.take_line.new.sink) (g.K.Sink.faults c.take_line.new.sink)) c.take_line.new.session.store (Ok c.in-Ok.is_refused)) i.config (c.in-Ok.ensures.turn files (i.files ∙ told)) in
-          line_more files c.args.session.now.config (lines_of c.args.script.now) c.args.session.now.store (g.K.Sink.written c.args.sink.now) (g.K.Sink.faults c.args.sink.now) (c.loop-rest.number + 1) (c.loop-rest.number + 1 + 1) c.loop-rest.rest.now c.split_line.result.0.now c.split_line.result.1.now (world (g.S.Shelf.counts c.loop-rest.shelf) (g.K.Sink.written c.loop-rest.sink) (g.K.Sink.faults c.loop-rest.sink)) (world (g.S.Shelf.counts c.take_line.new.shelf) (g.K.Sink.written c.take_line.new.sink) (g.K.Sink.faults c.take_line.new.sink)) c.loop-rest.session.store c.take_line.new.session.store c.loop-rest.refused c.in-Ok.is_refused
+          let turn = subst (λ (k : Settings). Takes (IsTurn files k (c.loop-rest.number + 1) (said k.window c.split_line.result.0.now) c.loop-rest.session.store) (world (g.S.Shelf.counts c.loop-rest.shelf) (g.K.Sink.taken c.loop-rest.sink)) (world (g.S.Shelf.counts c.take_line.new.shelf) (g.K.Sink.taken c.take_line.new.sink)) c.take_line.new.session.store (Ok c.in-Ok.is_refused)) i.config (c.in-Ok.ensures.turn files (i.files ∙ told)) in
+          line_more files c.args.session.now.config (lines_of c.args.script.now) c.args.session.now.store (c.loop-rest.number + 1) (c.loop-rest.number + 1 + 1) c.loop-rest.rest.now c.split_line.result.0.now c.split_line.result.1.now (world (g.S.Shelf.counts c.args.shelf.now) (g.K.Sink.taken c.args.sink.now)) (world (g.S.Shelf.counts c.loop-rest.shelf) (g.K.Sink.taken c.loop-rest.sink)) (world (g.S.Shelf.counts c.take_line.new.shelf) (g.K.Sink.taken c.take_line.new.sink)) c.loop-rest.session.store c.take_line.new.session.store c.loop-rest.refused c.in-Ok.is_refused
           some c.split_line.ensures.line c.split_line.ensures.rest refl (i.told files told) turn;
       opens = λ files told plain.
           let cfg = c.args.session.now.config in
@@ -71,9 +71,9 @@ loop-rest-preserved g c =
           let s = c.loop-rest.session.store in
           let on = i.opens files told plain in
           let is_plain = line_plain files cfg lines c.args.session.now.store s (c.loop-rest.number + 1) c.loop-rest.rest.now line c.args.reads.now c.loop-rest.reads some c.split_line.ensures.line plain on in
-          let turn = subst (λ (k : Settings). Takes (IsTurn files k (c.loop-rest.number + 1) (said k.window line) s) (world (g.S.Shelf.counts c.loop-rest.shelf) (g.K.Sink.written c.loop-rest.sink) (g.K.Sink.faults c.loop-rest.sink)) (world (g.S.Shelf.counts c.take_line.new.shelf) (g.K.Sink.written c.take_line.new.sink) (g.K.Sink.faults c.take_line.new.sink)) c.take_line.new.session.store (Ok c.in-Ok.is_refused)) i.config (c.in-Ok.ensures.turn files (i.files ∙ told)) in
+          let turn = subst (λ (k : Settings). Takes (IsTurn files k (c.loop-rest.number + 1) (said k.window line) s) (world (g.S.Shelf.counts c.loop-rest.shelf) (g.K.Sink.taken c.loop-rest.sink)) (world (g.S.Shelf.counts c.take_line.new.shelf) (g.K.Sink.taken c.take_line.new.sink)) c.take_line.new.session.store (Ok c.in-Ok.is_refused)) i.config (c.in-Ok.ensures.turn files (i.files ∙ told)) in
           let counts = subst (λ (k : Settings). IsPlain (said k.window line) → AreCounted (LineTally files k (said k.window line) s) c.loop-rest.reads c.take_line.new.reads) i.config (c.in-Ok.ensures.opens files (i.files ∙ told)) is_plain in
-          line_counted files cfg lines c.args.session.now.store (c.loop-rest.number + 1) (c.loop-rest.number + 1 + 1) c.loop-rest.rest.now line c.split_line.result.1.now (world (g.S.Shelf.counts c.loop-rest.shelf) (g.K.Sink.written c.loop-rest.sink) (g.K.Sink.faults c.loop-rest.sink)) (world (g.S.Shelf.counts c.take_line.new.shelf) (g.K.Sink.written c.take_line.new.sink) (g.K.Sink.faults c.take_line.new.sink)) s c.take_line.new.session.store c.in-Ok.is_refused c.args.reads.now c.loop-rest.reads c.take_line.new.reads
+          line_counted files cfg lines c.args.session.now.store (c.loop-rest.number + 1) (c.loop-rest.number + 1 + 1) c.loop-rest.rest.now line c.split_line.result.1.now (world (g.S.Shelf.counts c.loop-rest.shelf) (g.K.Sink.taken c.loop-rest.sink)) (world (g.S.Shelf.counts c.take_line.new.shelf) (g.K.Sink.taken c.take_line.new.sink)) s c.take_line.new.session.store c.in-Ok.is_refused c.args.reads.now c.loop-rest.reads c.take_line.new.reads
           some c.split_line.ensures.line c.split_line.ensures.rest refl on turn counts;
     }
 
@@ -81,7 +81,7 @@ pub returns-clause-transcript : goal.returns-clause-transcript
 returns-clause-transcript g c = λ files told.
     let none : length c.loop-rest.rest.now ≡ 0 = eqb-true (length c.loop-rest.rest.now) 0 (sym c.is_empty.ensures ∙ c.loop-rest-test.false) in
     let i = c.loop-rest.invariant in
-    lines_done files c.args.session.now.config (lines_of c.args.script.now) c.args.session.now.store (c.loop-rest.number + 1) c.loop-rest.rest.now (world (g.S.Shelf.counts c.args.shelf.now) (g.K.Sink.written c.args.sink.now) (g.K.Sink.faults c.args.sink.now)) (world (g.S.Shelf.counts c.loop-rest.shelf) (g.K.Sink.written c.loop-rest.sink) (g.K.Sink.faults c.loop-rest.sink)) c.loop-rest.session.store c.loop-rest.refused none i.failed (i.told files told)
+    lines_done files c.args.session.now.config (lines_of c.args.script.now) c.args.session.now.store (c.loop-rest.number + 1) c.loop-rest.rest.now (world (g.S.Shelf.counts c.args.shelf.now) (g.K.Sink.taken c.args.sink.now)) (world (g.S.Shelf.counts c.loop-rest.shelf) (g.K.Sink.taken c.loop-rest.sink)) c.loop-rest.session.store c.loop-rest.refused none i.failed (i.told files told)
 
 pub returns-clause-opens : goal.returns-clause-opens
 returns-clause-opens g c = λ files told plain.

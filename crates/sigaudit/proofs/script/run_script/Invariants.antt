@@ -15,11 +15,11 @@ invariant-loop-rest g l = record {
   files : g.S.Shelf.files l.shelf ≡ g.S.Shelf.files l.fn.shelf;
   config : l.session.config ≡ l.fn.session.config;
   failed : (g.S.Shelf.counts l.shelf).failed ≡ (g.S.Shelf.counts l.fn.shelf).failed;
-  faults : g.K.Sink.faults l.sink ≡ g.K.Sink.faults l.fn.sink;
-  never : NeverFall (world (g.S.Shelf.counts l.fn.shelf) (g.K.Sink.written l.fn.sink) (g.K.Sink.faults l.fn.sink)) (world (g.S.Shelf.counts l.shelf) (g.K.Sink.written l.sink) (g.K.Sink.faults l.sink));
+  faults : (g.K.Sink.taken l.sink).faults ≡ (g.K.Sink.taken l.fn.sink).faults;
+  never : NeverFall (world (g.S.Shelf.counts l.fn.shelf) (g.K.Sink.taken l.fn.sink)) (world (g.S.Shelf.counts l.shelf) (g.K.Sink.taken l.sink));
   grow : Grow l.fn.reads l.reads;
   told : (files : Files) → g.S.Shelf.files l.fn.shelf ≡ Some files →
-      IsOn files l.fn.session.config (lines_of l.fn.script) l.fn.session.store (g.K.Sink.written l.fn.sink) (g.K.Sink.written l.sink) (g.K.Sink.faults l.fn.sink) (g.K.Sink.faults l.sink) (l.number + 1) (lines_of l.rest) l.session.store l.refused;
+      IsOn files l.fn.session.config (lines_of l.fn.script) l.fn.session.store (world (g.S.Shelf.counts l.fn.shelf) (g.K.Sink.taken l.fn.sink)) (world (g.S.Shelf.counts l.shelf) (g.K.Sink.taken l.sink)) (l.number + 1) (lines_of l.rest) l.session.store l.refused;
   opens : (files : Files) → g.S.Shelf.files l.fn.shelf ≡ Some files → ArePlain l.fn.session.config.window (lines_of l.fn.script) →
       IsCountedOn files l.fn.session.config (lines_of l.fn.script) l.fn.session.store (l.number + 1) (lines_of l.rest) l.session.store l.fn.reads l.reads;
 }

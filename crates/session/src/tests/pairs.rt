@@ -4,12 +4,13 @@ ghost use Rattle.signal_log.specs.Points.{rows_or_none};
 ghost use Rattle.filling_pair.specs.Kept.{IsLineOf, IsPlaceOf, hour_rows};
 
 use super::configured::one_interval;
-use super::{ALL, FIRST, Mark, apply};
+use super::{Mark, apply};
 use crate::{Edit, Session};
 use filling_pair::{Pair, Pairs, Strands, check_strands};
 use hour_store::HourStore;
 use rule_audit::{AuditLine, Place, Rule};
 use sig_base::{Hour, HourRows, Reads, Row, Verdict};
+use span_set::SpanSet;
 use std::alloc::Global;
 use std::test::Fail;
 
@@ -25,21 +26,36 @@ const YELLOW: Row = Row {
     param: 2,
 };
 
+fn green(alloc: Global) -> Result<HourRows<Mark>, Fail> {
+    let rows = HourRows::new(0, vec![in alloc; GREEN, YELLOW]?, 0).ok_or("rows")?;
+    Ok(rows)
+}
+
 // Green of phase 2 from 1000 to 1200, where the tenths from 1050 up to 1070 are blanked.
-fn green_with_a_hole(
-    alloc: Global,
-    reads: &mut Reads<Mark>,
-    rt: &HostRuntime,
-) -> Result<Session<Mark>, Fail> {
+fn green_with_a_hole(alloc: Global, reads: &mut Reads<Mark>) -> Result<Session<Mark>, Fail> {
     let mut session = Session::new(alloc, one_interval(alloc)?)?;
     let hole = Edit::Blank {
         from: 1050,
         to: 1070,
     };
-    assert_eq!(rt; apply(&mut session, hole, reads), FIRST);
-    let rows = HourRows::new(0, vec![in alloc; GREEN, YELLOW]?, 0).ok_or("rows")?;
-    assert_eq!(rt; apply(&mut session, Edit::Load(rows), reads), ALL);
+    apply(&mut session, hole, reads).map_err(|_| "blank")?;
+    let load = Edit::Load(green(alloc)?);
+    apply(&mut session, load, reads).map_err(|_| "load")?;
     Ok(session)
+}
+
+// What the session then holds.
+fn store_with_a_hole(alloc: Global) -> Result<HourStore<Mark>, Fail> {
+    let mut store = HourStore::new(alloc, 2)?;
+    let rows = green(alloc)?;
+    if rows.hour() >= store.hours() {
+        return Err(Fail::from("hour"));
+    }
+    let _before = store.put(rows);
+    let mut blanked = SpanSet::new(alloc);
+    blanked.add(1050, 1070)?;
+    let _none = store.set_blanks(blanked);
+    Ok(store)
 }
 
 fn held_rows<'a>(rows: Option<&'a [Row]>) -> &'a [Row]
@@ -116,12 +132,12 @@ const OPEN: AuditLine = AuditLine {
 // Whether these are strands of the line with which the rule is kept, or isn't.
 fn checks(
     session: &Session<Mark>,
+    store: &HourStore<Mark>,
     strands: &Strands,
     kept: bool,
     reads: &mut Reads<Mark>,
 ) -> Result<bool, Fail> {
     let rules = session.rules();
-    let store = &session.store;
     if !is_line(rules, store, &OPEN, reads) {
         return Err(Fail::from("no line"));
     }
@@ -133,13 +149,14 @@ fn checks(
 fn a_pair_of_an_undecided_line(rt: HostRuntime) -> Result<(), Fail> {
     let alloc = rt.alloc();
     let mut reads = Reads::new(Mark);
-    let session = green_with_a_hole(alloc, &mut reads, &rt)?;
+    let session = green_with_a_hole(alloc, &mut reads)?;
     let pairs = pairs_at(&session, 1200, &mut reads)?;
     assert_eq!(rt; pairs.list().len(), 1);
+    let store = store_with_a_hole(alloc)?;
     let pair: &Pair = pairs.list().first().ok_or("no pair")?;
     for (strands, kept) in [(&pair.keeps, true), (&pair.breaks, false)] {
-        assert!(rt; checks(&session, strands, kept, &mut reads)?);
-        assert!(rt; !checks(&session, strands, !kept, &mut reads)?);
+        assert!(rt; checks(&session, &store, strands, kept, &mut reads)?);
+        assert!(rt; !checks(&session, &store, strands, !kept, &mut reads)?);
     }
     Ok(())
 }
@@ -149,7 +166,7 @@ fn a_pair_of_an_undecided_line(rt: HostRuntime) -> Result<(), Fail> {
 fn no_pair_where_nothing_is_undecided(rt: HostRuntime) -> Result<(), Fail> {
     let alloc = rt.alloc();
     let mut reads = Reads::new(Mark);
-    let session = green_with_a_hole(alloc, &mut reads, &rt)?;
+    let session = green_with_a_hole(alloc, &mut reads)?;
     let pairs = pairs_at(&session, 1199, &mut reads)?;
     assert!(rt; pairs.list().is_empty());
     Ok(())

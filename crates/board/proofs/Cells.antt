@@ -3,31 +3,11 @@ use Rattle.std.proofs.Common.{◌≡◌, sym, ap, ◌∙◌, subst, inl, inr, �
 use Rattle.std.proofs.lemmas.Bool.{cases_lt, cases_eq}
 use Rattle.std.proofs.lemmas.List.{get_or-replicate, length-replicate, get_or-set_same, get_or-set_other, length-set}
 use Rattle.event_codes.specs.declared.channels.Channel.{Channel}
-use Rattle.event_codes.specs.declared.channels.Kind.{Kind}
-use Rattle.event_codes.specs.declared.channels.Kind.TheVariants.{Phase, Ped, Overlap, Detector, PedDetector, PreemptInput, PreemptService, Coordination}
+use Rattle.event_codes.specs.Cells.{cell_of}
+use Rattle.event_codes.proofs.Numbered.{cell_once}
 use Rattle.channel_tables.specs.declared.spec.Spec.{Spec}
-use Rattle.board.specs.Channels.{kind_number}
 use Rattle.board.specs.Logs.{no_spec}
-use Rattle.board.specs.SpecPlaces.{cell_of, AreCells, IsPlaceOf}
-use Rattle.board.proofs.Tracks.{kind_same, channel_same}
-
-pub few_kinds : (k : Kind) → kind_number k < 8
-few_kinds Phase = omega arith
-few_kinds Ped = omega arith
-few_kinds Overlap = omega arith
-few_kinds Detector = omega arith
-few_kinds PedDetector = omega arith
-few_kinds PreemptInput = omega arith
-few_kinds PreemptService = omega arith
-few_kinds Coordination = omega arith
-
-pub cell_once : (c d : Channel) → cell_of c ≡ cell_of d → c ≡ d
-cell_once c d e =
-    let few = few_kinds c.kind in
-    let few2 = few_kinds d.kind in
-    let numbers : c.number ≡ d.number = omega arith in
-    let kinds : kind_number c.kind ≡ kind_number d.kind = omega arith in
-    channel_same c d (kind_same c.kind d.kind kinds) numbers
+use Rattle.board.specs.SpecPlaces.{AreCells, IsPlaceOf}
 
 pub cells_empty : (specs : List Spec) (n : ℕ) → AreCells specs 0 (replicate n 65535)
 cells_empty specs n c lt =

@@ -8,8 +8,8 @@ use Rattle.channel_tables.specs.declared.spec.Spec.{Spec}
 use Rattle.channel_tables.specs.Letters.{IsNumber}
 use Rattle.board.specs.Channels.{AreSpecs}
 use Rattle.board.specs.Logs.{no_spec}
-use Rattle.board.specs.SpecPlaces.{cell_of}
-use Rattle.board.proofs.Cells.{cell_once, few_kinds}
+use Rattle.event_codes.specs.Cells.{cell_of}
+use Rattle.event_codes.proofs.Numbered.{cell_once, few_kinds}
 
 -- in place of n the last number
 abbrev moved : ℕ → ℕ → ℕ → ℕ

@@ -1,41 +1,17 @@
 -- Distinct channels make tracks whose runs join.
-use Rattle.std.proofs.Common.{◌≡◌, ◌≢◌, refl, ap, sym, ◌∙◌, inl, inr, ℕ, ◌<◌, true, nat_eq, if◌then◌else◌, List, length, get_or, Option, Some, None}
+use Rattle.std.proofs.Common.{◌≡◌, ◌≢◌, refl, ap, sym, ◌∙◌, inl, inr, ℕ, ◌<◌, true, nat_eq, List, length, get_or, Option, Some, None}
 use Rattle.std.proofs.lemmas.Bool.{cases_Bool, and_parts, eqb-true, eq-eqb}
 use Rattle.std.proofs.lemmas.List.{get_or_default}
 use Rattle.event_codes.specs.declared.channels.Channel.{Channel}
-use Rattle.event_codes.specs.declared.channels.Kind.{Kind}
-use Rattle.event_codes.specs.declared.channels.Kind.TheVariants.{Phase, Ped, Overlap, Detector, PedDetector, PreemptInput, PreemptService, Coordination}
+use Rattle.event_codes.specs.Cells.{kind_number}
 use Rattle.event_codes.specs.Channels.{channel_in_table}
 use Rattle.channel_tables.specs.declared.spec.Spec.{Spec}
 use Rattle.channel_tables.specs.Letters.{letter_in_table, letter_with}
+use Rattle.event_codes.proofs.Numbered.{channel_same, kind_same}
 use Rattle.channel_tables.proofs.Places.{channel_letter}
 use Rattle.channel_tables.proofs.Rows.{letter_row}
 use Rattle.board.specs.History.{AreTracks, Track}
-use Rattle.board.specs.Channels.{kind_number, is_channel, letter_in, track, AreSpecs}
-
--- the kind of a number
-kind_of : ℕ → Kind
-kind_of n = if nat_eq n 0 then Phase else if nat_eq n 1 then Ped else if nat_eq n 2 then Overlap else if nat_eq n 3 then Detector else if nat_eq n 4 then PedDetector else if nat_eq n 5 then PreemptInput else if nat_eq n 6 then PreemptService else Coordination
-
-kind_back : (k : Kind) → kind_of (kind_number k) ≡ k
-unfolding kind_of
-kind_back Phase = refl
-kind_back Ped = refl
-kind_back Overlap = refl
-kind_back Detector = refl
-kind_back PedDetector = refl
-kind_back PreemptInput = refl
-kind_back PreemptService = refl
-kind_back Coordination = refl
-
-pub kind_same : (a b : Kind) → kind_number a ≡ kind_number b → a ≡ b
-kind_same a b e = sym (kind_back a) ∙ (ap kind_of e ∙ kind_back b)
-
-abbrev channel_with : Kind → ℕ → Channel
-channel_with k n = record { kind = k; number = n }
-
-pub channel_same : (c d : Channel) → c.kind ≡ d.kind → c.number ≡ d.number → c ≡ d
-channel_same c d a b = ap (λ (k : Kind). channel_with k c.number) a ∙ ap (λ (n : ℕ). channel_with d.kind n) b
+use Rattle.board.specs.Channels.{is_channel, letter_in, track, AreSpecs}
 
 -- the test of a channel tells
 pub found_channel : (c : Channel) (o : Option Channel) → is_channel c o ≡ true → o ≡ Some c

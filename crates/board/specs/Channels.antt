@@ -1,24 +1,12 @@
 -- The specs of channels, and the tracks that they stand for.
 use Rattle.std.specs.Prelude.{◌≢◌, ℕ, ◌<◌, nat_eq, ◌&&◌, Bool, false, if◌then◌else◌, Option, Some, None, List, length, slice_index_or}
 use Rattle.event_codes.specs.declared.channels.Channel.{Channel}
-use Rattle.event_codes.specs.declared.channels.Kind.{Kind}
-use Rattle.event_codes.specs.declared.channels.Kind.TheVariants.{Phase, Ped, Overlap, Detector, PedDetector, PreemptInput, PreemptService, Coordination}
+use Rattle.event_codes.specs.Cells.{kind_number}
 use Rattle.event_codes.specs.Channels.{channel_in_table}
 use Rattle.channel_tables.specs.declared.spec.Spec.{Spec}
 use Rattle.channel_tables.specs.Spec.{IsSpec, rules_of}
 use Rattle.channel_tables.specs.Letters.{letter_in_table, IsNumber}
 use Rattle.board.specs.History.{Track}
-
--- a number for each kind
-abbrev pub kind_number : Kind → ℕ
-kind_number Phase = 0
-kind_number Ped = 1
-kind_number Overlap = 2
-kind_number Detector = 3
-kind_number PedDetector = 4
-kind_number PreemptInput = 5
-kind_number PreemptService = 6
-kind_number Coordination = 7
 
 -- there is a channel, and it is this one
 abbrev pub is_channel : Channel → Option Channel → Bool

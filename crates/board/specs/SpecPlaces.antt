@@ -1,13 +1,9 @@
 -- The place of each channel among the specs, in a table by the channel.
-use Rattle.std.specs.Prelude.{◌≡◌, ◌≢◌, ◌⊎◌, ℕ, ◌+◌, ◌*◌, ◌<◌, ◌≤◌, List, Option, MatchOption, length, slice_index_or}
+use Rattle.std.specs.Prelude.{◌≡◌, ◌≢◌, ◌⊎◌, ℕ, ◌<◌, ◌≤◌, List, Option, MatchOption, length, slice_index_or}
 use Rattle.event_codes.specs.declared.channels.Channel.{Channel}
+use Rattle.event_codes.specs.Cells.{cell_of}
 use Rattle.channel_tables.specs.declared.spec.Spec.{Spec}
-use Rattle.board.specs.Channels.{kind_number}
 use Rattle.board.specs.Logs.{no_spec}
-
--- the cell of a channel
-abbrev pub cell_of : Channel → ℕ
-cell_of c = c.number * 8 + kind_number c.kind
 
 -- the place of the channel among the first n specs, or 65535 where it has none
 abbrev pub IsPlaceOf : List Spec → ℕ → Channel → ℕ → Type 0

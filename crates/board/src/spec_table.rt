@@ -1,12 +1,11 @@
 // The place of each channel among the specs, without a search.
 ghost use Rattle.std.specs.Prelude.{◌≡◌, ◌≢◌, ℕ, ◌<◌, ◌≤◌, List, length, slice_index_or, MatchOption, IfOk};
 ghost use Rattle.channel_tables.specs.declared.spec.Spec.{Spec};
-ghost use Rattle.board.specs.Channels.{kind_number};
 ghost use Rattle.board.specs.Logs.{no_spec};
-ghost use Rattle.board.specs.SpecPlaces.{cell_of, AreCells, HaveCells, IsPlaceAmong, IsTable};
+ghost use Rattle.board.specs.SpecPlaces.{AreCells, HaveCells, IsPlaceAmong, IsTable};
 
 use channel_tables::Spec;
-use event_codes::{Channel, Kind};
+use event_codes::Channel;
 use sig_base::NoMemory;
 use std::alloc::Global;
 use std::marker::Model;
@@ -33,7 +32,7 @@ impl SpecTable {
     {
         let mut cells = vec![in alloc; 65_535u16; cell_count(specs)]?;
         for i in 0..specs.len() {
-            cells[cell_of(specs[i].channel)] = i as u16;
+            cells[specs[i].channel.cell()] = i as u16;
         }
         Ok(SpecTable { cells })
     }
@@ -42,7 +41,7 @@ impl SpecTable {
     pub fn place_of(&self, channel: Channel) -> Option<u16>
         ensures { (specs : List Spec) → IsTable specs self.now → IsPlaceAmong specs channel result }
     {
-        let cell = cell_of(channel);
+        let cell = channel.cell();
         if cell >= self.cells.len() {
             return None;
         }
@@ -60,32 +59,7 @@ fn cell_count(specs: &[Spec]) -> usize
 {
     let mut count = 0;
     for i in 0..specs.len() {
-        count = count.max(cell_of(specs[i].channel) + 1);
+        count = count.max(specs[i].channel.cell() + 1);
     }
     count
-}
-
-// The cell of a channel.
-fn cell_of(channel: Channel) -> usize
-    ensures cell { result ≡ cell_of channel }
-    ensures within { result < 2048 }
-{
-    channel.number as usize * 8 + kind_number(channel.kind)
-}
-
-// The number of a kind.
-fn kind_number(kind: Kind) -> usize
-    ensures number { result ≡ kind_number kind }
-    ensures within { result < 8 }
-{
-    match kind {
-        Kind::Phase => 0,
-        Kind::Ped => 1,
-        Kind::Overlap => 2,
-        Kind::Detector => 3,
-        Kind::PedDetector => 4,
-        Kind::PreemptInput => 5,
-        Kind::PreemptService => 6,
-        Kind::Coordination => 7,
-    }
 }

@@ -1,5 +1,5 @@
 -- What the loop over the records knows.
-use Rattle.std.proofs.Common.{◌≡◌, ◌≤◌, ◌<◌, ◌+◌, ℕ, true, false, List, [], ◌∷◌, ◌++◌, Option, Some, Result, Ok, Err, Bor, refl, ap, ◌∙◌, inl}
+use Rattle.std.proofs.Common.{◌≡◌, ◌≤◌, ◌<◌, ◌+◌, ℕ, true, false, List, [], ◌∷◌, ◌++◌, Option, Some, Result, Ok, Err, Bor, refl, ◌∙◌, inl}
 use Rattle.csv.specs.Machine.{Read, next_record, ends_at_end}
 use Rattle.csv.specs.Reading.{Ready, Reached, ReadRecord, default_config, source_of}
 use Rattle.csv.specs.declared.reader.Reader.{Reader}
@@ -9,7 +9,7 @@ use Rattle.csv.proofs.ReadFacts.{rows-end, rows-more}
 use Rattle.sig_base.specs.declared.values.Row.{Row}
 use Rattle.row_reader.specs.Order.{AreWithin}
 use Rattle.row_reader.specs.CsvRest.{rest_records}
-use Rattle.row_reader.specs.Rows.{Wanted, is_header, record_row, rows_after, good_rows, on_rows, IsRefusal}
+use Rattle.row_reader.specs.Rows.{Wanted, is_header, record_row, rows_after, good_rows, IsRefusal}
 use Rattle.row_reader.specs.declared.row_error.RowError.TheVariants.{TooManyRows, Fields, WrongSignal, Stamp, OutsideHour, Code, Param, Memory}
 use Rattle.row_reader.specs.declared.row_error.RowError.{RowError}
 use Rattle.row_reader.proofs.CsvRestFacts.{rest_records-some, rest_records-none, next-shorter}

@@ -162,6 +162,15 @@ kept-dropped from to rows look_up kept i d within h e =
       count = omega (arith, k.count);
     }
 
+-- the last row of the group, as it was looked up, tells the repeats
+looked : (row : Row) (look_up : Group → Option Row) (g : Group) (o : Option Row) (b : Bool) → g ≡ group_of_row row → o ≡ look_up g → is_row row o ≡ b → is_row row (look_up (group_of_row row)) ≡ b
+looked row look_up g o b e f h = ap (λ (k : Group). is_row row (look_up k)) (sym e) ∙ ap (is_row row) (sym f) ∙ h
+
+pub kept-dropped-by : (from to : ℕ) (rows : List Row) (look_up : Group → Option Row) (kept : List Row) (i : ℕ) (d : Row) (g : Group) (o : Option Row) → i < length rows
+    → IsKept from to rows look_up kept (drop i rows) → g ≡ group_of_row (get_or rows i d) → o ≡ look_up g → is_row (get_or rows i d) o ≡ true → IsKept from to rows look_up kept (drop (i + 1) rows)
+kept-dropped-by from to rows look_up kept i d g o within h e f is =
+    kept-dropped from to rows look_up kept i d within h (looked (get_or rows i d) look_up g o true e f is)
+
 pub kept-added : (from to : ℕ) (rows : List Row) (look_up new : Group → Option Row) (kept : List Row) (i : ℕ) (d : Row) → i < length rows
     → IsKept from to rows look_up kept (drop i rows) → is_row (get_or rows i d) (look_up (group_of_row (get_or rows i d))) ≡ false → IsWithLast (get_or rows i d) look_up new
     → IsKept from to rows new (kept ++ get_or rows i d ∷ []) (drop (i + 1) rows)
@@ -176,6 +185,12 @@ kept-added from to rows look_up new kept i d within h e w =
       last = noted row look_up new kept k.last w;
       count = omega (arith, k.count, length-append kept (row ∷ []));
     }
+
+pub kept-added-by : (from to : ℕ) (rows : List Row) (look_up new : Group → Option Row) (kept : List Row) (i : ℕ) (d : Row) (g : Group) (o : Option Row) → i < length rows
+    → IsKept from to rows look_up kept (drop i rows) → g ≡ group_of_row (get_or rows i d) → o ≡ look_up g → is_row (get_or rows i d) o ≡ false → IsWithLast (get_or rows i d) look_up new
+    → IsKept from to rows new (kept ++ get_or rows i d ∷ []) (drop (i + 1) rows)
+kept-added-by from to rows look_up new kept i d g o within h e f is w =
+    kept-added from to rows look_up new kept i d within h (looked (get_or rows i d) look_up g o false e f is) w
 
 -- nothing is left
 pub kept-end : (from to : ℕ) (rows : List Row) (look_up : Group → Option Row) (kept : List Row) (i : ℕ) → length rows ≤ i

@@ -1,7 +1,9 @@
 -- The last row of each group, as it is looked up while repeats are dropped.
-use Rattle.std.specs.Prelude.{◌≡◌, ◌==◌, ◌&&◌, Bool, false, List, Option, Some, None, if◌then◌else◌}
+use Rattle.std.specs.Prelude.{◌≡◌, ◌==◌, ◌&&◌, Bool, false, List, Option, Some, None, slice_index_or, if◌then◌else◌}
 use Rattle.sig_base.specs.declared.values.Row.{Row}
 use Rattle.event_codes.specs.declared.channels.Group.{Group}
+use Rattle.event_codes.specs.declared.channels.Group.TheVariants.{Of, Alone}
+use Rattle.event_codes.specs.Cells.{cell_of}
 use Rattle.row_reader.specs.Repeats.{same_group, group_of_row, last_where}
 
 -- there is such a row, and it is this one
@@ -20,3 +22,8 @@ GivesLast look_up rows = (g : Group) → look_up g ≡ last_of g rows
 -- the look-ups differ in this row alone, which is the last one of its group
 abbrev pub IsWithLast : Row → (Group → Option Row) → (Group → Option Row) → Type 0
 IsWithLast row old new = (g : Group) → new g ≡ (if same_group (group_of_row row) g then Some row else old g)
+
+-- the look-up of a group: that of a channel in its cell, any other one by itself
+abbrev pub looked_up : List (Option Row) → (Group → Option Row) → Group → Option Row
+looked_up cells alone (Of c) = slice_index_or cells (cell_of c) None
+looked_up cells alone (Alone code param) = alone (Alone code param)

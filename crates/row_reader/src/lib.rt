@@ -6,6 +6,7 @@
 #![tactic(auto)]
 
 mod count;
+mod lasts;
 mod number;
 mod order;
 mod reader;

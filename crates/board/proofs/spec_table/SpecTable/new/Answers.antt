@@ -20,8 +20,8 @@ loop-i-preserved c =
     let own = (get_or specs c.loop-i.i no_spec).channel in
     let (have, are) = c.loop-i.invariant in
     let more = cells_more specs c.loop-i.i c.loop-i.cells.items own (have c.loop-i.i (omega arith)) refl are in (
-      subst (λ (n : ℕ). HaveCells specs (length specs) n) (sym (length-set c.loop-i.cells.items c.cell_of.result c.loop-i.i)) have,
-      subst (λ (k : ℕ). AreCells specs (c.loop-i.i + 1) (set c.loop-i.cells.items k c.loop-i.i)) (sym c.cell_of.ensures.cell) more,
+      subst (λ (n : ℕ). HaveCells specs (length specs) n) (sym (length-set c.loop-i.cells.items c.cell.result c.loop-i.i)) have,
+      subst (λ (k : ℕ). AreCells specs (c.loop-i.i + 1) (set c.loop-i.cells.items k c.loop-i.i)) (sym c.cell.ensures.cell) more,
     )
 
 pub returns : goal.returns

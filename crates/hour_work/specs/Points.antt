@@ -1,16 +1,16 @@
 -- What is kept at an hour point: the place before an hour's first tenth, or the window's end.
-use Rattle.std.specs.Prelude.{◌≡◌, ◌-◌, ℕ, ℤ, nat_lt, Bool, ◌&&◌, List, Option}
+use Rattle.std.specs.Prelude.{◌≡◌, ◌-◌, ◌+◌, ℕ, ℤ, nat_lt, Bool, ◌&&◌, List, Option}
 use Rattle.span_set.specs.declared.set.Span.{Span}
 use Rattle.sig_base.specs.declared.values.Row.{Row}
 use Rattle.channel_tables.specs.declared.spec.Spec.{Spec}
 use Rattle.hour_store.specs.Store.{Store, is_known}
 use Rattle.board.specs.Logs.{first_tenth}
 use Rattle.board.specs.Stops.{AreBefore}
-use Rattle.board.specs.Places.{AllEarly}
+use Rattle.board.specs.Places.{AllEarly, AreAheadsOf}
 use Rattle.ring_config.specs.Settings.{Settings}
 use Rattle.signal_log.specs.Log.{IsContradiction, Log, log_of}
 use Rattle.signal_log.specs.Points.{ArePastsAt, AreAheadsAt, AreAheadsFor}
-use Rattle.signal_log.specs.Over.{IsStopOver}
+use Rattle.signal_log.specs.Over.{AreAheadsOver, ArePastsOver, IsStopOver}
 use Rattle.service_cut.specs.declared.parts.Part.{Part}
 use Rattle.service_cut.specs.Parts.{IsCarry as IsCut}
 use Rattle.other_measures.specs.Crossing.{Crossing, IsCarry as IsCrossing}
@@ -65,3 +65,13 @@ NamesRow log Memory = Unit {0}
 abbrev pub NamesStop : List Spec → ℕ → Option (List Row) → List Span → List (List (List Span)) → ForwardError → Type 0
 NamesStop specs hour rows blanks before (Contradiction row) = IsStopOver specs hour rows blanks before row
 NamesStop specs hour rows blanks before Memory = Unit {0}
+
+-- by what is told of the hour, its states lead from the one to the other, whatever the states before it
+pub record GoesOver (c : Settings) (hour : ℕ) (rows : Option (List Row)) (blanks : List Span) (before after : Carried) : Type 0 where
+  pub fit : FitPoint c (hour + 1) after
+  pub over : ArePastsOver c.specs hour rows blanks before.pasts after.pasts
+
+-- by what is told of the hour, those at the point before it lead to those at the point after it, whatever these are
+pub record ComesBack (c : Settings) (hour : ℕ) (rows : Option (List Row)) (blanks : List Span) (after before : List (List (Option ℤ))) : Type 0 where
+  pub fit : AreAheadsOf c.specs before
+  pub over : AreAheadsOver c.specs hour rows blanks after before

@@ -37,4 +37,4 @@ pub use lists::{pick, put_in};
 pub use numbers::Partial;
 pub use points::{phase_cycles, phase_points};
 pub use reported::{Report, Sums};
-pub use steps::{ForwardError, backward, forward};
+pub use steps::{ForwardError, backward, backward_again, forward, forward_again};

@@ -1,5 +1,5 @@
 -- What the calls of an hour know of it.
-use Rattle.std.proofs.Common.{◌≡◌, refl, sym, subst, ℕ, ◌+◌, ◌*◌, ◌<◌, Bool, List, arith, Option, Some, None, Bor}
+use Rattle.std.proofs.Common.{◌≡◌, refl, sym, subst, ℕ, ℤ, ◌+◌, ◌*◌, ◌<◌, Bool, List, arith, Option, Some, None, Bor}
 use Rattle.std.specs.Prelude.{is_some, option_copied, IfSome, IfOk, Result, Ok, Err}
 use Rattle.span_set.specs.declared.set.Span.{Span}
 use Rattle.sig_base.specs.declared.values.Row.{Row}
@@ -13,12 +13,12 @@ use Rattle.board.specs.declared.pasts.PastsError.{PastsError}
 use Rattle.board.specs.declared.pasts.PastsError.TheVariants.{NoState, Memory}
 use Rattle.board.specs.Channels.{AreSpecs}
 use Rattle.board.specs.Logs.{IsHour, end_tenth, first_tenth, no_row}
-use Rattle.board.specs.Hours.{ArePastsOf, NamesStop}
+use Rattle.board.specs.Hours.{AreAheadsBefore, ArePastsOf, NamesStop}
 use Rattle.board.proofs.Rows.{rows_split}
 use Rattle.board.proofs.Within.{hour_rows}
 use Rattle.signal_log.specs.Log.{IsContradiction, log_of}
 use Rattle.signal_log.specs.Points.{ArePastsAt, HasHour, NamesContradiction, rows_or_none}
-use Rattle.signal_log.specs.Over.{ArePastsOver, IsCutOf, NamesStopOver}
+use Rattle.signal_log.specs.Over.{AreAheadsOver, ArePastsOver, IsCutOf, NamesStopOver}
 use Rattle.signal_log.proofs.Stopped.{contradicts}
 
 pub copied_some : (o : Option (Bor (List Row))) → is_some o ≡ is_some (option_copied o)
@@ -51,6 +51,9 @@ names specs s hour rows blanks ss before are fit cut (NoState row) (n, is, at) h
 names specs s hour rows blanks ss before are fit cut Memory at has pasts = tt
 
 -- an hour's cut is one list, so what holds of the list that a call made holds of each
+pub aheads_over : (specs : List Spec) (hour : ℕ) (rows : Option (List Row)) (blanks : List Span) (ss : List Stretch) (after aheads : List (List (Option ℤ))) → IsHour hour (rows_or_none rows) ss → ((zs : List Stretch) → IsCutOf hour rows blanks zs → zs ≡ ss) → AreAheadsBefore specs (rows_or_none rows) ss after aheads → AreAheadsOver specs hour rows blanks after aheads
+aheads_over specs hour rows blanks ss after aheads is one are = λ zs cut. rw (one zs cut) (are hour is)
+
 pub pasts_over : (specs : List Spec) (hour : ℕ) (rows : Option (List Row)) (blanks : List Span) (ss : List Stretch) (before pasts : List (List (List Span))) → IsHour hour (rows_or_none rows) ss → ((zs : List Stretch) → IsCutOf hour rows blanks zs → zs ≡ ss) → ArePastsOf specs (rows_or_none rows) ss before pasts → ArePastsOver specs hour rows blanks before pasts
 pasts_over specs hour rows blanks ss before pasts is one are =
     (λ zs cut. rw (one zs cut) (are hour is).0, λ zs cut. rw (one zs cut) (are hour is).1)

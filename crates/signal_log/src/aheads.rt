@@ -6,6 +6,7 @@ ghost use Rattle.board.specs.Channels.{AreSpecs};
 ghost use Rattle.board.specs.Places.{AreAheadsOf};
 ghost use Rattle.signal_log.specs.Log.{log_of};
 ghost use Rattle.signal_log.specs.Points.{AreAheadsAt, HasHour};
+ghost use Rattle.signal_log.specs.Over.{AreAheadsOver};
 
 use crate::pasts::held_rows;
 use board::{Aheads, aheads_hour};
@@ -34,6 +35,8 @@ pub fn aheads_before(
     ensures aheads { IfOk result (λ a. (s : Store) → HasHour s hour (option_copied rows.entry)
         blanked.now → AreAheadsAt (log_of specs.now s) (hour + 1) after.now
         → AreAheadsAt (log_of specs.now s) hour a) }
+    ensures over { IfOk result (AreAheadsOver specs.now hour (option_copied rows.entry) blanked.now
+        after.now) }
 {
     let cut = stretches(alloc, hour, rows.is_some(), blanked)?;
     aheads_hour(alloc, specs, after, held_rows(rows), &cut)

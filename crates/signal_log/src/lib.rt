@@ -10,10 +10,12 @@
 //! points the view of one hour says what the histories of the whole window say.
 #![tactic(auto)]
 
+mod about;
 mod aheads;
 mod laws;
 mod pasts;
 
+pub use about::About;
 pub use aheads::aheads_before;
 pub use laws::{
     alike_meet_same, channels_combine, hours_tell, less_is_known, nothing_contradicts,

@@ -81,7 +81,7 @@ fn put_rule_line<K: Sink>(
 
 /// Writes for each rule that has verdicts in an hour, or in the window, how many of them are kept,
 /// broken and undecided.
-pub(crate) fn put_audit_counts<K: Sink>(
+pub fn put_audit_counts<K: Sink>(
     config: &Config,
     rules: &[Rule],
     part: &Partial,
@@ -174,7 +174,7 @@ fn put_verdict<K: Sink>(
 
 /// Writes the line of one verdict: kept, broken or undecided, the rule's number, the tenth, and the
 /// window where the line has one. An idle one has no line.
-pub(crate) fn put_audit_line<K: Sink>(
+pub fn put_audit_line<K: Sink>(
     config: &Config,
     line: &AuditLine,
     sink: &mut K,

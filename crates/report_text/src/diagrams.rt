@@ -74,9 +74,9 @@ fn put_points<K: Sink>(config: &Config, points: &[Point], sink: &mut K) -> Resul
     Ok(())
 }
 
-// Writes a whole cycle: its begin, its length and its last begins of green and of yellow, in tenths
-// of a second, and then a line for each arrival in it.
-pub(crate) fn put_diagram<K: Sink>(
+/// Writes a whole cycle: its begin, its length and its last begins of green and of yellow, in tenths
+/// of a second, and then a line for each arrival in it.
+pub fn put_diagram<K: Sink>(
     config: &Config,
     diagram: &Diagram,
     sink: &mut K,

@@ -25,11 +25,13 @@ mod usage;
 mod verdicts;
 
 pub use applied::put_applied;
+pub use audit::{put_audit_counts, put_audit_line};
 pub use config_refusal::put_config_error;
 pub use counts::put_counts;
-pub use diagrams::put_diagrams;
-pub use measures::{put_hour_measures, put_window_measures};
+pub use diagrams::{put_diagram, put_diagrams};
+pub use measures::{put_hour_measures, put_measures, put_window_measures};
 pub use packed::put_packed_refusal;
+pub use pairs::put_pair;
 pub use refusal::{Refusal, put_refusal};
 pub use shifts::put_shifts;
 pub use undecided::{put_nothing, put_pairs};

@@ -41,11 +41,11 @@ fn put_others<K: Sink>(config: &Config, part: &Partial, sink: &mut K) -> Result<
     put_coordination(config.coordination(), others.coordination(), sink)
 }
 
-// Writes the held hours, their rows with those at blanked tenths, and the known tenths; then a line
-// for each phase, each pedestrian signal and each preempt, by ascending number, and one for the
-// coordination where it is on; then for each approach, in file order, a line for its advance
-// detector and two for its stop bar detector.
-fn put_measures<K: Sink>(config: &Config, part: &Partial, sink: &mut K) -> Result<(), PutFailed>
+/// Writes the held hours, their rows with those at blanked tenths, and the known tenths; then a line
+/// for each phase, each pedestrian signal and each preempt, by ascending number, and one for the
+/// coordination where it is on; then for each approach, in file order, a line for its advance
+/// detector and two for its stop bar detector.
+pub fn put_measures<K: Sink>(config: &Config, part: &Partial, sink: &mut K) -> Result<(), PutFailed>
     ensures { Puts (K.taken sink.old) (K.taken sink.new) (measures_text config.now part.now) result }
 {
     put_held(part, sink)?;

@@ -10,6 +10,7 @@ use filling_pair::{Fill, Pair, Strand};
 use itoa::Buffer;
 use outside::{PutFailed, Sink, put_parts};
 use ring_config::Config;
+use rule_audit::AuditLine;
 use sig_base::Window;
 
 fn put_fill<K: Sink>(window: &Window, fill: Fill, sink: &mut K) -> Result<(), PutFailed>
@@ -161,22 +162,21 @@ fn put_undecided<K: Sink>(
     )
 }
 
-/// Writes the number of a rule and a tenth at which it is undecided, and then each channel's start
-/// and fills: those with which the rule is kept there, and those with which it is broken. A start is
+/// Writes the number of an undecided line's rule and the tenth, and then each channel's start and
+/// fills: those with which the rule is kept there, and those with which it is broken. A start is
 /// the channel, its colour, and for how many tenths it has had it when the window begins. The
-/// window has this tenth and those of the fills.
-pub(crate) fn put_pair<K: Sink>(
+/// window has the tenths of the line and of the fills.
+pub fn put_pair<K: Sink>(
     config: &Config,
-    rule: u16,
-    at: u32,
+    line: &AuditLine,
     pair: &Pair,
     sink: &mut K,
 ) -> Result<(), PutFailed>
-    requires at { at < 36000 * config.now.window.hours }
+    requires at { line.now.at < 36000 * config.now.window.hours }
     requires pair { IsPairIn config.now.window pair.now }
-    ensures { Puts (K.taken sink.old) (K.taken sink.new) (pair_text config.now rule at pair.now)
-        result }
+    ensures { Puts (K.taken sink.old) (K.taken sink.new)
+        (pair_text config.now line.now.rule line.now.at pair.now) result }
 {
-    put_undecided(config.window(), rule, at, sink)?;
+    put_undecided(config.window(), line.rule, line.at, sink)?;
     put_sides(config, pair, sink)
 }

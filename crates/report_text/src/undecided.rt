@@ -7,6 +7,8 @@ use crate::pairs::put_pair;
 use filling_pair::Pair;
 use outside::{PutFailed, Sink};
 use ring_config::Config;
+use rule_audit::{AuditLine, Place};
+use sig_base::Verdict;
 
 /// Writes that nothing is undecided there.
 pub fn put_nothing<K: Sink>(sink: &mut K) -> Result<(), PutFailed>
@@ -17,18 +19,17 @@ pub fn put_nothing<K: Sink>(sink: &mut K) -> Result<(), PutFailed>
 
 fn put_each<K: Sink>(
     config: &Config,
-    rule: u16,
-    at: u32,
+    line: &AuditLine,
     pairs: &[Pair],
     sink: &mut K,
 ) -> Result<(), PutFailed>
-    requires at { at < 36000 * config.now.window.hours }
+    requires at { line.now.at < 36000 * config.now.window.hours }
     requires pairs { All (IsPairIn config.now.window) pairs.now }
     ensures { Puts (K.taken sink.old) (K.taken sink.new)
-        (flat_map (pair_text config.now rule at) pairs.now) result }
+        (flat_map (pair_text config.now line.now.rule line.now.at) pairs.now) result }
 {
     for pair in pairs {
-        put_pair(config, rule, at, pair, sink)?;
+        put_pair(config, line, pair, sink)?;
     }
     Ok(())
 }
@@ -51,5 +52,12 @@ pub fn put_pairs<K: Sink>(
     if pairs.is_empty() {
         return put_nothing(sink);
     }
-    put_each(config, rule, at, pairs, sink)
+    let line = AuditLine {
+        rule,
+        at,
+        place: Place::EndOfTenth,
+        verdict: Verdict::Undecided,
+        window: None,
+    };
+    put_each(config, &line, pairs, sink)
 }

@@ -6,5 +6,7 @@ pub mod TrimFacts
 pub mod OrderFacts
 pub mod RepeatFacts
 pub mod ReadFacts
+pub mod CutFacts
 pub mod FormFacts
+pub mod MinuteFacts
 pub mod GroupFacts

@@ -2,6 +2,7 @@ pub mod CsvRest
 pub mod Number
 pub mod Signal
 pub mod Stamp
+pub mod Minute
 pub mod Forms
 pub mod Trim
 pub mod Order

@@ -7,6 +7,7 @@
 
 mod count;
 mod lasts;
+mod minute;
 mod number;
 mod order;
 mod reader;

@@ -30,6 +30,7 @@ fn good_rows(alloc: Global, bytes: &[u8], request: &Request<'_>) -> Result<Vec<R
     let mut fields = ByteRecord::new(alloc);
     let mut rows = Vec::new(alloc);
     let mut headers = 0;
+    let mut minute = None;
     for number in 1..400_003 {
         match reader.read_byte_record(&mut fields) {
             Ok(true) => {}
@@ -40,7 +41,7 @@ fn good_rows(alloc: Global, bytes: &[u8], request: &Request<'_>) -> Result<Vec<R
             headers = 1;
             continue;
         }
-        let row = match record_row(request, headers, number, &fields) {
+        let row = match record_row(request, &mut minute, headers, number, &fields) {
             Ok(row) => row,
             Err(error) => return Err(error),
         };

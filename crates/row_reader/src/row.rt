@@ -4,8 +4,8 @@ ghost use Rattle.csv.specs.Records.{fields_of};
 ghost use Rattle.row_reader.specs.Rows.{at_in_hour, field, is_header, is_word, record_row, row_of};
 
 use crate::RowError;
+use crate::minute::{Minute, read_next_stamp};
 use crate::number::read_number;
-use crate::stamp::read_stamp;
 use crate::trim::trimmed;
 use csv::ByteRecord;
 use sig_base::{Hour, Row, Tenth, Window};
@@ -54,8 +54,11 @@ pub(crate) fn is_header(number: u32, fields: &ByteRecord) -> bool
     number == 1 && is_header_word(field(fields, 0))
 }
 
+// The row of four fields. `minute` is that of the stamp before, where it is known, and then that of
+// this one.
 fn row_of(
     request: &Request<'_>,
+    minute: &mut Option<Minute>,
     n: u32,
     signal: &[u8],
     stamp: &[u8],
@@ -70,7 +73,7 @@ fn row_of(
     if signal != request.signal.as_bytes() {
         return Err(RowError::WrongSignal(n));
     }
-    let Some(tenth) = read_stamp(stamp, request.window) else {
+    let Some(tenth) = read_next_stamp(minute, stamp, request.window) else {
         return Err(RowError::Stamp(n));
     };
     let Some(at) = at_in_hour(request.hour, tenth) else {
@@ -89,9 +92,11 @@ fn row_of(
     })
 }
 
-// The row of the record of this number; so many records before it were a header.
+// The row of the record of this number; so many records before it were a header. `minute` is that
+// of the stamp before, as in `row_of`.
 pub(crate) fn record_row(
     request: &Request<'_>,
+    minute: &mut Option<Minute>,
     headers: u32,
     number: u32,
     fields: &ByteRecord,
@@ -112,6 +117,7 @@ pub(crate) fn record_row(
     }
     row_of(
         request,
+        minute,
         number,
         field(fields, 0),
         field(fields, 1),

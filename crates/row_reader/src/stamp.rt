@@ -19,7 +19,7 @@ fn find(text: &[u8], mark: u8) -> Option<usize>
 }
 
 // The text before the first such byte, and the text after it.
-fn cut(text: &[u8], mark: u8) -> Option<(&[u8], &[u8])>
+pub(crate) fn cut(text: &[u8], mark: u8) -> Option<(&[u8], &[u8])>
     ensures { option_map (λ p. (p.0.now, p.1.now)) result ≡ cut mark text.now }
 {
     match find(text, mark) {
@@ -99,7 +99,7 @@ fn slashed_date(text: &[u8]) -> Option<i64>
     slashed_day(month, rest)
 }
 
-fn date_of(text: &[u8]) -> Option<i64>
+pub(crate) fn date_of(text: &[u8]) -> Option<i64>
     ensures value { result ≡ date_of text.now }
     ensures bound { IfSome result IsDay }
 {
@@ -130,7 +130,7 @@ fn tenths(second: Option<u32>, tenth: Option<u32>) -> Option<u32>
 }
 
 // SS or SS.f, as tenths.
-fn seconds_of(text: &[u8]) -> Option<u32>
+pub(crate) fn seconds_of(text: &[u8]) -> Option<u32>
     ensures value { result ≡ seconds_of (cut 46 text.now) text.now }
     ensures bound { IfSome result (λ n. n < 600) }
 {

@@ -1,4 +1,5 @@
 // Stamps, files and refusals as they are known from the field, and calls that find enough memory.
+use crate::minute::read_next_stamp;
 use crate::{RowError, count_code, read_hour_stamp, read_rows, read_stamp};
 use sig_base::{HourRows, Reads, Row, Window};
 use std::alloc::Global;
@@ -10,7 +11,12 @@ const DAY: i64 = 19_786;
 fn stamps(rt: HostRuntime) -> Result<(), Fail> {
     assert_eq!(rt; read_hour_stamp(b"2024-03-04T06"), Some((DAY, 6)));
     let window = Window::new(DAY, 6, 1).ok_or("window")?;
-    let cases: [(&[u8], Option<i64>); 16] = [
+    let cases: [(&[u8], Option<i64>); 21] = [
+        (b"2024-03-04 06:12:30.5", Some(7_505)),
+        (b"2024-03-04 06:12:31", Some(7_510)),
+        (b"2024-03-04 06:12:60", None),
+        (b"2024-03-05 06:12:31", Some(871_510)),
+        (b"2024-03-05T06:12:31", Some(871_510)),
         (b"3/4/2024 6:00:00.05", Some(0)),
         (b"2024-03-04T06:59:59.999999999", Some(35_999)),
         (b"2024-03-04 07:00:00", Some(36_000)),
@@ -28,8 +34,11 @@ fn stamps(rt: HostRuntime) -> Result<(), Fail> {
         (b"2024-03-04t06:00:00", None),
         (b"", None),
     ];
+    let mut minute = None;
     for (text, want) in cases {
         assert_eq!(rt; read_stamp(text, &window), want, "at {text:?}");
+        let next = read_next_stamp(&mut minute, text, &window);
+        assert_eq!(rt; next, want, "after another, at {text:?}");
     }
     Ok(())
 }
@@ -93,7 +102,7 @@ fn refusal(alloc: Global, bytes: &[u8], window: &Window) -> Option<RowError> {
 #[test]
 fn refusals(rt: HostRuntime) -> Result<(), Fail> {
     let window = Window::new(DAY, 6, 1).ok_or("window")?;
-    let cases: [(&[u8], RowError); 8] = [
+    let cases: [(&[u8], RowError); 10] = [
         (b"7,2024-03-04 06:00:10.0,1", RowError::Fields(1)),
         (b"7,2024-03-04 07:00:00.0,1,2", RowError::OutsideHour(1)),
         (b"8,2024-03-04 06:00:00.0,1,2", RowError::WrongSignal(1)),
@@ -102,6 +111,14 @@ fn refusals(rt: HostRuntime) -> Result<(), Fail> {
         (b"7,2024-03-04 06:00:00.0,-1,2", RowError::Code(1)),
         (b"7,2024-03-04 06:00:00.0,8,65536", RowError::Param(1)),
         (b"signalid\nSignalID,,,\n", RowError::WrongSignal(2)),
+        (
+            b"7,2024-03-04 06:12:30.5,1,2\n7,2024-03-04 06:12:3x,1,2\n",
+            RowError::Stamp(2),
+        ),
+        (
+            b"7,2024-03-04 06:12:30.5,1,2\n7,2024-03-05 06:12:30.5,1,2\n",
+            RowError::OutsideHour(2),
+        ),
     ];
     for (bytes, want) in cases {
         assert_eq!(rt;

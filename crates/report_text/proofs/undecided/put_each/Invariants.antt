@@ -7,4 +7,4 @@ use Rattle.report_text.proofs.undecided.put_each.Given as goal
 abbrev pub invariant-loop-pair : goal.invariant-loop-pair
 invariant-loop-pair g l =
     Going (g.K.Sink.taken l.fn.sink) (g.K.Sink.taken l.sink)
-    (flat_map (pair_text l.config l.rule l.at) l.pairs) (flat_map (pair_text l.config l.rule l.at) (drop l.pair-index l.pairs))
+    (flat_map (pair_text l.config l.line.rule l.line.at) l.pairs) (flat_map (pair_text l.config l.line.rule l.line.at) (drop l.pair-index l.pairs))

@@ -1,16 +1,15 @@
 ghost use Rattle.std.specs.Prelude.{◌≡◌, [], ◌∷◌, negsuc, IfOk};
 
 use crate::approaches::put_approaches;
-use crate::diagrams::put_diagram;
-use crate::pairs::put_pair;
-use crate::put_shifts;
+use crate::{put_diagram, put_pair, put_shifts};
 use arrival_measures::{ArrivalSum, Diagram, Point, Points};
 use filling_pair::{Fill, Fills, Pair, Strand, Strands};
 use offset_search::{Arrival, shift_counts};
 use outside::MemSink;
 use ring_config::read_config;
+use rule_audit::{AuditLine, Place};
 use service_cut::Cycle;
-use sig_base::NoMemory;
+use sig_base::{NoMemory, Verdict};
 use split_measures::SplitSum;
 use std::alloc::Global;
 use std::test::Fail;
@@ -211,8 +210,15 @@ fn lines_of_a_pair(rt: HostRuntime) -> Result<(), Fail> {
         keeps: from_red(alloc, Fills::new(alloc))?,
         breaks: from_red(alloc, fills)?,
     };
+    let line = AuditLine {
+        rule: 1,
+        at: 1200,
+        place: Place::BeforeRow(3),
+        verdict: Verdict::Undecided,
+        window: None,
+    };
     let mut sink = MemSink::new(alloc, 1000)?;
-    assert_eq!(rt; put_pair(&config, 1, 1200, &pair, &mut sink), Ok(()));
+    assert_eq!(rt; put_pair(&config, &line, &pair, &mut sink), Ok(()));
     let wanted =
         "undecided 1 2024-03-04T06:02:00.0\nkeeps\nchannel phase 2 from Red 1\nbreaks\nchannel phase 2 from Red 1\nfill 2024-03-04T06:01:45.0 code 7 param 2\nfill 2024-03-04T06:01:46.0 code 1 param 2\n";
     assert_eq!(rt; sink.bytes(), wanted.as_bytes());

@@ -1,3 +1,4 @@
+mod Keeping
 pub mod Tracks
 pub mod Joining
 pub mod Bridge

@@ -28,7 +28,7 @@ use std::marker::Model;
 #[derive(Drop)]
 pub struct Aheads {
     pub(crate) aheads: Vec<Ahead>,
-    alloc: Global,
+    pub(crate) alloc: Global,
 }
 
 impl Model for Aheads {
@@ -173,7 +173,7 @@ pub fn first_of(stretches: &[Stretch]) -> u32
 
 // The states of one channel, entered before the tenth, from which its moves lead to one that is
 // admitted.
-fn ahead_before(spec: &Spec, after: &Ahead, moves: &[Move], first: u32) -> Ahead
+pub fn ahead_before(spec: &Spec, after: &Ahead, moves: &[Move], first: u32) -> Ahead
     requires fits { IsSpec spec.now }
     requires order { InOrder (rules_of spec.now) 0 moves.now }
     requires colours { length after.now ≡ (rules_of spec.now).colours }

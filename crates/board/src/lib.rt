@@ -9,6 +9,7 @@
 //! Tenths are tenths of a second from the window's start.
 #![tactic(auto)]
 
+mod again;
 mod aheads;
 mod clause;
 mod courses;
@@ -16,6 +17,7 @@ mod pasts;
 mod spec_table;
 mod view;
 
+pub use again::{aheads_again, pasts_again};
 pub use aheads::{Aheads, aheads_hour};
 pub use clause::{Clause, Term, clause_verdict};
 pub use courses::{Course, courses_of};

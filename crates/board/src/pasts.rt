@@ -3,7 +3,7 @@ ghost use Rattle.std.specs.Prelude.{◌≡◌, ◌↔◌, ℕ, ℤ, pos, ◌-ℤ
 ghost use Rattle.channel_tables.specs.Spec.{IsSpec, rules_of};
 ghost use Rattle.channel_tables.specs.declared.spec.Spec.{Spec};
 ghost use Rattle.reach.specs.Runs.{State};
-ghost use Rattle.reach.specs.Past.{Holds};
+ghost use Rattle.reach.specs.Past.{Holds, AreClamped};
 ghost use Rattle.lane.specs.Walks.{InOrder, AfterMoves, EnteredBefore};
 ghost use Rattle.gap_map.specs.Stretches.{FollowOn};
 ghost use Rattle.board.specs.declared.pasts.PastsError.TheVariants.{Memory};
@@ -27,7 +27,7 @@ use std::marker::Model;
 #[derive(Drop)]
 pub struct Pasts {
     pub(crate) pasts: Vec<Past>,
-    alloc: Global,
+    pub(crate) alloc: Global,
 }
 
 impl Model for Pasts {
@@ -167,7 +167,7 @@ pub fn pasts_hour(
 }
 
 // The tenth after the last stretch.
-fn end_of(stretches: &[Stretch]) -> u32
+pub fn end_of(stretches: &[Stretch]) -> u32
     requires { 1 ≤ length stretches.now }
     ensures { (f t : ℕ) → FollowOn f t stretches.now → result ≡ t }
 {
@@ -178,15 +178,22 @@ fn clamp_all(pasts: &mut [Past], point: u32)
     ensures { AllClamped (pos point -ℤ pos 36001) pasts.old pasts.new }
 {
     for past in pasts.iter_mut() {
-        past.clamp(i64::from(point));
+        clamp_past(past, point);
     }
+}
+
+// Makes the entries of one channel that are older than an hour at the point one.
+pub fn clamp_past(past: &mut Past, point: u32)
+    ensures { AreClamped (pos point -ℤ pos 36001) past.old past.new }
+{
+    past.clamp(i64::from(point));
 }
 
 // The states after an hour, and the number of the first row after which its channel has no state.
 #[derive(Drop)]
-struct After {
-    pasts: Pasts,
-    stop: Option<u32>,
+pub struct After {
+    pub pasts: Pasts,
+    pub stop: Option<u32>,
 }
 
 // The same by the moves of each channel.
@@ -225,7 +232,7 @@ fn pasts_walked(
 }
 
 // The states of one channel after its moves. Answers the row after which there is none.
-fn walk_spec(
+pub fn walk_spec(
     alloc: Global,
     spec: &Spec,
     past: &mut Past,
@@ -278,7 +285,8 @@ fn number_of(one: Move) -> u32
     }
 }
 
-fn earlier(a: Option<u32>, b: Option<u32>) -> Option<u32>
+// The lesser of two numbers, or the one that there is.
+pub fn earlier(a: Option<u32>, b: Option<u32>) -> Option<u32>
     ensures { IsEarlier a b result }
 {
     match (a, b) {

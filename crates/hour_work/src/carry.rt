@@ -113,6 +113,13 @@ impl Model for Future {
     ghost view = { λ f. f.aheads };
 }
 
+/// What is kept at the points before and after an hour.
+#[derive(Drop)]
+pub struct Between<'a> {
+    pub before: &'a Carry,
+    pub after: &'a Future,
+}
+
 impl Future {
     /// At the window's end: any state.
     pub fn end(alloc: Global, config: &Config) -> Result<Future, NoMemory>

@@ -14,7 +14,7 @@ ghost use Rattle.hour_work.specs.Reports.{IsHourBetween, IsHourPart};
 use crate::counts::counts_of;
 use crate::seen::{audit_seen, cut_seen, known_in, others_seen, seen_hour};
 use crate::stop_bars::splits_seen;
-use crate::{Carry, Future, Partial};
+use crate::{Between, Carry, Future, Partial};
 use arrival_measures::arrivals_unheld;
 use gap_map::stretches;
 use other_measures::OtherSums;
@@ -47,7 +47,10 @@ pub fn partial(
     ensures small { IfOk result (FitHours 1) }
 {
     match rows {
-        Some(rows) => held_part(alloc, config, rules, hour, before, rows, blanked, after),
+        Some(rows) => {
+            let between = Between { before, after };
+            held_part(alloc, config, rules, hour, &between, rows, blanked)
+        }
         None => unheld_part(alloc, config, rules.len(), hour, before, blanked),
     }
 }
@@ -74,7 +77,10 @@ pub fn audit_lines(
         → AreAuditLines config.now s hour v.items) }
 {
     match rows {
-        Some(rows) => held_lines(alloc, config, rules, hour, before, rows, blanked, after),
+        Some(rows) => {
+            let between = Between { before, after };
+            held_lines(alloc, config, rules, hour, &between, rows, blanked)
+        }
         None => Ok(Vec::new(alloc)),
     }
 }
@@ -118,21 +124,22 @@ fn held_part(
     config: &Config,
     rules: &[Rule],
     hour: Hour,
-    before: &Carry,
+    between: &Between<'_>,
     rows: &[Row],
     blanked: &SpanSet,
-    after: &Future,
 ) -> Result<Partial, NoMemory>
     requires of_hour { AreRowsOf hour rows.now }
     requires rules { rules.now ≡ rules_for config.now }
-    requires agrees { (s : Store) × IsHourBetween config.now s hour before.now (Some rows.now)
-        blanked.now after.now }
-    ensures value { IfOk result (λ p. (s : Store) → IsHourBetween config.now s hour before.now
-        (Some rows.now) blanked.now after.now → IsHourPart config.now s hour p) }
+    requires agrees { (s : Store) × IsHourBetween config.now s hour between.now.before.now
+        (Some rows.now) blanked.now between.now.after.now }
+    ensures value { IfOk result (λ p. (s : Store)
+        → IsHourBetween config.now s hour between.now.before.now (Some rows.now) blanked.now
+        between.now.after.now → IsHourPart config.now s hour p) }
     ensures small { IfOk result (FitHours 1) }
 {
-    let (parts, view) = seen_hour(alloc, config, hour, before, rows, blanked, after)?;
-    let lines = audit_seen(alloc, config, rules, hour, before, rows, &parts, &view)?;
+    let before = between.before;
+    let (parts, view) = seen_hour(alloc, config, hour, before, rows, blanked, between.after)?;
+    let lines = audit_seen(alloc, config, rules, before, rows, &parts, &view)?;
     let counts = counts_of(alloc, rules.len(), &lines)?;
     let (splits, arrivals) = cut_seen(alloc, config, hour, before, rows, &parts, &view)?;
     let others = others_seen(alloc, config, hour, before, rows, &parts, &view)?;
@@ -153,18 +160,19 @@ fn held_lines(
     config: &Config,
     rules: &[Rule],
     hour: Hour,
-    before: &Carry,
+    between: &Between<'_>,
     rows: &[Row],
     blanked: &SpanSet,
-    after: &Future,
 ) -> Result<Vec<AuditLine>, NoMemory>
     requires of_hour { AreRowsOf hour rows.now }
     requires rules { rules.now ≡ rules_for config.now }
-    requires agrees { (s : Store) × IsHourBetween config.now s hour before.now (Some rows.now)
-        blanked.now after.now }
-    ensures { IfOk result (λ v. (s : Store) → IsHourBetween config.now s hour before.now
-        (Some rows.now) blanked.now after.now → AreAuditLines config.now s hour v.items) }
+    requires agrees { (s : Store) × IsHourBetween config.now s hour between.now.before.now
+        (Some rows.now) blanked.now between.now.after.now }
+    ensures { IfOk result (λ v. (s : Store)
+        → IsHourBetween config.now s hour between.now.before.now (Some rows.now) blanked.now
+        between.now.after.now → AreAuditLines config.now s hour v.items) }
 {
-    let (parts, view) = seen_hour(alloc, config, hour, before, rows, blanked, after)?;
-    audit_seen(alloc, config, rules, hour, before, rows, &parts, &view)
+    let before = between.before;
+    let (parts, view) = seen_hour(alloc, config, hour, before, rows, blanked, between.after)?;
+    audit_seen(alloc, config, rules, before, rows, &parts, &view)
 }

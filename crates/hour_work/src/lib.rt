@@ -26,7 +26,7 @@ mod stop_bars;
 #[cfg(test)]
 mod tests;
 
-pub use carry::{Carry, Future};
+pub use carry::{Between, Carry, Future};
 pub use counts::RuleCount;
 pub use hour::{audit_lines, partial};
 pub use laws::{

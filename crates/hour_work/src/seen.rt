@@ -1,5 +1,5 @@
 // What is seen of an hour of which rows are held: its stretches and its view, and what they give.
-ghost use Rattle.std.specs.Prelude.{◌≡◌, ◌+◌, ◌*◌, ◌≤◌, ◌<◌, ◌^◌, ◌++◌, All, List, Some, sum_by, true, IfOk};
+ghost use Rattle.std.specs.Prelude.{◌≡◌, ℕ, ◌+◌, ◌*◌, ◌≤◌, ◌<◌, ◌^◌, ◌++◌, All, List, Some, sum_by, true, IfOk};
 ghost use Rattle.sig_base.specs.HourRows.{AreRowsOf};
 ghost use Rattle.gap_map.specs.Stretches.{IsCut, known_in};
 ghost use Rattle.hour_store.specs.Store.{Store, is_known};
@@ -66,17 +66,16 @@ pub(crate) fn audit_seen(
     alloc: Global,
     config: &Config,
     rules: &[Rule],
-    hour: Hour,
     before: &Carry,
     rows: &[Row],
     parts: &[Stretch],
     view: &HourView,
 ) -> Result<Vec<AuditLine>, NoMemory>
     requires rules { rules.now ≡ rules_for config.now }
-    requires seen { (s : Store) × IsHourSeen config.now s hour before.now rows.now parts.now
-        view.now }
-    ensures { IfOk result (λ v. (s : Store) → IsHourSeen config.now s hour before.now rows.now
-        parts.now view.now → AreAuditLines config.now s hour v.items) }
+    requires seen { (s : Store) × (hour : ℕ) × IsHourSeen config.now s hour before.now rows.now
+        parts.now view.now }
+    ensures { IfOk result (λ v. (s : Store) (hour : ℕ) → IsHourSeen config.now s hour before.now
+        rows.now parts.now view.now → AreAuditLines config.now s hour v.items) }
 {
     audit_rows(alloc, config, rules, view, rows, parts, before.known)
 }

@@ -1,6 +1,7 @@
 -- What the calls of an hour know of it.
-use Rattle.std.proofs.Common.{◌≡◌, refl, sym, subst, ℕ, ℤ, ◌+◌, ◌*◌, ◌<◌, Bool, List, arith, Option, Some, None, Bor}
-use Rattle.std.specs.Prelude.{is_some, option_copied, IfSome, IfOk, Result, Ok, Err}
+use Rattle.std.proofs.Common.{◌≡◌, refl, sym, ◌∙◌, subst, ℕ, ℤ, ◌+◌, ◌*◌, ◌<◌, Bool, List, arith, Option, Some, None, Bor}
+use Rattle.std.specs.Prelude.{is_some, option_copied, IfSome, IfOk, IfErr, Result, Ok, Err}
+use Rattle.std.proofs.lemmas.Result.{IfErr-weaker, IfOk-weaker}
 use Rattle.span_set.specs.declared.set.Span.{Span}
 use Rattle.sig_base.specs.declared.values.Row.{Row}
 use Rattle.sig_base.specs.HourRows.{AreRowsOf}
@@ -12,13 +13,16 @@ use Rattle.hour_store.specs.Store.{Store}
 use Rattle.board.specs.declared.pasts.PastsError.{PastsError}
 use Rattle.board.specs.declared.pasts.PastsError.TheVariants.{NoState, Memory}
 use Rattle.board.specs.Channels.{AreSpecs}
-use Rattle.board.specs.Logs.{IsHour, end_tenth, first_tenth, no_row}
+use Rattle.board.specs.Logs.{IsHour, end_tenth, first_tenth}
+use Rattle.board.specs.Stops.{AreBefore}
+use Rattle.board.specs.Places.{AllEarly, AreAheadsOf}
 use Rattle.board.specs.Hours.{AreAheadsBefore, ArePastsOf, NamesStop}
 use Rattle.board.proofs.Rows.{rows_split}
-use Rattle.board.proofs.Within.{hour_rows}
+use Rattle.board.proofs.Within.{hour_rows, one_hour}
 use Rattle.signal_log.specs.Log.{IsContradiction, log_of}
-use Rattle.signal_log.specs.Points.{ArePastsAt, HasHour, NamesContradiction, rows_or_none}
+use Rattle.signal_log.specs.Points.{AreAheadsAt, ArePastsAt, HasHour, NamesContradiction, rows_or_none}
 use Rattle.signal_log.specs.Over.{AreAheadsOver, ArePastsOver, IsCutOf, NamesStopOver}
+use Rattle.signal_log.proofs.Hour.{aheads_at, pasts_at}
 use Rattle.signal_log.proofs.Stopped.{contradicts}
 
 pub copied_some : (o : Option (Bor (List Row))) → is_some o ≡ is_some (option_copied o)
@@ -42,6 +46,22 @@ hour_told hour rows blanks ss are cut = record { are_rows = are; follow = follow
 pub ok_both : {X E : Type 0} (r : Result X E) (P Q S : X → Type 0) → ((x : X) → P x → Q x → S x) → IfOk r P → IfOk r Q → IfOk r S
 ok_both (Ok x) P Q S h p q = h x p q
 ok_both (Err e) P Q S h p q = tt
+
+-- what a call knows of the list that it cut: it's the hour's one cut
+pub record IsTold (hour : ℕ) (rows : Option (List Row)) (blanks : List Span) (ss : List Stretch) : Type 0 where
+  pub cut : IsCutOf hour rows blanks ss
+  pub is : IsHour hour (rows_or_none rows) ss
+  pub one : (zs : List Stretch) → IsCutOf hour rows blanks zs → zs ≡ ss
+
+pub told : (hour : ℕ) (rows : Option (Bor (List Row))) (held : Bool) (blanks : List Span) (ss : List Stretch) → hour < 744 → IfSome rows (λ s. AreRowsOf hour s.now) → held ≡ is_some rows → IsCut (known_in held blanks) (36000 * hour) (36000 * hour + 36000) ss → ((zs : List Stretch) → IsCut (known_in held blanks) (36000 * hour) (36000 * hour + 36000) zs → zs ≡ ss) → IsTold hour (option_copied rows) blanks ss
+told hour rows held blanks ss lt fit same cut only =
+    let is_held = same ∙ copied_some rows in
+    let cut_of = cut_as hour (option_copied rows) held blanks ss is_held cut in
+    record {
+      cut = cut_of;
+      is = hour_told hour (option_copied rows) blanks ss (rows_fit hour rows lt fit) cut_of;
+      one = one_as hour (option_copied rows) held blanks ss is_held only;
+    }
 
 -- the row that is named
 pub names : (specs : List Spec) (s : Store) (hour : ℕ) (rows : Option (List Row)) (blanks : List Span) (ss : List Stretch) (before : List (List (List Span))) → AreSpecs specs → AreRowsOf hour (rows_or_none rows) → IsCutOf hour rows blanks ss → (e : PastsError) → NamesStop specs (rows_or_none rows) ss before e → HasHour s hour rows blanks → ArePastsAt (log_of specs s) hour before → NamesContradiction (log_of specs s) e
@@ -73,3 +93,34 @@ stop_over specs hour rows blanks ss before is one (NoState row) (n, same, at) =
       high = rw same (omega arith);
       stops = λ zs cut. rw (one zs cut) stop;
     }
+
+-- and back: what holds of each cut of the hour holds of the one that was made
+pub aheads_was : (specs : List Spec) (hour : ℕ) (rows : Option (List Row)) (blanks : List Span) (ss : List Stretch) (after aheads : List (List (Option ℤ))) → IsTold hour rows blanks ss → AreAheadsOver specs hour rows blanks after aheads → AreAheadsBefore specs (rows_or_none rows) ss after aheads
+aheads_was specs hour rows blanks ss after aheads it over = λ h is. rw (one_hour h hour (rows_or_none rows) ss is it.is) (over ss it.cut)
+
+pub pasts_was : (specs : List Spec) (hour : ℕ) (rows : Option (List Row)) (blanks : List Span) (ss : List Stretch) (before pasts : List (List (List Span))) → IsTold hour rows blanks ss → ArePastsOver specs hour rows blanks before pasts → ArePastsOf specs (rows_or_none rows) ss before pasts
+pasts_was specs hour rows blanks ss before pasts it over = λ h is. rw (one_hour h hour (rows_or_none rows) ss is it.is) (over.0 ss it.cut, over.1 ss it.cut)
+
+-- what the calls of an hour answer, by what those of its cut do
+module _ {E : Type 0} (specs : List Spec) (hour : ℕ) (rows : Option (List Row)) (blanks : List Span) (ss : List Stretch) (after : List (List (Option ℤ))) (it : IsTold hour rows blanks ss) (r : Result (List (List (Option ℤ))) E) (before : IfOk r (λ a. AreAheadsBefore specs (rows_or_none rows) ss after a)) where
+  pub aheads_answer : AreSpecs specs → IfOk r (λ a. AreAheadsOf specs a) → IfOk r (λ a. (s : Store) → HasHour s hour rows blanks → AreAheadsAt (log_of specs s) (hour + 1) after → AreAheadsAt (log_of specs s) hour a)
+  aheads_answer are shape = ok_both r (λ a. AreAheadsOf specs a) (λ a. AreAheadsBefore specs (rows_or_none rows) ss after a) (λ a. (s : Store) → HasHour s hour rows blanks → AreAheadsAt (log_of specs s) (hour + 1) after → AreAheadsAt (log_of specs s) hour a) (λ a shaped steps s has at. aheads_at specs s hour rows blanks ss after a are has it.cut at shaped (steps hour it.is)) shape before
+
+  pub aheads_answer_over : IfOk r (λ a. AreAheadsOver specs hour rows blanks after a)
+  aheads_answer_over = IfOk-weaker r (λ a. AreAheadsBefore specs (rows_or_none rows) ss after a) (λ a. AreAheadsOver specs hour rows blanks after a) (λ a steps. aheads_over specs hour rows blanks ss after a it.is it.one steps) before
+
+module _ (specs : List Spec) (hour : ℕ) (rows : Option (List Row)) (blanks : List Span) (ss : List Stretch) (before : List (List (List Span))) (it : IsTold hour rows blanks ss) (r : Result (List (List (List Span))) PastsError) where
+  pub pasts_shape : IfOk r (λ p. AreBefore specs p) → IfOk r (λ p. (h : ℕ) → IsHour h (rows_or_none rows) ss → AllEarly (end_tenth h) p) → IfOk r (λ p. AreBefore specs p × AllEarly (end_tenth hour) p)
+  pasts_shape shape early = ok_both r (λ p. AreBefore specs p) (λ p. (h : ℕ) → IsHour h (rows_or_none rows) ss → AllEarly (end_tenth h) p) (λ p. AreBefore specs p × AllEarly (end_tenth hour) p) (λ p shaped e. (shaped, e hour it.is)) shape early
+
+  pub pasts_answer : AreSpecs specs → IfOk r (λ p. AreBefore specs p × AllEarly (end_tenth hour) p) → IfOk r (λ p. ArePastsOf specs (rows_or_none rows) ss before p) → IfOk r (λ p. (s : Store) → HasHour s hour rows blanks → ArePastsAt (log_of specs s) hour before → ArePastsAt (log_of specs s) (hour + 1) p)
+  pasts_answer are shape pasts = ok_both r (λ p. AreBefore specs p × AllEarly (end_tenth hour) p) (λ p. ArePastsOf specs (rows_or_none rows) ss before p) (λ p. (s : Store) → HasHour s hour rows blanks → ArePastsAt (log_of specs s) hour before → ArePastsAt (log_of specs s) (hour + 1) p) (λ p shaped steps s has at. pasts_at specs s hour rows blanks ss before p are has it.cut at shaped.0 shaped.1 (steps hour it.is).1) shape pasts
+
+  pub stop_answer : AreSpecs specs → IfErr r (λ e. NamesStop specs (rows_or_none rows) ss before e) → IfErr r (λ e. (s : Store) → HasHour s hour rows blanks → ArePastsAt (log_of specs s) hour before → NamesContradiction (log_of specs s) e)
+  stop_answer are stop = IfErr-weaker r (λ e. NamesStop specs (rows_or_none rows) ss before e) (λ e. (s : Store) → HasHour s hour rows blanks → ArePastsAt (log_of specs s) hour before → NamesContradiction (log_of specs s) e) (λ e named s has at. names specs s hour rows blanks ss before are it.is.are_rows it.cut e named has at) stop
+
+  pub pasts_answer_over : IfOk r (λ p. ArePastsOf specs (rows_or_none rows) ss before p) → IfOk r (λ p. ArePastsOver specs hour rows blanks before p)
+  pasts_answer_over pasts = IfOk-weaker r (λ p. ArePastsOf specs (rows_or_none rows) ss before p) (λ p. ArePastsOver specs hour rows blanks before p) (λ p steps. pasts_over specs hour rows blanks ss before p it.is it.one steps) pasts
+
+  pub stop_answer_over : IfErr r (λ e. NamesStop specs (rows_or_none rows) ss before e) → IfErr r (λ e. NamesStopOver specs hour rows blanks before e)
+  stop_answer_over stop = IfErr-weaker r (λ e. NamesStop specs (rows_or_none rows) ss before e) (λ e. NamesStopOver specs hour rows blanks before e) (λ e named. stop_over specs hour rows blanks ss before it.is it.one e named) stop

@@ -1,17 +1,16 @@
 -- Of the states that can be completed, those that come up count.
-use Rattle.std.proofs.Common.{◌≡◌, refl, ap, inl, inr, ◌⊎◌, ◌↔◌, ℕ, ◌<◌, ℤ, pos, ◌-ℤ◌, ◌+ℤ◌, ◌<ℤ◌, ◌≤ℤ◌, List, [], length, get_or, arith, Option}
+use Rattle.std.proofs.Common.{◌≡◌, refl, ap, inl, inr, ◌↔◌, ℕ, pos, ◌-ℤ◌, ◌<ℤ◌, ◌≤ℤ◌, List, [], get_or, arith}
 use Rattle.std.proofs.lemmas.Int.{ints}
 use Rattle.span_set.specs.declared.set.Span.{Span}
 use Rattle.span_set.proofs.Sets.{int_cases}
 use Rattle.reach.specs.Runs.{State, state}
 use Rattle.reach.specs.Past.{Holds}
-use Rattle.reach.specs.Ahead.{Admits}
 use Rattle.board.specs.Logs.{first_tenth}
 use Rattle.board.specs.History.{events_at}
 use Rattle.board.specs.Hours.{Clamped}
 use Rattle.signal_log.specs.Log.{Log, track_at}
-use Rattle.signal_log.specs.States.{AreAlike, IsCompleted, IsReached}
-use Rattle.signal_log.specs.Points.{AreAheadsFor, ComesUp}
+use Rattle.signal_log.specs.States.{IsReached}
+use Rattle.signal_log.specs.Points.{ComesUp}
 use Rattle.signal_log.specs.Laws.{AllCount, SameCount}
 use Rattle.signal_log.proofs.Runs.{agreeing_early}
 

@@ -1,5 +1,5 @@
 -- What the view of an hour says of its known places is what the histories of the window say.
-use Rattle.std.proofs.Common.{◌≡◌, refl, ap, sym, ◌∙◌, subst, ◌↔◌, ℕ, ◌+◌, ◌*◌, ◌<◌, ◌≤◌, ℤ, pos, ◌<ℤ◌, Bool, true, List, [], ◌++◌, length, take, drop, get_or, take_at, drop_at, arith, Option, Some}
+use Rattle.std.proofs.Common.{◌≡◌, refl, ap, sym, ◌∙◌, subst, ◌↔◌, ℕ, ◌+◌, ◌*◌, ◌<◌, ◌≤◌, ℤ, pos, Bool, true, List, [], ◌++◌, length, take, drop, get_or, take_at, drop_at, arith, Option, Some}
 use Rattle.std.proofs.lemmas.Int.{ints}
 use Rattle.std.proofs.lemmas.List.{take-append-drop}
 use Rattle.colour_machine.specs.Rules.{IsMachine}

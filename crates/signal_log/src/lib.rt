@@ -11,11 +11,13 @@
 #![tactic(auto)]
 
 mod about;
+mod again;
 mod aheads;
 mod laws;
 mod pasts;
 
 pub use about::About;
+pub use again::{aheads_before_again, pasts_after_again};
 pub use aheads::aheads_before;
 pub use laws::{
     alike_meet_same, channels_combine, hours_tell, less_is_known, nothing_contradicts,

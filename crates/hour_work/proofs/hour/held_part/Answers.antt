@@ -10,13 +10,13 @@ pub counts_of-requires-clause-numbers : goal.counts_of-requires-clause-numbers
 counts_of-requires-clause-numbers c =
     let (s, is) = c.requires.agrees in
     let seen = c.in_ok-parts.ensures.seen s is in
-    rw (c.deref-2.ensures.value, c.requires.rules) (lines_numbered c.args.config.now s c.args.hour c.in_ok-lines.lines.items (c.in_ok-lines.ensures s (rw c.deref.ensures.value seen)))
+    rw (c.deref-2.ensures.value, c.requires.rules) (lines_numbered c.args.config.now s c.args.hour c.in_ok-lines.lines.items (c.in_ok-lines.ensures s c.args.hour (rw c.deref.ensures.value seen)))
 
 pub counts_of-requires-clause-few : goal.counts_of-requires-clause-few
 counts_of-requires-clause-few c =
     let (s, is) = c.requires.agrees in
     let seen = c.in_ok-parts.ensures.seen s is in
-    rw (c.deref-2.ensures.value, c.requires.rules) (lines_fit c.args.config.now s c.args.hour (length (rules_for c.args.config.now)) (Some c.args.rows.now) c.in_ok-lines.lines.items is.has_hour.held c.requires.of_hour.few (c.in_ok-lines.ensures s (rw c.deref.ensures.value seen)))
+    rw (c.deref-2.ensures.value, c.requires.rules) (lines_fit c.args.config.now s c.args.hour (length (rules_for c.args.config.now)) (Some c.args.rows.now) c.in_ok-lines.lines.items is.has_hour.held c.requires.of_hour.few (c.in_ok-lines.ensures s c.args.hour (rw c.deref.ensures.value seen)))
 
 pub others_seen-requires : goal.others_seen-requires
 others_seen-requires c =
@@ -41,7 +41,7 @@ returns-clause-value c = λ s is.
       held_rows = held_count s c.args.hour rows is.has_hour.held;
       known_tenths = c.known_in.ensures ∙ ((rw c.deref-5.ensures.value (hour_counted _ _ _ c.in_ok-parts.ensures.cut)) ∙ known_count s c.args.hour rows c.args.blanked.now true is.has_hour refl);
       lines = c.in_ok-lines.lines.items;
-      are_lines = c.in_ok-lines.ensures s (rw c.deref.ensures.value seen);
+      are_lines = c.in_ok-lines.ensures s c.args.hour (rw c.deref.ensures.value seen);
       rules = rw (c.deref-2.ensures.value, c.requires.rules) at c.in_ok-counts.ensures;
       measures = record {
         phases = c.in_ok-splits.ensures.splits s (rw c.deref-3.ensures.value seen);
@@ -65,5 +65,5 @@ returns-clause-small c =
       held_hours = omega arith;
       held_rows = omega arith;
       known_tenths = omega arith;
-      rules = rw (c.in_ok-counts.ensures, c.deref-2.ensures.value, c.requires.rules) (lines_fit c.args.config.now s c.args.hour (length (rules_for c.args.config.now)) (Some c.args.rows.now) c.in_ok-lines.lines.items is.has_hour.held few (c.in_ok-lines.ensures s (rw c.deref.ensures.value seen)));
+      rules = rw (c.in_ok-counts.ensures, c.deref-2.ensures.value, c.requires.rules) (lines_fit c.args.config.now s c.args.hour (length (rules_for c.args.config.now)) (Some c.args.rows.now) c.in_ok-lines.lines.items is.has_hour.held few (c.in_ok-lines.ensures s c.args.hour (rw c.deref.ensures.value seen)));
     }

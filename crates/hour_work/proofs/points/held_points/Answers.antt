@@ -14,7 +14,7 @@ use Rattle.hour_work.proofs.points.held_points.Goals as goal
 pub arrival_points-requires : goal.arrival_points-requires
 arrival_points-requires c =
     let (s, is) = c.requires.agrees in
-    record { view = seen_width c.args.config.now s c.args.hour c.args.before.now c.args.rows.now _ _ (c.in_ok-parts.ensures.seen s is) }
+    record { view = seen_width c.args.config.now s c.args.hour c.args.between.now.before.now c.args.rows.now _ _ (c.in_ok-parts.ensures.seen s is) }
 
 pub returns : goal.returns
 returns c =
@@ -23,7 +23,7 @@ returns c =
     let hour = c.args.hour in
     let rows = c.args.rows.now in
     let blanks = c.args.blanked.now in
-    let before = c.args.before.now in
+    let before = c.args.between.now.before.now in
     let (s, is) = c.requires.agrees in
     let seen = c.in_ok-parts.ensures.seen s is in
     let told = rw c.deref.ensures.value at c.arrival_points.ensures in

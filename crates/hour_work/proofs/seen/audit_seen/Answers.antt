@@ -1,4 +1,4 @@
-use Rattle.std.proofs.Common.{ap, subst}
+use Rattle.std.proofs.Common.{ℕ, ap, subst}
 use Rattle.std.proofs.lemmas.Result.{IfOk-weaker}
 use Rattle.hour_store.specs.Store.{Store}
 use Rattle.board.specs.Logs.{HourLog}
@@ -12,15 +12,14 @@ use Rattle.hour_work.proofs.seen.audit_seen.Goals as goal
 
 pub audit_rows-requires-clause-view : goal.audit_rows-requires-clause-view
 audit_rows-requires-clause-view c =
-    let (s, seen) = c.requires.seen in (
-      seen_log c.args.config.now s c.args.hour c.args.before.now c.args.rows.now c.args.parts.now c.args.view.now seen,
-      seen_audited c.args.config.now s c.args.hour c.args.before.now c.args.rows.now c.args.parts.now c.args.view.now seen,
+    let (s, hour, seen) = c.requires.seen in (
+      seen_log c.args.config.now s hour c.args.before.now c.args.rows.now c.args.parts.now c.args.view.now seen,
+      seen_audited c.args.config.now s hour c.args.before.now c.args.rows.now c.args.parts.now c.args.view.now seen,
     )
 
 pub returns : goal.returns
 returns c =
     let cfg = c.args.config.now in
-    let hour = c.args.hour in
     let before = c.args.before.now in
     let rows = c.args.rows.now in
     let ss = c.args.parts.now in
@@ -28,8 +27,8 @@ returns c =
     let flag = ap (λ (v : Carried). v.known) c.before-2.view_is in
     IfOk-weaker c.audit_rows.result
     (λ v. (l : HourLog) → IsAudited cfg view rows ss l → AreLines l (rules_for cfg) c.before-2.inside.known v.items)
-    (λ v. (s : Store) → IsHourSeen cfg s hour before rows ss view → AreAuditLines cfg s hour v.items)
-    (λ v h s seen.
+    (λ v. (s : Store) (hour : ℕ) → IsHourSeen cfg s hour before rows ss view → AreAuditLines cfg s hour v.items)
+    (λ v h s hour seen.
     let log = seen_log cfg s hour before rows ss view seen in
     seen_lines cfg s hour before rows ss view seen v.items (subst (λ b. AreLines log (rules_for cfg) b v.items) flag (h log (seen_audited cfg s hour before rows ss view seen))))
     (rw c.requires.rules at c.audit_rows.ensures)

@@ -1,0 +1,100 @@
+-- What was said of an hour holds again for the channels that are as they were.
+use Rattle.std.proofs.Common.{◌≡◌, ◌↔◌, refl, inl, inr, ℕ, ℤ, pos, ◌+◌, ◌<◌, ◌<ℤ◌, ◌-ℤ◌, arith, List, [], ◌∷◌, ◌++◌, length, get_or, Option, Some, None}
+use Rattle.std.specs.Prelude.{MatchOption}
+use Rattle.std.proofs.lemmas.Bool.{cases_eq}
+use Rattle.std.proofs.lemmas.Grind.{common_steps}
+use Rattle.span_set.specs.declared.set.Span.{Span}
+use Rattle.colour_machine.specs.Rules.{Rules}
+use Rattle.reach.specs.Runs.{State, state}
+use Rattle.reach.specs.Past.{Holds, AreClamped}
+use Rattle.lane.specs.declared.moves.Move.{Move}
+use Rattle.lane.specs.Walks.{AfterMoves}
+use Rattle.gap_map.specs.Stretches.{FollowOn}
+use Rattle.reach.specs.Ahead.{Admits}
+use Rattle.sig_base.specs.declared.values.Row.{Row}
+use Rattle.gap_map.specs.declared.stretch.Stretch.{Stretch}
+use Rattle.channel_tables.specs.Spec.{rules_of}
+use Rattle.channel_tables.specs.declared.spec.Spec.{Spec}
+use Rattle.board.specs.History.{Track}
+use Rattle.board.specs.Channels.{track}
+use Rattle.board.specs.Logs.{IsHour, first_tenth, end_tenth, no_spec}
+use Rattle.board.specs.Moves.{RowsIn, own}
+use Rattle.board.specs.Stops.{GoesOnAt, IsEarlier, IsFirstStop, IsWalked, StopRow, StopsAtRow, Survives, moves_at, rules_at}
+use Rattle.board.specs.Hours.{AreHourAheads, ArePastsOf, Clamped, IsAfterHour, IsBeforeHour, IsHourStop}
+use Rattle.board.proofs.Plain.{after_hour, hour_stop}
+use Rattle.board.proofs.Stopping.{first_more, stop_row_once, no_stop}
+use Rattle.board.proofs.Within.{hour_rows}
+
+-- a channel with the same states after the hour keeps those before it
+pub ahead_kept : (specs : List Spec) (rows : List Row) (ss : List Stretch) (f t : ℕ) (was_after after was_before : List (List (Option ℤ))) (i : ℕ) (new : List (Option ℤ)) → i < length specs → AreHourAheads specs rows ss f t was_after (length specs) was_before → get_or after i [] ≡ get_or was_after i [] → new ≡ get_or was_before i []
+    → (length new ≡ (rules_at specs i no_spec).colours) × ((s : State) → Admits new s ↔ ((s.entry <ℤ pos f) × IsBeforeHour (track (get_or specs i no_spec)) rows ss f t (get_or after i []) s))
+ahead_kept specs rows ss f t was_after after was_before i new lt was same e = rw (e, same) (was i lt)
+
+-- the row at which a channel stops, without its states
+pub walked_stops : (m : Rules) (old : List (List Span)) (xs : List Move) (new : List (List Span)) (r : Option ℕ) → IsWalked m old xs new r → MatchOption r (Survives m old xs) (StopRow m old xs)
+walked_stops m old xs new None h = h.1
+walked_stops m old xs new (Some n) h = h
+
+-- one channel after the hour
+pub alone_after : (k : Track) (f t : ℕ) (rows : List Row) (ss : List Stretch) (old walked new : List (List Span)) → FollowOn f t ss → RowsIn f t rows → ((u : State) → Holds walked u ↔ AfterMoves k.rules old (own k 0 rows ss) u) → AreClamped (pos t -ℤ pos 36001) walked new → (u : State) → Holds new u ↔ Clamped (pos t -ℤ pos 36001) (IsAfterHour k rows ss f t old) u
+alone_after k f t rows ss old walked new st r w c u =
+    let one = c.1 u.colour u.entry in
+    let plain = λ (v : State). after_hour k f t rows ss old st r v in (
+      (λ h. elim (one.0 h) [
+        | inl (m, l) ↦ inl ((plain u).0 ((w u).0 m), l)
+        | inr (q, (x, m, l)) ↦ inr (q, (x, (plain (state u.colour x)).0 ((w (state u.colour x)).0 m), l))
+      ]),
+      λ h. one.1 (elim h [
+        | inl (p, l) ↦ inl ((w u).1 ((plain u).1 p), l)
+        | inr (q, (x, p, l)) ↦ inr (q, (x, (w (state u.colour x)).1 ((plain (state u.colour x)).1 p), l))
+      ]),
+    )
+
+-- the states of the first n channels after the hour, those older than an hour made one
+abbrev pub AreClampedTo : List Spec → List Row → List Stretch → List (List (List Span)) → ℕ → List (List (List Span)) → Type 0
+AreClampedTo specs rows ss before n pasts = (h : ℕ) → IsHour h rows ss → (i : ℕ) → i < n → (u : State) → Holds (get_or pasts i []) u ↔ Clamped (pos (end_tenth h) -ℤ pos 36001) (IsAfterHour (track (get_or specs i no_spec)) rows ss (first_tenth h) (end_tenth h) (get_or before i [])) u
+
+-- each of the first n channels has a state
+abbrev pub HaveStates : ℕ → List (List (List Span)) → Type 0
+HaveStates n pasts = (i : ℕ) → i < n → (s : State) × Holds (get_or pasts i []) s
+
+-- one channel more
+pub clamped_more : (specs : List Spec) (rows : List Row) (ss : List Stretch) (before : List (List (List Span))) (n : ℕ) (pasts : List (List (List Span))) (new : List (List Span)) → length pasts ≡ n → AreClampedTo specs rows ss before n pasts → ((h : ℕ) → IsHour h rows ss → (u : State) → Holds new u ↔ Clamped (pos (end_tenth h) -ℤ pos 36001) (IsAfterHour (track (get_or specs n no_spec)) rows ss (first_tenth h) (end_tenth h) (get_or before n [])) u) → AreClampedTo specs rows ss before (n + 1) (pasts ++ new ∷ [])
+clamped_more specs rows ss before n pasts new l a b h is i lt u = elim (cases_eq i n) [
+  | inl e ↦ let at : get_or (pasts ++ new ∷ []) i [] ≡ new = grind (arith, common_steps) in rw (at, e) (b h is u)
+  | inr ne ↦ let below : i < n = omega arith in let b2 : i < length pasts = omega arith in let at : get_or (pasts ++ new ∷ []) i [] ≡ get_or pasts i [] = grind (arith, common_steps) in rw at (a h is i below u)
+]
+
+pub states_more : (n : ℕ) (pasts : List (List (List Span))) (new : List (List Span)) → length pasts ≡ n → HaveStates n pasts → ((s : State) × Holds new s) → HaveStates (n + 1) (pasts ++ new ∷ [])
+states_more n pasts new l a b i lt = elim (cases_eq i n) [
+  | inl e ↦ let at : get_or (pasts ++ new ∷ []) i [] ≡ new = grind (arith, common_steps) in rw at b
+  | inr ne ↦ let below : i < n = omega arith in let b2 : i < length pasts = omega arith in let at : get_or (pasts ++ new ∷ []) i [] ≡ get_or pasts i [] = grind (arith, common_steps) in rw at (a i below)
+]
+
+-- the first stop with one channel more
+pub stop_more : (specs : List Spec) (rows : List Row) (ss : List Stretch) (before : List (List (List Span))) (n : ℕ) (a b r : Option ℕ) → IsFirstStop specs rows ss before n a → ((d : Spec) → MatchOption b (GoesOnAt specs rows ss before d n) (λ x. StopsAtRow specs rows ss before d n x)) → IsEarlier a b r → IsFirstStop specs rows ss before (n + 1) r
+stop_more specs rows ss before n a b r first one e d = first_more (GoesOnAt specs rows ss before d) (StopsAtRow specs rows ss before d) (λ k x y. stop_row_once (rules_at specs k d) (get_or before k []) (moves_at specs rows ss k d) x y) (λ k x. no_stop (rules_at specs k d) (get_or before k []) (moves_at specs rows ss k d) x) n a b r (first d) (one d) e
+
+-- a channel that goes on changes no stop
+pub earlier_none : (a : Option ℕ) → IsEarlier a None a
+earlier_none None = refl
+earlier_none (Some x) = refl
+
+-- what one channel was found to do, at its place
+pub alone_stops : (specs : List Spec) (rows : List Row) (ss : List Stretch) (before : List (List (List Span))) (i : ℕ) (spec d : Spec) (old : List (List Span)) (next : Option ℕ) → spec ≡ get_or specs i d → old ≡ get_or before i [] → MatchOption next (Survives (rules_of spec) old (own (track spec) 0 rows ss)) (StopRow (rules_of spec) old (own (track spec) 0 rows ss)) → MatchOption next (GoesOnAt specs rows ss before d i) (λ x. StopsAtRow specs rows ss before d i x)
+alone_stops specs rows ss before i spec d old None a b h = rw (a, b) at h
+alone_stops specs rows ss before i spec d old (Some x) a b h = rw (a, b) at h
+
+-- a channel with the same states before the hour goes on as then
+pub kept_goes_on : (specs : List Spec) (rows : List Row) (ss : List Stretch) (h : ℕ) (was_before was_after before : List (List (List Span))) (i : ℕ) (d : Spec) → IsHour h rows ss → i < length specs → ArePastsOf specs rows ss was_before was_after → get_or before i [] ≡ get_or was_before i [] → get_or specs i no_spec ≡ get_or specs i d → GoesOnAt specs rows ss before d i
+kept_goes_on specs rows ss h was_before was_after before i d is lt was same e =
+    let (u, a) = (was h is).0 i lt in
+    (u, rw (same, ← e) ((after_hour (track (get_or specs i no_spec)) (first_tenth h) (end_tenth h) rows ss (get_or was_before i []) is.follow (hour_rows h rows ss is) u).1 a))
+
+-- and has the same states after it
+pub kept_after : (specs : List Spec) (rows : List Row) (ss : List Stretch) (was_before was_after before : List (List (List Span))) (i : ℕ) (new : List (List Span)) → i < length specs → ArePastsOf specs rows ss was_before was_after → get_or before i [] ≡ get_or was_before i [] → new ≡ get_or was_after i [] → (h : ℕ) → IsHour h rows ss → (u : State) → Holds new u ↔ Clamped (pos (end_tenth h) -ℤ pos 36001) (IsAfterHour (track (get_or specs i no_spec)) rows ss (first_tenth h) (end_tenth h) (get_or before i [])) u
+kept_after specs rows ss was_before was_after before i new lt was same e h is u = rw (e, same) ((was h is).1 i lt u)
+
+-- the first stop in the hour's own words
+pub stop_told : (specs : List Spec) (rows : List Row) (ss : List Stretch) (h : ℕ) (before : List (List (List Span))) (stop : Option ℕ) → IsHour h rows ss → IsFirstStop specs rows ss before (length specs) stop → IsHourStop specs rows ss (first_tenth h) (end_tenth h) before stop
+stop_told specs rows ss h before stop is first = hour_stop specs rows ss (first_tenth h) (end_tenth h) before stop is.follow (hour_rows h rows ss is) first

@@ -12,6 +12,7 @@
 //! tenths too.
 #![tactic(auto)]
 
+mod again;
 mod carry;
 mod counts;
 mod hour;
@@ -26,6 +27,7 @@ mod stop_bars;
 #[cfg(test)]
 mod tests;
 
+pub use again::{backward_again, forward_again};
 pub use carry::{Between, Carry, Future};
 pub use counts::RuleCount;
 pub use hour::{audit_lines, partial};
@@ -37,4 +39,4 @@ pub use lists::{pick, put_in};
 pub use numbers::Partial;
 pub use points::{phase_cycles, phase_points};
 pub use reported::{Report, Sums};
-pub use steps::{ForwardError, backward, backward_again, forward, forward_again};
+pub use steps::{ForwardError, backward, forward};

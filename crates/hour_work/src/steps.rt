@@ -18,7 +18,7 @@ ghost use Rattle.other_measures.specs.Crossing.{IsCarry as IsCrossing};
 ghost use Rattle.arrival_measures.specs.Crossing.{IsCarry as AreOpen};
 ghost use Rattle.hour_work.specs.Rows.{earlier_rows};
 ghost use Rattle.hour_work.specs.declared.steps.ForwardError.TheVariants.{Memory};
-ghost use Rattle.hour_work.specs.Points.{ComesBack, FitPoint, GoesOver, IsCarryAt, IsFutureAt, NamesRow, NamesStop};
+ghost use Rattle.hour_work.specs.Points.{FitPoint, IsCarryAt, IsFutureAt, NamesRow, NamesStop};
 
 use crate::stop_bars::splits_over;
 use crate::{Carry, Future};
@@ -29,7 +29,7 @@ use other_measures::{OtherCarry, others_carried};
 use ring_config::Config;
 use service_cut::{CutCarry, cut_hour};
 use sig_base::{Hour, NoMemory, Row};
-use signal_log::{About, aheads_before, pasts_after};
+use signal_log::{aheads_before, pasts_after};
 use span_set::SpanSet;
 use split_measures::SplitCarry;
 use std::alloc::{AllocFailed, Global};
@@ -86,6 +86,28 @@ pub fn forward(
         blanked.now before.now.pasts) }
 {
     let pasts = pasts_over(alloc, config, hour, before, rows, blanked)?;
+    Ok(carried(alloc, config, hour, before, pasts, rows, blanked)?)
+}
+
+// What is kept at the point after an hour, where these are the states of each channel there.
+pub(crate) fn carried(
+    alloc: Global,
+    config: &Config,
+    hour: Hour,
+    before: &Carry,
+    pasts: Pasts,
+    rows: Option<&[Row]>,
+    blanked: &SpanSet,
+) -> Result<Carry, NoMemory>
+    requires in_range { hour < 744 }
+    requires of_hour { IfSome rows (λ r. AreRowsOf hour r.now) }
+    requires shape { AreBefore config.now.specs before.now.pasts }
+    ensures pasts { IfOk result (λ c. c.pasts ≡ pasts) }
+    ensures carry { IfOk result (λ c. (s : Store) → HasHour s hour (option_copied rows.entry)
+        blanked.now → IsCarryAt config.now s hour before.now
+        → ArePastsAt (log_of config.now.specs s) (hour + 1) pasts
+        → IsCarryAt config.now s (hour + 1) c) }
+{
     let UnderWay {
         cuts,
         splits,
@@ -100,38 +122,6 @@ pub fn forward(
         others,
         arrivals,
     })
-}
-
-/// The same of an hour of which it was said before, from other states: the channels that had the
-/// same states before it have those that they had after it.
-pub fn forward_again(
-    alloc: Global,
-    config: &Config,
-    hour: Hour,
-    before: &Carry,
-    was: &About<'_, Carry>,
-    rows: Option<&[Row]>,
-    blanked: &SpanSet,
-) -> Result<Carry, ForwardError>
-    requires in_range { hour < 744 }
-    requires of_hour { IfSome rows (λ r. AreRowsOf hour r.now) }
-    requires fit { FitPoint config.now hour before.now }
-    requires was { GoesOver config.now hour (option_copied rows) blanked.now was.now.before.now
-        was.now.after.now }
-    ensures fit { IfOk result (FitPoint config.now (hour + 1)) }
-    ensures carry { IfOk result (λ c. (s : Store) → HasHour s hour (option_copied rows.entry)
-        blanked.now → IsCarryAt config.now s hour before.now
-        → IsCarryAt config.now s (hour + 1) c) }
-    ensures stop { IfErr result (λ e. (s : Store) → HasHour s hour (option_copied rows.entry)
-        blanked.now → IsCarryAt config.now s hour before.now
-        → NamesRow (log_of config.now.specs s) e) }
-    ensures over { IfOk result (λ c. ArePastsOver config.now.specs hour (option_copied rows.entry)
-        blanked.now before.now.pasts c.pasts) }
-    ensures stop_over { IfErr result (NamesStop config.now.specs hour (option_copied rows.entry)
-        blanked.now before.now.pasts) }
-{
-    let _was = was;
-    forward(alloc, config, hour, before, rows, blanked)
 }
 
 // The states of each channel at the point after an hour.
@@ -255,34 +245,7 @@ pub fn backward(
     Ok(Future { aheads })
 }
 
-/// The same of an hour of which it was said before, from other states at the point after it: the
-/// channels that had the same ones there have those that they had at the point before it.
-pub fn backward_again(
-    alloc: Global,
-    config: &Config,
-    hour: Hour,
-    after: &Future,
-    was: &About<'_, Future>,
-    rows: Option<&[Row]>,
-    blanked: &SpanSet,
-) -> Result<Future, NoMemory>
-    requires in_range { hour < 744 }
-    requires of_hour { IfSome rows (λ r. AreRowsOf hour r.now) }
-    requires fit { AreAheadsOf config.now.specs after.now }
-    requires was { ComesBack config.now hour (option_copied rows) blanked.now was.now.after.now
-        was.now.before.now }
-    ensures fit { IfOk result (AreAheadsOf config.now.specs) }
-    ensures future { IfOk result (λ f. (s : Store) → HasHour s hour (option_copied rows.entry)
-        blanked.now → IsFutureAt config.now s (hour + 1) after.now
-        → IsFutureAt config.now s hour f) }
-    ensures over { IfOk result (AreAheadsOver config.now.specs hour (option_copied rows.entry)
-        blanked.now after.now) }
-{
-    let _was = was;
-    backward(alloc, config, hour, after, rows, blanked)
-}
-
-fn forward_error(error: PastsError) -> ForwardError
+pub(crate) fn forward_error(error: PastsError) -> ForwardError
     ensures row { (log : Log) → NamesContradiction log error → NamesRow log result }
     ensures stop { (specs : List Spec) (hour : ℕ) (rows : Option (List Row)) (blanks : List Span)
         (before : List (List (List Span))) → NamesStopOver specs hour rows blanks before error

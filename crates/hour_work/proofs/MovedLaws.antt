@@ -1,11 +1,7 @@
 -- What a store says at an hour point is one.
-use Rattle.std.proofs.Common.{◌≡◌, ◌∙◌, ◌↔◌, refl, sym, ap, subst, ℕ, zero, suc, ◌+◌, ◌<◌, ℤ, Option, Some, None, List, [], ◌∷◌, length, get_or, ◌⊎◌, inl, inr, arith}
-use Rattle.std.specs.Prelude.{filter_map}
+use Rattle.std.proofs.Common.{◌≡◌, ◌∙◌, refl, sym, subst, ℕ, suc, ◌<◌, ℤ, Option, Some, None, List, [], ◌∷◌, length, get_or, ◌⊎◌, inl, inr, arith}
 use Rattle.sig_base.specs.declared.values.Row.{Row}
 use Rattle.span_set.specs.declared.set.Span.{Span}
-use Rattle.reach.specs.Runs.{State}
-use Rattle.reach.specs.Past.{Holds}
-use Rattle.reach.specs.Ahead.{Admits}
 use Rattle.reach.proofs.Later.{same_admits}
 use Rattle.hour_store.specs.Store.{Store}
 use Rattle.board.specs.Logs.{no_spec}
@@ -25,7 +21,7 @@ use Rattle.stop_bar.specs.Lists.{Each}
 use Rattle.stop_bar.proofs.Hours.{crosses_once}
 use Rattle.split_measures.proofs.Approaches.{place_there}
 use Rattle.arrival_measures.specs.Crossing.{CarryParts}
-use Rattle.hour_work.specs.Moved.{CarriesAreOne, FuturesAreOne, IsSameCarry, SaySame}
+use Rattle.hour_work.specs.Moved.{CarriesAreOne, FuturesAreOne, SaySame}
 use Rattle.hour_work.specs.Points.{Carried, IsCarryAt}
 use Rattle.hour_work.specs.Rows.{earlier_rows}
 

@@ -12,7 +12,7 @@ use Rattle.hour_store.specs.Store.{Store, is_known, rows_at}
 use Rattle.board.specs.Logs.{HourLog, first_tenth, hour_log, no_spec}
 use Rattle.board.specs.Verdicts.{MayPass}
 use Rattle.hour_sweep.specs.Rows.{known_rows}
-use Rattle.hour_sweep.specs.Hours.{IsHour, point}
+use Rattle.hour_sweep.specs.Hours.{IsHour}
 use Rattle.ring_config.specs.Settings.{Settings, is_same_channel, spec_place}
 use Rattle.signal_log.specs.Log.{log_of, track_at}
 use Rattle.signal_log.specs.States.{MayBeAtEndOf}

@@ -80,9 +80,11 @@ fn pasts_again(
     ensures stop_over { IfErr result (NamesStop config.now.specs hour (option_copied rows.entry)
         blanked.now before.now.pasts) }
 {
+    let was_before = was.before;
+    let was_after = was.after;
     let kept = About {
-        before: &was.before.pasts,
-        after: &was.after.pasts,
+        before: &was_before.pasts,
+        after: &was_after.pasts,
     };
     let specs = config.specs();
     match pasts_after_again(alloc, specs, hour, &before.pasts, &kept, rows, blanked) {
@@ -114,9 +116,11 @@ pub fn backward_again(
     ensures over { IfOk result (AreAheadsOver config.now.specs hour (option_copied rows.entry)
         blanked.now after.now) }
 {
+    let was_before = was.before;
+    let was_after = was.after;
     let kept = About {
-        before: &was.before.aheads,
-        after: &was.after.aheads,
+        before: &was_before.aheads,
+        after: &was_after.aheads,
     };
     let specs = config.specs();
     let aheads = aheads_before_again(alloc, specs, hour, &after.aheads, &kept, rows, blanked)?;

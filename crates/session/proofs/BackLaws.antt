@@ -7,7 +7,7 @@ use Rattle.hour_work.specs.Numbers.{patched}
 use Rattle.hour_work.specs.Points.{IsFutureAt}
 use Rattle.session.specs.Links.{Ahead, AreFuturesBut, Backs, BacksAt}
 use Rattle.session.specs.Renewed.{AreNewFutures}
-use Rattle.session.proofs.KeptLaws.{backs_same, future_down, has}
+use Rattle.session.proofs.KeptLaws.{backs_as, backs_same, future_down, has}
 use Rattle.hour_work.proofs.PatchLaws.{length-patched, patched-below, patched-first, patched-front, patched-none, patched-past}
 
 -- the way back from the hour `last` has come to the point `from`
@@ -40,13 +40,13 @@ returning_on c s last kept fresh items hour from after next fe is size lt q at b
     let new : (d : Ahead) → get_or (patched kept hour (next ∷ fresh)) hour d ≡ next = λ d. patched-first kept hour fresh next d (omega arith) in
     rw e (record {
       size = omega arith;
-      here = λ d. subst (λ (v : Ahead). IsFutureAt c s hour v) (sym (new d)) (backs s (has s hour is lt) (subst (λ (v : Ahead). IsFutureAt c s (hour + 1) v) (sym (at d)) (p.here d)));
+      here = λ d. subst (λ (v : Ahead). IsFutureAt c s hour v) (sym (new d)) (backs.stays s (has s hour is lt) (subst (λ (v : Ahead). IsFutureAt c s (hour + 1) v) (sym (at d)) (p.here d)));
       backs = λ k low l. elim (cases_lt hour k) [
         | inl above ↦ backs_same c s (patched kept (hour + 1) fresh) (patched kept hour (next ∷ fresh)) k (λ d. old k d above) (λ d. old (k + 1) d (omega arith)) (p.backs k (omega arith) l)
         | inr no_more ↦
             let here : hour ≡ k = omega arith in
-            subst (λ (j : ℕ). BacksAt c s (patched kept hour (next ∷ fresh)) j) here (λ d r has_it after_it.
-            subst (λ (v : Ahead). IsFutureAt c r hour v) (sym (new d)) (backs r has_it (subst (λ (v : Ahead). IsFutureAt c r (hour + 1) v) (old (hour + 1) d (omega arith) ∙ sym (at d)) after_it)))
+            subst (λ (j : ℕ). BacksAt c s (patched kept hour (next ∷ fresh)) j) here (λ d.
+            backs_as c hour (rows_at s hour) s.blanks after (get_or (patched kept hour (next ∷ fresh)) (hour + 1) d) next (get_or (patched kept hour (next ∷ fresh)) hour d) (old (hour + 1) d (omega arith) ∙ sym (at d)) (new d) backs)
       ];
     })
 

@@ -8,7 +8,7 @@ use Rattle.hour_work.specs.Numbers.{patched}
 use Rattle.hour_work.specs.Points.{Carried, IsCarryAt}
 use Rattle.session.specs.Links.{AreCarriesBut, Leads, LeadsAt}
 use Rattle.session.specs.Renewed.{AreNewCarries}
-use Rattle.session.proofs.KeptLaws.{carry_up, has, leads_same}
+use Rattle.session.proofs.KeptLaws.{carry_up, has, leads_as, leads_same}
 use Rattle.hour_work.proofs.PatchLaws.{length-patched, patched-below, patched-last, patched-more, patched-none, patched-past}
 
 -- the way from the hour `first` has come to the point before the hour `hour`
@@ -38,13 +38,13 @@ going_on c s first kept fresh items hour before next is size lt p at leads e =
     let new : (d : Carried) → get_or (patched kept (first + 1) (fresh ++ next ∷ [])) (hour + 1) d ≡ next = λ d. patched-last kept (first + 1) fresh next (hour + 1) d (omega arith) (omega arith) in
     rw e (record {
       size = rw length-append (omega arith);
-      here = λ d. subst (λ (v : Carried). IsCarryAt c s (hour + 1) v) (sym (new d)) (leads s (has s hour is lt) (subst (λ (v : Carried). IsCarryAt c s hour v) (sym (at d)) (p.here d)));
+      here = λ d. subst (λ (v : Carried). IsCarryAt c s (hour + 1) v) (sym (new d)) (leads.stays s (has s hour is lt) (subst (λ (v : Carried). IsCarryAt c s hour v) (sym (at d)) (p.here d)));
       leads = λ k l. elim (cases_lt k hour) [
         | inl below ↦ leads_same c s (patched kept (first + 1) fresh) (patched kept (first + 1) (fresh ++ next ∷ [])) k (λ d. old k d (omega arith)) (λ d. old (k + 1) d (omega arith)) (p.leads k below)
         | inr from ↦
             let here : hour ≡ k = omega arith in
-            subst (λ (j : ℕ). LeadsAt c s (patched kept (first + 1) (fresh ++ next ∷ [])) j) here (λ d r has_it before_it.
-            subst (λ (v : Carried). IsCarryAt c r (hour + 1) v) (sym (new d)) (leads r has_it (subst (λ (v : Carried). IsCarryAt c r hour v) (old hour d (omega arith) ∙ sym (at d)) before_it)))
+            subst (λ (j : ℕ). LeadsAt c s (patched kept (first + 1) (fresh ++ next ∷ [])) j) here (λ d.
+            leads_as c hour (rows_at s hour) s.blanks before (get_or (patched kept (first + 1) (fresh ++ next ∷ [])) hour d) next (get_or (patched kept (first + 1) (fresh ++ next ∷ [])) (hour + 1) d) (old hour d (omega arith) ∙ sym (at d)) (new d) leads)
       ];
     })
 

@@ -15,7 +15,7 @@ use Rattle.rule_audit.proofs.Tracked.{channels_are}
 use Rattle.hour_work.specs.Numbers.{Numbers}
 use Rattle.hour_work.specs.Points.{Carried, IsCarryAt, IsFutureAt}
 use Rattle.hour_work.specs.Reports.{IsHourBetween, IsReport}
-use Rattle.session.specs.Links.{Ahead, AreCarries, AreFutures, AreKept, BacksAt, LeadsAt}
+use Rattle.session.specs.Links.{Ahead, AreCarries, AreFutures, AreKept, Backs, BacksAt, Leads, LeadsAt}
 
 pub has_hour : (s : Store) (hour : ℕ) (rows : Option (List Row)) (blanks : List Span) → IsStore s → hour < length s.hours → rows ≡ rows_at s hour → blanks ≡ s.blanks → HasHour s hour rows blanks
 has_hour s hour rows blanks is lt e b = record {
@@ -34,13 +34,13 @@ pub carry_up : (c : Settings) (s : Store) (xs : List Carried) (n : ℕ) → IsSt
 carry_up c s xs n is within start leads zero d le = start d s
 carry_up c s xs n is within start leads (suc k) d le =
     let e : k + 1 ≡ suc k = omega arith in
-    subst (λ (j : ℕ). IsCarryAt c s j (get_or xs j d)) e (leads k (omega arith) d s (has s k is (omega arith)) (carry_up c s xs n is within start leads k d (omega arith)))
+    subst (λ (j : ℕ). IsCarryAt c s j (get_or xs j d)) e ((leads k (omega arith) d).stays s (has s k is (omega arith)) (carry_up c s xs n is within start leads k d (omega arith)))
 
 pub future_down : (c : Settings) (s : Store) (xs : List Ahead) (low : ℕ) → IsStore s → ((d : Ahead) (r : Store) → length r.hours ≡ length s.hours → IsFutureAt c r (length s.hours) (get_or xs (length s.hours) d)) → ((k : ℕ) → low ≤ k → k < length s.hours → BacksAt c s xs k) → (n k : ℕ) (d : Ahead) → low ≤ k → k + n ≡ length s.hours → IsFutureAt c s k (get_or xs k d)
 future_down c s xs low is end backs zero k d from e =
     let at : length s.hours ≡ k = omega arith in
     subst (λ (j : ℕ). IsFutureAt c s j (get_or xs j d)) at (end d s refl)
-future_down c s xs low is end backs (suc n) k d from e = backs k from (omega arith) d s (has s k is (omega arith)) (future_down c s xs low is end backs n (k + 1) d (omega arith) (omega arith))
+future_down c s xs low is end backs (suc n) k d from e = (backs k from (omega arith) d).stays s (has s k is (omega arith)) (future_down c s xs low is end backs n (k + 1) d (omega arith) (omega arith))
 
 pub carry_kept : (c : Settings) (s : Store) (xs : List Carried) → IsStore s → AreCarries c s xs → (k : ℕ) (d : Carried) → k ≤ length s.hours → IsCarryAt c s k (get_or xs k d)
 carry_kept c s xs is are = carry_up c s xs (length s.hours) is (omega arith) are.start are.leads
@@ -73,12 +73,16 @@ report_kept c s xs ys ps is kept some =
       each = λ k f lt. kept.counts k lt d [] f s (between_kept c s xs ys is kept.forth kept.back some k d [] lt);
     }
 
--- ---- the same list, the same links
+-- ---- the same values, the same links
+
+pub leads_as : (c : Settings) (hour : ℕ) (rows : Option (List Row)) (blanks : List Span) (a a2 b b2 : Carried) → a2 ≡ a → b2 ≡ b → Leads c hour rows blanks a b → Leads c hour rows blanks a2 b2
+leads_as c hour rows blanks a a2 b b2 e q p = subst (λ (v : Carried). Leads c hour rows blanks v b2) (sym e) (subst (λ (v : Carried). Leads c hour rows blanks a v) (sym q) p)
+
+pub backs_as : (c : Settings) (hour : ℕ) (rows : Option (List Row)) (blanks : List Span) (a a2 b b2 : Ahead) → a2 ≡ a → b2 ≡ b → Backs c hour rows blanks a b → Backs c hour rows blanks a2 b2
+backs_as c hour rows blanks a a2 b b2 e q p = subst (λ (v : Ahead). Backs c hour rows blanks v b2) (sym e) (subst (λ (v : Ahead). Backs c hour rows blanks a v) (sym q) p)
 
 pub leads_same : (c : Settings) (s : Store) (xs ys : List Carried) (k : ℕ) → ((d : Carried) → get_or ys k d ≡ get_or xs k d) → ((d : Carried) → get_or ys (k + 1) d ≡ get_or xs (k + 1) d) → LeadsAt c s xs k → LeadsAt c s ys k
-leads_same c s xs ys k a b p d r has before =
-    subst (λ (v : Carried). IsCarryAt c r (k + 1) v) (sym (b d)) (p d r has (subst (λ (v : Carried). IsCarryAt c r k v) (a d) before))
+leads_same c s xs ys k a b p d = leads_as c k (rows_at s k) s.blanks (get_or xs k d) (get_or ys k d) (get_or xs (k + 1) d) (get_or ys (k + 1) d) (a d) (b d) (p d)
 
 pub backs_same : (c : Settings) (s : Store) (xs ys : List Ahead) (k : ℕ) → ((d : Ahead) → get_or ys k d ≡ get_or xs k d) → ((d : Ahead) → get_or ys (k + 1) d ≡ get_or xs (k + 1) d) → BacksAt c s xs k → BacksAt c s ys k
-backs_same c s xs ys k a b p d r has after =
-    subst (λ (v : Ahead). IsFutureAt c r k v) (sym (a d)) (p d r has (subst (λ (v : Ahead). IsFutureAt c r (k + 1) v) (b d) after))
+backs_same c s xs ys k a b p d = backs_as c k (rows_at s k) s.blanks (get_or xs (k + 1) d) (get_or ys (k + 1) d) (get_or xs k d) (get_or ys k d) (b d) (a d) (p d)

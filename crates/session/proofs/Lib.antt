@@ -3,6 +3,7 @@ pub mod OpenLaws
 pub mod RangeLaws
 pub mod EditLaws
 pub mod KeptLaws
+pub mod StepLaws
 pub mod ReportLaws
 pub mod ForwardLaws
 pub mod BackLaws

@@ -1,11 +1,11 @@
 -- What is kept, once other tenths of a range are blanked.
-use Rattle.std.proofs.Common.{◌≡◌, ◌∙◌, inl, inr, ℕ, ◌+◌, ◌*◌, ◌<◌, ◌≤◌, ℤ, pos, ◌-ℤ◌, ◌≤ℤ◌, ◌<ℤ◌, Bool, true, false, not, ◌&&◌, List, length, is_some, refl, sym, ap, arith}
+use Rattle.std.proofs.Common.{◌≡◌, inl, inr, ℕ, ◌+◌, ◌*◌, ◌<◌, ◌≤◌, ℤ, pos, ◌-ℤ◌, ◌≤ℤ◌, ◌<ℤ◌, Bool, true, false, List, length, refl, sym, arith}
 use Rattle.std.proofs.lemmas.Int.{ints}
 use Rattle.span_set.specs.declared.set.Span.{Span}
 use Rattle.span_set.specs.Spans.{Within, is_member}
 use Rattle.span_set.specs.Changes.{span}
 use Rattle.span_set.proofs.Sets.{member_test}
-use Rattle.hour_store.specs.Store.{IsStore, LieWithin, Store, rows_at, with_blanks}
+use Rattle.hour_store.specs.Store.{IsStore, LieWithin, Store, with_blanks}
 use Rattle.ring_config.specs.Settings.{Settings}
 use Rattle.hour_work.specs.Numbers.{Numbers}
 use Rattle.hour_work.specs.Points.{Carried}
@@ -34,12 +34,7 @@ same_test old new f t x same out =
 
 -- an hour without a tenth of the range
 same_out : (s : Store) (new : List Span) (f t : ℤ) (k : ℕ) → SameApart s.blanks f t new → ((x : ℕ) → 36000 * k ≤ x → x < 36000 * (k + 1) → Within (span f t) (pos x) → ⊥) → SameHour s (with_blanks s new) k
-same_out s new f t k same out r has = record {
-  is_store = has.is_store;
-  within = has.within;
-  held = has.held;
-  known = λ x low high. ap (λ (b : Bool). is_some (rows_at s k) && not b) (same_test s.blanks new f t x same (out x low high)) ∙ has.known x low high;
-}
+same_out s new f t k same out = record { rows = refl; blanks = λ x low high. same_test s.blanks new f t x same (out x low high) }
 
 -- an hour before those of the range, or after them
 same_where : (s : Store) (new : List Span) (f t : ℤ) (first last k : ℕ) → SameApart s.blanks f t new → IsIn f first → IsIn (t -ℤ pos 1) last → Apart first last k → SameHour s (with_blanks s new) k

@@ -1,5 +1,5 @@
 -- The numbers between what is kept, and all that is new in its place.
-use Rattle.std.proofs.Common.{◌≡◌, ◌∙◌, inl, inr, ℕ, zero, suc, ◌+◌, ◌-◌, ◌<◌, ◌≤◌, ◌≢◌, List, [], ◌∷◌, ◌++◌, length, length-append, length-set, get_or, get_or-set_other, option_map, Option, None, refl, sym, ap, subst, arith}
+use Rattle.std.proofs.Common.{◌≡◌, ◌∙◌, inl, inr, ℕ, zero, suc, ◌+◌, ◌*◌, ◌-◌, ◌<◌, ◌≤◌, ◌≢◌, pos, Bool, not, ◌&&◌, is_some, List, [], ◌∷◌, ◌++◌, length, length-append, length-set, get_or, get_or-set_other, option_map, Option, None, refl, sym, ap, subst, arith}
 use Rattle.std.specs.List.{All}
 use Rattle.std.proofs.lemmas.Bool.{cases_lt}
 use Rattle.std.proofs.lemmas.List.{get_or_append_left}
@@ -8,15 +8,22 @@ use Rattle.std.proofs.Math.Seq.{get_or-append_seam}
 use Rattle.sig_base.specs.HourRows.{Shown}
 use Rattle.sig_base.specs.declared.values.Row.{Row}
 use Rattle.hour_store.specs.Store.{IsStore, Store, rows_at, with_hour}
+use Rattle.span_set.specs.Spans.{is_member}
+use Rattle.gap_map.specs.declared.stretch.Stretch.{Stretch}
+use Rattle.gap_map.specs.Stretches.{known_in}
+use Rattle.gap_map.proofs.Cutting.{cut_same}
 use Rattle.channel_tables.specs.declared.spec.Spec.{Spec}
+use Rattle.board.specs.Hours.{AreClampedPasts, AreHourAheads, IsHourStop}
+use Rattle.board.specs.Logs.{end_tenth, first_tenth}
 use Rattle.board.specs.Places.{AreAheadsOf, AreSameFor}
 use Rattle.board.specs.Stops.{AreBefore}
 use Rattle.ring_config.specs.Settings.{Settings}
 use Rattle.signal_log.specs.Log.{log_of}
-use Rattle.signal_log.specs.Points.{HasHour}
+use Rattle.signal_log.specs.Over.{IsCutOf}
+use Rattle.signal_log.specs.Points.{HasHour, rows_or_none}
 use Rattle.signal_log.proofs.Suiting.{same_count}
 use Rattle.hour_work.specs.Numbers.{AreNewSums, FitHours, Numbers, Summed, patched}
-use Rattle.hour_work.specs.Points.{Carried, IsFutureAt}
+use Rattle.hour_work.specs.Points.{Carried, ComesBack, GoesOver, IsFutureAt}
 use Rattle.session.specs.Links.{Ahead, Apart, AreKept, AreKeptBut, BacksAt, Counts, CountsAt, LeadsAt}
 use Rattle.session.specs.Renewed.{AreNewCarries, AreNewFutures, AreNewParts, AreSameUpTo, IsRenewed}
 use Rattle.session.proofs.KeptLaws.{carry_kept, future_kept}
@@ -63,7 +70,7 @@ counts_same c s xs xs2 ys ys2 ps ps2 k a b n p d x f =
 -- the numbers of an hour stay where what is new after it admits the same of the states that come up
 counts_suit : (c : Settings) (s : Store) (xs : List Carried) (ys new : List Ahead) (ps : List Numbers) (k : ℕ) → LeadsAt c s xs k → ((e : Ahead) → AreAheadsOf c.specs (get_or ys (k + 1) e)) → ((d : Carried) (e : Ahead) → AreSameFor (get_or xs (k + 1) d).pasts (get_or ys (k + 1) e) (get_or new (k + 1) e)) → CountsAt c s xs ys ps k → CountsAt c s xs new ps k
 counts_suit c s xs ys new ps k leads shape same p d e f r b =
-    let carry = leads d r b.has_hour b.is_before in
+    let carry = (leads d).stays r b.has_hour b.is_before in
     let old = get_or ys (k + 1) e in
     let fresh = get_or new (k + 1) e in
     let pasts = (get_or xs (k + 1) d).pasts in
@@ -153,18 +160,57 @@ shapes_new c s first last carries new_carries futures from new_futures parts is 
 
 -- ---- what still fits once the store is changed
 
--- what has the hour as the second store has it, has it as the first one
-abbrev pub SameHour : Store → Store → ℕ → Type 0
-SameHour s t k = (r : Store) → HasHour r k (rows_at t k) t.blanks → HasHour r k (rows_at s k) s.blanks
+-- the second store has the hour as the first one has it: the same rows, and of its tenths the same are blanked
+pub record SameHour (s t : Store) (k : ℕ) : Type 0 where
+  pub rows : rows_at t k ≡ rows_at s k
+  pub blanks : (x : ℕ) → first_tenth k ≤ x → x < first_tenth (k + 1) → is_member s.blanks (pos x) ≡ is_member t.blanks (pos x)
+
+same_known : (s t : Store) (k : ℕ) → SameHour s t k → (x : ℕ) → first_tenth k ≤ x → x < first_tenth (k + 1) → known_in (is_some (rows_at s k)) s.blanks x ≡ known_in (is_some (rows_at t k)) t.blanks x
+same_known s t k same x low high = rw same.rows (ap (λ (b : Bool). is_some (rows_at s k) && not b) (same.blanks x low high))
+
+same_has : (s t r : Store) (k : ℕ) → SameHour s t k → HasHour r k (rows_at t k) t.blanks → HasHour r k (rows_at s k) s.blanks
+same_has s t r k same has = record {
+  is_store = has.is_store;
+  within = has.within;
+  held = has.held ∙ same.rows;
+  known = λ x low high. same_known s t k same x low high ∙ has.known x low high;
+}
+
+same_cut : (s t : Store) (k : ℕ) (ss : List Stretch) → SameHour s t k → IsCutOf k (rows_at t k) t.blanks ss → IsCutOf k (rows_at s k) s.blanks ss
+same_cut s t k ss same = cut_same (known_in (is_some (rows_at t k)) t.blanks) (known_in (is_some (rows_at s k)) s.blanks) (36000 * k) (36000 * k + 36000) ss (λ x low high. sym (same_known s t k same x low (omega arith)))
+
+same_rows : (s t : Store) (k : ℕ) → SameHour s t k → rows_or_none (rows_at s k) ≡ rows_or_none (rows_at t k)
+same_rows s t k same = ap (λ (o : Option (List Row)). rows_or_none o) (sym same.rows)
+
+goes_same : (c : Settings) (s t : Store) (k : ℕ) (before after : Carried) → SameHour s t k → GoesOver c k (rows_at s k) s.blanks before after → GoesOver c k (rows_at t k) t.blanks before after
+goes_same c s t k before after same p = record {
+  fit = p.fit;
+  over = (
+    λ ss cut. subst (λ (rows : List Row). IsHourStop c.specs rows ss (first_tenth k) (end_tenth k) before.pasts None) (same_rows s t k same) (p.over.0 ss (same_cut s t k ss same cut)),
+    λ ss cut. subst (λ (rows : List Row). AreClampedPasts c.specs rows ss (first_tenth k) (end_tenth k) before.pasts after.pasts) (same_rows s t k same) (p.over.1 ss (same_cut s t k ss same cut)),
+  );
+}
+
+comes_same : (c : Settings) (s t : Store) (k : ℕ) (after before : Ahead) → SameHour s t k → ComesBack c k (rows_at s k) s.blanks after before → ComesBack c k (rows_at t k) t.blanks after before
+comes_same c s t k after before same p = record {
+  fit = p.fit;
+  over = λ ss cut. subst (λ (rows : List Row). AreHourAheads c.specs rows ss (first_tenth k) (end_tenth k) after (length c.specs) before) (same_rows s t k same) (p.over ss (same_cut s t k ss same cut));
+}
 
 leads_stay : (c : Settings) (s t : Store) (k : ℕ) (xs : List Carried) → SameHour s t k → LeadsAt c s xs k → LeadsAt c t xs k
-leads_stay c s t k xs same p d r has = p d r (same r has)
+leads_stay c s t k xs same p d = record {
+  stays = λ r has. (p d).stays r (same_has s t r k same has);
+  over = goes_same c s t k (get_or xs k d) (get_or xs (k + 1) d) same (p d).over;
+}
 
 backs_stay : (c : Settings) (s t : Store) (k : ℕ) (ys : List Ahead) → SameHour s t k → BacksAt c s ys k → BacksAt c t ys k
-backs_stay c s t k ys same p d r has = p d r (same r has)
+backs_stay c s t k ys same p d = record {
+  stays = λ r has. (p d).stays r (same_has s t r k same has);
+  over = comes_same c s t k (get_or ys (k + 1) d) (get_or ys k d) same (p d).over;
+}
 
 counts_stay : (c : Settings) (s t : Store) (k : ℕ) (xs : List Carried) (ys : List Ahead) (ps : List Numbers) → SameHour s t k → CountsAt c s xs ys ps k → CountsAt c t xs ys ps k
-counts_stay c s t k xs ys ps same p d e f r b = p d e f r (record { has_hour = same r b.has_hour; is_before = b.is_before; is_after = b.is_after; history = b.history })
+counts_stay c s t k xs ys ps same p d e f r b = p d e f r (record { has_hour = same_has s t r k same b.has_hour; is_before = b.is_before; is_after = b.is_after; history = b.history })
 
 -- what is kept of a store, of another one that has all hours alike but those from `first` to `last`
 pub kept_but : (c : Settings) (s t : Store) (first last : ℕ) (xs : List Carried) (ys : List Ahead) (ps : List Numbers) → first ≤ last → last < length s.hours → length t.hours ≡ length s.hours → ((k : ℕ) → Apart first last k → SameHour s t k) → IsStore s → AreKept c s xs ys ps → AreKeptBut c t first last xs ys ps
@@ -187,7 +233,7 @@ kept_but c s t first last xs ys ps order within size same is kept = record {
 }
 
 pub kept_but_hour : (c : Settings) (s : Store) (h : ℕ) (x : Option Shown) (xs : List Carried) (ys : List Ahead) (ps : List Numbers) → h < length s.hours → IsStore s → AreKept c s xs ys ps → AreKeptBut c (with_hour s h x) h h xs ys ps
-kept_but_hour c s h x xs ys ps lt = kept_but c s (with_hour s h x) h h xs ys ps (omega arith) lt (length-set s.hours h x) (λ k out r.
+kept_but_hour c s h x xs ys ps lt = kept_but c s (with_hour s h x) h h xs ys ps (omega arith) lt (length-set s.hours h x) (λ k out.
     let other : k ≢ h = elim out [ inl a ↦ λ e. omega arith | inr b ↦ λ e. omega arith ] in
     let rows : rows_at (with_hour s h x) k ≡ rows_at s k = ap (λ (o : Option Shown). option_map (λ v. v.rows) o) (get_or-set_other s.hours h k x None other) in
-    subst (λ (o : Option (List Row)). HasHour r k o s.blanks) rows)
+    record { rows = rows; blanks = λ x low high. refl })

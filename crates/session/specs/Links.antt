@@ -7,20 +7,22 @@ use Rattle.board.specs.Places.{AreAheadsOf}
 use Rattle.ring_config.specs.Settings.{Settings}
 use Rattle.signal_log.specs.Points.{HasHour}
 use Rattle.hour_work.specs.Numbers.{Numbers}
-use Rattle.hour_work.specs.Points.{Carried, IsCarryAt, IsFutureAt}
+use Rattle.hour_work.specs.Points.{Carried, ComesBack, GoesOver, IsCarryAt, IsFutureAt}
 use Rattle.hour_work.specs.Reports.{IsHourBetween, IsHourPart}
 
 -- what is kept at an hour point of the hours after it
 abbrev pub Ahead : Type 0
 Ahead = List (List (Option ℤ))
 
--- in every store that has the hour so: where this is what it says up to the point before the hour, that is what it says up to the point after it
-abbrev pub Leads : Settings → ℕ → Option (List Row) → List Span → Carried → Carried → Type 0
-Leads c hour rows blanks before after = (r : Store) → HasHour r hour rows blanks → IsCarryAt c r hour before → IsCarryAt c r (hour + 1) after
+-- in every store that has the hour so: where this is what it says up to the point before the hour, that is what it says up to the point after it; and by what is told of the hour its states lead there
+pub record Leads (c : Settings) (hour : ℕ) (rows : Option (List Row)) (blanks : List Span) (before after : Carried) : Type 0 where
+  pub stays : (r : Store) → HasHour r hour rows blanks → IsCarryAt c r hour before → IsCarryAt c r (hour + 1) after
+  pub over : GoesOver c hour rows blanks before after
 
 -- the same back, from the point after the hour to the one before it
-abbrev pub Backs : Settings → ℕ → Option (List Row) → List Span → Ahead → Ahead → Type 0
-Backs c hour rows blanks after before = (r : Store) → HasHour r hour rows blanks → IsFutureAt c r (hour + 1) after → IsFutureAt c r hour before
+pub record Backs (c : Settings) (hour : ℕ) (rows : Option (List Row)) (blanks : List Span) (after before : Ahead) : Type 0 where
+  pub stays : (r : Store) → HasHour r hour rows blanks → IsFutureAt c r (hour + 1) after → IsFutureAt c r hour before
+  pub over : ComesBack c hour rows blanks after before
 
 -- in every store that has the hour so, between what it says at both points, these are the numbers of the hour
 abbrev pub Counts : Settings → ℕ → Option (List Row) → List Span → Carried → Ahead → Numbers → Type 0

@@ -16,7 +16,7 @@ use crate::renew::Worked;
 use board::Pasts;
 use decisive::{HourMoves, window_in};
 use hour_store::HourStore;
-use hour_work::{Carry, Future, audit_lines};
+use hour_work::{Between, audit_lines};
 use ring_config::Config;
 use rule_audit::{AuditLine, Rule};
 use sig_base::{Hour, NoMemory, Reads, Verdict};
@@ -29,21 +29,30 @@ fn lines_between<L>(
     rules: &[Rule],
     store: &HourStore<L>,
     hour: Hour,
-    before: &Carry,
-    after: &Future,
+    between: &Between<'_>,
     reads: &mut Reads<L>,
 ) -> Result<Vec<AuditLine>, NoMemory>
     requires rules { rules.now ≡ rules_for config.now }
     requires in_store { hour < length store.now.hours }
-    requires before { IsCarryAt config.now store.now hour before.now }
-    requires after { IsFutureAt config.now store.now (hour + 1) after.now }
+    requires before { IsCarryAt config.now store.now hour between.now.before.now }
+    requires after { IsFutureAt config.now store.now (hour + 1) between.now.after.now }
     requires history { HasHistory (log_of config.now.specs store.now) }
     ensures lines { IfOk result (λ v. AreAuditLines config.now store.now hour v.items) }
     ensures grow { Grow reads.old reads.new }
 {
     let rows = store.open_hour(hour, reads);
     let blanked = store.blanked();
-    audit_lines(alloc, config, rules, hour, before, rows, blanked, after)
+    let before = between.before;
+    audit_lines(
+        alloc,
+        config,
+        rules,
+        hour,
+        before,
+        rows,
+        blanked,
+        between.after,
+    )
 }
 
 // The lines of the audit of an hour. No other hour is opened.
@@ -67,7 +76,8 @@ pub fn lines_of<L>(
 {
     let before = &worked.carries[hour as usize];
     let after = &worked.futures[hour as usize + 1];
-    lines_between(alloc, config, rules, store, hour, before, after, reads)
+    let between = Between { before, after };
+    lines_between(alloc, config, rules, store, hour, &between, reads)
 }
 
 // The window of a line of an hour, which a broken one has.

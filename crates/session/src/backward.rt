@@ -1,16 +1,18 @@
 // Back over the hours that an edit changes.
 ghost use Rattle.std.specs.Prelude.{◌≡◌, ◌↔◌, ◌+◌, ◌-◌, ◌≤◌, ◌<◌, length, IfOk, IsTrue};
-ghost use Rattle.hour_store.specs.Store.{IsStore};
-ghost use Rattle.session.specs.Links.{AreFuturesBut};
+ghost use Rattle.hour_store.specs.Store.{IsStore, rows_at};
+ghost use Rattle.hour_work.specs.Points.{IsFutureAt};
+ghost use Rattle.session.specs.Links.{AreFuturesBut, Backs, BacksAt};
 ghost use Rattle.session.specs.Opens.{AreOpened};
 ghost use Rattle.session.specs.Renewed.{AreNewFutures};
 ghost use Rattle.sig_base.specs.Reads.{Grow};
 
-use crate::steps::future_before;
+use crate::steps::{future_again, future_before};
 use hour_store::HourStore;
 use hour_work::{Future, pick};
 use ring_config::Config;
 use sig_base::{Hour, NoMemory, Reads};
+use signal_log::About;
 use std::alloc::Global;
 
 // Whether all hours that are changed are passed, and nothing changes at the point before this one.
@@ -18,6 +20,43 @@ fn is_passed(first: Hour, hour: Hour, next: &Future, kept: &Future) -> bool
     ensures { IsTrue result ↔ ((hour ≤ first) × (next.now ≡ kept.now)) }
 {
     hour <= first && next.same(kept)
+}
+
+// What was kept going back at each hour point, and the first hour that is changed.
+#[derive(Drop)]
+struct Told<'a> {
+    first: Hour,
+    kept: &'a [Future],
+}
+
+// What is kept going back at the point before the hour; of an hour before the first one that is
+// changed it was told before.
+fn previous_future<L>(
+    alloc: Global,
+    config: &Config,
+    store: &HourStore<L>,
+    told: &Told<'_>,
+    hour: Hour,
+    after: &Future,
+    reads: &mut Reads<L>,
+) -> Result<Future, NoMemory>
+    requires in_store { hour < length store.now.hours }
+    requires after { IsFutureAt config.now store.now (hour + 1) after.now }
+    requires room { length told.now.kept.now ≡ length store.now.hours + 1 }
+    requires told { hour < told.now.first → BacksAt config.now store.now told.now.kept.now hour }
+    ensures backs { IfOk result (Backs config.now hour (rows_at store.now hour) store.now.blanks
+        after.now) }
+    ensures once { AreOpened hour (hour + 1) 1 1 reads.old reads.new }
+{
+    if told.first <= hour {
+        return future_before(alloc, config, store, hour, after, reads);
+    }
+    let place = hour as usize;
+    let was = About {
+        before: &told.kept[place],
+        after: &told.kept[place + 1],
+    };
+    future_again(alloc, config, store, hour, after, &was, reads)
 }
 
 // What is kept going back at the points up to the last hour that is changed, from the last one
@@ -41,11 +80,12 @@ pub fn go_back<L>(
         reads.old reads.new) }
     ensures grow { Grow reads.old reads.new }
 {
+    let told = Told { first, kept };
     let mut fresh = Vec::new(alloc);
     for hour in (0..last + 1).rev() {
         let place = hour as usize;
         let after = pick(kept, place + 1, fresh.as_slice(), place + 1);
-        let next = future_before(alloc, config, store, hour, after, reads)?;
+        let next = previous_future(alloc, config, store, &told, hour, after, reads)?;
         let done = is_passed(first, hour, &next, &kept[place]);
         fresh.insert(0, next)?;
         if done {

@@ -13,7 +13,7 @@ ghost use Rattle.sig_base.specs.Reads.{Grow};
 use crate::renew::Worked;
 use arrival_measures::{Diagram, Point, Points, diagrams};
 use hour_store::HourStore;
-use hour_work::{Carry, Future, hours_make_up_the_log, phase_cycles, phase_points};
+use hour_work::{Between, hours_make_up_the_log, phase_cycles, phase_points};
 use ring_config::Config;
 use service_cut::Cycle;
 use sig_base::{Hour, NoMemory, Reads};
@@ -22,6 +22,7 @@ use std::alloc::Global;
 // The whole cycles of a phase that end in the hours so far, and its arrivals in them.
 #[derive(Drop)]
 struct Found {
+    phase: u8,
     cycles: Vec<Cycle>,
     points: Points,
 }
@@ -40,30 +41,30 @@ fn add_points(points: &mut Points, more: &[Point]) -> Result<(), NoMemory>
 fn add_hour<L>(
     alloc: Global,
     config: &Config,
-    phase: u8,
     store: &HourStore<L>,
     hour: Hour,
-    before: &Carry,
-    after: &Future,
+    between: &Between<'_>,
     found: &mut Found,
     reads: &mut Reads<L>,
 ) -> Result<(), NoMemory>
     requires in_store { hour < length store.now.hours }
-    requires before { IsCarryAt config.now store.now hour before.now }
-    requires after { IsFutureAt config.now store.now (hour + 1) after.now }
+    requires before { IsCarryAt config.now store.now hour between.now.before.now }
+    requires after { IsFutureAt config.now store.now (hour + 1) between.now.after.now }
     requires history { HasHistory (log_of config.now.specs store.now) }
+    ensures phase { found.new.phase ≡ found.old.phase }
     ensures cycles { OnOk result (found.new.cycles.items
-        ≡ found.old.cycles.items ++ own (λ x. x.phase) phase
+        ≡ found.old.cycles.items ++ own (λ x. x.phase) found.old.phase
         (cycles_in config.now store.now hour)) }
     ensures points { OnOk result (found.new.points ≡ found.old.points
-        ++ points_from (is_known store.now) config.now phase (earlier_rows store.now hour)
-        (own_rows store.now hour)) }
+        ++ points_from (is_known store.now) config.now found.old.phase
+        (earlier_rows store.now hour) (own_rows store.now hour)) }
     ensures grow { Grow reads.old reads.new }
 {
     let rows = store.open_hour(hour, reads);
     let blanked = store.blanked();
-    let mut cycles = phase_cycles(alloc, config, phase, hour, before, rows, blanked)?;
-    let points = phase_points(alloc, config, phase, hour, before, rows, blanked, after)?;
+    let phase = found.phase;
+    let mut cycles = phase_cycles(alloc, config, phase, hour, between.before, rows, blanked)?;
+    let points = phase_points(alloc, config, phase, hour, between, rows, blanked)?;
     found.cycles.append(&mut cycles)?;
     add_points(&mut found.points, points.list())?;
     Ok(())
@@ -86,15 +87,15 @@ pub fn phase_diagrams<L>(
     ensures grow { Grow reads.old reads.new }
 {
     let mut found = Found {
+        phase,
         cycles: Vec::new(alloc),
         points: Points::new(alloc),
     };
     for hour in 0..store.hours() {
         let before = &worked.carries[hour as usize];
         let after = &worked.futures[hour as usize + 1];
-        add_hour(
-            alloc, config, phase, store, hour, before, after, &mut found, reads,
-        )?;
+        let between = Between { before, after };
+        add_hour(alloc, config, store, hour, &between, &mut found, reads)?;
     }
     hours_make_up_the_log();
     diagrams(alloc, &found.cycles, &found.points)

@@ -18,7 +18,7 @@ use crate::backward::go_back;
 use crate::forward::go_forward;
 use crate::steps::part_between;
 use hour_store::HourStore;
-use hour_work::{Carry, ForwardError, Future, Partial, Report, Sums, pick, put_in};
+use hour_work::{Between, Carry, ForwardError, Future, Partial, Report, Sums, pick, put_in};
 use ring_config::Config;
 use rule_audit::Rule;
 use sig_base::{Applied, Hour, NoMemory, Reads};
@@ -145,7 +145,8 @@ fn parts_between<L>(
             points.futures.as_slice(),
             place + 1,
         );
-        let part = part_between(alloc, config, rules, store, hour, before, after, reads)?;
+        let between = Between { before, after };
+        let part = part_between(alloc, config, rules, store, hour, &between, reads)?;
         parts.push(part)?;
     }
     Ok(parts)

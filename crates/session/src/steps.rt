@@ -4,15 +4,19 @@ ghost use Rattle.hour_store.specs.Store.{rows_at};
 ghost use Rattle.signal_log.specs.Log.{HasHistory, log_of};
 ghost use Rattle.rule_audit.specs.Rules.{rules_for};
 ghost use Rattle.hour_work.specs.Numbers.{FitHours};
-ghost use Rattle.hour_work.specs.Points.{IsCarryAt, IsFutureAt, NamesRow};
+ghost use Rattle.hour_work.specs.Points.{ComesBack, GoesOver, IsCarryAt, IsFutureAt, NamesRow};
 ghost use Rattle.session.specs.Links.{Backs, Counts, Leads};
 ghost use Rattle.session.specs.Opens.{AreOpened, NamesRowOf};
 
 use hour_store::HourStore;
-use hour_work::{Carry, ForwardError, Future, Partial, backward, forward, partial};
+use hour_work::{
+    Between, Carry, ForwardError, Future, Partial, backward, backward_again, forward,
+    forward_again, partial,
+};
 use ring_config::Config;
 use rule_audit::Rule;
 use sig_base::{Hour, NoMemory, Reads};
+use signal_log::About;
 use std::alloc::Global;
 
 // What is kept at the point after the hour.
@@ -36,6 +40,30 @@ pub fn carry_over<L>(
     forward(alloc, config, hour, before, rows, store.blanked())
 }
 
+// The same of an hour that is as it was told before, from other states at the point before it.
+pub fn carry_again<L>(
+    alloc: Global,
+    config: &Config,
+    store: &HourStore<L>,
+    hour: Hour,
+    before: &Carry,
+    was: &About<'_, Carry>,
+    reads: &mut Reads<L>,
+) -> Result<Carry, ForwardError>
+    requires in_store { hour < length store.now.hours }
+    requires before { IsCarryAt config.now store.now hour before.now }
+    requires was { GoesOver config.now hour (rows_at store.now hour) store.now.blanks
+        was.now.before.now was.now.after.now }
+    ensures leads { IfOk result (Leads config.now hour (rows_at store.now hour) store.now.blanks
+        before.now) }
+    ensures stop { IfErr result (NamesRow (log_of config.now.specs store.now)) }
+    ensures row { IfErr result (NamesRowOf hour) }
+    ensures once { AreOpened hour (hour + 1) 1 1 reads.old reads.new }
+{
+    let rows = store.open_hour(hour, reads);
+    forward_again(alloc, config, hour, before, was, rows, store.blanked())
+}
+
 // What is kept going back at the point before the hour.
 pub fn future_before<L>(
     alloc: Global,
@@ -55,6 +83,28 @@ pub fn future_before<L>(
     backward(alloc, config, hour, after, rows, store.blanked())
 }
 
+// The same of an hour that is as it was told before, from other states at the point after it.
+pub fn future_again<L>(
+    alloc: Global,
+    config: &Config,
+    store: &HourStore<L>,
+    hour: Hour,
+    after: &Future,
+    was: &About<'_, Future>,
+    reads: &mut Reads<L>,
+) -> Result<Future, NoMemory>
+    requires in_store { hour < length store.now.hours }
+    requires after { IsFutureAt config.now store.now (hour + 1) after.now }
+    requires was { ComesBack config.now hour (rows_at store.now hour) store.now.blanks
+        was.now.after.now was.now.before.now }
+    ensures backs { IfOk result (Backs config.now hour (rows_at store.now hour) store.now.blanks
+        after.now) }
+    ensures once { AreOpened hour (hour + 1) 1 1 reads.old reads.new }
+{
+    let rows = store.open_hour(hour, reads);
+    backward_again(alloc, config, hour, after, was, rows, store.blanked())
+}
+
 // The numbers of the hour.
 pub fn part_between<L>(
     alloc: Global,
@@ -62,17 +112,16 @@ pub fn part_between<L>(
     rules: &[Rule],
     store: &HourStore<L>,
     hour: Hour,
-    before: &Carry,
-    after: &Future,
+    between: &Between<'_>,
     reads: &mut Reads<L>,
 ) -> Result<Partial, NoMemory>
     requires rules { rules.now ≡ rules_for config.now }
     requires in_store { hour < length store.now.hours }
-    requires before { IsCarryAt config.now store.now hour before.now }
-    requires after { IsFutureAt config.now store.now (hour + 1) after.now }
+    requires before { IsCarryAt config.now store.now hour between.now.before.now }
+    requires after { IsFutureAt config.now store.now (hour + 1) between.now.after.now }
     requires history { HasHistory (log_of config.now.specs store.now) }
     ensures counts { IfOk result (Counts config.now hour (rows_at store.now hour) store.now.blanks
-        before.now after.now) }
+        between.now.before.now between.now.after.now) }
     ensures small { IfOk result (FitHours 1) }
     ensures once { AreOpened hour (hour + 1) 1 1 reads.old reads.new }
 {
@@ -82,9 +131,9 @@ pub fn part_between<L>(
         config,
         rules,
         hour,
-        before,
+        between.before,
         rows,
         store.blanked(),
-        after,
+        between.after,
     )
 }

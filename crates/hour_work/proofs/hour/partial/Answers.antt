@@ -1,4 +1,4 @@
-use Rattle.std.proofs.Common.{◌≡◌, ◌∙◌, ap, subst, length, List, None, Option}
+use Rattle.std.proofs.Common.{◌≡◌, ap, subst, length, List, None, Option}
 use Rattle.std.specs.Prelude.{option_copied}
 use Rattle.std.proofs.lemmas.Result.{IfOk-weaker}
 use Rattle.sig_base.specs.declared.values.Row.{Row}

@@ -1,5 +1,5 @@
-use Rattle.std.proofs.Common.{◌*◌, arith, inl, inr, sym, ap}
-use Rattle.hour_work.specs.Numbers.{FitHours, Numbers, patched}
+use Rattle.std.proofs.Common.{◌*◌, arith}
+use Rattle.hour_work.specs.Numbers.{FitHours, patched}
 use Rattle.hour_work.proofs.PatchLaws.{all_patched, length-patched}
 use Rattle.hour_work.proofs.BlockLaws.{block_add, block_end, block_start, block_step, hour_fits}
 use Rattle.hour_work.proofs.reported.block_with.Goals as goal

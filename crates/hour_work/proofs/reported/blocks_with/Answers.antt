@@ -1,4 +1,4 @@
-use Rattle.std.proofs.Common.{◌+◌, arith, length, length-append}
+use Rattle.std.proofs.Common.{arith, length-append}
 use Rattle.hour_work.specs.Numbers.{patched}
 use Rattle.hour_work.proofs.BlockLaws.{blocks_push}
 use Rattle.hour_work.proofs.reported.blocks_with.Goals as goal

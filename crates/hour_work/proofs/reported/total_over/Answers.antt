@@ -1,6 +1,5 @@
-use Rattle.std.proofs.Common.{◌*◌, ◌≤◌, List, length, take, arith, [], subst, sym}
-use Rattle.std.specs.List.{All}
-use Rattle.hour_work.specs.Numbers.{AreBlocks, FitHours, IsTotal, Numbers, patched}
+use Rattle.std.proofs.Common.{arith}
+use Rattle.hour_work.specs.Numbers.{patched}
 use Rattle.hour_work.proofs.PatchLaws.{length-patched}
 use Rattle.hour_work.proofs.BlockLaws.{over_add, over_end, over_step}
 use Rattle.hour_work.proofs.reported.total_over.Goals as goal

@@ -1,4 +1,4 @@
-use Rattle.std.proofs.Common.{◌≡◌, ◌∙◌, ◌/◌, ◌<◌, arith, ap, sym, subst, inl, inr, ℕ, false, get_or}
+use Rattle.std.proofs.Common.{◌≡◌, ◌∙◌, ◌/◌, arith, ap, sym, subst, inl, inr, ℕ, false, get_or}
 use Rattle.std.proofs.lemmas.Bool.{cases_eq}
 use Rattle.std.proofs.lemmas.List.{get_or_default}
 use Rattle.rule_audit.specs.declared.lines.AuditLine.{AuditLine}

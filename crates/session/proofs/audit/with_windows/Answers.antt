@@ -1,10 +1,9 @@
-use Rattle.std.proofs.Common.{◌≡◌, ◌∙◌, ◌/◌, ◌<◌, ◌*◌, arith, sym, subst, ℕ, length, get_or}
+use Rattle.std.proofs.Common.{◌≡◌, ◌∙◌, arith, sym, subst, ℕ}
 use Rattle.std.specs.Prelude.{All}
 use Rattle.std.proofs.lemmas.Result.{IfOk-weaker}
-use Rattle.span_set.specs.declared.set.Span.{Span}
 use Rattle.signal_log.specs.Log.{log_of}
 use Rattle.signal_log.specs.Points.{ArePastsAt}
-use Rattle.session.specs.HourLines.{AreWindowed, IsLineIn}
+use Rattle.session.specs.HourLines.{IsLineIn}
 use Rattle.session.proofs.GrowLaws.{grow_on, grow_same}
 use Rattle.session.proofs.WindowLaws.{no_line}
 use Rattle.session.proofs.audit.with_windows.Goals as goal

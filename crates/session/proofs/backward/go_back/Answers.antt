@@ -9,8 +9,8 @@ loop-hour-init g c =
     let p = returning_start c.args.config.now c.args.store.now c.args.first c.args.last c.args.kept.now c.new-fresh.result.items c.requires.store c.requires.order c.requires.within c.requires.kept c.new-fresh.ensures.items in
     record { returning = p; size = p.size; other = other_start c.args.first c.args.last c.args.kept.now c.new-fresh.result.items c.requires.order; opens = opened_none (c.args.last + 1) c.args.reads.now }
 
-pub future_before-requires-clause-after : goal.future_before-requires-clause-after
-future_before-requires-clause-after g c =
+pub previous_future-requires-clause-after : goal.previous_future-requires-clause-after
+previous_future-requires-clause-after g c =
     let at = rw c.as_slice.ensures.value at c.pick-after.ensures in
     let fe : c.loop-hour.hour ≡ (c.loop-hour.hour - 1) + 1 = omega arith in
     returning_here c.args.config.now c.args.store.now c.args.last c.args.kept.now c.loop-hour.fresh.items (c.loop-hour.hour - 1) c.loop-hour.hour c.pick-after.result.now fe c.loop-hour.invariant.returning at
@@ -19,19 +19,19 @@ pub returns-in_err-next-clause-grow : goal.returns-in_err-next-clause-grow
 returns-in_err-next-clause-grow g c =
     let size = c.loop-hour.invariant.size in
     let fe : c.loop-hour.hour ≡ (c.loop-hour.hour - 1) + 1 = omega arith in
-    grow_opened _ _ _ _ _ _ (opened_before (c.loop-hour.hour - 1) (c.args.last + 1) _ _ _ (let n = c.loop-hour.invariant.size in let some = c.loop-hour.auto.hour in omega arith) (opened_as _ _ _ _ _ _ _ _ fe refl c.loop-hour.invariant.opens) c.future_before.ensures.once)
+    grow_opened _ _ _ _ _ _ (opened_before (c.loop-hour.hour - 1) (c.args.last + 1) _ _ _ (let n = c.loop-hour.invariant.size in let some = c.loop-hour.auto.hour in omega arith) (opened_as _ _ _ _ _ _ _ _ fe refl c.loop-hour.invariant.opens) c.previous_future.ensures.once)
 
 pub returns-in_err-insert-clause-grow : goal.returns-in_err-insert-clause-grow
 returns-in_err-insert-clause-grow g c =
     let size = c.loop-hour.invariant.size in
     let fe : c.loop-hour.hour ≡ (c.loop-hour.hour - 1) + 1 = omega arith in
-    grow_opened _ _ _ _ _ _ (opened_before (c.loop-hour.hour - 1) (c.args.last + 1) _ _ _ (let n = c.loop-hour.invariant.size in let some = c.loop-hour.auto.hour in omega arith) (opened_as _ _ _ _ _ _ _ _ fe refl c.loop-hour.invariant.opens) c.future_before.ensures.once)
+    grow_opened _ _ _ _ _ _ (opened_before (c.loop-hour.hour - 1) (c.args.last + 1) _ _ _ (let n = c.loop-hour.invariant.size in let some = c.loop-hour.auto.hour in omega arith) (opened_as _ _ _ _ _ _ _ _ fe refl c.loop-hour.invariant.opens) c.previous_future.ensures.once)
 
 pub returns-then-done-clause-grow : goal.returns-then-done-clause-grow
 returns-then-done-clause-grow g c =
     let size = c.loop-hour.invariant.size in
     let fe : c.loop-hour.hour ≡ (c.loop-hour.hour - 1) + 1 = omega arith in
-    grow_opened _ _ _ _ _ _ (opened_before (c.loop-hour.hour - 1) (c.args.last + 1) _ _ _ (let n = c.loop-hour.invariant.size in let some = c.loop-hour.auto.hour in omega arith) (opened_as _ _ _ _ _ _ _ _ fe refl c.loop-hour.invariant.opens) c.future_before.ensures.once)
+    grow_opened _ _ _ _ _ _ (opened_before (c.loop-hour.hour - 1) (c.args.last + 1) _ _ _ (let n = c.loop-hour.invariant.size in let some = c.loop-hour.auto.hour in omega arith) (opened_as _ _ _ _ _ _ _ _ fe refl c.loop-hour.invariant.opens) c.previous_future.ensures.once)
 
 pub loop-hour-preserved : goal.loop-hour-preserved
 loop-hour-preserved g c =
@@ -46,7 +46,7 @@ loop-hour-preserved g c =
     let there : c.loop-hour.hour - 1 < length c.args.kept.now = omega arith in
     let other = other_more c.args.first c.args.kept.now c.loop-hour.fresh.items c.insert.new.self.items (c.loop-hour.hour - 1) c.loop-hour.hour c.in_ok-next.next c.index-kept-place.result fe there c.in_ok-insert.ensures.items
     (λ d. c.index-kept-place.is ∙ get_or_default c.args.kept.now (c.loop-hour.hour - 1) c.index-kept-place.result d there) (λ h. let z = c.if-done.ensures.1 h in cc) c.loop-hour.invariant.other in
-    record { returning = p; size = p.size; other = other; opens = opened_before (c.loop-hour.hour - 1) (c.args.last + 1) _ _ _ (let n = c.loop-hour.invariant.size in let some = c.loop-hour.auto.hour in omega arith) (opened_as _ _ _ _ _ _ _ _ fe refl c.loop-hour.invariant.opens) c.future_before.ensures.once }
+    record { returning = p; size = p.size; other = other; opens = opened_before (c.loop-hour.hour - 1) (c.args.last + 1) _ _ _ (let n = c.loop-hour.invariant.size in let some = c.loop-hour.auto.hour in omega arith) (opened_as _ _ _ _ _ _ _ _ fe refl c.loop-hour.invariant.opens) c.previous_future.ensures.once }
 
 pub returns-then-done-clause-futures : goal.returns-then-done-clause-futures
 returns-then-done-clause-futures g c =
@@ -83,7 +83,7 @@ returns-then-done-clause-opens g c =
     let fe : c.loop-hour.hour ≡ (c.loop-hour.hour - 1) + 1 = omega arith in
     let more : length c.insert.new.self.items ≡ length c.loop-hour.fresh.items + 1 = rw c.in_ok-insert.ensures.items (omega arith) in
     let from : c.loop-hour.hour - 1 ≡ (c.args.last + 1) - length c.insert.new.self.items = omega arith in
-    opened_as _ _ _ _ _ _ _ _ from refl (opened_before (c.loop-hour.hour - 1) (c.args.last + 1) _ _ _ (let n = c.loop-hour.invariant.size in let some = c.loop-hour.auto.hour in omega arith) (opened_as _ _ _ _ _ _ _ _ fe refl c.loop-hour.invariant.opens) c.future_before.ensures.once)
+    opened_as _ _ _ _ _ _ _ _ from refl (opened_before (c.loop-hour.hour - 1) (c.args.last + 1) _ _ _ (let n = c.loop-hour.invariant.size in let some = c.loop-hour.auto.hour in omega arith) (opened_as _ _ _ _ _ _ _ _ fe refl c.loop-hour.invariant.opens) c.previous_future.ensures.once)
 
 pub returns-clause-opens : goal.returns-clause-opens
 returns-clause-opens g c =

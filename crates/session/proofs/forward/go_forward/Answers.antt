@@ -9,19 +9,19 @@ loop-hour-init g c =
     let p = going_start c.args.config.now c.args.store.now c.args.first c.args.last c.args.kept.now c.new-fresh.result.items c.hours-hour-end.ensures.store c.requires.order c.requires.within c.requires.kept c.new-fresh.ensures.items in
     record { going = p; size = p.size; other = other_start c.args.first c.args.last c.args.kept.now c.new-fresh.result.items c.requires.order; opens = opened_none c.args.first c.args.reads.now }
 
-pub carry_over-requires-clause-before : goal.carry_over-requires-clause-before
-carry_over-requires-clause-before g c =
+pub next_carry-requires-clause-before : goal.next_carry-requires-clause-before
+next_carry-requires-clause-before g c =
     let at = rw c.as_slice.ensures.value at c.pick-before.ensures in
     going_here c.args.config.now c.args.store.now c.args.first c.args.kept.now c.loop-hour.fresh.items c.loop-hour.hour c.pick-before.result.now c.loop-hour.invariant.going at
 
 pub returns-in_err-next-clause-grow : goal.returns-in_err-next-clause-grow
-returns-in_err-next-clause-grow g c = grow_opened _ _ _ _ _ _ (opened_next _ _ _ _ _ c.loop-hour.auto.hour c.loop-hour.invariant.opens c.carry_over.ensures.once)
+returns-in_err-next-clause-grow g c = grow_opened _ _ _ _ _ _ (opened_next _ _ _ _ _ c.loop-hour.auto.hour c.loop-hour.invariant.opens c.next_carry.ensures.once)
 
 pub returns-in_err-push-clause-grow : goal.returns-in_err-push-clause-grow
-returns-in_err-push-clause-grow g c = grow_opened _ _ _ _ _ _ (opened_next _ _ _ _ _ c.loop-hour.auto.hour c.loop-hour.invariant.opens c.carry_over.ensures.once)
+returns-in_err-push-clause-grow g c = grow_opened _ _ _ _ _ _ (opened_next _ _ _ _ _ c.loop-hour.auto.hour c.loop-hour.invariant.opens c.next_carry.ensures.once)
 
 pub returns-then-done-clause-grow : goal.returns-then-done-clause-grow
-returns-then-done-clause-grow g c = grow_opened _ _ _ _ _ _ (opened_next _ _ _ _ _ c.loop-hour.auto.hour c.loop-hour.invariant.opens c.carry_over.ensures.once)
+returns-then-done-clause-grow g c = grow_opened _ _ _ _ _ _ (opened_next _ _ _ _ _ c.loop-hour.auto.hour c.loop-hour.invariant.opens c.next_carry.ensures.once)
 
 pub loop-hour-preserved : goal.loop-hour-preserved
 loop-hour-preserved g c =
@@ -34,7 +34,7 @@ loop-hour-preserved g c =
     let there : c.loop-hour.hour + 1 < length c.args.kept.now = omega arith in
     let other = other_more c.args.first c.args.last c.args.kept.now c.loop-hour.fresh.items c.push.new.self.items c.loop-hour.hour c.in_ok-next.next c.index-kept-place.result c.loop-hour.invariant.size there c.in_ok-push.ensures.items
     (λ d. c.index-kept-place.is ∙ get_or_default c.args.kept.now (c.loop-hour.hour + 1) c.index-kept-place.result d there) (λ h. let z = c.if-done.ensures.says.1 h in cc) c.loop-hour.invariant.other in
-    record { going = p; size = p.size; other = other; opens = opened_next _ _ _ _ _ c.loop-hour.auto.hour c.loop-hour.invariant.opens c.carry_over.ensures.once }
+    record { going = p; size = p.size; other = other; opens = opened_next _ _ _ _ _ c.loop-hour.auto.hour c.loop-hour.invariant.opens c.next_carry.ensures.once }
 
 pub returns-then-done-clause-carries : goal.returns-then-done-clause-carries
 returns-then-done-clause-carries g c =
@@ -66,13 +66,13 @@ pub returns-clause-grow : goal.returns-clause-grow
 returns-clause-grow g c = grow_opened _ _ _ _ _ _ c.loop-hour.invariant.opens
 
 pub returns-in_err-next-clause-opens_to_row : goal.returns-in_err-next-clause-opens_to_row
-returns-in_err-next-clause-opens_to_row g c = let to = opens_to _ _ _ _ _ c.in_err-next.ensures.row (opened_next _ _ _ _ _ c.loop-hour.auto.hour c.loop-hour.invariant.opens c.carry_over.ensures.once) in search (rules, to)
+returns-in_err-next-clause-opens_to_row g c = let to = opens_to _ _ _ _ _ c.in_err-next.ensures.row (opened_next _ _ _ _ _ c.loop-hour.auto.hour c.loop-hour.invariant.opens c.next_carry.ensures.once) in search (rules, to)
 
 pub returns-then-done-clause-opens : goal.returns-then-done-clause-opens
 returns-then-done-clause-opens g c =
     let size = c.loop-hour.invariant.size in
     let more : c.args.first + length c.push.new.self.items ≡ c.loop-hour.hour + 1 = rw (c.in_ok-push.ensures.items, length-append) (omega arith) in
-    opened_as _ _ _ _ _ _ _ _ refl (sym more) (opened_next _ _ _ _ _ c.loop-hour.auto.hour c.loop-hour.invariant.opens c.carry_over.ensures.once)
+    opened_as _ _ _ _ _ _ _ _ refl (sym more) (opened_next _ _ _ _ _ c.loop-hour.auto.hour c.loop-hour.invariant.opens c.next_carry.ensures.once)
 
 pub returns-clause-opens : goal.returns-clause-opens
 returns-clause-opens g c = opened_as _ _ _ _ _ _ _ _ refl (sym c.loop-hour.invariant.size) c.loop-hour.invariant.opens

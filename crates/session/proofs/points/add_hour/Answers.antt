@@ -37,5 +37,5 @@ pub phase_points-requires-clause-agrees : goal.phase_points-requires-clause-agre
 phase_points-requires-clause-agrees g c =
     let s = c.args.store.now in
     let has = has_hour s c.args.hour (option_copied c.open_hour-rows.result) c.blanked-blanked.result.now c.blanked-blanked.ensures.store c.requires.in_store c.open_hour-rows.ensures.rows c.blanked-blanked.ensures.value in
-    let after = all_count (log_of c.args.config.now.specs s) (c.args.hour + 1) c.args.after.now c.requires.after in
+    let after = all_count (log_of c.args.config.now.specs s) (c.args.hour + 1) c.args.between.now.after.now c.requires.after in
     (s, record { has_hour = has; is_before = c.requires.before; is_after = after; history = c.requires.history })

@@ -1,4 +1,4 @@
-use Rattle.std.proofs.Common.{◌≡◌, ◌∙◌, ◌+◌, ◌≤◌, arith, length, map}
+use Rattle.std.proofs.Common.{◌≡◌, ◌∙◌, ◌+◌, ◌≤◌, arith, length, map, refl}
 use Rattle.std.proofs.lemmas.Result.{IfOk-weaker}
 use Rattle.hour_store.specs.Store.{is_known, known_rows}
 use Rattle.arrival_measures.specs.Points.{diagram_of, diagrams_of}
@@ -8,7 +8,7 @@ use Rattle.session.proofs.DiagramLaws.{cycles_more, diagrams_whole, points_more}
 use Rattle.session.proofs.points.phase_diagrams.Goals as goal
 
 pub loop-hour-init : goal.loop-hour-init
-loop-hour-init g c = record { cycles = c.new.ensures.items; points = c.new-2.ensures; grow = grow_same c.args.reads.now }
+loop-hour-init g c = record { phase = refl; cycles = c.new.ensures.items; points = c.new-2.ensures; grow = grow_same c.args.reads.now }
 
 pub add_hour-requires-clause-before : goal.add_hour-requires-clause-before
 add_hour-requires-clause-before g c =
@@ -27,8 +27,9 @@ returns-in_err-add_hour-clause-grow g c = grow_on _ _ _ c.loop-hour.invariant.gr
 
 pub loop-hour-preserved : goal.loop-hour-preserved
 loop-hour-preserved g c = record {
-  cycles = cycles_more c.args.config.now c.args.store.now c.args.phase c.loop-hour.hour c.loop-hour.found.cycles.items c.add_hour.new.found.cycles.items c.loop-hour.invariant.cycles c.in_ok-add_hour.ensures.cycles;
-  points = points_more c.args.config.now c.args.store.now c.args.phase c.loop-hour.hour c.loop-hour.found.points c.add_hour.new.found.points c.loop-hour.invariant.points c.in_ok-add_hour.ensures.points;
+  phase = c.add_hour.ensures.phase ∙ c.loop-hour.invariant.phase;
+  cycles = cycles_more c.args.config.now c.args.store.now c.args.phase c.loop-hour.hour c.loop-hour.found.cycles.items c.add_hour.new.found.cycles.items c.loop-hour.invariant.cycles (rw c.loop-hour.invariant.phase at c.in_ok-add_hour.ensures.cycles);
+  points = points_more c.args.config.now c.args.store.now c.args.phase c.loop-hour.hour c.loop-hour.found.points c.add_hour.new.found.points c.loop-hour.invariant.points (rw c.loop-hour.invariant.phase at c.in_ok-add_hour.ensures.points);
   grow = grow_on _ _ _ c.loop-hour.invariant.grow c.add_hour.ensures.grow;
 }
 

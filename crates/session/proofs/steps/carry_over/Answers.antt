@@ -1,12 +1,9 @@
-use Rattle.std.proofs.Common.{List, Option, subst}
-use Rattle.std.specs.Prelude.{IfOk, option_copied}
+use Rattle.std.specs.Prelude.{option_copied}
 use Rattle.std.proofs.lemmas.Result.{IfErr-weaker}
-use Rattle.sig_base.specs.declared.values.Row.{Row}
-use Rattle.span_set.specs.declared.set.Span.{Span}
 use Rattle.hour_work.specs.Points.{NamesStop}
-use Rattle.session.specs.Links.{Leads}
 use Rattle.session.specs.Opens.{NamesRowOf}
 use Rattle.session.proofs.OpenLaws.{opened_raised, row_of}
+use Rattle.session.proofs.StepLaws.{leads_of}
 use Rattle.session.proofs.steps.carry_over.Goals as goal
 
 pub returns-clause-once : goal.returns-clause-once
@@ -14,10 +11,7 @@ returns-clause-once g c = opened_raised _ _ c.args.hour c.open_hour-rows.ensures
 
 pub returns-clause-leads : goal.returns-clause-leads
 returns-clause-leads g c =
-    let cfg = c.args.config.now in
-    let x = c.args.before.now in
-    subst (λ (o : Option (List Row)). IfOk c.forward.result (Leads cfg c.args.hour o c.args.store.now.blanks x)) c.open_hour-rows.ensures.rows
-    (subst (λ (bs : List Span). IfOk c.forward.result (Leads cfg c.args.hour (option_copied c.open_hour-rows.result) bs x)) c.blanked.ensures.value c.forward.ensures.carry)
+    leads_of c.args.config.now c.args.hour (option_copied c.open_hour-rows.result) _ c.blanked.result.now _ c.args.before.now c.forward.result c.open_hour-rows.ensures.rows c.blanked.ensures.value c.forward.ensures.fit c.forward.ensures.carry c.forward.ensures.over
 
 pub returns-clause-row : goal.returns-clause-row
 returns-clause-row g c =

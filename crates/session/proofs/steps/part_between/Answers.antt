@@ -16,13 +16,13 @@ pub partial-requires-clause-agrees : goal.partial-requires-clause-agrees
 partial-requires-clause-agrees g c =
     let s = c.args.store.now in
     let has = has_hour s c.args.hour (option_copied c.open_hour-rows.result) c.blanked.result.now c.blanked.ensures.store c.requires.in_store c.open_hour-rows.ensures.rows c.blanked.ensures.value in
-    let after = all_count (log_of c.args.config.now.specs s) (c.args.hour + 1) c.args.after.now c.requires.after in
+    let after = all_count (log_of c.args.config.now.specs s) (c.args.hour + 1) c.args.between.now.after.now c.requires.after in
     (s, record { has_hour = has; is_before = c.requires.before; is_after = after; history = c.requires.history })
 
 pub returns-clause-counts : goal.returns-clause-counts
 returns-clause-counts g c =
     let cfg = c.args.config.now in
-    let x = c.args.before.now in
-    let y = c.args.after.now in
+    let x = c.args.between.now.before.now in
+    let y = c.args.between.now.after.now in
     subst (λ (o : Option (List Row)). IfOk c.partial.result (Counts cfg c.args.hour o c.args.store.now.blanks x y)) c.open_hour-rows.ensures.rows
     (subst (λ (bs : List Span). IfOk c.partial.result (Counts cfg c.args.hour (option_copied c.open_hour-rows.result) bs x y)) c.blanked.ensures.value c.partial.ensures.value)

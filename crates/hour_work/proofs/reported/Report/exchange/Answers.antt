@@ -1,6 +1,6 @@
-use Rattle.std.proofs.Common.{◌≡◌, ◌∙◌, ◌+◌, ◌≤◌, List, ap, length, rules, subst}
-use Rattle.hour_work.specs.Numbers.{AreNewSums, AreSummed, Numbers, Summed, patched}
-use Rattle.hour_work.proofs.BlockLaws.{room_for, summed_with}
+use Rattle.std.proofs.Common.{◌≡◌, ◌∙◌, ap}
+use Rattle.hour_work.specs.Numbers.{Summed}
+use Rattle.hour_work.proofs.BlockLaws.{summed_with}
 use Rattle.hour_work.proofs.reported.Report.exchange.Goals as goal
 
 pub invariant_of-self : goal.invariant_of-self

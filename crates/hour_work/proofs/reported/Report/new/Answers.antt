@@ -1,5 +1,5 @@
-use Rattle.std.proofs.Common.{◌≡◌, ◌∙◌, ◌+◌, ◌≤◌, ℕ, [], ap, arith, length}
-use Rattle.hour_work.specs.Numbers.{AreBlocks, block, patched, total_of}
+use Rattle.std.proofs.Common.{◌≡◌, ◌∙◌, ◌+◌, ℕ, ap, arith}
+use Rattle.hour_work.specs.Numbers.{AreBlocks, block, total_of}
 use Rattle.hour_work.proofs.reported.Report.new.Goals as goal
 
 pub total_over-requires-clause-blocks : goal.total_over-requires-clause-blocks

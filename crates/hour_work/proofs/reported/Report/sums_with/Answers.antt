@@ -1,4 +1,4 @@
-use Rattle.std.proofs.Common.{◌≡◌, ◌∙◌, ◌+◌, ◌*◌, ◌/◌, ◌<◌, ◌≤◌, ℕ, List, ap, get_or, arith, length, max, sym, subst}
+use Rattle.std.proofs.Common.{◌≡◌, ◌∙◌, ◌/◌, ◌<◌, ℕ, List, ap, get_or, arith, length, subst}
 use Rattle.hour_work.specs.Numbers.{AreBlocks, AreNewSums, FitHours, Numbers, Summed, patched, total_of}
 use Rattle.hour_work.proofs.PatchLaws.{all_patched, length-patched}
 use Rattle.hour_work.proofs.BlockLaws.{blocks_new, new_sums}

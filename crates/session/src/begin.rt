@@ -6,7 +6,7 @@ ghost use Rattle.rule_audit.specs.Rules.{rules_for};
 ghost use Rattle.hour_work.specs.Points.{Carried, IsCarryAt, IsFutureAt};
 ghost use Rattle.session.specs.Links.{Ahead, AreKept};
 
-use crate::renew::{Worked, adopt, renew};
+use crate::renew::{Touched, Worked, adopt, renew};
 use hour_store::HourStore;
 use hour_work::{Carry, ForwardError, Future, Partial, Report};
 use ring_config::Config;
@@ -74,16 +74,11 @@ pub fn begin(alloc: Global, config: &Config, rules: &[Rule], hours: u32) -> Resu
     };
     let store = HourStore::new(alloc, hours)?;
     let mut reads = Reads::new(NoRows);
-    match renew(
-        alloc,
-        config,
-        rules,
-        &store,
-        &worked,
-        0,
-        hours - 1,
-        &mut reads,
-    ) {
+    let touched = Touched {
+        first: 0,
+        last: hours - 1,
+    };
+    match renew(alloc, config, rules, &store, &worked, touched, &mut reads) {
         Ok(fresh) => adopt(&mut worked, fresh),
         Err(ForwardError::Memory) => return Err(NoMemory),
         Err(ForwardError::Contradiction(_)) => unreachable!(),

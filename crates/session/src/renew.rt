@@ -52,6 +52,13 @@ pub struct Fresh {
     pub sums: Sums,
 }
 
+// The hours from the first to the last that an edit touches.
+#[derive(Clone, Copy)]
+pub struct Touched {
+    pub first: Hour,
+    pub last: Hour,
+}
+
 // The hours between the points at which nothing changes.
 pub fn moved(points: &Points) -> Applied
     requires { points.now.first + length points.now.carries.items ≤ 744 }
@@ -198,20 +205,19 @@ pub fn renew<L>(
     rules: &[Rule],
     store: &HourStore<L>,
     worked: &Worked,
-    first: Hour,
-    last: Hour,
+    touched: Touched,
     reads: &mut Reads<L>,
 ) -> Result<Fresh, ForwardError>
     requires rules { rules.now ≡ rules_for config.now }
     requires sound { IsSound config.now }
-    requires kept { AreKeptBut config.now store.now first last worked.now.carries.items
-        worked.now.futures.items worked.now.report }
+    requires kept { AreKeptBut config.now store.now touched.first touched.last
+        worked.now.carries.items worked.now.futures.items worked.now.report }
     ensures store { IsStore store.now }
-    ensures first { IfOk result (λ f. f.points.first ≡ first) }
-    ensures carries { IfOk result (λ f. AreNewCarries config.now store.now first last
-        worked.now.carries.items f.points.carries.items) }
-    ensures futures { IfOk result (λ f. AreNewFutures config.now store.now first last
-        worked.now.futures.items f.points.from f.points.futures.items) }
+    ensures first { IfOk result (λ f. f.points.first ≡ touched.first) }
+    ensures carries { IfOk result (λ f. AreNewCarries config.now store.now touched.first
+        touched.last worked.now.carries.items f.points.carries.items) }
+    ensures futures { IfOk result (λ f. AreNewFutures config.now store.now touched.first
+        touched.last worked.now.futures.items f.points.from f.points.futures.items) }
     ensures fresh { IfOk result (λ f. IsRenewed config.now store.now worked.now.carries.items
         f.points.first f.points.carries.items worked.now.futures.items f.points.from
         f.points.futures.items worked.now.report f.start f.parts.items f.sums) }
@@ -219,9 +225,10 @@ pub fn renew<L>(
     ensures stop { IfErr result (NamesRow (log_of config.now.specs store.now)) }
     ensures opens { IfOk result (λ f. AreOpened f.points.from
         (f.points.first + length f.points.carries.items) 1 3 reads.old reads.new) }
-    ensures opens_to_row { IfErr result (OpensToRow first reads.old reads.new) }
+    ensures opens_to_row { IfErr result (OpensToRow touched.first reads.old reads.new) }
     ensures grow { Grow reads.old reads.new }
 {
+    let Touched { first, last } = touched;
     let points = points_of(alloc, config, store, worked, first, last, reads)?;
     let start = start_of(worked, &points);
     let parts = parts_between(alloc, config, rules, store, worked, &points, start, reads)?;

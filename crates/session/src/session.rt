@@ -26,7 +26,7 @@ use crate::blanks::{reaches_out, with_range, without_range};
 use crate::hours::{exchange, hour_at};
 use crate::pairs::{Asked, pairs_of};
 use crate::points::phase_diagrams;
-use crate::renew::{Worked, adopt, moved, renew};
+use crate::renew::{Touched, Worked, adopt, moved, renew};
 use arrival_measures::Diagram;
 use filling_pair::Pairs;
 use hour_store::HourStore;
@@ -223,14 +223,17 @@ impl<L> Session<L> {
         ensures grow { Grow reads.old reads.new }
     {
         let before = exchange(&mut self.store, hour, entry);
+        let touched = Touched {
+            first: hour,
+            last: hour,
+        };
         match renew(
             self.alloc,
             &self.config,
             &self.rules,
             &self.store,
             &self.worked,
-            hour,
-            hour,
+            touched,
             reads,
         ) {
             Ok(fresh) => {
@@ -275,14 +278,14 @@ impl<L> Session<L> {
         let before = self.store.set_blanks(blanks);
         let first = hour_at(from);
         let last = hour_at(to - 1);
+        let touched = Touched { first, last };
         match renew(
             self.alloc,
             &self.config,
             &self.rules,
             &self.store,
             &self.worked,
-            first,
-            last,
+            touched,
             reads,
         ) {
             Ok(fresh) => {

@@ -18,12 +18,12 @@ returns-clause-grow g c = grow_on _ _ _ c.points_of.ensures.grow c.parts_between
 pub returns-clause-history : goal.returns-clause-history
 returns-clause-history g c =
     let x = c.in_ok-points.ensures.carries in
-    history_kept c.args.config.now c.args.store.now (patched c.args.worked.now.carries.items (c.args.first + 1) c.in_ok-points.points.carries.items) c.requires.sound c.points_of.ensures.store x.forth
+    history_kept c.args.config.now c.args.store.now (patched c.args.worked.now.carries.items (c.args.touched.first + 1) c.in_ok-points.points.carries.items) c.requires.sound c.points_of.ensures.store x.forth
 
 pub start_of-start-requires-clause-shape : goal.start_of-start-requires-clause-shape
 start_of-start-requires-clause-shape g c =
     let p = c.in_ok-points.points in
-    rw c.in_ok-points.ensures.first (shapes_new c.args.config.now c.args.store.now c.args.first c.args.last c.args.worked.now.carries.items p.carries.items c.args.worked.now.futures.items p.from p.futures.items c.args.worked.now.report c.points_of.ensures.store c.requires.kept c.in_ok-points.ensures.carries c.in_ok-points.ensures.futures)
+    rw c.in_ok-points.ensures.first (shapes_new c.args.config.now c.args.store.now c.args.touched.first c.args.touched.last c.args.worked.now.carries.items p.carries.items c.args.worked.now.futures.items p.from p.futures.items c.args.worked.now.report c.points_of.ensures.store c.requires.kept c.in_ok-points.ensures.carries c.in_ok-points.ensures.futures)
 
 pub returns-clause-fresh : goal.returns-clause-fresh
 returns-clause-fresh g c =
@@ -33,10 +33,10 @@ returns-clause-fresh g c =
     let p = c.in_ok-points.points in
     let start = c.start_of-start.result in
     let first = c.in_ok-points.ensures.first in
-    let high : start ≤ c.args.first = rw first at c.start_of-start.ensures.high in
+    let high : start ≤ c.args.touched.first = rw first at c.start_of-start.ensures.high in
     let z = rw first at c.in_ok-parts.ensures.parts in
     let sums = rw c.deref.ensures.value at c.in_ok-sums.ensures in
-    rw first (renewed cfg s c.args.first c.args.last kept.carries.items p.carries.items kept.futures.items p.from start p.futures.items kept.report c.in_ok-parts.parts.items c.in_ok-sums.sums c.start_of-start.ensures.low high c.requires.kept c.in_ok-points.ensures.carries c.in_ok-points.ensures.futures c.start_of-start.ensures.same z sums)
+    rw first (renewed cfg s c.args.touched.first c.args.touched.last kept.carries.items p.carries.items kept.futures.items p.from start p.futures.items kept.report c.in_ok-parts.parts.items c.in_ok-sums.sums c.start_of-start.ensures.low high c.requires.kept c.in_ok-points.ensures.carries c.in_ok-points.ensures.futures c.start_of-start.ensures.same z sums)
 
 pub returns-clause-opens : goal.returns-clause-opens
 returns-clause-opens g c = opened_among _ _ _ _ _ _ _ _ _ _ _ c.start_of-start.ensures.low (omega arith) c.in_ok-points.ensures.opens c.in_ok-parts.ensures.opens

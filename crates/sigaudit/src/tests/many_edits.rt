@@ -13,7 +13,7 @@ const CONFIG: &str =
 const HOURS: u32 = 700;
 
 // A tenth is blanked and unblanked in turn, so many times.
-const TURNS: u32 = 9_000;
+const TURNS: u32 = 10_000;
 
 const TENTH: &str = "2024-03-18T20:00:20.0 2024-03-18T20:00:20.1";
 
@@ -48,7 +48,7 @@ fn shelf_of(alloc: Global) -> Result<MemShelf, Fail> {
     Ok(shelf)
 }
 
-// 700 hours, and 18,000 edits of one of them, which move it alone. With a body that goes over the
+// 700 hours, and 20,000 edits of one of them, which move it alone. With a body that goes over the
 // window at each edit it wouldn't end in a test's time.
 #[test]
 fn many_edits_of_one_hour(rt: HostRuntime) -> Result<(), Fail> {

@@ -12,7 +12,7 @@ ghost use Rattle.hour_work.specs.Reports.{IsHourBetween};
 
 use crate::seen::seen_hour;
 use crate::steps::held_rows;
-use crate::{Between, Carry};
+use crate::{Between, Carry, Future};
 use arrival_measures::{Points, arrival_points};
 use gap_map::stretches;
 use ring_config::Config;
@@ -30,20 +30,24 @@ pub fn phase_points(
     config: &Config,
     phase: u8,
     hour: Hour,
-    between: &Between<'_>,
+    before: &Carry,
     rows: Option<&[Row]>,
     blanked: &SpanSet,
+    after: &Future,
 ) -> Result<Points, NoMemory>
     requires in_range { hour < 744 }
     requires of_hour { IfSome rows (λ r. AreRowsOf hour r.now) }
-    requires agrees { (s : Store) × IsHourBetween config.now s hour between.now.before.now
-        (option_copied rows) blanked.now between.now.after.now }
+    requires agrees { (s : Store) × IsHourBetween config.now s hour before.now (option_copied rows)
+        blanked.now after.now }
     ensures { IfOk result (λ p. (s : Store) → HasHour s hour (option_copied rows.entry) blanked.now
-        → IsCarryAt config.now s hour between.now.before.now
+        → IsCarryAt config.now s hour before.now
         → p ≡ points_from (is_known s) config.now phase (earlier_rows s hour) (own_rows s hour)) }
 {
     match rows {
-        Some(rows) => held_points(alloc, config, phase, hour, between, rows, blanked),
+        Some(rows) => {
+            let between = Between { before, after };
+            held_points(alloc, config, phase, hour, &between, rows, blanked)
+        }
         None => Ok(Points::new(alloc)),
     }
 }

@@ -63,8 +63,10 @@ fn add_hour<L>(
     let rows = store.open_hour(hour, reads);
     let blanked = store.blanked();
     let phase = found.phase;
-    let mut cycles = phase_cycles(alloc, config, phase, hour, between.before, rows, blanked)?;
-    let points = phase_points(alloc, config, phase, hour, between, rows, blanked)?;
+    let before = between.before;
+    let after = between.after;
+    let mut cycles = phase_cycles(alloc, config, phase, hour, before, rows, blanked)?;
+    let points = phase_points(alloc, config, phase, hour, before, rows, blanked, after)?;
     found.cycles.append(&mut cycles)?;
     add_points(&mut found.points, points.list())?;
     Ok(())

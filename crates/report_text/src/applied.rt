@@ -56,7 +56,8 @@ fn put_loaded<K: Sink>(
 }
 
 fn put_moved<K: Sink>(line: u32, applied: &Applied, sink: &mut K) -> Result<(), PutFailed>
-    ensures { Puts (K.taken sink.old) (K.taken sink.new) (applied_text line None applied.now) result }
+    ensures { Puts (K.taken sink.old) (K.taken sink.new)
+        (applied_text line None applied.now) result }
 {
     let mut number = Buffer::new();
     let mut from = Buffer::new();

@@ -102,7 +102,8 @@ fn put_arrivals<K: Sink>(name: &[u8], sums: &ArrivalSum, sink: &mut K) -> Result
 }
 
 fn put_actuations<K: Sink>(name: &[u8], sums: &ArrivalSum, sink: &mut K) -> Result<(), PutFailed>
-    ensures { Puts (K.taken sink.old) (K.taken sink.new) (actuations_line name.now sums.now) result }
+    ensures { Puts (K.taken sink.old) (K.taken sink.new)
+        (actuations_line name.now sums.now) result }
 {
     let mut actuations = Buffer::new();
     let mut red = Buffer::new();

@@ -46,7 +46,8 @@ fn put_others<K: Sink>(config: &Config, part: &Partial, sink: &mut K) -> Result<
 /// coordination where it is on; then for each approach, in file order, a line for its advance
 /// detector and two for its stop bar detector.
 pub fn put_measures<K: Sink>(config: &Config, part: &Partial, sink: &mut K) -> Result<(), PutFailed>
-    ensures { Puts (K.taken sink.old) (K.taken sink.new) (measures_text config.now part.now) result }
+    ensures { Puts (K.taken sink.old) (K.taken sink.new)
+        (measures_text config.now part.now) result }
 {
     put_held(part, sink)?;
     put_lines(config, part.splits().phases(), sink)?;

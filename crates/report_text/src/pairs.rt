@@ -98,7 +98,8 @@ fn spec_at(config: &Config, place: u16) -> Option<&Spec>
 
 fn put_strand<K: Sink>(config: &Config, strand: &Strand, sink: &mut K) -> Result<(), PutFailed>
     requires { AreFillsIn config.now.window strand.now.fills }
-    ensures { Puts (K.taken sink.old) (K.taken sink.new) (strand_text config.now strand.now) result }
+    ensures { Puts (K.taken sink.old) (K.taken sink.new)
+        (strand_text config.now strand.now) result }
 {
     put_start(spec_at(config, strand.spec), strand, sink)?;
     put_fills(config.window(), strand.fills.list(), sink)
@@ -146,7 +147,8 @@ fn put_undecided<K: Sink>(
     sink: &mut K,
 ) -> Result<(), PutFailed>
     requires { at < 36000 * window.now.hours }
-    ensures { Puts (K.taken sink.old) (K.taken sink.new) (undecided_line window.now rule at) result }
+    ensures { Puts (K.taken sink.old) (K.taken sink.new)
+        (undecided_line window.now rule at) result }
 {
     let stamp = window.stamp(at);
     let mut number = Buffer::new();

@@ -10,11 +10,11 @@ use Rattle.reach.specs.Tests.{Meets}
 use Rattle.reach.specs.declared.seen.Test.{Test}
 use Rattle.reach.specs.declared.seen.AgeBound.TheVariants.{Any}
 use Rattle.reach.specs.declared.seen.Seen.{Seen}
-use Rattle.hour_sums.specs.Numbers.{capped}
+use Rattle.hour_sums.specs.Numbers.{capped, one_if}
 use Rattle.board.specs.Logs.{no_row}
 use Rattle.arrival_measures.specs.declared.judged.Judged.{Judged}
 use Rattle.arrival_measures.specs.Judged.{AllPass, NonePass, CountOf}
-use Rattle.arrival_measures.specs.Steps.{IsMaskOf, Says, AreJudgedRows, judged_unseen, judged_with, no_judged, one_if}
+use Rattle.arrival_measures.specs.Steps.{IsMaskOf, Says, AreJudgedRows, judged_unseen, judged_with, no_judged}
 use Rattle.arrival_measures.proofs.Filters.{clash}
 use Rattle.arrival_measures.proofs.Chaining.{one_kept, one_left}
 

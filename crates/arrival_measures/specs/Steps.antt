@@ -8,7 +8,7 @@ use Rattle.reach.specs.Runs.{State}
 use Rattle.reach.specs.declared.seen.Seen.{Seen}
 use Rattle.gap_map.specs.Stretches.{known_at}
 use Rattle.board.specs.Logs.{HourLog, no_row}
-use Rattle.hour_sums.specs.Numbers.{capped}
+use Rattle.hour_sums.specs.Numbers.{capped, one_if}
 use Rattle.hour_sweep.specs.Rows.{known_rows}
 use Rattle.hour_sweep.specs.Hours.{AreOrdered, IsHour, point}
 use Rattle.hour_sweep.specs.Passes.{front, back}
@@ -144,9 +144,6 @@ pub record Says (test : ℕ → Bool) (May : State → Type 0) (seen : Seen) : T
   pub all : IsTrue (not seen.some_false) ↔ AllPass test May
   pub none : IsTrue (not seen.some_true) ↔ NonePass test May
   pub some : IsTrue (seen.some_true && seen.some_false) ↔ OnlySomePass test May
-
-abbrev pub one_if : Bool → ℕ
-one_if b = if b then 1 else 0
 
 -- one row more, of which this is seen, and one of which nothing is
 abbrev pub judged_with : Judged → Seen → Judged

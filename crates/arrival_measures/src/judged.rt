@@ -2,7 +2,7 @@
 ghost use Rattle.std.specs.Prelude.{◌≡◌, ◌≤◌, ◌<◌, ◌+◌, ◌&&◌, nat_lt, ℕ, Bool, true, false, List, All, length};
 ghost use Rattle.sig_base.specs.declared.values.Row.{Row};
 ghost use Rattle.gap_map.specs.Stretches.{AreStretches, known_at};
-ghost use Rattle.hour_sums.specs.Numbers.{capped};
+ghost use Rattle.hour_sums.specs.Numbers.{capped, one_if};
 ghost use Rattle.hour_sweep.specs.Hours.{IsHour, point};
 ghost use Rattle.board.specs.Logs.{HourLog};
 ghost use Rattle.board.specs.Places.{IsViewOf};
@@ -10,7 +10,7 @@ ghost use Rattle.board.specs.Verdicts.{MayPass};
 ghost use Rattle.ring_config.specs.Settings.{Settings};
 ghost use Rattle.arrival_measures.specs.Hours.{is_seen};
 ghost use Rattle.arrival_measures.specs.Judged.{is_green, is_red};
-ghost use Rattle.arrival_measures.specs.Steps.{AreJudgedRows, IsMaskOf, Says, judged_unseen, judged_with, no_judged, one_if};
+ghost use Rattle.arrival_measures.specs.Steps.{AreJudgedRows, IsMaskOf, Says, judged_unseen, judged_with, no_judged};
 ghost use Rattle.arrival_measures.specs.Views.{IsSeen};
 
 use board::HourView;

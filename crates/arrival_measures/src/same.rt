@@ -5,26 +5,10 @@ use crate::carry::Crossing;
 use crate::faults::Flag;
 use cycle_arrivals::Open;
 
-fn same_open(a: Open, b: Open) -> bool
-    ensures { IsTrue result ↔ (a ≡ b) }
-{
-    a.from == b.from
-        && a.arrivals == b.arrivals
-        && a.green == b.green
-        && a.green_tenths == b.green_tenths
-        && a.is_green == b.is_green
-}
-
 fn same_place(a: Option<Open>, b: Option<Open>) -> bool
     ensures { IsTrue result ↔ (a ≡ b) }
 {
-    match a {
-        None => b.is_none(),
-        Some(x) => match b {
-            None => false,
-            Some(y) => same_open(x, y),
-        },
-    }
+    a == b
 }
 
 fn same_tenths(a: &[u32], b: &[u32]) -> bool
@@ -57,13 +41,7 @@ pub(crate) fn same_crossings(a: &[Crossing], b: &[Crossing]) -> bool
 fn same_flag(a: Option<Flag>, b: Option<Flag>) -> bool
     ensures { IsTrue result ↔ (a ≡ b) }
 {
-    match a {
-        None => b.is_none(),
-        Some(x) => match b {
-            None => false,
-            Some(y) => x.fault == y.fault,
-        },
-    }
+    a == b
 }
 
 /// Whether both lists are equal.

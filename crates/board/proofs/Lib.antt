@@ -22,3 +22,4 @@ pub mod Cases
 pub mod Cells
 pub mod Few
 pub mod Suiting
+pub mod Back

@@ -101,16 +101,26 @@ pasts_early specs rows ss f t before pasts len early a i s h = elim (cases_lt i 
   | inr ge ↦ let none : get_or pasts i [] ≡ [] = get_or_past pasts i [] (omega arith) in absurd (no_set s (rw none at h))
 ]
 
--- one channel before the hour
-pub before_hour : (specs : List Spec) (rows : List Row) (ss : List Stretch) (i : ℕ) (spec d : Spec) (course : List Move) (after : List (List (Option ℤ))) (old new : List (Option ℤ)) (first : ℕ) → spec ≡ get_or specs i d → course ≡ moves_at specs rows ss i d → old ≡ get_or after i [] → ((s : State) → Admits new s ↔ ((EntersBefore course s × BeforeMoves (rules_of spec) old course s) × (s.entry <ℤ pos first))) → (f t : ℕ) → first ≡ f → FollowOn f t ss → RowsIn f t rows → (s : State) → Admits new s ↔ ((s.entry <ℤ pos f) × IsBeforeHour (track (get_or specs i d)) rows ss f t (get_or after i []) s)
-before_hour specs rows ss i spec d course after old new first a b c h f t e st r s =
+-- what the moves of one channel lead to is what the runs of its hour lead to
+hour_moves : (specs : List Spec) (rows : List Row) (ss : List Stretch) (i : ℕ) (spec d : Spec) (course : List Move) (after : List (List (Option ℤ))) (old : List (Option ℤ)) (first : ℕ) → spec ≡ get_or specs i d → course ≡ moves_at specs rows ss i d → old ≡ get_or after i [] → (f t : ℕ) → first ≡ f → FollowOn f t ss → RowsIn f t rows → (s : State) → ((EntersBefore course s × BeforeMoves (rules_of spec) old course s) × (s.entry <ℤ pos first)) ↔ ((s.entry <ℤ pos f) × IsBeforeHour (track (get_or specs i d)) rows ss f t (get_or after i []) s)
+hour_moves specs rows ss i spec d course after old first a b c f t e st r s =
     let k = track (get_or specs i d) in
     let order = (own_order k f t 0 rows ss (spec_lettered (get_or specs i d)) st r).0 in
-    let g = rw (a, b, c, e) at h in
-    let w = λ (u : State). own_walk k (known_at ss) (events_at rows) f t 0 rows ss s u st r (λ x l1 l2. refl) (λ x l1 l2. refl) in (
-      (λ ad. let ((_, (u, x, y)), early) = (g s).0 ad in (early, (u, (w u).1 x, y))),
-      (λ (early, (u, x, y)). (g s).1 ((not_after k.rules f (own k 0 rows ss) s order early, (u, (w u).0 x, y)), early)),
+    let w = λ (u : State). own_walk k (known_at ss) (events_at rows) f t 0 rows ss s u st r (λ x l1 l2. refl) (λ x l1 l2. refl) in
+    rw (a, b, c, e) (
+      (λ ((_, (u, x, y)), early). (early, (u, (w u).1 x, y))),
+      (λ (early, (u, x, y)). ((not_after k.rules f (own k 0 rows ss) s order early, (u, (w u).0 x, y)), early)),
     )
+
+-- one channel before the hour
+pub before_hour : (specs : List Spec) (rows : List Row) (ss : List Stretch) (i : ℕ) (spec d : Spec) (course : List Move) (after : List (List (Option ℤ))) (old new : List (Option ℤ)) (first : ℕ) → spec ≡ get_or specs i d → course ≡ moves_at specs rows ss i d → old ≡ get_or after i [] → ((s : State) → Admits new s ↔ ((EntersBefore course s × BeforeMoves (rules_of spec) old course s) × (s.entry <ℤ pos first))) → (f t : ℕ) → first ≡ f → FollowOn f t ss → RowsIn f t rows → (s : State) → Admits new s ↔ ((s.entry <ℤ pos f) × IsBeforeHour (track (get_or specs i d)) rows ss f t (get_or after i []) s)
+before_hour specs rows ss i spec d course after old new first a b c h f t e st r s = then_iff (h s) (hour_moves specs rows ss i spec d course after old first a b c f t e st r s)
+
+-- and the other way round
+pub hour_before : (specs : List Spec) (rows : List Row) (ss : List Stretch) (i : ℕ) (spec d : Spec) (course : List Move) (after : List (List (Option ℤ))) (old new : List (Option ℤ)) (first : ℕ) → spec ≡ get_or specs i d → course ≡ moves_at specs rows ss i d → old ≡ get_or after i [] → (f t : ℕ) → first ≡ f → FollowOn f t ss → RowsIn f t rows → ((s : State) → Admits new s ↔ ((s.entry <ℤ pos f) × IsBeforeHour (track (get_or specs i d)) rows ss f t (get_or after i []) s)) → (s : State) → Admits new s ↔ ((EntersBefore course s × BeforeMoves (rules_of spec) old course s) × (s.entry <ℤ pos first))
+hour_before specs rows ss i spec d course after old new first a b c f t e st r h s =
+    let w = hour_moves specs rows ss i spec d course after old first a b c f t e st r s in
+    then_iff (h s) (w.1, w.0)
 
 pub aheads_push : (specs : List Spec) (rows : List Row) (ss : List Stretch) (f t : ℕ) (after : List (List (Option ℤ))) (n : ℕ) (aheads : List (List (Option ℤ))) (one : List (Option ℤ)) → length aheads ≡ n → AreHourAheads specs rows ss f t after n aheads → ((length one ≡ (rules_at specs n no_spec).colours) × ((s : State) → Admits one s ↔ ((s.entry <ℤ pos f) × IsBeforeHour (track (get_or specs n no_spec)) rows ss f t (get_or after n []) s))) → AreHourAheads specs rows ss f t after (n + 1) (aheads ++ one ∷ [])
 aheads_push specs rows ss f t after n aheads one l a b i lt = elim (cases_eq i n) [

@@ -6,7 +6,9 @@ use Rattle.event_codes.specs.declared.channels.Channel.{Channel}
 use Rattle.event_codes.specs.Cells.{kind_number}
 use Rattle.event_codes.specs.Channels.{channel_in_table}
 use Rattle.channel_tables.specs.declared.spec.Spec.{Spec}
-use Rattle.channel_tables.specs.Letters.{letter_in_table, letter_with}
+use Rattle.channel_tables.specs.Letters.{letter_in_table, letter_with, sign_of}
+use Rattle.channel_tables.specs.Table.{place_of}
+use Rattle.channel_tables.specs.Tables.{table_of}
 use Rattle.event_codes.proofs.Numbered.{channel_same, kind_same}
 use Rattle.channel_tables.proofs.Places.{channel_letter}
 use Rattle.channel_tables.proofs.Rows.{letter_row}
@@ -69,8 +71,16 @@ specs_apart specs are i j d e c p l li lj ne m =
     rw there (letter_elsewhere (get_or specs j d) c p (λ other. are.distinct i j d li lj ne (channel_once (get_or specs i d).channel (get_or specs j d).channel (sym here ∙ other))))
 
 -- the letter of an event whose channel is known
-pub letter_of_channel : (s : Spec) (c p l : ℕ) (channel : Channel) → Some channel ≡ channel_in_table c p → Some l ≡ letter_in_table c p → s.channel ≡ channel → letter_in s c p ≡ Some l
-letter_of_channel s c p l channel here letter same = letter_here s c p (sym here ∙ ap (λ x. Some x) (sym same)) ∙ sym letter
+abbrev pub own_letter : Channel → ℕ → ℕ → Option ℕ
+own_letter channel c p = place_of (sign_of channel.kind c p) (table_of channel.kind).signs
+
+pub letter_of_channel : (s : Spec) (c p l : ℕ) (channel : Channel) → Some channel ≡ channel_in_table c p → Some l ≡ own_letter channel c p → s.channel ≡ channel → letter_in s c p ≡ Some l
+letter_of_channel s c p l channel here letter same = letter_here s c p (sym here ∙ ap (λ x. Some x) (sym same)) ∙ (ap (λ o. letter_with o c p) (sym here) ∙ sym letter)
+
+pub no_letter : (s : Spec) (c p : ℕ) (channel : Channel) → Some channel ≡ channel_in_table c p → None ≡ own_letter channel c p → letter_in s c p ≡ None
+no_letter s c p channel here none =
+    let all : letter_in_table c p ≡ None = ap (λ o. letter_with o c p) (sym here) ∙ sym none in
+    elim (cases_Bool (is_channel s.channel (channel_in_table c p))) [ inl is ↦ rw is all | inr other ↦ rw other refl ]
 
 pub letter_of_none : (s : Spec) (c p : ℕ) (channel : Channel) → Some channel ≡ channel_in_table c p → s.channel ≢ channel → letter_in s c p ≡ None
 letter_of_none s c p channel here other = letter_elsewhere s c p (λ e. other (channel_once s.channel channel (sym e ∙ sym here)))

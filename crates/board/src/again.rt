@@ -15,8 +15,9 @@ ghost use Rattle.board.specs.Stops.{StopRow, Survives, IsFirstStop, AreBefore};
 ghost use Rattle.board.specs.Places.{AllEarly, AreAheadsOf};
 ghost use Rattle.board.specs.Hours.{AreAheadsBefore, IsBeforeHour, IsAfterHour, Clamped, AreClampedPasts, ArePastsOf, NamesStop};
 
-use crate::aheads::{Aheads, ahead_before, aheads_hour, first_of};
+use crate::aheads::{Aheads, ahead_before, first_of};
 use crate::courses::{Course, courses_of};
+use crate::meeting::aheads_meeting;
 use crate::pasts::{After, Pasts, PastsError, clamp_past, earlier, end_of, pasts_hour, walk_spec};
 use channel_tables::Spec;
 use gap_map::Stretch;
@@ -102,13 +103,14 @@ pub fn aheads_again(
     requires hour { (h : ℕ) × IsHour h rows.now stretches.now }
     requires after { AreAheadsOf specs.now after.now }
     requires shape { AreAheadsOf specs.now was_before.now }
+    requires was_shape { AreAheadsOf specs.now was_after.now }
     requires was { AreAheadsBefore specs.now rows.now stretches.now was_after.now was_before.now }
     ensures shape { IfOk result (λ a. AreAheadsOf specs.now a) }
     ensures before { IfOk result (λ a. AreAheadsBefore specs.now rows.now stretches.now after.now
         a) }
 {
     if !few_aheads(after, was_after, specs.len()) {
-        return aheads_hour(alloc, specs, after, rows, stretches);
+        return aheads_meeting(alloc, specs, after, was_after, was_before, rows, stretches);
     }
     let mut aheads = Vec::new(alloc);
     for i in 0..specs.len() {

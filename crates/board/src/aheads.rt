@@ -1,5 +1,6 @@
 // The states of all channels before an hour.
 ghost use Rattle.std.specs.Prelude.{◌≡◌, ◌↔◌, ℕ, ℤ, pos, negsuc, ◌<ℤ◌, ◌≤ℤ◌, ◌<◌, ◌≤◌, ◌^◌, [], IsTrue, List, length, slice_index_or, IfOk};
+ghost use Rattle.channel_tables.specs.Any.{any_rules};
 ghost use Rattle.channel_tables.specs.Spec.{IsSpec, rules_of};
 ghost use Rattle.channel_tables.specs.declared.spec.Spec.{Spec};
 ghost use Rattle.reach.specs.Runs.{State};
@@ -15,7 +16,7 @@ ghost use Rattle.board.specs.Hours.{AreEnds, AreAheadsBefore};
 
 use crate::courses::courses_of;
 use crate::pasts::Pasts;
-use channel_tables::{Spec, machine_of};
+use channel_tables::{AnyMachine, Spec, machine_of};
 use colour_machine::Machine;
 use gap_map::Stretch;
 use lane::{Move, walk_ahead};
@@ -181,14 +182,33 @@ pub fn ahead_before(spec: &Spec, after: &Ahead, moves: &[Move], first: u32) -> A
         × BeforeMoves (rules_of spec.now) after.now moves.now s) × (s.entry <ℤ pos first)) }
     ensures colours { length result ≡ length after.now }
 {
-    let machine = machine_of(spec);
     let mut ahead = after.copy();
-    walk_ahead(&machine, &mut ahead, moves);
+    walk_any(machine_of(spec), &mut ahead, moves);
     lower_before(&mut ahead, first);
     ahead
 }
 
-fn lower_before(ahead: &mut Ahead, first: u32)
+// The walk back for a machine of any kind: each kind has a walk of its own.
+fn walk_any(machine: AnyMachine, ahead: &mut Ahead, moves: &[Move])
+    requires order { InOrder (any_rules machine) 0 moves.now }
+    requires colours { length ahead.old ≡ (any_rules machine).colours }
+    ensures before { (s : State) → Admits ahead.new s ↔ (EntersBefore moves.now s
+        × BeforeMoves (any_rules machine) ahead.old moves.now s) }
+    ensures colours { length ahead.new ≡ length ahead.old }
+{
+    match machine {
+        AnyMachine::Phase(machine) => walk_ahead(&machine, ahead, moves),
+        AnyMachine::Ped(machine) => walk_ahead(&machine, ahead, moves),
+        AnyMachine::Overlap(machine) => walk_ahead(&machine, ahead, moves),
+        AnyMachine::Switch(machine) => walk_ahead(&machine, ahead, moves),
+        AnyMachine::Detector(machine) => walk_ahead(&machine, ahead, moves),
+        AnyMachine::Preempt(machine) => walk_ahead(&machine, ahead, moves),
+        AnyMachine::Coord(machine) => walk_ahead(&machine, ahead, moves),
+    }
+}
+
+// Those of the states that were entered before the tenth.
+pub fn lower_before(ahead: &mut Ahead, first: u32)
     ensures states { (s : State) → Admits ahead.new s ↔ (Admits ahead.old s
         × (s.entry <ℤ pos first)) }
     ensures colours { length ahead.new ≡ length ahead.old }

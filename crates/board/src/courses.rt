@@ -11,7 +11,7 @@ ghost use Rattle.board.specs.Logs.{no_spec};
 ghost use Rattle.board.specs.SpecPlaces.{IsTable};
 
 use crate::spec_table::SpecTable;
-use channel_tables::{Spec, letter_of};
+use channel_tables::{Spec, letter_of_kind};
 use event_codes::{Channel, channel_of};
 use gap_map::Stretch;
 use lane::Move;
@@ -108,7 +108,7 @@ fn add_stretch(
         (take (count_before stretch.to (drop next rows.now)) (drop next rows.now)) stretch)) }
 {
     let (_done, rest) = rows.split_at(next);
-    let count = until(rest, stretch.to);
+    let count = count_before(rest, stretch.to);
     if stretch.known {
         let (here, _later) = rest.split_at(count);
         add_rows(specs, table, courses, here, next as u32)?;
@@ -118,8 +118,8 @@ fn add_stretch(
     Ok(next + count)
 }
 
-// The number of first rows before the tenth.
-fn until(rows: &[Row], tenth: u32) -> usize
+/// The number of first rows before the tenth.
+pub fn count_before(rows: &[Row], tenth: u32) -> usize
     ensures { result ≡ count_before tenth rows.now }
 {
     for (i, row) in rows.iter().enumerate() {
@@ -197,11 +197,9 @@ fn find(specs: &[Spec], table: &SpecTable, code: u8, param: u16) -> Option<(usiz
         × ((d : Spec) → letter_in (slice_index_or specs.now p.0 d) code param ≡ Some p.1)) }
 {
     let channel = channel_of(code, param)?;
-    let letter = letter_of(code, param)?;
-    match place_of_channel(specs, table, channel) {
-        Some(place) => Some((place, letter)),
-        None => None,
-    }
+    let place = place_of_channel(specs, table, channel)?;
+    let letter = letter_of_kind(channel.kind, code, param)?;
+    Some((place, letter))
 }
 
 fn place_of_channel(specs: &[Spec], table: &SpecTable, channel: Channel) -> Option<usize>

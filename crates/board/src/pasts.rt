@@ -1,5 +1,6 @@
 // The states of all channels after an hour.
 ghost use Rattle.std.specs.Prelude.{◌≡◌, ◌↔◌, ℕ, ℤ, pos, ◌-ℤ◌, ◌<◌, ◌≤◌, [], None, IsTrue, length, slice_index_or, MatchOption, IfSome, IfOk, IfErr};
+ghost use Rattle.channel_tables.specs.Any.{any_rules};
 ghost use Rattle.channel_tables.specs.Spec.{IsSpec, rules_of};
 ghost use Rattle.channel_tables.specs.declared.spec.Spec.{Spec};
 ghost use Rattle.reach.specs.Runs.{State};
@@ -14,7 +15,7 @@ ghost use Rattle.board.specs.Places.{AllEarly, AreSamePasts};
 ghost use Rattle.board.specs.Hours.{IsStart, AreStarts, AllClamped, ArePastsOf, NamesStop};
 
 use crate::courses::courses_of;
-use channel_tables::{Spec, machine_of};
+use channel_tables::{AnyMachine, Spec, machine_of};
 use colour_machine::Machine;
 use gap_map::Stretch;
 use lane::{Move, walk_past};
@@ -246,8 +247,32 @@ pub fn walk_spec(
     ensures after { IfOk result (IsWalked (rules_of spec.now) past.old moves.now past.new) }
     ensures colours { length past.new ≡ length past.old }
 {
-    let machine = machine_of(spec);
-    walk_moves(alloc, &machine, past, moves)
+    walk_any(alloc, machine_of(spec), past, moves)
+}
+
+// The walk for a machine of any kind: each kind has a walk of its own.
+fn walk_any(
+    alloc: Global,
+    machine: AnyMachine,
+    past: &mut Past,
+    moves: &[Move],
+) -> Result<Option<u32>, NoMemory>
+    requires order { (low : ℕ) × EnteredBefore past.old low
+        × InOrder (any_rules machine) low moves.now }
+    requires colours { length past.old ≡ (any_rules machine).colours }
+    requires some { (s : State) × Holds past.old s }
+    ensures after { IfOk result (IsWalked (any_rules machine) past.old moves.now past.new) }
+    ensures colours { length past.new ≡ length past.old }
+{
+    match machine {
+        AnyMachine::Phase(machine) => walk_moves(alloc, &machine, past, moves),
+        AnyMachine::Ped(machine) => walk_moves(alloc, &machine, past, moves),
+        AnyMachine::Overlap(machine) => walk_moves(alloc, &machine, past, moves),
+        AnyMachine::Switch(machine) => walk_moves(alloc, &machine, past, moves),
+        AnyMachine::Detector(machine) => walk_moves(alloc, &machine, past, moves),
+        AnyMachine::Preempt(machine) => walk_moves(alloc, &machine, past, moves),
+        AnyMachine::Coord(machine) => walk_moves(alloc, &machine, past, moves),
+    }
 }
 
 fn walk_moves<M: Machine>(

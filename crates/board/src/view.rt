@@ -187,20 +187,20 @@ fn line_of(
     Ok(line)
 }
 
-// The number of moves that come before the place.
+// The number of moves that come before the place. Each turn halves what is left, whether the half
+// before comes before the place or not.
 fn place_of(moves: &[Move], at: Tenth, index: Option<u32>) -> usize
     ensures within { result ≤ length moves.now }
     ensures place { (j : ℕ) → IsSplit at index moves.now j → result ≡ j }
 {
     let mut low = 0;
-    let mut high = moves.len();
-    'search: while low < high {
-        let middle = low + (high - low) / 2;
-        if is_before(moves[middle], at, index) {
-            low = middle + 1;
-        } else {
-            high = middle;
+    let mut left = moves.len();
+    'search: while left > 0 {
+        let half = left - left / 2;
+        if is_before(moves[low + half - 1], at, index) {
+            low += half;
         }
+        left -= half;
     }
     low
 }

@@ -25,13 +25,13 @@ pub fn letter_of(code: u8, param: u16) -> Option<u8>
         → IfSome result (λ l. l < length (table_of channel.kind).signs) }
 {
     match channel_of(code, param) {
-        Some(channel) => letter_in(channel.kind, code, param),
+        Some(channel) => letter_of_kind(channel.kind, code, param),
         None => None,
     }
 }
 
-// The letter of a row of a channel of this kind.
-fn letter_in(kind: Kind, code: u8, param: u16) -> Option<u8>
+/// The letter of a row of a channel of this kind.
+pub fn letter_of_kind(kind: Kind, code: u8, param: u16) -> Option<u8>
     ensures { result ≡ place_of (sign_of kind code param) (table_of kind).signs }
 {
     match kind {

@@ -20,7 +20,7 @@ mod switch;
 pub use any::{AnyMachine, machine_of};
 pub use coordination::CoordMachine;
 pub use detector::DetectorMachine;
-pub use letters::letter_of;
+pub use letters::{letter_of, letter_of_kind};
 pub use names::{colour_name, colour_named};
 pub use overlap::OverlapMachine;
 pub use ped::PedMachine;

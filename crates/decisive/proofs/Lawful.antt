@@ -18,7 +18,8 @@ use Rattle.rule_audit.specs.declared.lines.Place.{Place}
 use Rattle.rule_audit.specs.declared.lines.Place.TheVariants.{BeforeRow, EndOfTenth}
 use Rattle.rule_audit.specs.Judged.{Closes, IsIntervalVerdict, IsRuleVerdict, KeepsInterval}
 use Rattle.rule_audit.specs.Obligations.{Obligation}
-use Rattle.decisive.specs.Window.{HasLogVerdict, IsCandidate, IsGreatestTo, IsLeastFrom, is_from_to, only, rows_before, states_over}
+use Rattle.decisive.specs.Window.{HasLogVerdict, IsCandidate, IsGreatestTo, IsLeastFrom, is_from_to, only, states_over}
+use Rattle.signal_log.specs.Rows.{rows_before}
 use Rattle.decisive.specs.Laws.{BrokenGrows, BrokenIsOpenBefore, BrokenStays, FitsPlace, IdleStays, OnlyTellsLess, StatesStay, TellsLess, WholeTellsMore, WindowIsOne}
 use Rattle.decisive.proofs.Less.{after_less, broken_fewer, history_less, end_less, idle_fewer, open_more, part, some_after, some_end}
 

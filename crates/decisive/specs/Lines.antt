@@ -17,7 +17,8 @@ use Rattle.rule_audit.specs.declared.rules.Rule.{Rule}
 use Rattle.decisive.specs.declared.hours.HourMoves.{HourMoves}
 use Rattle.decisive.specs.declared.judge.Question.{Question}
 use Rattle.decisive.specs.Laws.{TellsOf, rows_to}
-use Rattle.decisive.specs.Searches.{IsBeginAt, hour_rows}
+use Rattle.decisive.specs.Searches.{IsBeginAt}
+use Rattle.signal_log.specs.Rows.{hour_rows}
 use Rattle.decisive.specs.Window.{IsBrokenLine, IsDecisive, obligation_of}
 
 -- the rows of the line's hour

@@ -17,10 +17,7 @@ use Rattle.decisive.specs.declared.judge.Start.{Start}
 use Rattle.decisive.specs.declared.parts.Part.{Part}
 use Rattle.decisive.specs.Candidates.{BeginsBy, EndsBy, IsFirstEnd, IsLastBegin, NoneBegins, NoneEnds}
 use Rattle.decisive.specs.Laws.{TellsOf}
-
--- the rows of an hour, none where it isn't held
-abbrev pub hour_rows : Store → ℕ → List Row
-hour_rows s hour = rows_or_none (rows_at s hour)
+use Rattle.signal_log.specs.Rows.{hour_rows}
 
 -- the end is tenth x itself, or else that of the first row after the place up to whose tenth it breaks
 abbrev pub IsEndAt : Start → List Spec → List Part → ℕ → List Row → List Stretch → ℕ → ℕ → Type 0

@@ -16,6 +16,7 @@ use Rattle.rule_audit.specs.declared.lines.Place.{Place}
 use Rattle.rule_audit.specs.declared.lines.Place.TheVariants.{BeforeRow, EndOfTenth}
 use Rattle.rule_audit.specs.Index.{no_rule}
 use Rattle.rule_audit.specs.Obligations.{Obligation, is_row_of, is_row_of_some, obligation}
+use Rattle.signal_log.specs.Rows.{rows_before}
 
 -- ---- less of a log
 
@@ -30,10 +31,6 @@ only u v log = record log {
 }
 
 -- ---- verdicts over a log
-
--- how many rows of its tenth stand before row n
-abbrev pub rows_before : List Row → ℕ → ℕ
-rows_before rows n = length (events_at (take n rows) (slice_index_or rows n no_row).at)
 
 -- the states that the histories which agree with the log may have: of one channel before one of these rows, and of all channels at the end of a tenth
 abbrev pub states_over : Log → List Row → States

@@ -11,7 +11,7 @@ ghost use Rattle.channel_tables.specs.Spec.{rules_of};
 ghost use Rattle.detector_state.specs.Switches.{switch_spec};
 ghost use Rattle.detector_state.specs.Masks.{HasStates, IsImage};
 
-use channel_tables::{AnyMachine, Spec, letter_of, machine_of};
+use channel_tables::{AnyMachine, Spec, letter_of_kind, machine_of};
 use colour_machine::{Machine, Mask};
 use event_codes::{Channel, channel_of};
 use reach::{AgeBound, Ahead, Past, Test, possible};
@@ -32,7 +32,7 @@ pub fn letter_in(channel: Channel, row: Row) -> Option<u8>
 {
     let own = channel_of(row.code, row.param)?;
     if is_same(own, channel) {
-        return letter_of(row.code, row.param);
+        return letter_of_kind(own.kind, row.code, row.param);
     }
     None
 }

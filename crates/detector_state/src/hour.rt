@@ -1,6 +1,5 @@
 // The hour cut into ranges of tenths at the end of which a channel may have the same colours.
 ghost use Rattle.std.specs.Prelude.{◌≡◌, ◌<◌, ◌++◌, length, IfOk, OnOk};
-ghost use Rattle.board.specs.Moves.{count_before};
 ghost use Rattle.channel_tables.specs.Any.{any_rules};
 ghost use Rattle.channel_tables.specs.Spec.{rules_of};
 ghost use Rattle.detector_state.specs.Switches.{IsSwitch, colours_of, switch_spec};
@@ -11,6 +10,7 @@ ghost use Rattle.detector_state.specs.Hours.{CoversHour, TellsColours};
 
 use crate::colours::{all, image, letter_in, machine, of_states};
 use crate::part::{Part, Switched};
+use board::count_before;
 use channel_tables::AnyMachine;
 use colour_machine::Mask;
 use event_codes::Channel;
@@ -45,23 +45,11 @@ pub fn switched(
     let mut mask = of_states(&machine, before);
     let mut rest = rows;
     for stretch in stretches {
-        let (here, later) = rest.split_at(until(rest, stretch.to));
+        let (here, later) = rest.split_at(count_before(rest, stretch.to));
         mask = add_stretch(&mut parts, channel, &machine, mask, here, *stretch)?;
         rest = later;
     }
     Ok(Switched { parts })
-}
-
-// The number of first rows before the tenth.
-fn until(rows: &[Row], tenth: u32) -> usize
-    ensures { result ≡ count_before tenth rows.now }
-{
-    for (i, row) in rows.iter().enumerate() {
-        if row.at >= tenth {
-            return i;
-        }
-    }
-    rows.len()
 }
 
 // The parts of a stretch with these rows. Answers the colours after it.

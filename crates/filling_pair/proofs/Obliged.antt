@@ -14,7 +14,8 @@ use Rattle.rule_audit.specs.declared.lines.Place.{Place}
 use Rattle.rule_audit.specs.declared.lines.Place.TheVariants.{BeforeRow, EndOfTenth}
 use Rattle.rule_audit.specs.Rules.{rules_for}
 use Rattle.rule_audit.specs.Obligations.{Obligation, end_obligations, is_due, is_timed_by, obligation, obligations_from, row_obligations, rows_obligations, tenth_obligations}
-use Rattle.filling_pair.specs.Kept.{IsPlaceOf, hour_rows}
+use Rattle.filling_pair.specs.Kept.{IsPlaceOf}
+use Rattle.signal_log.specs.Rows.{hour_rows}
 use Rattle.filling_pair.specs.Lines.{IsOfOne, ObligationsHaveLines, is_known_before, obligations_in}
 
 abbrev Each : {X : Type 0} → (X → Type 0) → List X → Type 0

@@ -12,7 +12,7 @@ use Rattle.board.specs.History.{Track}
 use Rattle.filling_pair.specs.declared.strands.Fill.{Fill}
 use Rattle.filling_pair.specs.declared.step.Stand.{Stand}
 use Rattle.filling_pair.specs.Strands.{rows_of}
-use Rattle.filling_pair.specs.Kept.{hour_rows}
+use Rattle.signal_log.specs.Rows.{hour_rows}
 use Rattle.filling_pair.specs.Walking.{In, Remains, Walks, before, is_own, own_hours, own_of, state_of}
 
 module _ (k : Track) where

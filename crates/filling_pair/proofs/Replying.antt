@@ -29,7 +29,8 @@ use Rattle.filling_pair.specs.declared.asks.Ask.{Ask}
 use Rattle.filling_pair.specs.declared.strands.Fill.{Fill}
 use Rattle.filling_pair.specs.declared.strands.Strand.{Strand}
 use Rattle.filling_pair.specs.Asks.{AscendTo, FitAsks, FitsAsk, HasAsk, IsAmong, MayStand, NoneStands, Replies, ReplyEach, ReplyUpTo, row_of_place}
-use Rattle.filling_pair.specs.Kept.{IsPlaceOf, IsPlaced, StandsAt, line_rows, rows_before}
+use Rattle.filling_pair.specs.Kept.{IsPlaceOf, IsPlaced, StandsAt, line_rows}
+use Rattle.signal_log.specs.Rows.{rows_before}
 use Rattle.filling_pair.specs.Strands.{AreFills, Ascend, HasStrand, row_of, rows_of, start_of}
 
 -- ---- rows as fills

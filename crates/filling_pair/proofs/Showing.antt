@@ -14,7 +14,8 @@ use Rattle.rule_audit.specs.declared.rules.Rule.{Rule}
 use Rattle.filling_pair.specs.declared.asks.Ask.{Ask}
 use Rattle.filling_pair.specs.declared.strands.Strand.{Strand}
 use Rattle.filling_pair.specs.Asks.{FitAsks, HasAsk, HaveFew, IsAmong, Replies, ReplyAll, ReplyEach}
-use Rattle.filling_pair.specs.Kept.{KeepsLine, KeepLine, StandsAt, line_rows, rows_before}
+use Rattle.filling_pair.specs.Kept.{KeepsLine, KeepLine, StandsAt, line_rows}
+use Rattle.signal_log.specs.Rows.{rows_before}
 use Rattle.filling_pair.specs.Strands.{AreAllStrands, AreStrands, HasStrand, IsAbout, Leads, events_with, start_of}
 use Rattle.filling_pair.proofs.Replying.{ascends}
 

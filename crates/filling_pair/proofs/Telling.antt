@@ -26,7 +26,8 @@ use Rattle.rule_audit.specs.declared.lines.Place.TheVariants.{BeforeRow, EndOfTe
 use Rattle.filling_pair.specs.declared.strands.Fill.{Fill}
 use Rattle.filling_pair.specs.declared.strands.Strand.{Strand}
 use Rattle.filling_pair.specs.Strands.{AreFills, events_with, row_of, rows_of, start_of}
-use Rattle.filling_pair.specs.Kept.{IsPlaceOf, StandsAt, hour_rows}
+use Rattle.filling_pair.specs.Kept.{IsPlaceOf, StandsAt}
+use Rattle.signal_log.specs.Rows.{hour_rows}
 use Rattle.filling_pair.specs.Walking.{Walks, count_to, is_own, merged, own_hours, own_of}
 use Rattle.filling_pair.proofs.Merging.{agreeing_letters, fills_there, merged_in, rows_there, walks_agree}
 

@@ -27,7 +27,8 @@ use Rattle.strand_search.specs.Runs.{TellsWithinHour}
 use Rattle.filling_pair.specs.declared.asks.Ask.{Ask}
 use Rattle.filling_pair.specs.declared.strands.Strand.{Strand}
 use Rattle.filling_pair.specs.Asks.{HasAsk, IsAmong, IsOpen, LacksReply, MayStand, NoneStands, Replies, ReplyAll, Shows, states_over}
-use Rattle.filling_pair.specs.Kept.{IsAsSaid, IsPlaceOf, IsPlaced, KeepsAt, StandsAt, line_rows, rows_before}
+use Rattle.filling_pair.specs.Kept.{IsAsSaid, IsPlaceOf, IsPlaced, KeepsAt, StandsAt, line_rows}
+use Rattle.signal_log.specs.Rows.{rows_before}
 use Rattle.filling_pair.proofs.Showing.{KeepHere, are_strands, have_few, kept_never, kept_with, stands_once}
 
 in_or_not : (b : AgeBound) (t e : ℤ) → InBound b t e ⊎ (InBound b t e → ⊥)

@@ -26,7 +26,8 @@ use Rattle.filling_pair.specs.declared.asks.Ask.{Ask}
 use Rattle.filling_pair.specs.declared.strands.Pair.{Pair}
 use Rattle.filling_pair.specs.declared.strands.Strand.{Strand}
 use Rattle.filling_pair.specs.Strands.{AreStrands, HasStrand, IsStrand, rows_of}
-use Rattle.filling_pair.specs.Kept.{IsAsSaid, KeepLine, StandsAtLine, line_rows, rows_before, rule_of}
+use Rattle.filling_pair.specs.Kept.{IsAsSaid, KeepLine, StandsAtLine, line_rows, rule_of}
+use Rattle.signal_log.specs.Rows.{rows_before}
 
 -- ---- a line that is undecided
 

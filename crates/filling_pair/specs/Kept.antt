@@ -19,14 +19,7 @@ use Rattle.rule_audit.specs.Index.{no_rule}
 use Rattle.rule_audit.specs.Judged.{KeepsInterval}
 use Rattle.filling_pair.specs.declared.strands.Strand.{Strand}
 use Rattle.filling_pair.specs.Strands.{AreStrands, Leads, events_with}
-
--- the rows of an hour, none where it isn't held
-abbrev pub hour_rows : Store → ℕ → List Row
-hour_rows s hour = rows_or_none (rows_at s hour)
-
--- how many rows of its tenth stand before row n
-abbrev pub rows_before : List Row → ℕ → ℕ
-rows_before rows n = length (events_at (take n rows) (slice_index_or rows n no_row).at)
+use Rattle.signal_log.specs.Rows.{hour_rows, rows_before}
 
 -- what stands at the tenths before t, and then the first j events of tenth t, lead the strand's channel to the state
 abbrev pub LeadsInto : Log → Strand → ℕ → ℕ → State → Type 0

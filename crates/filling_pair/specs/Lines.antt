@@ -6,7 +6,8 @@ use Rattle.ring_config.specs.Settings.{Settings}
 use Rattle.rule_audit.specs.declared.lines.AuditLine.{AuditLine}
 use Rattle.rule_audit.specs.Rules.{rules_for}
 use Rattle.rule_audit.specs.Obligations.{Obligation, obligations_from}
-use Rattle.filling_pair.specs.Kept.{IsLineOf, hour_rows}
+use Rattle.filling_pair.specs.Kept.{IsLineOf}
+use Rattle.signal_log.specs.Rows.{hour_rows}
 
 -- the tenth before this one is known; before tenth 0 there is none
 abbrev pub is_known_before : (ℕ → Bool) → ℕ → Bool

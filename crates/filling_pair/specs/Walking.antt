@@ -23,7 +23,8 @@ use Rattle.filling_pair.specs.declared.step.Stand.{Stand}
 use Rattle.filling_pair.specs.declared.step.Follower.{Follower}
 use Rattle.filling_pair.specs.declared.walk.Cursor.{Cursor}
 use Rattle.filling_pair.specs.Strands.{AreFills, rows_of, start_of}
-use Rattle.filling_pair.specs.Kept.{StandsAtLine, hour_rows, line_rows}
+use Rattle.filling_pair.specs.Kept.{StandsAtLine, line_rows}
+use Rattle.signal_log.specs.Rows.{hour_rows}
 
 -- ---- steps
 

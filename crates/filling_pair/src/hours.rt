@@ -3,7 +3,8 @@ ghost use Rattle.std.specs.Prelude.{◌≡◌, ◌↔◌, ◌/◌, ◌<◌, ◌�
 ghost use Rattle.channel_tables.specs.Any.{any_rules};
 ghost use Rattle.board.specs.Moves.{count_before};
 ghost use Rattle.signal_log.specs.Points.{rows_or_none};
-ghost use Rattle.filling_pair.specs.Kept.{IsPlaceOf, IsPlaced, hour_rows};
+ghost use Rattle.filling_pair.specs.Kept.{IsPlaceOf, IsPlaced};
+ghost use Rattle.signal_log.specs.Rows.{hour_rows};
 ghost use Rattle.sig_base.specs.Reads.{Grow};
 ghost use Rattle.filling_pair.specs.Walking.{IsFit, IsFollowed, IsNoted, LeadsOn, Passes, count_to, rows_between, rows_in};
 

@@ -5,6 +5,9 @@ use Rattle.std.specs.Prelude.{ℕ, zero, suc, ◌≡◌, ◌<◌, ◌-◌, ◌^�
 unfoldable pub capped : ℕ → ℕ
 capped n = min n (2 ^ 64 - 1)
 
+abbrev pub one_if : Bool → ℕ
+one_if b = if b then 1 else 0
+
 abbrev pub lesser : Option ℕ → Option ℕ → Option ℕ
 lesser None y = y
 lesser (Some x) None = Some x

@@ -4,7 +4,8 @@ use Rattle.std.specs.List.{All, sum_by}
 use Rattle.std.proofs.lemmas.List.Sums.{sum_by-cons}
 use Rattle.gap_map.specs.declared.stretch.Stretch.{Stretch}
 use Rattle.gap_map.specs.Stretches.{AreStretches, IsCut}
-use Rattle.hour_work.specs.Numbers.{count_from, count_in_hour, one_if}
+use Rattle.hour_work.specs.Numbers.{count_from, count_in_hour}
+use Rattle.hour_sums.specs.Numbers.{one_if}
 use Rattle.hour_work.specs.Known.{known_len}
 
 -- two tests that agree on the tenths count the same

@@ -24,7 +24,8 @@ use Rattle.arrival_measures.specs.Crossing.{CarryParts, IsCarry as AreOpen}
 use Rattle.state_tenths.specs.declared.asked.Asked.{Asked}
 use Rattle.state_tenths.specs.declared.asked.Asked.TheVariants.{Colour, NoneOf}
 use Rattle.state_tenths.specs.States.{AllHave, Meets}
-use Rattle.hour_work.specs.Rows.{earlier_rows, hour_rows, own_rows}
+use Rattle.hour_work.specs.Rows.{earlier_rows, own_rows}
+use Rattle.signal_log.specs.Rows.{hour_rows}
 
 -- ---- rows
 

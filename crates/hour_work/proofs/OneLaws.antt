@@ -27,7 +27,8 @@ use Rattle.rule_audit.specs.Rules.{rules_for}
 use Rattle.hour_work.specs.Numbers.{Numbers}
 use Rattle.hour_work.specs.Counts.{counts_of}
 use Rattle.hour_work.specs.Verdicts.{AreAuditLines, HasStoreVerdict, obligations_in, states_in}
-use Rattle.hour_work.specs.Rows.{earlier_rows, hour_rows, own_rows}
+use Rattle.hour_work.specs.Rows.{earlier_rows, own_rows}
+use Rattle.signal_log.specs.Rows.{hour_rows}
 use Rattle.hour_work.specs.Measures.{MayBeIn, MeetsIn}
 use Rattle.hour_work.specs.Reports.{IsHourPart, IsReport}
 use Rattle.split_measures.proofs.Single.{sums_are_one}

@@ -33,11 +33,13 @@ use Rattle.signal_log.proofs.Viewed.{hours_tell}
 use Rattle.rule_audit.specs.declared.lines.AuditLine.{AuditLine}
 use Rattle.rule_audit.specs.Rules.{rules_for}
 use Rattle.rule_audit.specs.Lines.{AreLines, IsAudited}
-use Rattle.hour_work.specs.Numbers.{FitsCount, count_in_hour, one_if}
+use Rattle.hour_work.specs.Numbers.{FitsCount, count_in_hour}
+use Rattle.hour_sums.specs.Numbers.{one_if}
 use Rattle.hour_work.specs.Counts.{counts_of}
 use Rattle.hour_work.specs.Points.{Carried, FitPoint, IsCarryAt, IsFutureAt, is_known_before}
 use Rattle.hour_work.specs.Verdicts.{AreAuditLines, HasStoreVerdict, obligations_in}
-use Rattle.hour_work.specs.Rows.{earlier_rows, hour_rows}
+use Rattle.hour_work.specs.Rows.{earlier_rows}
+use Rattle.signal_log.specs.Rows.{hour_rows}
 use Rattle.hour_work.specs.declared.counts.RuleCount.{RuleCount}
 use Rattle.split_measures.specs.declared.sums.PhaseSum.{PhaseSum}
 use Rattle.split_measures.specs.declared.failures.SplitSum.{SplitSum}

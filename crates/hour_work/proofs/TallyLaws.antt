@@ -16,7 +16,8 @@ use Rattle.rule_audit.specs.declared.lines.AuditLine.{AuditLine}
 use Rattle.rule_audit.specs.Obligations.{Obligation, end_obligations, is_due, is_timed_by, obligation, obligations_from, row_obligations, rows_obligations, tenth_obligations}
 use Rattle.rule_audit.specs.Lines.{AreLinesOf, line_of, lines_of}
 use Rattle.hour_work.specs.declared.counts.RuleCount.{RuleCount}
-use Rattle.hour_work.specs.Numbers.{FitsCount, one_if}
+use Rattle.hour_work.specs.Numbers.{FitsCount}
+use Rattle.hour_sums.specs.Numbers.{one_if}
 use Rattle.hour_work.specs.Counts.{count_of_rule, counted, counts_of, is_broken, is_kept, is_undecided}
 use Rattle.hour_work.proofs.PlacedLaws.{Each}
 

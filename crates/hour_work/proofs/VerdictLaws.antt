@@ -32,7 +32,7 @@ use Rattle.rule_audit.specs.Judged.{HasRuns, HasVerdict, IsRuleVerdict, states_o
 use Rattle.rule_audit.specs.Lines.{AreLines, AreLinesOf, hour_obligations}
 use Rattle.hour_work.specs.Points.{is_known_before}
 use Rattle.hour_work.specs.Verdicts.{AreAuditLines, HasStoreVerdict, obligations_in, states_in}
-use Rattle.hour_work.specs.Rows.{hour_rows}
+use Rattle.signal_log.specs.Rows.{hour_rows}
 use Rattle.hour_work.proofs.LinkLaws.{Leads, Local, clause_as, closes_alike, interval_as, keeps_alike}
 use Rattle.hour_work.proofs.PlacedLaws.{Each, FitPlace, FitRule, IsPlaced, all_placed, each_weaker, known_same, none_known, rules_fit}
 

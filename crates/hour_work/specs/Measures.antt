@@ -1,9 +1,9 @@
 -- What is measured of a store in each hour, by all its known rows.
-use Rattle.std.specs.Prelude.{ℕ, zero, suc, ◌≡◌, List, [], ◌++◌, true}
-use Rattle.hour_store.specs.Store.{Store, is_known}
+use Rattle.std.specs.Prelude.{ℕ, zero, suc, ◌≡◌, List, [], ◌++◌, true, ◌↔◌, ◌<◌, ◌≤◌, Bool, Some, length, slice_index_or}
+use Rattle.hour_store.specs.Store.{Store, is_known, IsStore}
 use Rattle.board.specs.Logs.{first_tenth}
-use Rattle.ring_config.specs.Settings.{Settings}
-use Rattle.signal_log.specs.Log.{log_of}
+use Rattle.ring_config.specs.Settings.{Settings, spec_place}
+use Rattle.signal_log.specs.Log.{log_of, HasHistory}
 use Rattle.signal_log.specs.States.{MayBeAtEndOf}
 use Rattle.state_tenths.specs.declared.asked.Asked.{Asked}
 use Rattle.state_tenths.specs.States.{Meets}
@@ -19,6 +19,9 @@ use Rattle.reach.specs.Runs.{State}
 use Rattle.arrival_measures.specs.declared.sums.ArrivalSum.{ArrivalSum}
 use Rattle.arrival_measures.specs.Hours.{AreAllJudged, HaveCycles}
 use Rattle.hour_work.specs.Rows.{earlier_rows, own_rows}
+use Rattle.board.specs.Channels.{AreSpecs}
+use Rattle.arrival_measures.specs.Judged.{phase_channel}
+use Rattle.cycle_arrivals.specs.Green.{shows_green}
 
 -- the whole services, and the whole cycles, whose last row is in the hour
 abbrev pub services_in : Settings → Store → ℕ → List Service
@@ -48,3 +51,7 @@ pub record AreMeasures (c : Settings) (s : Store) (hour : ℕ) (splits : List Ph
   pub states : AreStates (MeetsIn c s) (first_tenth hour) c others
   pub judged : AreAllJudged (MayBeIn c s) (is_known s) c (earlier_rows s hour) (own_rows s hour) hour arrivals
   pub whole_cycles : HaveCycles (is_known s) c (earlier_rows s hour) (own_rows s hour) arrivals
+
+-- of each whole cycle whose last row is in an hour of a store: at the end of each of its tenths it is green, or not, by the rows alone exactly where the states that its phase may have pass so
+abbrev pub CyclesShow : Bool → ((State → Type 0) → Type 0) → Type 0
+CyclesShow green Pass = (c : Settings) (s : Store) (hour n i t : ℕ) (d : Cycle) → AreSpecs c.specs → IsStore s → HasHistory (log_of c.specs s) → hour < length s.hours → n < length (cycles_in c s hour) → let x = slice_index_or (cycles_in c s hour) n d in spec_place c.specs (phase_channel x.phase) ≡ Some i → x.from ≤ t → t < x.to → (shows_green x.phase x.from (earlier_rows s hour ++ own_rows s hour) t ≡ green) ↔ Pass (MayBeIn c s i t)

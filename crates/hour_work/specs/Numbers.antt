@@ -1,7 +1,7 @@
 -- What is counted of one hour, and the sums over hours.
 use Rattle.std.specs.Prelude.{◌≡◌, ◌≤◌, ◌<◌, ◌⊎◌, ◌+◌, ◌*◌, ◌++◌, ℕ, zero, suc, Bool, true, false, List, [], length, take, drop, map, slice_index_or, sum_by, All}
 use Rattle.std.specs.List.{fold}
-use Rattle.hour_sums.specs.Numbers.{merged}
+use Rattle.hour_sums.specs.Numbers.{merged, one_if}
 use Rattle.split_measures.specs.declared.sums.PhaseSum.{PhaseSum}
 use Rattle.split_measures.specs.declared.failures.SplitSum.{SplitSum}
 use Rattle.split_measures.specs.Phases.{added}
@@ -21,10 +21,6 @@ pub record Numbers : Type 0 where
   pub failures : List SplitSum
   pub others : OtherNumbers
   pub arrivals : List ArrivalSum
-
-abbrev pub one_if : Bool → ℕ
-one_if true = 1
-one_if false = 0
 
 -- how many of the n tenths from `from` on pass the test
 unfoldable pub count_from : (ℕ → Bool) → ℕ → ℕ → ℕ

@@ -71,7 +71,8 @@ pub record GoesOver (c : Settings) (hour : ℕ) (rows : Option (List Row)) (blan
   pub fit : FitPoint c (hour + 1) after
   pub over : ArePastsOver c.specs hour rows blanks before.pasts after.pasts
 
--- by what is told of the hour, those at the point before it lead to those at the point after it, whatever these are
+-- by what is told of the hour, those at the point before it lead to those at the point after it, whatever states these admit
 pub record ComesBack (c : Settings) (hour : ℕ) (rows : Option (List Row)) (blanks : List Span) (after before : List (List (Option ℤ))) : Type 0 where
   pub fit : AreAheadsOf c.specs before
+  pub was : AreAheadsOf c.specs after
   pub over : AreAheadsOver c.specs hour rows blanks after before

@@ -15,7 +15,8 @@ use Rattle.signal_log.specs.Points.{HasHour, rows_or_none}
 use Rattle.service_cut.specs.Cut.{CutLists, IsCut as IsCutOf}
 use Rattle.rule_audit.specs.declared.lines.AuditLine.{AuditLine}
 use Rattle.rule_audit.specs.Rules.{rules_for}
-use Rattle.hour_work.specs.Numbers.{Numbers, count_in_hour, one_if}
+use Rattle.hour_work.specs.Numbers.{Numbers, count_in_hour}
+use Rattle.hour_sums.specs.Numbers.{one_if}
 use Rattle.hour_work.specs.Counts.{counts_of}
 use Rattle.hour_work.specs.Points.{Carried, IsCarryAt, IsFutureFor}
 use Rattle.hour_work.specs.Verdicts.{AreAuditLines}

@@ -4,10 +4,7 @@ use Rattle.sig_base.specs.declared.values.Row.{Row}
 use Rattle.hour_sweep.specs.Rows.{known_rows}
 use Rattle.hour_store.specs.Store.{Store, is_known, rows_at, rows_of}
 use Rattle.signal_log.specs.Points.{rows_or_none}
-
--- the rows of an hour, none where it isn't held
-abbrev pub hour_rows : Store → ℕ → List Row
-hour_rows s hour = rows_or_none (rows_at s hour)
+use Rattle.signal_log.specs.Rows.{hour_rows}
 
 -- the known rows of an hour, and those of all hours before it
 abbrev pub own_rows : Store → ℕ → List Row

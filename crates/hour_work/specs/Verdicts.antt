@@ -13,12 +13,8 @@ use Rattle.rule_audit.specs.Rules.{rules_for}
 use Rattle.rule_audit.specs.Obligations.{Obligation, obligations_from}
 use Rattle.rule_audit.specs.Judged.{IsRuleVerdict, States}
 use Rattle.rule_audit.specs.Lines.{AreLinesOf}
-use Rattle.hour_work.specs.Rows.{hour_rows}
+use Rattle.signal_log.specs.Rows.{hour_rows, rows_before}
 use Rattle.hour_work.specs.Points.{is_known_before}
-
--- how many rows of its tenth stand before row n
-abbrev pub rows_before : List Row → ℕ → ℕ
-rows_before rows n = length (events_at (take n rows) (slice_index_or rows n no_row).at)
 
 -- the states that the histories which agree with the store may have: of one channel before one of these rows, and of all channels at the end of a tenth
 abbrev pub states_in : Settings → Store → List Row → States

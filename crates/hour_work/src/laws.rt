@@ -1,5 +1,5 @@
 // What the definitions alone say. Each law is the contract of a function that does nothing.
-ghost use Rattle.std.specs.Prelude.{◌≡◌, ◌↔◌, ◌+◌, ◌++◌, ◌<◌, ◌≤◌, ℕ, true, false, All, List, [], Some, length, slice_index_or};
+ghost use Rattle.std.specs.Prelude.{◌≡◌, ◌↔◌, ◌+◌, ◌++◌, ◌<◌, ◌≤◌, ℕ, true, false, All, List, [], length};
 ghost use Rattle.std.specs.List.{filter};
 ghost use Rattle.board.specs.Logs.{first_tenth};
 ghost use Rattle.hour_store.specs.Store.{IsStore, Store, is_known, known_rows};
@@ -7,12 +7,8 @@ ghost use Rattle.ring_config.specs.Settings.{Settings};
 ghost use Rattle.ring_config.specs.Sound.{IsSound};
 ghost use Rattle.signal_log.specs.Log.{HasHistory, log_of};
 ghost use Rattle.rule_audit.specs.declared.lines.AuditLine.{AuditLine};
-ghost use Rattle.board.specs.Channels.{AreSpecs};
-ghost use Rattle.ring_config.specs.Settings.{spec_place};
 ghost use Rattle.hour_sweep.specs.Hours.{AreOrdered};
-ghost use Rattle.service_cut.specs.declared.items.Cycle.{Cycle};
-ghost use Rattle.cycle_arrivals.specs.Green.{shows_green};
-ghost use Rattle.arrival_measures.specs.Judged.{AllPass, NonePass, is_green, phase_channel};
+ghost use Rattle.arrival_measures.specs.Judged.{AllPass, NonePass, is_green};
 ghost use Rattle.arrival_measures.specs.Hours.{HaveCycles};
 ghost use Rattle.arrival_measures.specs.Points.{diagrams_of, points_from};
 ghost use Rattle.service_cut.specs.Cut.{cycle_is_in, cycles_from, service_is_in, services_from};
@@ -21,7 +17,7 @@ ghost use Rattle.other_measures.specs.Hours.{AreNumbers, delays_from, events_fro
 ghost use Rattle.hour_work.specs.Numbers.{Numbers, total_of};
 ghost use Rattle.hour_work.specs.Rows.{earlier_rows, own_rows};
 ghost use Rattle.hour_work.specs.Verdicts.{AreAuditLines};
-ghost use Rattle.hour_work.specs.Measures.{MayBeIn, cycles_in, over_hours, services_in};
+ghost use Rattle.hour_work.specs.Measures.{CyclesShow, cycles_in, over_hours, services_in};
 ghost use Rattle.hour_work.specs.Reports.{IsReport};
 ghost use Rattle.hour_work.specs.Moved.{CarriesAreOne, FuturesAreOne};
 
@@ -81,18 +77,8 @@ pub fn totals_are_of_the_log()
 /// it is green by the rows exactly where it is green in all histories that agree with the store,
 /// and not green by them exactly where it is green in none.
 pub fn cycles_show_green()
-    ensures green { (c : Settings) (s : Store) (hour n i t : ℕ) (d : Cycle) → AreSpecs c.specs
-        → IsStore s → HasHistory (log_of c.specs s) → hour < length s.hours
-        → n < length (cycles_in c s hour) → let x = slice_index_or (cycles_in c s hour) n d
-        in spec_place c.specs (phase_channel x.phase) ≡ Some i → x.from ≤ t → t < x.to
-        → (shows_green x.phase x.from (earlier_rows s hour ++ own_rows s hour) t ≡ true)
-        ↔ AllPass is_green (MayBeIn c s i t) }
-    ensures not_green { (c : Settings) (s : Store) (hour n i t : ℕ) (d : Cycle) → AreSpecs c.specs
-        → IsStore s → HasHistory (log_of c.specs s) → hour < length s.hours
-        → n < length (cycles_in c s hour) → let x = slice_index_or (cycles_in c s hour) n d
-        in spec_place c.specs (phase_channel x.phase) ≡ Some i → x.from ≤ t → t < x.to
-        → (shows_green x.phase x.from (earlier_rows s hour ++ own_rows s hour) t ≡ false)
-        ↔ NonePass is_green (MayBeIn c s i t) }
+    ensures green { CyclesShow true (AllPass is_green) }
+    ensures not_green { CyclesShow false (NonePass is_green) }
 {}
 
 /// Law: where some history agrees with a store, no whole cycle of it has its last begin of green

@@ -91,12 +91,16 @@ slice_join xs a b le =
     let back : drop a (take b xs) ≡ take (b - a) (drop a xs) = rw e at (drop-take a (b - a) xs) in
     sym (rw (front, back) at (take-append-drop a (take b xs)))
 
--- those after a place within a slice are the rest of the slice and those after it
-pub rest_join : (xs : List Move) (a b j : ℕ) → a ≤ j → j ≤ b → drop j xs ≡ drop (j - a) (take (b - a) (drop a xs)) ++ drop b xs
-rest_join xs a b j le h =
+-- what is left of a slice from a place within it is a slice
+pub slice_end : (xs : List Move) (a b j : ℕ) → a ≤ j → j ≤ b → drop (j - a) (take (b - a) (drop a xs)) ≡ take (b - j) (drop j xs)
+slice_end xs a b j le h =
     let e : (j - a) + (b - j) ≡ b - a = omega arith in
     let one : a + (j - a) ≡ j = omega arith in
+    rw e at (drop-take (j - a) (b - j) (drop a xs)) ∙ ap (take (b - j)) (drop-drop (j - a) a xs ∙ ap (λ n. drop n xs) one)
+
+-- the moves from a place on are those of a slice and those after it
+pub rest_join : (xs : List Move) (j b : ℕ) → j ≤ b → drop j xs ≡ take (b - j) (drop j xs) ++ drop b xs
+rest_join xs j b h =
     let two : j + (b - j) ≡ b = omega arith in
-    let rest : drop (j - a) (take (b - a) (drop a xs)) ≡ take (b - j) (drop j xs) = rw e at (drop-take (j - a) (b - j) (drop a xs)) ∙ ap (take (b - j)) (drop-drop (j - a) a xs ∙ ap (λ n. drop n xs) one) in
     let after : drop (b - j) (drop j xs) ≡ drop b xs = drop-drop (b - j) j xs ∙ ap (λ n. drop n xs) two in
-    rw rest (sym (rw after at (take-append-drop (b - j) (drop j xs))))
+    sym (rw after at (take-append-drop (b - j) (drop j xs)))

@@ -174,19 +174,19 @@ ahead_turn m after now new low x xs o inv step s = (
 )
 
 -- a state that moves lead to enters early enough for those after them
-enters_on : (m : Rules) (low : ℕ) (ys zs : List Move) (s u : State) → InOrder m low (ys ++ zs) → Walk m ys s u → EntersBefore (ys ++ zs) s → EntersBefore zs u
+pub enters_on : (m : Rules) (low : ℕ) (ys zs : List Move) (s u : State) → InOrder m low (ys ++ zs) → Walk m ys s u → EntersBefore (ys ++ zs) s → EntersBefore zs u
 enters_on m low [] zs s u o w e = rw w e
 enters_on m low (y ∷ ys) zs s u o (v, a, w) e = enters_on m (limit_after y) ys zs v u o.2 w (not_after m (limit_after y) (ys ++ zs) v o.2 (taken_early m y s v a e))
 
--- moves in front of those of which the Ahead is
-pub ahead_over : (m : Rules) (after now : List (Option ℤ)) (low : ℕ) (ys zs : List Move) → InOrder m low (ys ++ zs) → ((v : State) → EntersBefore zs v → Admits now v ↔ BeforeMoves m after zs v) → (s : State) → EntersBefore (ys ++ zs) s → BeforeMoves m now ys s ↔ BeforeMoves m after (ys ++ zs) s
-ahead_over m after now low ys zs o inv s e = (
+-- moves in front of those that are known of the states which the first of them lead to
+pub ahead_over : (m : Rules) (after now : List (Option ℤ)) (ys zs : List Move) (s : State) → ((v : State) → Walk m ys s v → Admits now v ↔ BeforeMoves m after zs v) → BeforeMoves m now ys s ↔ BeforeMoves m after (ys ++ zs) s
+ahead_over m after now ys zs s inv = (
   λ (v, a, h).
-      let (u, b, k) = (inv v (enters_on m low ys zs s v o a e)).0 h in
+      let (u, b, k) = (inv v a).0 h in
       (u, (walk_join m ys zs s u).1 (v, a, b), k),
   λ (u, w, k).
       let (v, a, b) = (walk_join m ys zs s u).0 w in
-      (v, a, (inv v (enters_on m low ys zs s v o a e)).1 (u, b, k)),
+      (v, a, (inv v a).1 (u, b, k)),
 )
 
 -- the same at a place of a list

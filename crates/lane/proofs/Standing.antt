@@ -1,5 +1,5 @@
 -- Aheads that stand for those of the places.
-use Rattle.std.proofs.Common.{◌≡◌, sym, ◌∙◌, inl, inr, ◌↔◌, ℕ, ◌+◌, ◌-◌, ◌≤◌, ◌<◌, ℤ, List, [], ◌∷◌, ◌++◌, length, take, drop, get_or, arith, Option, refl}
+use Rattle.std.proofs.Common.{◌≡◌, ap, subst, sym, ◌∙◌, inl, inr, ◌↔◌, ℕ, ◌+◌, ◌-◌, ◌≤◌, ◌<◌, ℤ, List, [], ◌∷◌, ◌++◌, length, take, drop, get_or, arith, Option, refl}
 use Rattle.std.proofs.lemmas.Bool.{cases_eq, cases_lt}
 use Rattle.std.proofs.lemmas.List.{drop_all, length_push, get_or_push, get_or_append_left, get_or-append-add, get_or_read, append_assoc, append-nil, length-append}
 use Rattle.span_set.specs.declared.set.Span.{Span}
@@ -11,16 +11,16 @@ use Rattle.reach.specs.Last.{BeforeGaps}
 use Rattle.reach.proofs.Later.{then_iff}
 use Rattle.lane.specs.declared.moves.Move.{Move}
 use Rattle.lane.specs.declared.ahead.PlaceAheads.{PlaceAheads}
-use Rattle.lane.specs.Walks.{InOrder, BeforeMoves}
+use Rattle.lane.specs.Walks.{BeforeMoves}
 use Rattle.lane.specs.declared.past.RunPasts.{RunPasts}
-use Rattle.lane.specs.Places.{EntersBefore, limit_of}
-use Rattle.lane.specs.Kept.{past_of, ArePasts, AreRuns, HavePasts, HaveAheads, AreMore, AdmitSame, IsAhead, StandsFor, AreStandIns, AddsPlaces}
+use Rattle.lane.specs.Places.{EntersBefore}
+use Rattle.lane.specs.Kept.{past_of, HavePasts, HaveAheads, AreMore, AdmitSame, IsAhead, Serves, StandsFor, AreStandIns, AddsPlaces}
 use Rattle.lane.specs.Runs.{AreGapsOf}
 use Rattle.lane.specs.Legs.{IsLeg}
-use Rattle.lane.proofs.Legs.{length_slice, slice_leg, rest_join}
+use Rattle.lane.proofs.Legs.{length_slice, slice_leg, slice_end, rest_join}
 use Rattle.lane.proofs.Holes.{gaps_drop}
 use Rattle.lane.proofs.Keeping.{leg_run}
-use Rattle.lane.proofs.Moving.{ahead_over, order_drop}
+use Rattle.lane.proofs.Serving.{serve_over}
 use Rattle.lane.proofs.Running.{runs_moves}
 
 -- one more Ahead
@@ -117,11 +117,10 @@ stand_kept m after xs pasts p old new fresh j k more are le sum lt =
     rw (at, more.1 (get_or numbers k 0) low) (omega arith, was.1, was.2)
 
 -- the places of one leg more
-pub stand_leg : (m : Rules) (after now : List (Option ℤ)) (xs : List Move) (pasts : RunPasts) (a b : ℕ) (past : List (List Span)) (old new : PlaceAheads) → InOrder m 0 xs → a < b → b ≤ length xs → IsLeg (take (b - a) (drop a xs)) → AreRuns xs pasts.runs.items → past ≡ past_of pasts b → IsAhead m after (drop b xs) now → length old.numbers.items + b ≡ length xs → AreStandIns m after xs pasts (b + 1) old → AddsPlaces m.colours past 0 (length (take (b - a) (drop a xs))) (λ j. BeforeMoves m now (drop j (take (b - a) (drop a xs)))) old new → AreStandIns m after xs pasts (a + 1) new
-stand_leg m after now xs pasts a b past old new order lt h leg are own exact size stood adds j k le sum =
+pub stand_leg : (m : Rules) (after now : List (Option ℤ)) (xs : List Move) (pasts : RunPasts) (a b : ℕ) (past : List (List Span)) (old new : PlaceAheads) → HavePasts m xs pasts → a < b → b ≤ length xs → IsLeg (take (b - a) (drop a xs)) → past ≡ past_of pasts b → Serves m after xs pasts b now → length old.numbers.items + b ≡ length xs → AreStandIns m after xs pasts (b + 1) old → AddsPlaces m.colours past 0 (length (take (b - a) (drop a xs))) (λ j. BeforeMoves m now (drop j (take (b - a) (drop a xs)))) old new → AreStandIns m after xs pasts (a + 1) new
+stand_leg m after now xs pasts a b past old new have lt h leg own serves size stood adds j k le sum =
     let numbers = old.numbers.items in
     let runs = pasts.runs.items in
-    let ys = take (b - a) (drop a xs) in
     let n = length_slice xs a b h in
     rw adds.added (elim (cases_lt b j) [
       | inl later ↦ stand_kept m after xs pasts (b + 1) old new adds.fresh j k adds.more stood (omega arith) sum (omega arith)
@@ -129,13 +128,13 @@ stand_leg m after now xs pasts a b past old new order lt h leg are own exact siz
           let at : length numbers + (b - j) ≡ k = omega arith in
           let number : get_or (numbers ++ adds.fresh) k 0 ≡ get_or adds.fresh (b - j) 0 = rw at at (get_or-append-add numbers adds.fresh (b - j) 0) in
           let here = adds.stand (j - a) (b - j) (omega arith) (omega arith) in
+          let are = have.0 in
           let run : get_or runs j 0 ≡ get_or runs b 0 = are.1 j (omega arith) ∙ (leg_run xs a j b (omega arith) within h (slice_leg xs a b h leg) ∙ sym (are.1 b h)) in
-          let rest = rest_join xs a b j (omega arith) within in
-          let o = rw rest at (order_drop m 0 j xs order) in
-          rw (number, run, ← own, rest) (
+          let same : past ≡ past_of pasts j = own ∙ ap (λ r. get_or pasts.pasts.items r []) (sym run) in
+          rw (number, ← same) (
             here.0,
             adds.all.1 (get_or adds.fresh (b - j) 0) here.0,
-            λ s enters held. then_iff (here.1 s held) (ahead_over m after now (limit_of 0 (take j xs)) (drop (j - a) ys) (drop b xs) o exact.1 s enters),
+            λ s enters held. then_iff (rw (slice_end xs a b j (omega arith) within) at (here.1 s held)) (serve_over m after now xs pasts j b have within h serves s enters (rw same at held)),
           )
     ])
 
@@ -143,13 +142,13 @@ enters_front : (ys zs : List Move) (s : State) → EntersBefore (ys ++ zs) s →
 enters_front [] zs s e = tt
 enters_front (y ∷ ys) zs s e = e
 
-pub ahead_leg : (m : Rules) (after now new : List (Option ℤ)) (xs : List Move) (a b : ℕ) → InOrder m 0 xs → a ≤ b → IsAhead m after (drop b xs) now → IsAhead m now (take (b - a) (drop a xs)) new → IsAhead m after (drop a xs) new
-ahead_leg m after now new xs a b order le exact step =
-    let ys = take (b - a) (drop a xs) in
-    let none : a - a ≡ 0 = omega arith in
-    let rest : drop a xs ≡ ys ++ drop b xs = rw none at (rest_join xs a b a (omega arith) le) in
-    let o = rw rest at (order_drop m 0 a xs order) in
-    (step.0, rw rest (λ s e. then_iff (step.1 s (enters_front ys (drop b xs) s e)) (ahead_over m after now (limit_of 0 (take a xs)) ys (drop b xs) o exact.1 s e)))
+pub serve_leg : (m : Rules) (after now new : List (Option ℤ)) (xs : List Move) (pasts : RunPasts) (a b : ℕ) → HavePasts m xs pasts → a ≤ b → b ≤ length xs → Serves m after xs pasts b now → IsAhead m now (take (b - a) (drop a xs)) new → Serves m after xs pasts a new
+serve_leg m after now new xs pasts a b have le h serves step = (
+  step.0,
+  λ s e held.
+      let front = enters_front (take (b - a) (drop a xs)) (drop b xs) s (subst (λ (zs : List Move). EntersBefore zs s) (rest_join xs a b le) e) in
+      then_iff (step.1 s front) (serve_over m after now xs pasts a b have le h serves s e held),
+)
 
 pub size_leg : (colours : ℕ) (past : List (List Span)) (xs : List Move) (a b : ℕ) (P : ℕ → State → Type 0) (old new : PlaceAheads) → a ≤ b → b ≤ length xs → length old.numbers.items + b ≡ length xs → AddsPlaces colours past 0 (length (take (b - a) (drop a xs))) P old new → length new.numbers.items + a ≡ length xs
 size_leg colours past xs a b P old new le h size adds =
@@ -158,20 +157,26 @@ size_leg colours past xs a b P old new le h size adds =
     let all = length-append old.numbers.items adds.fresh in
     rw adds.added (omega arith)
 
--- the first place of all
-pub stand_last : (m : Rules) (after now : List (Option ℤ)) (xs : List Move) (pasts : RunPasts) (past : List (List Span)) (old new : PlaceAheads) → past ≡ past_of pasts 0 → IsAhead m after xs now → length old.numbers.items ≡ length xs → AreStandIns m after xs pasts 1 old → AddsPlaces (length now) past 0 1 (λ j. Admits now) old new → AreStandIns m after xs pasts 0 new
-stand_last m after now xs pasts past old new own exact size stood adds j k le sum =
+pub size_one : (colours : ℕ) (past : List (List Span)) (xs : List Move) (p : ℕ) (P : ℕ → State → Type 0) (old new : PlaceAheads) → length old.numbers.items + (p + 1) ≡ length xs → AddsPlaces colours past 0 1 P old new → length new.numbers.items + p ≡ length xs
+size_one colours past xs p P old new size adds =
+    let fresh = adds.size in
+    let all = length-append old.numbers.items adds.fresh in
+    rw adds.added (omega arith)
+
+-- one place more
+pub stand_one : (m : Rules) (after now : List (Option ℤ)) (xs : List Move) (pasts : RunPasts) (p : ℕ) (past : List (List Span)) (old new : PlaceAheads) → past ≡ past_of pasts p → Serves m after xs pasts p now → length old.numbers.items + p ≡ length xs → AreStandIns m after xs pasts (p + 1) old → AddsPlaces (length now) past 0 1 (λ j. Admits now) old new → AreStandIns m after xs pasts p new
+stand_one m after now xs pasts p past old new own serves size stood adds j k le sum =
     let numbers = old.numbers.items in
-    rw adds.added (elim (cases_eq j 0) [
-      | inr ne ↦ stand_kept m after xs pasts 1 old new adds.fresh j k adds.more stood (omega arith) sum (omega arith)
+    rw adds.added (elim (cases_eq j p) [
+      | inr ne ↦ stand_kept m after xs pasts (p + 1) old new adds.fresh j k adds.more stood (omega arith) sum (omega arith)
       | inl first ↦
           let at : length numbers + 0 ≡ k = omega arith in
           let number : get_or (numbers ++ adds.fresh) k 0 ≡ get_or adds.fresh 0 0 = rw at at (get_or-append-add numbers adds.fresh 0 0) in
           let here = adds.stand 1 0 (omega arith) (omega arith) in
           rw (number, first, ← own) (
             here.0,
-            adds.all.1 (get_or adds.fresh 0 0) here.0 ∙ exact.0,
-            λ s enters held. then_iff (here.1 s held) (exact.1 s enters),
+            adds.all.1 (get_or adds.fresh 0 0) here.0 ∙ serves.0,
+            λ s enters held. then_iff (here.1 s held) (serves.1 s enters (rw own at held)),
           )
     ])
 
@@ -182,7 +187,3 @@ before_none m latest xs j h s = rw (drop_all j xs h) (λ a. (s, refl, a), λ (u,
 -- what holes lead on is what their moves lead on
 pub holes_moves : (m : Rules) (latest : List (Option ℤ)) (hs : List Span) (xs : List Move) → AreGapsOf hs xs → (j : ℕ) (s : State) → BeforeGaps m latest (drop j hs) s ↔ BeforeMoves m latest (drop j xs) s
 holes_moves m latest hs xs g j s = (runs_moves m [] latest (drop j hs) (drop j xs) (gaps_drop j hs xs g)).1 s
-
--- the Pasts of the places
-pub have_pasts : (m : Rules) (before : List (List Span)) (xs : List Move) (pasts : RunPasts) → AreRuns xs pasts.runs.items → ArePasts m before xs pasts → HavePasts m.colours xs pasts
-have_pasts m before xs pasts are kept = (are, λ j le. let k = kept j le in (k.0, k.1.0))

@@ -9,7 +9,7 @@ use Rattle.lane.specs.declared.moves.Move.{Move}
 use Rattle.lane.specs.declared.moves.Move.TheVariants.{Letter, Gap}
 use Rattle.lane.specs.declared.past.RunPasts.{RunPasts}
 use Rattle.lane.specs.declared.ahead.PlaceAheads.{PlaceAheads}
-use Rattle.lane.specs.Walks.{AfterMoves, BeforeMoves}
+use Rattle.lane.specs.Walks.{InOrder, AfterMoves, BeforeMoves, EnteredBefore}
 use Rattle.lane.specs.Places.{EntersBefore}
 
 -- how many of the moves are letters
@@ -43,9 +43,9 @@ IsPast m before xs j past = (length past ≡ m.colours) × ((u : State) → Ente
 abbrev pub ArePasts : Rules → List (List Span) → List Move → RunPasts → Type 0
 ArePasts m before xs pasts = (j : ℕ) → j ≤ length xs → HasPast pasts j × IsPast m before xs j (past_of pasts j)
 
--- each place's run has a Past of so many colours
-abbrev pub HavePasts : ℕ → List Move → RunPasts → Type 0
-HavePasts colours xs pasts = AreRuns xs pasts.runs.items × ((j : ℕ) → j ≤ length xs → HasPast pasts j × (length (past_of pasts j) ≡ colours))
+-- the Pasts are those of the places' runs, from some states before the moves
+abbrev pub HavePasts : Rules → List Move → RunPasts → Type 0
+HavePasts m xs pasts = AreRuns xs pasts.runs.items × ((before : List (List Span)) × ((low : ℕ) × EnteredBefore before low × InOrder m low xs) × ArePasts m before xs pasts)
 
 -- there is a first Ahead, and each is of so many colours
 abbrev pub HaveAheads : ℕ → List (List (Option ℤ)) → Type 0
@@ -62,6 +62,10 @@ AdmitSame past a b = (length a ≡ length b) × ((s : State) → Holds past s �
 -- of the states that enter early enough for the moves, the Ahead admits those from which they lead to what is admitted after them
 abbrev pub IsAhead : Rules → List (Option ℤ) → List Move → List (Option ℤ) → Type 0
 IsAhead m after xs ahead = (length ahead ≡ m.colours) × ((s : State) → EntersBefore xs s → Admits ahead s ↔ BeforeMoves m after xs s)
+
+-- the same of the states of the place's Past
+abbrev pub Serves : Rules → List (Option ℤ) → List Move → RunPasts → ℕ → List (Option ℤ) → Type 0
+Serves m after xs pasts j ahead = (length ahead ≡ m.colours) × ((s : State) → EntersBefore (drop j xs) s → Holds (past_of pasts j) s → Admits ahead s ↔ BeforeMoves m after (drop j xs) s)
 
 -- the same of the states of the Past, where the Ahead is the one with the number
 abbrev pub StandsFor : Rules → List (Option ℤ) → List Move → List (List Span) → List (List (Option ℤ)) → ℕ → Type 0

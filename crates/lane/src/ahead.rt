@@ -1,6 +1,7 @@
 // The states before moves.
-ghost use Rattle.std.specs.Prelude.{◌≡◌, ℕ, pos, ◌+◌, ◌<◌, ◌<ℤ◌, ◌^◌, ◌↔◌, length, drop, IfOk, OnOk, slice_index_or, []};
+ghost use Rattle.std.specs.Prelude.{◌≡◌, ℕ, pos, ◌+◌, ◌<◌, ◌<ℤ◌, ◌^◌, ◌↔◌, length, drop, false, IsTrue, IfOk, OnOk, slice_index_or, []};
 ghost use Rattle.reach.specs.Runs.{State};
+ghost use Rattle.reach.specs.Past.{Holds, IsAlone};
 ghost use Rattle.reach.specs.Ahead.{Admits};
 ghost use Rattle.reach.specs.Holes.{AreHoles};
 ghost use Rattle.reach.specs.Last.{BeforeGaps};
@@ -12,8 +13,10 @@ ghost use Rattle.lane.specs.Legs.{IsLeg};
 use crate::leg::{END, leg_begin, put_holes};
 use crate::moves::Move;
 use crate::past::{RunPasts, past_at};
-use colour_machine::Machine;
-use reach::{Ahead, Past, ahead_gap, ahead_holes, ahead_in, ahead_row, is_sure};
+use colour_machine::{Machine, Mask};
+use reach::{
+    AgeBound, Ahead, Past, Test, ahead_gap, ahead_holes, ahead_in, ahead_row, is_sure, possible,
+};
 use sig_base::NoMemory;
 use span_set::Span;
 use std::alloc::Global;
@@ -62,7 +65,9 @@ pub struct PlaceAheads {
 // Later than every entry.
 const FAR: i64 = 500_000_000_000;
 
-// An Ahead for the place before no move, before the last move, before the last two and so on.
+// An Ahead for the place before no move, before the last move, before the last two and so on. Where
+// some run goes on after the moves, it goes through each place. So where a place has one state
+// alone, that goes on, and nothing need be known of what comes after the place.
 pub fn aheads_of<M: Machine>(
     alloc: Global,
     machine: &M,
@@ -70,35 +75,94 @@ pub fn aheads_of<M: Machine>(
     moves: &[Move],
     pasts: &RunPasts,
 ) -> Result<PlaceAheads, NoMemory>
-    requires order { InOrder (M.rules machine.now) 0 moves.now }
     requires colours { length after.now ≡ (M.rules machine.now).colours }
-    requires pasts { HavePasts (M.rules machine.now).colours moves.now pasts.now }
+    requires pasts { HavePasts (M.rules machine.now) moves.now pasts.now }
     ensures places { IfOk result (λ v. length v.numbers.items ≡ length moves.now + 1) }
     ensures aheads { IfOk result
         (AreStandIns (M.rules machine.now) after.now moves.now pasts.now 0) }
 {
+    let all = Ahead::end(machine.colours(), FAR);
     let mut aheads = Vec::new(alloc);
-    aheads.push(Ahead::end(machine.colours(), FAR))?;
+    aheads.push(all.copy())?;
     let numbers = Vec::with_capacity(alloc, moves.len() + 1)?;
     let mut places = PlaceAheads { aheads, numbers };
+    let some = goes_on(past_at(pasts, moves.len()), after);
     let mut ahead = after.copy();
     let mut holes = Vec::new(alloc);
     let mut place = moves.len();
     while place > 0 {
         let begin = leg_begin(moves, place);
         let past = past_at(pasts, place);
-        leg_ahead(
+        let certain = is_certain(some, past_at(pasts, begin), &all);
+        back_over(
             machine,
             &mut ahead,
             &mut places,
             &mut holes,
             past,
             &moves[begin..place],
+            certain,
         )?;
+        if certain {
+            ahead = all.copy();
+        }
         place = begin;
     }
     add_place(&mut places, past_at(pasts, 0), &ahead)?;
     Ok(places)
+}
+
+// Whether some run goes on, and the Past has one state alone, which is admitted.
+fn is_certain(some: bool, past: &Past, all: &Ahead) -> bool
+    requires colours { length past.now ≡ length all.now }
+    ensures some { IsTrue result → IsTrue some }
+    ensures admits { IsTrue result → (s : State) → Holds past.now s → Admits all.now s }
+    ensures alone { IsTrue result → IsAlone past.now }
+{
+    some && is_sure(past, all)
+}
+
+// Whether some state of the Past is admitted.
+fn goes_on(past: &Past, ahead: &Ahead) -> bool
+    requires colours { length past.now ≡ length ahead.now }
+    ensures { IsTrue result → (s : State) × Holds past.now s × Admits ahead.now s }
+{
+    let test = Test {
+        colours: Mask::none(),
+        bound: AgeBound::Any,
+        at: 1 << 39,
+    };
+    possible(past, ahead, &test).some_false
+}
+
+// The same for one leg, but that the Ahead of the place before it isn't made where it isn't wanted,
+// since that place is certain.
+fn back_over<M: Machine>(
+    machine: &M,
+    ahead: &mut Ahead,
+    places: &mut PlaceAheads,
+    holes: &mut Vec<Span>,
+    past: &Past,
+    leg: &[Move],
+    certain: bool,
+) -> Result<(), NoMemory>
+    requires some { 0 < length leg.now }
+    requires leg { IsLeg leg.now }
+    requires order { (low : ℕ) × InOrder (M.rules machine.now) low leg.now }
+    requires colours { length ahead.old ≡ (M.rules machine.now).colours }
+    requires past { length past.now ≡ (M.rules machine.now).colours }
+    requires aheads { HaveAheads (M.rules machine.now).colours places.old.aheads.items }
+    ensures before { certain ≡ false
+        → OnOk result (IsAhead (M.rules machine.now) ahead.old leg.now ahead.new) }
+    ensures places { OnOk result
+        (AddsPlaces (M.rules machine.now).colours past.now 0 (length leg.now)
+        (λ j. BeforeMoves (M.rules machine.now) ahead.old (drop j leg.now))
+        places.old places.new) }
+{
+    if certain && leg.len() == 1 {
+        return add_place(places, past, ahead);
+    }
+    leg_ahead(machine, ahead, places, holes, past, leg)
 }
 
 // The moves of one leg, with the numbers of the places from that after it back to that after its

@@ -139,7 +139,7 @@ pub fn pasts_of<M: Machine>(
     ensures pasts { IfOk result (ArePasts (M.rules machine.now) before.now moves.now) }
 {
     let runs = runs_of(alloc, moves)?;
-    let mut pasts = Vec::new(alloc);
+    let mut pasts = Vec::with_capacity(alloc, runs[moves.len()].saturating_add(1))?;
     let mut past = before.copy()?;
     let mut holes = Vec::new(alloc);
     let mut place = 0;

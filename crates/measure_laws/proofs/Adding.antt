@@ -13,7 +13,7 @@ use Rattle.channel_tables.specs.declared.spec.Spec.{Spec}
 use Rattle.reach.specs.Runs.{State}
 use Rattle.board.specs.Logs.{end_tenth, first_tenth, no_spec}
 use Rattle.hour_store.specs.Store.{Store, is_known}
-use Rattle.hour_sums.specs.Numbers.{capped}
+use Rattle.hour_sums.specs.Numbers.{capped, one_if}
 use Rattle.hour_sweep.specs.Numbers.{given}
 use Rattle.service_cut.specs.declared.items.Service.{Service}
 use Rattle.service_cut.specs.Cut.{services_from}
@@ -27,7 +27,7 @@ use Rattle.stop_bar.specs.Bars.{ending, services_upto}
 use Rattle.stop_bar.specs.Lists.{Each}
 use Rattle.split_measures.specs.declared.verdict.SplitVerdict.{SplitVerdict}
 use Rattle.split_measures.specs.declared.verdict.SplitVerdict.TheVariants.{Fail, Pass, Undecided, Open, Fault}
-use Rattle.split_measures.specs.Failures.{is_verdict, one_if, split_sum_of}
+use Rattle.split_measures.specs.Failures.{is_verdict, split_sum_of}
 use Rattle.split_measures.specs.Hours.{open_in, opens_of}
 use Rattle.split_measures.specs.Verdicts.{IsVerdict}
 use Rattle.cycle_arrivals.specs.Arrivals.{is_on, ons_of}

@@ -4,30 +4,11 @@ ghost use Rattle.std.specs.Prelude.{◌≡◌, ◌↔◌, IsTrue};
 use crate::last_rows::LastRow;
 use crate::peds::PedPart;
 use crate::preempts::PreemptPart;
-use sig_base::Row;
-
-fn same_row(a: Row, b: Row) -> bool
-    ensures { IsTrue result ↔ (a ≡ b) }
-{
-    a.at == b.at && a.code == b.code && a.param == b.param
-}
-
-fn same_found(a: Option<Row>, b: Option<Row>) -> bool
-    ensures { IsTrue result ↔ (a ≡ b) }
-{
-    match a {
-        None => b.is_none(),
-        Some(x) => match b {
-            None => false,
-            Some(y) => same_row(x, y),
-        },
-    }
-}
 
 fn same_last(a: LastRow, b: LastRow) -> bool
     ensures { IsTrue result ↔ (a ≡ b) }
 {
-    same_row(a.row, b.row) && same_found(a.first, b.first)
+    a.row == b.row && a.first == b.first
 }
 
 fn same_lasts(a: Option<LastRow>, b: Option<LastRow>) -> bool
@@ -63,7 +44,7 @@ fn same_ped_place(a: Option<PedPart>, b: Option<PedPart>) -> bool
 fn same_preempt(a: PreemptPart, b: PreemptPart) -> bool
     ensures { IsTrue result ↔ (a ≡ b) }
 {
-    a.number == b.number && same_found(a.call, b.call) && same_lasts(a.service, b.service)
+    a.number == b.number && a.call == b.call && same_lasts(a.service, b.service)
 }
 
 fn same_preempt_place(a: Option<PreemptPart>, b: Option<PreemptPart>) -> bool

@@ -11,7 +11,7 @@ use Rattle.span_set.proofs.Sets.{int_cases, same_iff}
 use Rattle.reach.specs.declared.past.Single.{Single}
 use Rattle.reach.specs.Runs.{State, state}
 use Rattle.colour_machine.specs.Rules.{Rules, Goes}
-use Rattle.reach.specs.Past.{AfterGap, AfterRow, AreClamped, Holds, NoneLater}
+use Rattle.reach.specs.Past.{AfterGap, AfterRow, AreClamped, Holds, IsAlone, NoneLater}
 use Rattle.reach.proofs.Arriving.{gap_is}
 use Rattle.std.specs.Option.{IfSome, MatchOption}
 use Rattle.colour_machine.specs.Mask.{Has}
@@ -58,6 +58,12 @@ holds_only n c e lt s = elim (cases_eq s.colour c) [
 
 pub holds_single : (o : Single) → IsSingle o → (s : State) → Holds (sets_of o) s ↔ ((s.colour ≡ o.colour) × (s.entry ≡ o.entry))
 holds_single o is s = holds_only o.colours o.colour o.entry is.colour s
+
+pub single_alone : (o : Single) → IsSingle o → IsAlone (sets_of o)
+single_alone o is s u hs hu =
+    let a = (holds_single o is s).0 hs in
+    let b = (holds_single o is u).0 hu in
+    state_same s u (a.0 ∙ sym b.0) (a.1 ∙ sym b.1)
 
 -- two that hold the same state
 pub singles_same : (a b : Single) → a.colours ≡ b.colours → a.colour ≡ b.colour → a.entry ≡ b.entry → sets_of a ≡ sets_of b

@@ -9,6 +9,10 @@ use Rattle.reach.specs.Runs.{State, Step, Fills}
 abbrev pub Holds : List (List Span) → State → Type 0
 Holds sets s = Member (slice_index_or sets s.colour []) s.entry
 
+-- no two states are held
+abbrev pub IsAlone : List (List Span) → Type 0
+IsAlone sets = (s u : State) → Holds sets s → Holds sets u → s ≡ u
+
 -- no state's entry is later than the tenth
 abbrev pub NoneLater : List (List Span) → ℤ → Type 0
 NoneLater sets t = (s : State) → Holds sets s → s.entry ≤ℤ t

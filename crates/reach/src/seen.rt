@@ -3,7 +3,7 @@ ghost use Rattle.std.specs.Prelude.{◌≡◌, ℤ, pos, negsuc, ◌≤ℤ◌, �
 ghost use Rattle.span_set.specs.Spans.{Member};
 ghost use Rattle.colour_machine.specs.Mask.{Has};
 ghost use Rattle.reach.specs.Ahead.{NotLater, Admits};
-ghost use Rattle.reach.specs.Past.{Holds};
+ghost use Rattle.reach.specs.Past.{Holds, IsAlone};
 ghost use Rattle.reach.specs.Runs.{State};
 ghost use Rattle.reach.specs.Single.{sets_of, IsSingle};
 ghost use Rattle.reach.specs.Tests.{InBound, Sees, SeenTrue, SeenFalse};
@@ -54,7 +54,8 @@ pub fn possible(past: &Past, ahead: &Ahead, test: &Test) -> Seen
 /// Whether one state alone is kept, and it can still be completed.
 pub fn is_sure(past: &Past, ahead: &Ahead) -> bool
     requires colours { length past.now ≡ length ahead.now }
-    ensures { IsTrue result → (s : State) → Holds past.now s → Admits ahead.now s }
+    ensures goes_on { IsTrue result → (s : State) → Holds past.now s → Admits ahead.now s }
+    ensures alone { IsTrue result → IsAlone past.now }
 {
     match past.one {
         None => false,
@@ -65,7 +66,8 @@ pub fn is_sure(past: &Past, ahead: &Ahead) -> bool
 fn sure_single(one: Single, latest: &[Option<Tenth>]) -> bool
     requires single { IsSingle one }
     requires colours { one.colours ≡ length latest.now }
-    ensures { IsTrue result → (s : State) → Holds (sets_of one) s → Admits latest.now s }
+    ensures goes_on { IsTrue result → (s : State) → Holds (sets_of one) s → Admits latest.now s }
+    ensures alone { IsAlone (sets_of one) }
 {
     is_there(latest[one.colour as usize], one.entry, one.entry)
 }

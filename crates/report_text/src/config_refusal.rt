@@ -26,44 +26,6 @@ fn table_text(table: TableName) -> &'static str
     }
 }
 
-fn key_text(key: KeyName) -> &'static str
-    ensures { result.now ≡ key_text key }
-{
-    match key {
-        KeyName::Signal => "signal",
-        KeyName::Start => "start",
-        KeyName::Hours => "hours",
-        KeyName::Coordination => "coordination",
-        KeyName::Phase => "phase",
-        KeyName::Ped => "ped",
-        KeyName::Overlap => "overlap",
-        KeyName::Preempt => "preempt",
-        KeyName::Conflict => "conflict",
-        KeyName::Allow => "allow",
-        KeyName::Floor => "floor",
-        KeyName::Interval => "interval",
-        KeyName::Approach => "approach",
-        KeyName::Number => "number",
-        KeyName::Ring => "ring",
-        KeyName::Side => "side",
-        KeyName::Parents => "parents",
-        KeyName::A => "a",
-        KeyName::B => "b",
-        KeyName::Channel => "channel",
-        KeyName::Colour => "colour",
-        KeyName::Tenths => "tenths",
-        KeyName::AtLeast => "at_least",
-        KeyName::AtMost => "at_most",
-        KeyName::Name => "name",
-        KeyName::Advance => "advance",
-        KeyName::StopBar => "stop_bar",
-        KeyName::Travel => "travel",
-        KeyName::HighNum => "high_num",
-        KeyName::HighDen => "high_den",
-        KeyName::Other => "?",
-    }
-}
-
 fn is_top(table: TableName) -> bool
     ensures { result ≡ is_top table }
 {
@@ -86,7 +48,7 @@ fn put_top<K: Sink>(key: KeyName, sink: &mut K) -> Result<(), PutFailed>
     ensures { Puts (K.taken sink.old) (K.taken sink.new)
         (line_of (codes "top." ∷ key_text key ∷ [])) result }
 {
-    put_parts(sink, &[b"top.", key_text(key).as_bytes(), b"\n"])
+    put_parts(sink, &[b"top.", key.text().as_bytes(), b"\n"])
 }
 
 // Writes the place of a key of an entry of a table.
@@ -108,7 +70,7 @@ fn put_entry<K: Sink>(
             b"[",
             number.format(entry).as_bytes(),
             b"].",
-            key_text(key).as_bytes(),
+            key.text().as_bytes(),
             b"\n",
         ],
     )

@@ -1,6 +1,7 @@
 // Why a configuration is refused, and where.
 ghost use Rattle.std.specs.Prelude.{◌≡◌};
 ghost use Rattle.ring_config.specs.declared.error.ConfigError.TheVariants.{Memory};
+ghost use Rattle.ring_config.specs.Reading.{key_text};
 
 use std::alloc::{AllocError, AllocFailed};
 use thiserror::Error;
@@ -55,6 +56,47 @@ pub enum KeyName {
     HighNum,
     HighDen,
     Other,
+}
+
+impl KeyName {
+    /// The key as it stands in the file, `?` for `Other`.
+    pub fn text(self) -> &'static str
+        ensures { result.now ≡ key_text self }
+    {
+        match self {
+            KeyName::Signal => "signal",
+            KeyName::Start => "start",
+            KeyName::Hours => "hours",
+            KeyName::Coordination => "coordination",
+            KeyName::Phase => "phase",
+            KeyName::Ped => "ped",
+            KeyName::Overlap => "overlap",
+            KeyName::Preempt => "preempt",
+            KeyName::Conflict => "conflict",
+            KeyName::Allow => "allow",
+            KeyName::Floor => "floor",
+            KeyName::Interval => "interval",
+            KeyName::Approach => "approach",
+            KeyName::Number => "number",
+            KeyName::Ring => "ring",
+            KeyName::Side => "side",
+            KeyName::Parents => "parents",
+            KeyName::A => "a",
+            KeyName::B => "b",
+            KeyName::Channel => "channel",
+            KeyName::Colour => "colour",
+            KeyName::Tenths => "tenths",
+            KeyName::AtLeast => "at_least",
+            KeyName::AtMost => "at_most",
+            KeyName::Name => "name",
+            KeyName::Advance => "advance",
+            KeyName::StopBar => "stop_bar",
+            KeyName::Travel => "travel",
+            KeyName::HighNum => "high_num",
+            KeyName::HighDen => "high_den",
+            KeyName::Other => "?",
+        }
+    }
 }
 
 /// A place in a configuration: a key of an entry of a table.

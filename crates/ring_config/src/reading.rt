@@ -4,7 +4,7 @@ ghost use Rattle.std.specs.List.{list_any, list_all};
 ghost use Rattle.std.specs.Str.{bytes_eq};
 ghost use Rattle.std.specs.BTreeMap.{keys as map_keys};
 ghost use Rattle.toml.specs.View.{view};
-ghost use Rattle.ring_config.specs.Reading.{Gives, good, is_among, key_text, only, place, present, value_at};
+ghost use Rattle.ring_config.specs.Reading.{Gives, good, is_among, only, place, present, value_at};
 ghost use Rattle.ring_config.specs.Seen.{entry_seen};
 
 use crate::error::{ConfigError, KeyAt, KeyName, TableName};
@@ -17,45 +17,6 @@ pub(crate) struct Entry<'a> {
     /// Its place among the table's entries, from 0.
     pub(crate) index: u32,
     pub(crate) members: &'a Table,
-}
-
-/// A key as it stands in the file.
-pub(crate) fn text_of(key: KeyName) -> &'static str
-    ensures { result.now ≡ key_text key }
-{
-    match key {
-        KeyName::Signal => "signal",
-        KeyName::Start => "start",
-        KeyName::Hours => "hours",
-        KeyName::Coordination => "coordination",
-        KeyName::Phase => "phase",
-        KeyName::Ped => "ped",
-        KeyName::Overlap => "overlap",
-        KeyName::Preempt => "preempt",
-        KeyName::Conflict => "conflict",
-        KeyName::Allow => "allow",
-        KeyName::Floor => "floor",
-        KeyName::Interval => "interval",
-        KeyName::Approach => "approach",
-        KeyName::Number => "number",
-        KeyName::Ring => "ring",
-        KeyName::Side => "side",
-        KeyName::Parents => "parents",
-        KeyName::A => "a",
-        KeyName::B => "b",
-        KeyName::Channel => "channel",
-        KeyName::Colour => "colour",
-        KeyName::Tenths => "tenths",
-        KeyName::AtLeast => "at_least",
-        KeyName::AtMost => "at_most",
-        KeyName::Name => "name",
-        KeyName::Advance => "advance",
-        KeyName::StopBar => "stop_bar",
-        KeyName::Travel => "travel",
-        KeyName::HighNum => "high_num",
-        KeyName::HighDen => "high_den",
-        KeyName::Other => "?",
-    }
 }
 
 pub(crate) fn place(key: KeyName, entry: &Entry<'_>) -> KeyAt
@@ -71,7 +32,7 @@ pub(crate) fn place(key: KeyName, entry: &Entry<'_>) -> KeyAt
 fn is_among(listed: &[KeyName], text: &str) -> bool
     ensures { result ≡ is_among listed.now text.now }
 {
-    listed.iter().any(|key| text_of(*key) == text)
+    listed.iter().any(|key| key.text() == text)
 }
 
 fn all_among(listed: &[KeyName], members: &Table) -> bool
@@ -96,7 +57,7 @@ pub(crate) fn only(listed: &[KeyName], entry: &Entry<'_>) -> Result<(), ConfigEr
 pub(crate) fn value_at<'a>(key: KeyName, entry: &Entry<'a>) -> Option<&'a Value>
     ensures { option_map (λ v. view v.now) result ≡ value_at key (entry_seen entry.now) }
 {
-    entry.members.get(text_of(key))
+    entry.members.get(key.text())
 }
 
 /// The value at a key that every entry has.

@@ -21,8 +21,8 @@ use Rattle.rule_audit.specs.declared.lines.AuditLine.{AuditLine}
 use Rattle.rule_audit.specs.declared.rules.Rule.{Rule}
 use Rattle.rule_audit.specs.declared.rules.Rule.TheVariants.{Interval, Conflict, Companion, Parents}
 use Rattle.rule_audit.specs.Obligations.{Obligation, obligations_from}
-use Rattle.rule_audit.specs.Index.{AreOwn, AreSkips}
-use Rattle.rule_audit.specs.Judged.{HasRuns}
+use Rattle.rule_audit.specs.Index.{no_rule, AreOwn, AreSkips}
+use Rattle.rule_audit.specs.Judged.{HasRuns, HasVerdict}
 use Rattle.rule_audit.specs.Lines.{AreLinesOf}
 
 -- what lies on both sides of an hour, beside its number
@@ -39,6 +39,16 @@ log_of h e = hour_log e.hour h.specs.now h.rows.now h.stretches.now e.before e.a
 pub record IsLogOf (h : AuditedHour) (e : Ends) : Type 0 where
   pub is_view : IsViewOf (log_of h e) h.view.now
   pub runs : HasRuns (log_of h e)
+
+-- the row, the rule and the channel with this place
+abbrev pub row_at : AuditedHour → ℕ → Row
+row_at h n = slice_index_or h.rows.now n no_row
+
+abbrev pub rule_at : AuditedHour → ℕ → Rule
+rule_at h n = slice_index_or h.rules.now n no_rule
+
+abbrev pub spec_at : AuditedHour → ℕ → Spec
+spec_at h n = slice_index_or h.specs.now n no_spec
 
 -- an interval rule of a channel among the specs
 pub record FitsItem (specs : List Spec) (item : IntervalItem) : Type 0 where
@@ -81,6 +91,14 @@ pub record SeesColour (P : State → Type 0) (c : ℕ) (bound : AgeBound) (t : �
 -- the lines of the obligations come after those of before
 abbrev pub Adds : (Obligation → Verdict → Type 0) → List Obligation → List AuditLine → List AuditLine → Type 0
 Adds Has os old new = (ls : List AuditLine) × AreLinesOf Has os ls × (new ≡ old ++ ls)
+
+-- the same, judged in the hour, whatever lies on both sides of it
+abbrev pub AddsIn : AuditedHour → List Obligation → List AuditLine → List AuditLine → Type 0
+AddsIn h os old new = (e : Ends) → IsLogOf h e → Adds (HasVerdict (log_of h e)) os old new
+
+-- the same where the tenth is known
+abbrev pub AddsAt : AuditedHour → ℕ → List Obligation → List AuditLine → List AuditLine → Type 0
+AddsAt h at os old new = (e : Ends) → IsLogOf h e → known_at h.stretches.now at ≡ true → Adds (HasVerdict (log_of h e)) os old new
 
 -- the lines of the first of the obligations come after those of before, and these obligations are left
 abbrev pub AddsUpTo : (Obligation → Verdict → Type 0) → List Obligation → List Obligation → List AuditLine → List AuditLine → Type 0

@@ -1,15 +1,14 @@
 // The verdict on an interval rule before a row.
-ghost use Rattle.std.specs.Prelude.{◌≡◌, ◌≢◌, ◌↔◌, ℕ, ℤ, pos, ◌<◌, true, IsTrue, Some, length, slice_index_or};
+ghost use Rattle.std.specs.Prelude.{◌≡◌, ◌≢◌, ◌↔◌, ℕ, ℤ, pos, ◌<◌, true, IsTrue, Some, length};
 ghost use Rattle.event_codes.specs.Channels.{channel_in_table};
 ghost use Rattle.gap_map.specs.Stretches.{known_at};
 ghost use Rattle.channel_tables.specs.Spec.{IsSpec, rules_of};
 ghost use Rattle.channel_tables.specs.Tables.{table_of};
 ghost use Rattle.reach.specs.Tests.{InBound};
 ghost use Rattle.ring_config.specs.Sound.{IsBound};
-ghost use Rattle.board.specs.Logs.{no_row, no_spec};
 ghost use Rattle.board.specs.Verdicts.{MayPassRow};
 ghost use Rattle.rule_audit.specs.Judged.{Closes, IsIntervalVerdict, KeepsInterval, Leaves};
-ghost use Rattle.rule_audit.specs.Pass.{Ends, FitsItem, IsLogOf, IsReady, SeesColour, log_of};
+ghost use Rattle.rule_audit.specs.Pass.{log_of, row_at, spec_at, Ends, FitsItem, IsLogOf, IsReady, SeesColour};
 
 use crate::hour::AuditedHour;
 use channel_tables::{Spec, letter_of, machine_of};
@@ -65,9 +64,9 @@ fn colour_seen(hour: &AuditedHour<'_>, index: u32, item: &IntervalItem, bound: A
     requires item { FitsItem hour.now.specs.now item.now }
     requires index { index < length hour.now.rows.now }
     ensures { (e : Ends) → IsLogOf hour.now e → known_at hour.now.stretches.now
-        (slice_index_or hour.now.rows.now index no_row).at ≡ true
-        → SeesColour (MayPassRow (log_of hour.now e) index item.now.spec) item.now.colour bound
-        (pos (slice_index_or hour.now.rows.now index no_row).at) result }
+        (row_at hour.now index).at ≡ true → SeesColour
+        (MayPassRow (log_of hour.now e) index item.now.spec) item.now.colour bound
+        (pos (row_at hour.now index).at) result }
 {
     let test = Test {
         colours: Mask::none().with(item.colour),
@@ -83,10 +82,10 @@ fn closing_verdict(hour: &AuditedHour<'_>, index: u32, item: &IntervalItem) -> V
     requires item { FitsItem hour.now.specs.now item.now }
     requires index { index < length hour.now.rows.now }
     ensures { (e : Ends) → IsLogOf hour.now e → known_at hour.now.stretches.now
-        (slice_index_or hour.now.rows.now index no_row).at ≡ true
-        → IsIntervalVerdict result (MayPassRow (log_of hour.now e) index item.now.spec)
-        (λ v. v.colour ≡ item.now.colour) (λ v. v.colour ≡ item.now.colour
-        → InBound item.now.bound (pos (slice_index_or hour.now.rows.now index no_row).at) v.entry) }
+        (row_at hour.now index).at ≡ true → IsIntervalVerdict result
+        (MayPassRow (log_of hour.now e) index item.now.spec) (λ v. v.colour ≡ item.now.colour)
+        (λ v. v.colour ≡ item.now.colour → InBound item.now.bound (pos (row_at hour.now index).at)
+        v.entry) }
 {
     let any = colour_seen(hour, index, item, AgeBound::Any);
     if !any.some_true {
@@ -111,16 +110,13 @@ pub(crate) fn interval_verdict(hour: &AuditedHour<'_>, index: u32, item: &Interv
     requires ready { IsReady hour.now }
     requires item { FitsItem hour.now.specs.now item.now }
     requires index { index < length hour.now.rows.now }
-    requires own { channel_in_table (slice_index_or hour.now.rows.now index no_row).code
-        (slice_index_or hour.now.rows.now index no_row).param
-        ≡ Some (slice_index_or hour.now.specs.now item.now.spec no_spec).channel }
+    requires own { channel_in_table (row_at hour.now index).code (row_at hour.now index).param
+        ≡ Some (spec_at hour.now item.now.spec).channel }
     ensures { (e : Ends) → IsLogOf hour.now e → known_at hour.now.stretches.now
-        (slice_index_or hour.now.rows.now index no_row).at ≡ true
-        → IsIntervalVerdict result (MayPassRow (log_of hour.now e) index item.now.spec)
-        (Closes (slice_index_or hour.now.specs.now item.now.spec no_spec)
-        (slice_index_or hour.now.rows.now index no_row) item.now)
-        (KeepsInterval (slice_index_or hour.now.specs.now item.now.spec no_spec)
-        (slice_index_or hour.now.rows.now index no_row) item.now) }
+        (row_at hour.now index).at ≡ true → IsIntervalVerdict result
+        (MayPassRow (log_of hour.now e) index item.now.spec)
+        (Closes (spec_at hour.now item.now.spec) (row_at hour.now index) item.now)
+        (KeepsInterval (spec_at hour.now item.now.spec) (row_at hour.now index) item.now) }
 {
     let spec = &hour.specs[item.spec as usize];
     let row = hour.rows[index as usize];

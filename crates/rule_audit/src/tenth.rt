@@ -1,14 +1,13 @@
 // The verdicts of one tenth.
-ghost use Rattle.std.specs.Prelude.{◌≡◌, ◌+◌, ◌<◌, ◌≤◌, Bool, true, false, length, slice_index_or, OnOk};
+ghost use Rattle.std.specs.Prelude.{◌≡◌, ◌+◌, ◌<◌, ◌≤◌, Bool, true, false, length, OnOk};
 ghost use Rattle.gap_map.specs.Stretches.{known_at};
-ghost use Rattle.board.specs.Logs.{no_row};
 ghost use Rattle.board.specs.Verdicts.{AreWithin};
 ghost use Rattle.rule_audit.specs.declared.rules.Rule.{Rule};
 ghost use Rattle.rule_audit.specs.declared.rules.Rule.TheVariants.{Interval};
 ghost use Rattle.rule_audit.specs.Obligations.{end_obligation, end_obligations, is_clause, is_due, is_row_of, is_timed_by, row_obligation, row_obligations, rows_obligations, tenth_obligations, terms_of};
 ghost use Rattle.rule_audit.specs.Judged.{HasVerdict};
-ghost use Rattle.rule_audit.specs.Index.{is_due_by, no_rule, IsNext, IsNextDue, IsSkips};
-ghost use Rattle.rule_audit.specs.Pass.{Adds, Ends, FitsItem, IsCutAt, IsLogOf, IsReady, log_of};
+ghost use Rattle.rule_audit.specs.Index.{is_due_by, IsNext, IsNextDue, IsSkips};
+ghost use Rattle.rule_audit.specs.Pass.{log_of, row_at, rule_at, Adds, AddsAt, AddsIn, Ends, FitsItem, IsCutAt, IsLogOf, IsReady};
 
 use crate::hour::AuditedHour;
 use crate::index::Skips;
@@ -38,13 +37,10 @@ fn judge_interval(
     requires ready { IsReady hour.now }
     requires item { FitsItem hour.now.specs.now item.now }
     requires index { index < length hour.now.rows.now }
-    requires own { is_row_of hour.now.specs.now (slice_index_or hour.now.rows.now index no_row)
-        item.now.spec ≡ true }
-    ensures { OnOk result ((e : Ends) → IsLogOf hour.now e
-        → known_at hour.now.stretches.now (slice_index_or hour.now.rows.now index no_row).at ≡ true
-        → Adds (HasVerdict (log_of hour.now e)) (row_obligation hour.now.specs.now index
-        (slice_index_or hour.now.rows.now index no_row) number (Interval item.now)) lines.old.items
-        lines.new.items) }
+    requires own { is_row_of hour.now.specs.now (row_at hour.now index) item.now.spec ≡ true }
+    ensures { OnOk result (AddsAt hour.now (row_at hour.now index).at
+        (row_obligation hour.now.specs.now index (row_at hour.now index) number (Interval item.now))
+        lines.old.items lines.new.items) }
 {
     let at = hour.rows[index as usize].at;
     let verdict = interval_verdict(hour, index, item);
@@ -61,13 +57,11 @@ fn judge_before(
     requires ready { IsReady hour.now }
     requires index { index < length hour.now.rows.now }
     requires place { place < length hour.now.rules.now }
-    requires own { is_timed_by hour.now.specs.now (slice_index_or hour.now.rows.now index no_row)
-        (slice_index_or hour.now.rules.now place no_rule) ≡ true }
-    ensures { OnOk result ((e : Ends) → IsLogOf hour.now e
-        → known_at hour.now.stretches.now (slice_index_or hour.now.rows.now index no_row).at ≡ true
-        → Adds (HasVerdict (log_of hour.now e)) (row_obligation hour.now.specs.now index
-        (slice_index_or hour.now.rows.now index no_row) (place + 1)
-        (slice_index_or hour.now.rules.now place no_rule)) lines.old.items lines.new.items) }
+    requires own { is_timed_by hour.now.specs.now (row_at hour.now index) (rule_at hour.now place)
+        ≡ true }
+    ensures { OnOk result (AddsAt hour.now (row_at hour.now index).at
+        (row_obligation hour.now.specs.now index (row_at hour.now index) (place + 1)
+        (rule_at hour.now place)) lines.old.items lines.new.items) }
 {
     let number = number_of(place);
     match &hour.rules[place] {
@@ -87,14 +81,11 @@ fn judge_timed(
 ) -> Result<(), NoMemory>
     requires ready { IsReady hour.now }
     requires index { index < length hour.now.rows.now }
-    requires timed { IsSkips (λ x. is_timed_by hour.now.specs.now
-        (slice_index_or hour.now.rows.now index no_row)
-        (slice_index_or hour.now.rules.now x no_rule)) (length hour.now.rules.now) timed.now }
-    ensures { OnOk result ((e : Ends) → IsLogOf hour.now e
-        → known_at hour.now.stretches.now (slice_index_or hour.now.rows.now index no_row).at ≡ true
-        → Adds (HasVerdict (log_of hour.now e)) (row_obligations hour.now.specs.now index
-        (slice_index_or hour.now.rows.now index no_row) 1 hour.now.rules.now) lines.old.items
-        lines.new.items) }
+    requires timed { IsSkips (λ x. is_timed_by hour.now.specs.now (row_at hour.now index)
+        (rule_at hour.now x)) (length hour.now.rules.now) timed.now }
+    ensures { OnOk result (AddsAt hour.now (row_at hour.now index).at
+        (row_obligations hour.now.specs.now index (row_at hour.now index) 1 hour.now.rules.now)
+        lines.old.items lines.new.items) }
 {
     let count = hour.rules.len();
     let mut place = timed.next(count, 0);
@@ -109,11 +100,9 @@ fn judge_timed(
 fn judge_row(lines: &mut Vec<AuditLine>, hour: &AuditedHour<'_>, index: u32) -> Result<(), NoMemory>
     requires ready { IsReady hour.now }
     requires index { index < length hour.now.rows.now }
-    ensures { OnOk result ((e : Ends) → IsLogOf hour.now e
-        → known_at hour.now.stretches.now (slice_index_or hour.now.rows.now index no_row).at ≡ true
-        → Adds (HasVerdict (log_of hour.now e)) (row_obligations hour.now.specs.now index
-        (slice_index_or hour.now.rows.now index no_row) 1 hour.now.rules.now) lines.old.items
-        lines.new.items) }
+    ensures { OnOk result (AddsAt hour.now (row_at hour.now index).at
+        (row_obligations hour.now.specs.now index (row_at hour.now index) 1 hour.now.rules.now)
+        lines.old.items lines.new.items) }
 {
     let own = hour.own[index as usize] as usize;
     if own < hour.timed.len() {
@@ -134,9 +123,8 @@ fn judge_rows(
     requires known { known_at hour.now.stretches.now at ≡ true }
     requires first { IsCutAt hour.now.rows.now at first }
     requires end { IsCutAt hour.now.rows.now (at + 1) end }
-    ensures { OnOk result ((e : Ends) → IsLogOf hour.now e
-        → Adds (HasVerdict (log_of hour.now e)) (rows_obligations hour.now.specs.now
-        hour.now.rules.now at 0 hour.now.rows.now) lines.old.items lines.new.items) }
+    ensures { OnOk result (AddsIn hour.now (rows_obligations hour.now.specs.now hour.now.rules.now
+        at 0 hour.now.rows.now) lines.old.items lines.new.items) }
 {
     for index in first..end {
         judge_row(lines, hour, index as u32)?;
@@ -177,12 +165,10 @@ fn judge_after(
     requires known { known_at hour.now.stretches.now at ≡ true }
     requires place { place < length hour.now.rules.now }
     ensures { OnOk result ((e : Ends) (before : Bool) → IsLogOf hour.now e
-        → (is_clause (slice_index_or hour.now.rules.now place no_rule) ≡ true
-        → is_due hour.now.specs.now hour.now.rows.now before at
-        (slice_index_or hour.now.rules.now place no_rule) ≡ true)
-        → Adds (HasVerdict (log_of hour.now e)) (end_obligation hour.now.specs.now hour.now.rows.now
-        before at (place + 1) (slice_index_or hour.now.rules.now place no_rule)) lines.old.items
-        lines.new.items) }
+        → (is_clause (rule_at hour.now place) ≡ true → is_due hour.now.specs.now hour.now.rows.now
+        before at (rule_at hour.now place) ≡ true) → Adds (HasVerdict (log_of hour.now e))
+        (end_obligation hour.now.specs.now hour.now.rows.now before at (place + 1)
+        (rule_at hour.now place)) lines.old.items lines.new.items) }
 {
     let number = number_of(place);
     match &hour.rules[place] {
@@ -197,9 +183,8 @@ fn judge_after(
 fn judge_all(lines: &mut Vec<AuditLine>, hour: &AuditedHour<'_>, at: u32) -> Result<(), NoMemory>
     requires ready { IsReady hour.now }
     requires known { known_at hour.now.stretches.now at ≡ true }
-    ensures { OnOk result ((e : Ends) → IsLogOf hour.now e
-        → Adds (HasVerdict (log_of hour.now e)) (end_obligations hour.now.specs.now
-        hour.now.rows.now false at 1 hour.now.rules.now) lines.old.items lines.new.items) }
+    ensures { OnOk result (AddsIn hour.now (end_obligations hour.now.specs.now hour.now.rows.now
+        false at 1 hour.now.rules.now) lines.old.items lines.new.items) }
 {
     for place in 0..hour.rules.len() {
         judge_after(lines, hour, at, place)?;
@@ -212,8 +197,8 @@ fn next_of(hour: &AuditedHour<'_>, index: usize, from: usize) -> usize
     requires ready { IsReady hour.now }
     requires index { index < length hour.now.rows.now }
     requires from { from ≤ length hour.now.rules.now }
-    ensures { IsNext (is_due_by hour.now.specs.now hour.now.rules.now
-        (slice_index_or hour.now.rows.now index no_row)) (length hour.now.rules.now) from result }
+    ensures { IsNext (is_due_by hour.now.specs.now hour.now.rules.now (row_at hour.now index))
+        (length hour.now.rules.now) from result }
 {
     let count = hour.rules.len();
     let own = hour.own[index] as usize;
@@ -256,9 +241,8 @@ fn judge_due(
     requires known { known_at hour.now.stretches.now at ≡ true }
     requires first { IsCutAt hour.now.rows.now at first }
     requires end { IsCutAt hour.now.rows.now (at + 1) end }
-    ensures { OnOk result ((e : Ends) → IsLogOf hour.now e
-        → Adds (HasVerdict (log_of hour.now e)) (end_obligations hour.now.specs.now
-        hour.now.rows.now true at 1 hour.now.rules.now) lines.old.items lines.new.items) }
+    ensures { OnOk result (AddsIn hour.now (end_obligations hour.now.specs.now hour.now.rows.now
+        true at 1 hour.now.rules.now) lines.old.items lines.new.items) }
 {
     let count = hour.rules.len();
     let mut place = next_due(hour, first, end, 0);
@@ -283,9 +267,8 @@ pub(crate) fn judge_tenth(
     requires known { known_at hour.now.stretches.now at ≡ true }
     requires first { IsCutAt hour.now.rows.now at first }
     requires end { IsCutAt hour.now.rows.now (at + 1) end }
-    ensures { OnOk result ((e : Ends) → IsLogOf hour.now e
-        → Adds (HasVerdict (log_of hour.now e)) (tenth_obligations hour.now.specs.now
-        hour.now.rules.now hour.now.rows.now before at) lines.old.items lines.new.items) }
+    ensures { OnOk result (AddsIn hour.now (tenth_obligations hour.now.specs.now hour.now.rules.now
+        hour.now.rows.now before at) lines.old.items lines.new.items) }
 {
     judge_rows(lines, hour, at, first, end)?;
     if before {

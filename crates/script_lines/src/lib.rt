@@ -6,11 +6,11 @@ mod lines;
 mod words;
 
 pub use lines::split_line;
-pub use words::{Line, read_line};
+pub use words::{Line, PlainEdit, read_line};
 
 #[cfg(test)]
 mod tests {
-    use crate::{Line, read_line, split_line};
+    use crate::{Line, PlainEdit, read_line, split_line};
     use sig_base::Window;
 
     #[test]
@@ -25,8 +25,8 @@ mod tests {
             Line::Skip,
             Line::Load(0, "h06.csv"),
             Line::Skip,
-            Line::Withdraw(1),
-            Line::Blank(0, 100),
+            Line::Edit(PlainEdit::Withdraw(1)),
+            Line::Edit(PlainEdit::Blank(0, 100)),
             Line::MeasuresOf(1),
             Line::Bad,
             Line::Bad,

@@ -9,6 +9,18 @@ ghost use Rattle.script_lines.specs.Seen.{seen};
 use row_reader::{read_number, read_stamp};
 use sig_base::{Hour, Tenth, Window};
 
+/// An edit for which a line names no file.
+#[derive(Clone, Copy, Debug, PartialEq, Eq)]
+pub enum PlainEdit {
+    /// Takes a held hour out.
+    Withdraw(Hour),
+    /// Blanks the tenths from the first up to the second, which is left out. They may lie outside
+    /// the window.
+    Blank(Tenth, Tenth),
+    /// Takes such a blank off.
+    Unblank(Tenth, Tenth),
+}
+
 /// What a line of a script says.
 #[derive(Clone, Copy, Debug, PartialEq, Eq)]
 pub enum Line<'a> {
@@ -20,13 +32,8 @@ pub enum Line<'a> {
     Load(Hour, &'a str),
     /// Replaces a held hour by the file of this name.
     Replace(Hour, &'a str),
-    /// Takes a held hour out.
-    Withdraw(Hour),
-    /// Blanks the tenths from the first up to the second, which is left out. They may lie outside
-    /// the window.
-    Blank(Tenth, Tenth),
-    /// Takes such a blank off.
-    Unblank(Tenth, Tenth),
+    /// An edit for which no file is named.
+    Edit(PlainEdit),
     /// The verdicts of all rules in all hours.
     Audit,
     /// The verdicts of all rules in one hour.
@@ -131,7 +138,7 @@ fn withdraw_of<'a>(hour: &[u8]) -> Line<'a>
     ensures { seen result ≡ by_hour withdraw (hour_at hour.now) }
 {
     match hour_of(hour) {
-        Some(hour) => Line::Withdraw(hour),
+        Some(hour) => Line::Edit(PlainEdit::Withdraw(hour)),
         None => Line::Bad,
     }
 }
@@ -141,7 +148,7 @@ fn blank_of<'a>(from: &[u8], to: &[u8], window: &Window) -> Line<'a>
         (stamp_in window.now to.now) }
 {
     match (read_stamp(from, window), read_stamp(to, window)) {
-        (Some(from), Some(to)) => Line::Blank(from, to),
+        (Some(from), Some(to)) => Line::Edit(PlainEdit::Blank(from, to)),
         _ => Line::Bad,
     }
 }
@@ -151,7 +158,7 @@ fn unblank_of<'a>(from: &[u8], to: &[u8], window: &Window) -> Line<'a>
         (stamp_in window.now to.now) }
 {
     match (read_stamp(from, window), read_stamp(to, window)) {
-        (Some(from), Some(to)) => Line::Unblank(from, to),
+        (Some(from), Some(to)) => Line::Edit(PlainEdit::Unblank(from, to)),
         _ => Line::Bad,
     }
 }

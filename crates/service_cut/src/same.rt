@@ -4,33 +4,11 @@ ghost use Rattle.std.specs.Prelude.{◌≡◌, ◌↔◌, IsTrue};
 use crate::cycles::CycleBegun;
 use crate::parts::Part;
 use crate::services::ServiceBegun;
-use sig_base::Row;
-
-fn same_row(a: Row, b: Row) -> bool
-    ensures { IsTrue result ↔ (a ≡ b) }
-{
-    a.at == b.at && a.code == b.code && a.param == b.param
-}
-
-fn same_found(a: Option<Row>, b: Option<Row>) -> bool
-    ensures { IsTrue result ↔ (a ≡ b) }
-{
-    match a {
-        None => b.is_none(),
-        Some(x) => match b {
-            None => false,
-            Some(y) => same_row(x, y),
-        },
-    }
-}
 
 fn same_service(a: ServiceBegun, b: ServiceBegun) -> bool
     ensures { IsTrue result ↔ (a ≡ b) }
 {
-    same_row(a.b, b.b)
-        && same_found(a.g, b.g)
-        && same_found(a.y, b.y)
-        && same_found(a.cause, b.cause)
+    a.b == b.b && a.g == b.g && a.y == b.y && a.cause == b.cause
 }
 
 fn same_services(a: Option<ServiceBegun>, b: Option<ServiceBegun>) -> bool
@@ -48,7 +26,7 @@ fn same_services(a: Option<ServiceBegun>, b: Option<ServiceBegun>) -> bool
 fn same_cycle(a: CycleBegun, b: CycleBegun) -> bool
     ensures { IsTrue result ↔ (a ≡ b) }
 {
-    same_row(a.from, b.from) && same_found(a.green, b.green) && same_found(a.yellow, b.yellow)
+    a.from == b.from && a.green == b.green && a.yellow == b.yellow
 }
 
 fn same_cycles(a: Option<CycleBegun>, b: Option<CycleBegun>) -> bool
@@ -68,7 +46,7 @@ fn same_part(a: Part, b: Part) -> bool
 {
     a.phase == b.phase
         && same_services(a.service, b.service)
-        && same_found(a.yellow, b.yellow)
+        && a.yellow == b.yellow
         && same_cycles(a.cycle, b.cycle)
 }
 

@@ -12,7 +12,6 @@ use Rattle.span_set.specs.Spans.{is_member}
 use Rattle.gap_map.specs.declared.stretch.Stretch.{Stretch}
 use Rattle.gap_map.specs.Stretches.{known_in}
 use Rattle.gap_map.proofs.Cutting.{cut_same}
-use Rattle.channel_tables.specs.declared.spec.Spec.{Spec}
 use Rattle.board.specs.Hours.{AreClampedPasts, AreHourAheads, IsHourStop}
 use Rattle.board.specs.Logs.{end_tenth, first_tenth}
 use Rattle.board.specs.Places.{AreAheadsOf, AreSameFor}
@@ -25,7 +24,7 @@ use Rattle.signal_log.proofs.Suiting.{same_count}
 use Rattle.hour_work.specs.Numbers.{AreNewSums, FitHours, Numbers, Summed, patched}
 use Rattle.hour_work.specs.Points.{Carried, ComesBack, GoesOver, IsFutureAt}
 use Rattle.session.specs.Links.{Ahead, Apart, AreKept, AreKeptBut, BacksAt, Counts, CountsAt, LeadsAt}
-use Rattle.session.specs.Renewed.{AreNewCarries, AreNewFutures, AreNewParts, AreSameUpTo, IsRenewed}
+use Rattle.session.specs.Renewed.{AreNewCarries, AreNewFutures, AreNewParts, AreSameUpTo, HaveShapes, IsRenewed}
 use Rattle.session.proofs.KeptLaws.{carry_kept, future_kept}
 use Rattle.hour_work.proofs.PatchLaws.{length-patched, patched-at, patched-below, patched-past}
 
@@ -147,8 +146,7 @@ renewed c s first last carries new_carries futures from start new_futures parts 
     }
 
 -- at the points before the first hour that is changed everything has the shape of the configuration's channels
-pub shapes_new : (c : Settings) (s : Store) (first last : ℕ) (carries new_carries : List Carried) (futures : List Ahead) (from : ℕ) (new_futures : List Ahead) (parts : List Numbers) → IsStore s → AreKeptBut c s first last carries futures parts → AreNewCarries c s first last carries new_carries → AreNewFutures c s first last futures from new_futures
-    → (k : ℕ) (d : Carried) (e : Ahead) → k < first → (specs : List Spec) × AreBefore specs (get_or carries (k + 1) d).pasts × AreAheadsOf specs (get_or futures (k + 1) e) × AreAheadsOf specs (get_or (patched futures from new_futures) (k + 1) e)
+pub shapes_new : (c : Settings) (s : Store) (first last : ℕ) (carries new_carries : List Carried) (futures : List Ahead) (from : ℕ) (new_futures : List Ahead) (parts : List Numbers) → IsStore s → AreKeptBut c s first last carries futures parts → AreNewCarries c s first last carries new_carries → AreNewFutures c s first last futures from new_futures → HaveShapes carries futures from new_futures first
 shapes_new c s first last carries new_carries futures from new_futures parts is but x y k d e lt =
     let order = but.order in
     let within = but.within in
@@ -194,6 +192,7 @@ goes_same c s t k before after same p = record {
 comes_same : (c : Settings) (s t : Store) (k : ℕ) (after before : Ahead) → SameHour s t k → ComesBack c k (rows_at s k) s.blanks after before → ComesBack c k (rows_at t k) t.blanks after before
 comes_same c s t k after before same p = record {
   fit = p.fit;
+  was = p.was;
   over = λ ss cut. subst (λ (rows : List Row). AreHourAheads c.specs rows ss (first_tenth k) (end_tenth k) after (length c.specs) before) (same_rows s t k same) (p.over ss (same_cut s t k ss same cut));
 }
 

@@ -19,8 +19,8 @@ leads_of c hour rows held blanks own before (Ok v) e q fit stays over =
 leads_of c hour rows held blanks own before (Err x) e q fit stays over = tt
 
 -- back to what is kept at the point before it
-pub backs_of : {E : Type 0} (c : Settings) (hour : ℕ) (rows held : Option (List Row)) (blanks own : List Span) (after : Ahead) (r : Result Ahead E) → rows ≡ held → blanks ≡ own → IfOk r (AreAheadsOf c.specs) → IfOk r (λ v. (s : Store) → HasHour s hour rows blanks → IsFutureAt c s (hour + 1) after → IsFutureAt c s hour v) → IfOk r (AreAheadsOver c.specs hour rows blanks after)
+pub backs_of : {E : Type 0} (c : Settings) (hour : ℕ) (rows held : Option (List Row)) (blanks own : List Span) (after : Ahead) (r : Result Ahead E) → rows ≡ held → blanks ≡ own → AreAheadsOf c.specs after → IfOk r (AreAheadsOf c.specs) → IfOk r (λ v. (s : Store) → HasHour s hour rows blanks → IsFutureAt c s (hour + 1) after → IsFutureAt c s hour v) → IfOk r (AreAheadsOver c.specs hour rows blanks after)
     → IfOk r (Backs c hour held own after)
-backs_of c hour rows held blanks own after (Ok v) e q fit stays over =
-    subst (λ (o : Option (List Row)). Backs c hour o own after v) e (subst (λ (bs : List Span). Backs c hour rows bs after v) q (record { stays = stays; over = record { fit = fit; over = over } }))
-backs_of c hour rows held blanks own after (Err x) e q fit stays over = tt
+backs_of c hour rows held blanks own after (Ok v) e q was fit stays over =
+    subst (λ (o : Option (List Row)). Backs c hour o own after v) e (subst (λ (bs : List Span). Backs c hour rows bs after v) q (record { stays = stays; over = record { fit = fit; was = was; over = over } }))
+backs_of c hour rows held blanks own after (Err x) e q was fit stays over = tt

@@ -27,7 +27,7 @@ use Rattle.decisive.specs.Window.{IsBrokenLine, IsPlaceIn}
 use Rattle.filling_pair.specs.Asks.{IsUndecided}
 use Rattle.filling_pair.specs.Kept.{IsLineOf, IsPlaceOf}
 use Rattle.hour_work.specs.Points.{is_known_before}
-use Rattle.hour_work.specs.Rows.{hour_rows}
+use Rattle.signal_log.specs.Rows.{hour_rows}
 use Rattle.hour_work.specs.Verdicts.{AreAuditLines, HasStoreVerdict, obligations_in, states_in}
 use Rattle.hour_work.proofs.PlacedLaws.{Each, FitPlace, IsPlaced, all_placed, each_all, rules_fit}
 use Rattle.session.specs.HourLines.{AreLinesIn, HasOwnWindow, IsLineAfter, IsLineIn}

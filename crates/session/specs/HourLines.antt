@@ -8,7 +8,7 @@ use Rattle.signal_log.specs.Points.{ArePastsAt}
 use Rattle.rule_audit.specs.declared.lines.AuditLine.{AuditLine}
 use Rattle.rule_audit.specs.Rules.{rules_for}
 use Rattle.decisive.specs.Window.{IsBrokenLine}
-use Rattle.hour_work.specs.Rows.{hour_rows}
+use Rattle.signal_log.specs.Rows.{hour_rows}
 use Rattle.filling_pair.specs.Asks.{IsUndecided}
 use Rattle.filling_pair.specs.Kept.{IsLineOf}
 use Rattle.session.specs.Pairs.{is_undecided}

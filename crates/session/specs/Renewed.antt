@@ -1,7 +1,9 @@
 -- What an edit puts in the place of what is kept.
 use Rattle.std.specs.Prelude.{◌≡◌, ◌+◌, ◌≤◌, ◌<◌, ℕ, List, length, slice_index_or, All}
+use Rattle.channel_tables.specs.declared.spec.Spec.{Spec}
 use Rattle.hour_store.specs.Store.{Store, rows_at}
-use Rattle.board.specs.Places.{AreSameFor}
+use Rattle.board.specs.Places.{AreAheadsOf, AreSameFor}
+use Rattle.board.specs.Stops.{AreBefore}
 use Rattle.ring_config.specs.Settings.{Settings}
 use Rattle.hour_work.specs.Moved.{SaySame}
 use Rattle.hour_work.specs.Numbers.{AreNewSums, FitHours, Numbers, Summed, patched}
@@ -27,6 +29,10 @@ pub record AreNewFutures (c : Settings) (s : Store) (first last : ℕ) (futures 
 -- at the points after the hours from `from` up to `start`, what is new admits the same as what is kept of the states that come up there
 abbrev pub AreSameUpTo : List Carried → List Ahead → ℕ → List Ahead → ℕ → Type 0
 AreSameUpTo carries futures from fresh start = (k : ℕ) (d : Carried) (e : Ahead) → from ≤ k → k < start → AreSameFor (slice_index_or carries (k + 1) d).pasts (slice_index_or futures (k + 1) e) (slice_index_or (patched futures from fresh) (k + 1) e)
+
+-- the states at the points after the hours before `first`, and which of them can be completed by what is kept and by what is new, are of the same specs
+abbrev pub HaveShapes : List Carried → List Ahead → ℕ → List Ahead → ℕ → Type 0
+HaveShapes carries futures from fresh first = (k : ℕ) (d : Carried) (e : Ahead) → k < first → (specs : List Spec) × AreBefore specs (slice_index_or carries (k + 1) d).pasts × AreAheadsOf specs (slice_index_or futures (k + 1) e) × AreAheadsOf specs (slice_index_or (patched futures from fresh) (k + 1) e)
 
 -- the numbers of the hours from `from` up to `to`, between what is kept at the points about them
 pub record AreNewParts (c : Settings) (s : Store) (carries : List Carried) (futures : List Ahead) (from to : ℕ) (fresh : List Numbers) : Type 0 where

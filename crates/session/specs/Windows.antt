@@ -10,7 +10,7 @@ use Rattle.rule_audit.specs.declared.lines.AuditLine.{AuditLine}
 use Rattle.rule_audit.specs.declared.rules.Rule.{Rule}
 use Rattle.rule_audit.specs.Rules.{rules_for}
 use Rattle.decisive.specs.Window.{IsDecisive, obligation_of}
-use Rattle.hour_work.specs.Rows.{hour_rows}
+use Rattle.signal_log.specs.Rows.{hour_rows}
 use Rattle.hour_work.specs.Verdicts.{AreAuditLines}
 
 abbrev pub is_broken : Verdict → Bool

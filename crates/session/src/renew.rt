@@ -1,17 +1,14 @@
 // What is kept of a store, and what an edit puts in its place.
-ghost use Rattle.std.specs.Prelude.{◌≡◌, ◌+◌, ◌<◌, ◌≤◌, ℕ, List, length, slice_index_or, All, IfOk, IfErr, OnOk};
-ghost use Rattle.channel_tables.specs.declared.spec.Spec.{Spec};
-ghost use Rattle.board.specs.Places.{AreAheadsOf};
-ghost use Rattle.board.specs.Stops.{AreBefore};
+ghost use Rattle.std.specs.Prelude.{◌≡◌, ◌+◌, ◌<◌, ◌≤◌, length, All, IfOk, IfErr, OnOk};
 ghost use Rattle.hour_store.specs.Store.{IsStore};
 ghost use Rattle.signal_log.specs.Log.{HasHistory, log_of};
 ghost use Rattle.ring_config.specs.Sound.{IsSound};
 ghost use Rattle.rule_audit.specs.Rules.{rules_for};
 ghost use Rattle.hour_work.specs.Numbers.{AreNewSums, FitHours, patched};
-ghost use Rattle.hour_work.specs.Points.{Carried, NamesRow};
-ghost use Rattle.session.specs.Links.{Ahead, AreCarries, AreCarriesBut, AreFutures, AreFuturesBut, AreKeptBut};
+ghost use Rattle.hour_work.specs.Points.{NamesRow};
+ghost use Rattle.session.specs.Links.{AreCarries, AreCarriesBut, AreFutures, AreFuturesBut, AreKeptBut};
 ghost use Rattle.session.specs.Opens.{AreOpened, OpensToRow};
-ghost use Rattle.session.specs.Renewed.{AreNewCarries, AreNewFutures, AreNewParts, AreSameUpTo, IsRenewed};
+ghost use Rattle.session.specs.Renewed.{AreNewCarries, AreNewFutures, AreNewParts, AreSameUpTo, HaveShapes, IsRenewed};
 ghost use Rattle.sig_base.specs.Reads.{Grow};
 
 use crate::backward::go_back;
@@ -79,11 +76,8 @@ fn start_of(worked: &Worked, points: &Points) -> Hour
     requires future_room { points.now.from + length points.now.futures.items
         ≤ length worked.now.futures.items }
     requires last { points.now.first < length worked.now.futures.items }
-    requires shape { (k : ℕ) (d : Carried) (e : Ahead) → k < points.now.first
-        → (specs : List Spec) × AreBefore specs (slice_index_or worked.now.carries.items (k + 1)
-        d).pasts × AreAheadsOf specs (slice_index_or worked.now.futures.items (k + 1) e)
-        × AreAheadsOf specs (slice_index_or (patched worked.now.futures.items points.now.from
-        points.now.futures.items) (k + 1) e) }
+    requires shape { HaveShapes worked.now.carries.items worked.now.futures.items points.now.from
+        points.now.futures.items points.now.first }
     ensures low { points.now.from ≤ result }
     ensures high { result ≤ points.now.first }
     ensures same { AreSameUpTo worked.now.carries.items worked.now.futures.items points.now.from
@@ -105,38 +99,53 @@ fn start_of(worked: &Worked, points: &Points) -> Hour
     points.first
 }
 
-// The numbers of the hours from `start` up to the last point at which something is new.
-fn parts_between<L>(
+// The numbers of the hours from `start` on.
+#[derive(Drop)]
+struct NewParts {
+    start: Hour,
+    parts: Vec<Partial>,
+}
+
+// The numbers of the hours from the first one whose numbers may change up to the last point at which
+// something is new.
+fn new_parts<L>(
     alloc: Global,
     config: &Config,
     rules: &[Rule],
     store: &HourStore<L>,
     worked: &Worked,
     points: &Points,
-    start: Hour,
     reads: &mut Reads<L>,
-) -> Result<Vec<Partial>, NoMemory>
+) -> Result<NewParts, NoMemory>
     requires rules { rules.now ≡ rules_for config.now }
     requires sound { IsSound config.now }
     requires store { IsStore store.now }
-    requires order { start ≤ points.now.first + length points.now.carries.items }
+    requires order { points.now.from ≤ points.now.first }
     requires within { points.now.first + length points.now.carries.items ≤ length store.now.hours }
     requires carry_room { points.now.first + 1 + length points.now.carries.items
         ≤ length worked.now.carries.items }
     requires future_room { points.now.from + length points.now.futures.items
         ≤ length worked.now.futures.items }
+    requires last { points.now.first < length worked.now.futures.items }
+    requires shape { HaveShapes worked.now.carries.items worked.now.futures.items points.now.from
+        points.now.futures.items points.now.first }
     requires forth { AreCarries config.now store.now (patched worked.now.carries.items
         (points.now.first + 1) points.now.carries.items) }
     requires back { AreFutures config.now store.now (patched worked.now.futures.items
         points.now.from points.now.futures.items) }
+    ensures low { IfOk result (λ v. points.now.from ≤ v.start) }
+    ensures high { IfOk result (λ v. v.start ≤ points.now.first) }
+    ensures same { IfOk result (λ v. AreSameUpTo worked.now.carries.items worked.now.futures.items
+        points.now.from points.now.futures.items v.start) }
     ensures parts { IfOk result (λ v. AreNewParts config.now store.now
         (patched worked.now.carries.items (points.now.first + 1) points.now.carries.items)
-        (patched worked.now.futures.items points.now.from points.now.futures.items) start
-        (points.now.first + length points.now.carries.items) v.items) }
-    ensures opens { OnOk result (AreOpened start
+        (patched worked.now.futures.items points.now.from points.now.futures.items) v.start
+        (points.now.first + length points.now.carries.items) v.parts.items) }
+    ensures opens { IfOk result (λ v. AreOpened v.start
         (points.now.first + length points.now.carries.items) 1 1 reads.old reads.new) }
     ensures grow { Grow reads.old reads.new }
 {
+    let start = start_of(worked, points);
     let mut parts = Vec::new(alloc);
     for hour in start..points.first + points.carries.len() as u32 {
         let place = hour as usize;
@@ -156,7 +165,7 @@ fn parts_between<L>(
         let part = part_between(alloc, config, rules, store, hour, &between, reads)?;
         parts.push(part)?;
     }
-    Ok(parts)
+    Ok(NewParts { start, parts })
 }
 
 // What is new at hour points, where what is kept fits the store but for the hours from `first` to
@@ -230,13 +239,14 @@ pub fn renew<L>(
 {
     let Touched { first, last } = touched;
     let points = points_of(alloc, config, store, worked, first, last, reads)?;
-    let start = start_of(worked, &points);
-    let parts = parts_between(alloc, config, rules, store, worked, &points, start, reads)?;
-    let sums = worked.report.sums_with(alloc, start as usize, &parts)?;
+    let new = new_parts(alloc, config, rules, store, worked, &points, reads)?;
+    let sums = worked
+        .report
+        .sums_with(alloc, new.start as usize, &new.parts)?;
     Ok(Fresh {
         points,
-        start,
-        parts,
+        start: new.start,
+        parts: new.parts,
         sums,
     })
 }

@@ -27,7 +27,7 @@ use Rattle.session.specs.Windows.{AreHourLines, AreWithWindows, HasWindow, with_
 use Rattle.hour_work.specs.Numbers.{Numbers, total_of}
 use Rattle.hour_work.specs.Points.{is_known_before}
 use Rattle.hour_work.specs.Verdicts.{AreAuditLines, HasStoreVerdict, obligations_in}
-use Rattle.hour_work.specs.Rows.{hour_rows}
+use Rattle.signal_log.specs.Rows.{hour_rows}
 use Rattle.sig_base.specs.declared.values.EditError.TheVariants.{OutOfWindow}
 use Rattle.report_text.specs.declared.refusal.Refusal.TheVariants.{Edit}
 use Rattle.sigaudit.specs.Turns.{refuses, writes}

@@ -19,7 +19,7 @@ use Rattle.hour_work.specs.Numbers.{Numbers}
 use Rattle.hour_work.specs.Reports.{IsHourPart}
 use Rattle.hour_work.specs.Verdicts.{AreAuditLines, HasStoreVerdict, obligations_in}
 use Rattle.hour_work.proofs.PointLaws.{lines_numbered}
-use Rattle.hour_work.specs.Rows.{hour_rows}
+use Rattle.signal_log.specs.Rows.{hour_rows}
 use Rattle.signal_log.specs.Log.{Log, log_of}
 use Rattle.sig_base.specs.declared.values.Row.{Row}
 use Rattle.rule_audit.specs.declared.rules.Rule.{Rule}

@@ -16,7 +16,7 @@ use Rattle.signal_log.specs.Log.{HasHistory, Log, log_of}
 use Rattle.rule_audit.specs.declared.rules.Rule.{Rule}
 use Rattle.decisive.specs.Laws.{WindowIsOne}
 use Rattle.decisive.specs.Window.{obligation_of}
-use Rattle.hour_work.specs.Rows.{hour_rows}
+use Rattle.signal_log.specs.Rows.{hour_rows}
 use Rattle.session.specs.Windows.{AreHourLines, AreWithWindows, HasWindow, with_window}
 use Rattle.signal_log.specs.Laws.{ContradictionIsOne}
 use Rattle.rule_audit.specs.declared.lines.AuditLine.{AuditLine}

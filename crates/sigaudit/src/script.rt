@@ -1,5 +1,5 @@
 // A script, line by line.
-ghost use Rattle.std.specs.Prelude.{◌≡◌, ◌<◌, ◌≤◌, ◌^◌, Some, None, [], length, option_map, OnOk};
+ghost use Rattle.std.specs.Prelude.{◌≡◌, ◌<◌, ◌≤◌, ◌^◌, Some, None, [], length, OnOk};
 ghost use Rattle.outside.specs.Shelf.{Files};
 ghost use Rattle.sig_base.specs.HourRows.{Shown};
 ghost use Rattle.hour_store.specs.Store.{Store};
@@ -7,7 +7,7 @@ ghost use Rattle.session.specs.Edits.{change_of};
 ghost use Rattle.sig_base.specs.Reads.{Grow};
 ghost use Rattle.script_lines.specs.Lines.{lines_of};
 ghost use Rattle.script_lines.specs.Words.{said};
-ghost use Rattle.script_lines.specs.Seen.{seen};
+ghost use Rattle.script_lines.specs.Seen.{seen, seen_edit};
 ghost use Rattle.sigaudit.specs.Script.{edit_said, is_edit_memory, hour_change, hour_file, load_bytes, IsEdited, IsMeasured, IsMeasuredOf, IsTurn, ReadsLoad, TakesLoad};
 ghost use Rattle.sigaudit.specs.Counting.{AreCounted, ArePlain, BytesTally, EditTally, IsPlain, LineTally, LoadTally, ScriptTally};
 ghost use Rattle.sigaudit.specs.Run.{world, CountsFetch, FetchesHour, NamesNoRow, IsCaused, NeverFall, Takes, TakesBy, TellsAll};
@@ -20,7 +20,7 @@ use crate::refused::{refuse, refuse_packed};
 use crate::status::Stopped;
 use outside::{FetchError, Shelf, Sink};
 use report_text::{Refusal, put_applied, put_hour_measures, put_window_measures};
-use script_lines::{Line, read_line, split_line};
+use script_lines::{Line, PlainEdit, read_line, split_line};
 use session::{Edit, Session};
 use sig_base::{EditError, Hour, HourRows, Reads};
 use std::alloc::Global;
@@ -245,15 +245,14 @@ fn hour_line<L, K: Sink>(
     Ok(false)
 }
 
-// The edit of a line that needs no file.
-fn edit_in<L>(line: Line<'_>) -> Option<Edit<L>>
-    ensures { option_map change_of result ≡ edit_said (seen line.entry) }
+// The edit of a line that names no file.
+fn plain_edit<L>(edit: PlainEdit) -> Edit<L>
+    ensures { edit_said (seen_edit edit) ≡ Some (change_of result) }
 {
-    match line {
-        Line::Withdraw(hour) => Some(Edit::Withdraw(hour)),
-        Line::Blank(from, to) => Some(Edit::Blank { from, to }),
-        Line::Unblank(from, to) => Some(Edit::Unblank { from, to }),
-        _ => None,
+    match edit {
+        PlainEdit::Withdraw(hour) => Edit::Withdraw(hour),
+        PlainEdit::Blank(from, to) => Edit::Blank { from, to },
+        PlainEdit::Unblank(from, to) => Edit::Unblank { from, to },
     }
 }
 
@@ -283,9 +282,6 @@ fn take_said<L, S: Shelf, K: Sink>(
         session.old.store) reads.old reads.new) }
     ensures grow { Grow reads.old reads.new }
 {
-    if let Some(edit) = edit_in(line) {
-        return edit_line(number, None, edit, session, sink, reads);
-    }
     match line {
         Line::Skip => Ok(false),
         Line::Bad => refuse(session.config(), number, Refusal::BadLine, sink),
@@ -313,9 +309,10 @@ fn take_said<L, S: Shelf, K: Sink>(
         Line::MeasuresOf(hour) => hour_line(number, hour, session, sink),
         Line::Points(phase) => points_line(number, phase, session, sink, reads),
         Line::Offsets(name) => offsets_line(alloc, number, name, session, sink, reads),
-        Line::Withdraw(_) => unreachable!(),
-        Line::Blank(_, _) => unreachable!(),
-        Line::Unblank(_, _) => unreachable!(),
+        Line::Edit(edit) => {
+            let edit = plain_edit(edit);
+            edit_line(number, None, edit, session, sink, reads)
+        }
     }
 }
 

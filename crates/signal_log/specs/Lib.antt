@@ -1,6 +1,7 @@
 pub mod Log
 pub mod States
 pub mod Points
+pub mod Rows
 pub mod Over
 pub mod Views
 pub mod Laws

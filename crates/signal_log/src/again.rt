@@ -36,7 +36,8 @@ pub fn aheads_before_again(
     requires hour { hour < 744 }
     requires rows { IfSome rows (λ s. AreRowsOf hour s.now) }
     requires shape { AreAheadsOf specs.now after.now }
-    requires was_shape { AreAheadsOf specs.now was.now.before.now }
+    requires was_before { AreAheadsOf specs.now was.now.before.now }
+    requires was_after { AreAheadsOf specs.now was.now.after.now }
     requires was { AreAheadsOver specs.now hour (option_copied rows) blanked.now was.now.after.now
         was.now.before.now }
     ensures shape { IfOk result (λ a. AreAheadsOf specs.now a) }

@@ -7,7 +7,8 @@ use Rattle.split_windows.specs.declared.items.Windows.{Windows}
 use Rattle.split_measures.specs.declared.failures.SplitSum.{SplitSum}
 use Rattle.split_measures.specs.declared.verdict.SplitVerdict.{SplitVerdict}
 use Rattle.split_measures.specs.declared.verdict.SplitVerdict.TheVariants.{Fail, Pass, Undecided, Open, Fault}
-use Rattle.split_measures.specs.Failures.{both_sums, is_verdict, one_if, split_sum_of}
+use Rattle.split_measures.specs.Failures.{both_sums, is_verdict, split_sum_of}
+use Rattle.hour_sums.specs.Numbers.{one_if}
 use Rattle.split_measures.specs.Verdicts.{verdict_by, verdicts_by}
 use Rattle.split_measures.proofs.Ones.{count_one}
 

@@ -2,14 +2,14 @@
 use Rattle.std.proofs.Common.{◌≡◌, refl, ap, ◌∙◌, ℕ, suc, ◌+◌, ◌^◌, ◌<◌, false, cond, List, [], ◌∷◌, ◌++◌, length, sym, arith}
 use Rattle.std.specs.Prelude.{count_by}
 use Rattle.std.proofs.lemmas.List.Sums.{sum_by-cons}
-use Rattle.hour_sums.specs.Numbers.{capped}
+use Rattle.hour_sums.specs.Numbers.{capped, one_if}
 use Rattle.service_cut.specs.declared.items.Service.{Service}
 use Rattle.split_windows.specs.declared.items.Windows.{Windows}
 use Rattle.split_windows.specs.Windows.{services_of}
 use Rattle.split_measures.specs.declared.failures.SplitSum.{SplitSum}
 use Rattle.split_measures.specs.declared.verdict.SplitVerdict.{SplitVerdict}
 use Rattle.split_measures.specs.declared.verdict.SplitVerdict.TheVariants.{Fail, Pass, Undecided, Open, Fault}
-use Rattle.split_measures.specs.Failures.{both_sums, is_verdict, one_if, split_sum_of}
+use Rattle.split_measures.specs.Failures.{both_sums, is_verdict, split_sum_of}
 use Rattle.split_measures.specs.Hours.{opens_of}
 use Rattle.split_measures.proofs.Failing.{sums_append}
 

@@ -1,6 +1,6 @@
 -- How many services have which verdict.
 use Rattle.std.specs.Prelude.{ℕ, ◌+◌, Bool, true, false, if◌then◌else◌, List, count_by}
-use Rattle.hour_sums.specs.Numbers.{capped}
+use Rattle.hour_sums.specs.Numbers.{capped, one_if}
 use Rattle.split_measures.specs.declared.failures.SplitSum.{SplitSum}
 use Rattle.split_measures.specs.declared.verdict.SplitVerdict.{SplitVerdict}
 use Rattle.split_measures.specs.declared.verdict.SplitVerdict.TheVariants.{Fail, Pass, Undecided, Open, Fault}
@@ -12,9 +12,6 @@ is_verdict Undecided Undecided = true
 is_verdict Open Open = true
 is_verdict Fault Fault = true
 is_verdict _ _ = false
-
-abbrev pub one_if : Bool → ℕ
-one_if b = if b then 1 else 0
 
 -- how many of the verdicts are this one
 abbrev pub how_many : SplitVerdict → List SplitVerdict → ℕ

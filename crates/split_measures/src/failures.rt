@@ -1,6 +1,7 @@
 // How many services have which verdict.
 ghost use Rattle.std.specs.Prelude.{◌≡◌, ◌<◌, ◌^◌, [], ◌∷◌};
-ghost use Rattle.split_measures.specs.Failures.{both_sums, is_verdict, one_if, split_sum_of};
+ghost use Rattle.split_measures.specs.Failures.{both_sums, is_verdict, split_sum_of};
+ghost use Rattle.hour_sums.specs.Numbers.{one_if};
 ghost use Rattle.split_measures.specs.Verdicts.{verdicts_by};
 
 use crate::verdict::{SplitVerdict, windows_verdict};

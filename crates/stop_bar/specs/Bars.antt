@@ -17,6 +17,7 @@ use Rattle.split_windows.specs.declared.items.Windows.{Windows}
 use Rattle.split_windows.specs.Going.{AreRowsAbout, IsGreenAt, of_phase}
 use Rattle.split_windows.specs.Windows.{AreEnded, ArePending, IsOpen, left, services_of}
 use Rattle.stop_bar.specs.Crossing.{Crossing}
+use Rattle.split_windows.specs.declared.items.OpenGreen.{OpenGreen}
 
 -- the whole services of phase p that end among the rows
 abbrev pub services_upto : (ℕ → Bool) → List PhaseItem → ℕ → List Row → List Service
@@ -42,6 +43,10 @@ pub record IsHourOf (log : Log) (i : ℕ) (phases : List PhaseItem) (hour : ℕ)
   pub about : AreRowsAbout hour before rows
   pub cut : IsCut log.known phases before hour rows cuts
   pub told : IsSwitched log i hour parts
+
+-- the green is the one that the phase has at the end of an hour, by what crosses the point before the hour
+abbrev pub IsOpenNext : ℕ → ℕ → Crossing → CutLists → List Part → Option OpenGreen → Type 0
+IsOpenNext p hour at cuts parts green = (log : Log) (i : ℕ) (phases : List PhaseItem) (before rows : List Row) → has_phase phases p ≡ true → IsHourOf log i phases hour before rows cuts parts → IsAtBar log i phases p before hour at → IsGreenAt (end_tenth hour) (service_begun_of log.known (end_tenth hour) p (before ++ known_rows log.known rows)) green × IsOpen log i green
 
 -- the services of phase p whose red window ends in the hour, by the known rows up to its end, with the log's numbers
 pub record AreOver (log : Log) (i : ℕ) (phases : List PhaseItem) (p hour : ℕ) (upto : List Row) (ended : List Windows) : Type 0 where

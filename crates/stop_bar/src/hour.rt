@@ -1,15 +1,7 @@
 // One stop bar over one hour.
-ghost use Rattle.std.specs.Prelude.{ℕ, ◌≡◌, ◌<◌, ◌+◌, ◌++◌, ◌==◌, true, List, IfOk, find, unwrap_or};
-ghost use Rattle.sig_base.specs.declared.values.PhaseItem.{PhaseItem};
-ghost use Rattle.sig_base.specs.declared.values.Row.{Row};
-ghost use Rattle.board.specs.Logs.{end_tenth};
-ghost use Rattle.signal_log.specs.Log.{Log};
-ghost use Rattle.hour_sweep.specs.Rows.{known_rows};
-ghost use Rattle.service_cut.specs.Parts.{has_phase};
-ghost use Rattle.service_cut.specs.Services.{service_begun_of};
-ghost use Rattle.split_windows.specs.Going.{IsGreenAt, of_phase};
-ghost use Rattle.split_windows.specs.Windows.{IsOpen};
-ghost use Rattle.stop_bar.specs.Bars.{IsAtBar, IsBarHour, IsHourOf, open_with};
+ghost use Rattle.std.specs.Prelude.{ℕ, ◌≡◌, ◌<◌, ◌+◌, ◌++◌, ◌==◌, IfOk, find, unwrap_or};
+ghost use Rattle.split_windows.specs.Going.{of_phase};
+ghost use Rattle.stop_bar.specs.Bars.{IsBarHour, IsOpenNext, open_with};
 
 use crate::at_bar::AtBar;
 use detector_state::Switched;
@@ -83,14 +75,7 @@ fn open_next(
     hour: Hour,
 ) -> Option<OpenGreen>
     requires { hour < 744 }
-    ensures { (log : Log) (i : ℕ) (phases : List PhaseItem) (front rows : List Row)
-        → has_phase phases phase ≡ true
-        → IsHourOf log i phases hour front rows cuts.now switched.now
-        → IsAtBar log i phases phase front hour before.now
-        → IsGreenAt (end_tenth hour)
-        (service_begun_of log.known (end_tenth hour) phase (front ++ known_rows log.known rows))
-        result
-        × IsOpen log i result }
+    ensures { IsOpenNext phase hour before.now cuts.now switched.now result }
 {
     match open_service_of(cuts.open_services(), phase) {
         Some(service) => {

@@ -48,7 +48,8 @@ use Rattle.strand_search.specs.declared.search.Asked.{Asked}
 use Rattle.strand_search.specs.Crossings.{FitsCut, IsCrossed, IsCrossing, LeadsOn, LeadsTo, rows_to}
 use Rattle.strand_search.specs.Parts.{IsCutOf, IsHourPart, StandsAlone, moves_over}
 use Rattle.strand_search.specs.Points.{log_alone}
-use Rattle.strand_search.specs.Runs.{IsAsked, IsPlaceAt, MayComeTo, NoneComes, rows_before, TellsWithinHour, test_of}
+use Rattle.strand_search.specs.Runs.{IsAsked, IsPlaceAt, MayComeTo, NoneComes, TellsWithinHour, test_of}
+use Rattle.signal_log.specs.Rows.{rows_before}
 use Rattle.strand_search.proofs.Pieces.{piece_in}
 use Rattle.strand_search.proofs.Stepping.{next_here}
 use Rattle.strand_search.proofs.Placed.{hour_is, left_part, left_tells, left_within, place_here, right_part, right_tells, right_within}

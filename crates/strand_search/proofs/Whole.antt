@@ -32,7 +32,8 @@ use Rattle.strand_search.specs.declared.search.Found.{Found}
 use Rattle.strand_search.specs.Crossings.{AddsHours, AddsHoursBack, IsCrossed, LeadsOn, LeadsTo, events_to, rows_to}
 use Rattle.strand_search.specs.Pieces.{mixed, on_from, up_to}
 use Rattle.strand_search.specs.Points.{ArePastsUpTo, log_alone, past_at}
-use Rattle.strand_search.specs.Runs.{ComesTo, IsAsked, IsFound, IsPlaceAt, end_of, rows_around, rows_before, stands, start_of, test_of}
+use Rattle.strand_search.specs.Runs.{ComesTo, IsAsked, IsFound, IsPlaceAt, end_of, rows_around, stands, start_of, test_of}
+use Rattle.signal_log.specs.Rows.{rows_before}
 use Rattle.strand_search.proofs.Coming.{alike_tell, answers_same}
 use Rattle.strand_search.proofs.Counting.{few_join, known_apart, point_apart}
 use Rattle.strand_search.proofs.Pieces.{letters_join, piece_alike, piece_given, piece_join}

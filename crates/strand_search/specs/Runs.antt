@@ -20,6 +20,7 @@ use Rattle.hour_ways.specs.Fillings.{AreUnknown, events_of}
 use Rattle.strand_search.specs.declared.search.Asked.{Asked}
 use Rattle.strand_search.specs.declared.search.Found.{Found}
 use Rattle.strand_search.specs.Events.{AreFew, AreLetters}
+use Rattle.signal_log.specs.Rows.{rows_before}
 
 -- the tenth after the window's last
 abbrev pub end_of : Store → ℕ
@@ -36,10 +37,6 @@ Leads d s fills f t a b = Agreeing (track d) (λ x. true) (stands s fills) f t a
 -- the rows of the hour of a tenth, none where it isn't held
 abbrev pub rows_around : Store → ℕ → List Row
 rows_around s x = rows_or_none (rows_at s (x / 36000))
-
--- how many rows of its tenth stand before row n
-abbrev pub rows_before : List Row → ℕ → ℕ
-rows_before rows n = length (events_at (take n rows) (slice_index_or rows n no_row).at)
 
 -- what stands leads the channel from state a before the window to state v at the place: the end of tenth x, or before the row of its hour with the number
 abbrev pub ComesTo : Spec → Store → List Row → ℕ → Option ℕ → State → State → Type 0

@@ -1,7 +1,8 @@
 ghost use Rattle.std.specs.Prelude.{◌≡◌, ◌/◌, ◌<◌, IsTrue, length, option_copied};
 ghost use Rattle.hour_store.specs.Store.{is_known};
 ghost use Rattle.signal_log.specs.Points.{rows_or_none};
-ghost use Rattle.filling_pair.specs.Kept.{IsLineOf, IsPlaceOf, hour_rows};
+ghost use Rattle.filling_pair.specs.Kept.{IsLineOf, IsPlaceOf};
+ghost use Rattle.signal_log.specs.Rows.{hour_rows};
 
 use super::configured::one_interval;
 use super::{Mark, apply};

@@ -2,7 +2,7 @@ use super::Mark;
 use demonstration::Demo;
 use ring_config::{Config, read_config};
 use row_reader::read_rows;
-use script_lines::{Line, read_line, split_line};
+use script_lines::{Line, PlainEdit, read_line, split_line};
 use session::{Edit, Session};
 use sig_base::{Applied, Hour, HourRows, Reads};
 use std::alloc::Global;
@@ -41,9 +41,9 @@ fn edit_of(
     let edit = match line {
         Line::Load(hour, name) => Edit::Load(rows_of(alloc, demo, config, hour, name)?),
         Line::Replace(hour, name) => Edit::Replace(rows_of(alloc, demo, config, hour, name)?),
-        Line::Withdraw(hour) => Edit::Withdraw(hour),
-        Line::Blank(from, to) => Edit::Blank { from, to },
-        Line::Unblank(from, to) => Edit::Unblank { from, to },
+        Line::Edit(PlainEdit::Withdraw(hour)) => Edit::Withdraw(hour),
+        Line::Edit(PlainEdit::Blank(from, to)) => Edit::Blank { from, to },
+        Line::Edit(PlainEdit::Unblank(from, to)) => Edit::Unblank { from, to },
         _ => return Ok(None),
     };
     Ok(Some(edit))

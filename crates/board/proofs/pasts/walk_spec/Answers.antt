@@ -1,4 +1,4 @@
 use Rattle.board.proofs.pasts.walk_spec.Goals as goal
 
 pub returns-clause-after : goal.returns-clause-after
-returns-clause-after c = rw c.machine_of-machine.ensures at c.walk_moves.ensures.after
+returns-clause-after c = rw c.machine_of.ensures at c.walk_any.ensures.after

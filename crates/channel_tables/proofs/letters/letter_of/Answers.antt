@@ -7,4 +7,4 @@ pub returns-in-Some-clause-there : goal.returns-in-Some-clause-there
 returns-in-Some-clause-there c =
     let e : channel_in_table c.args.code c.args.param ≡ Some c.in-Some.channel = sym c.channel_of.ensures ∙ c.in-Some.is in
     let h = channel_letter c.args.code c.args.param c.in-Some.channel e in
-    rw (c.letter_in.ensures, h.1, e) (λ _. refl, λ _. refl)
+    rw (c.letter_of_kind.ensures, h.1, e) (λ _. refl, λ _. refl)

@@ -17,7 +17,8 @@ use Rattle.decisive.specs.declared.parts.Part.{Part}
 use Rattle.decisive.specs.Laws.{rows_to}
 use Rattle.decisive.specs.Lines.{AreHourMoves, place_in}
 use Rattle.decisive.specs.Parts.{parts_of}
-use Rattle.decisive.specs.Searches.{AreFound, IsBeginAt, hour_rows, rank_in}
+use Rattle.decisive.specs.Searches.{AreFound, IsBeginAt, rank_in}
+use Rattle.signal_log.specs.Rows.{hour_rows}
 use Rattle.decisive.specs.Window.{IsPlaceIn}
 use Rattle.board.specs.Places.{upto}
 use Rattle.decisive.proofs.Concluded.{concluded, concluded_own, rule_fits}

@@ -1,7 +1,7 @@
 use Rattle.std.proofs.Common.{◌≡◌, ◌↔◌, subst, arith, ℕ, ◌+◌, ◌-◌, ◌*◌, ◌/◌, ◌++◌, length, take}
 use Rattle.reach.proofs.Later.{then_iff}
 use Rattle.filling_pair.specs.Strands.{start_of}
-use Rattle.filling_pair.specs.Kept.{hour_rows}
+use Rattle.signal_log.specs.Rows.{hour_rows}
 use Rattle.filling_pair.specs.Walking.{In, Remains, Walks, count_to, merged, own_hours, own_of, track_of}
 use Rattle.filling_pair.proofs.Overall.{all_passed, hours_around, over_join, over_same, some_end}
 use Rattle.filling_pair.proofs.hours.follow.Goals as goal

@@ -1,7 +1,7 @@
 use Rattle.std.proofs.Common.{◌≡◌, ◌∙◌, ap, ◌/◌, ◌++◌, List, take, drop}
 use Rattle.span_set.specs.declared.set.Span.{Span}
 use Rattle.sig_base.specs.declared.values.Row.{Row}
-use Rattle.filling_pair.specs.Kept.{hour_rows}
+use Rattle.signal_log.specs.Rows.{hour_rows}
 use Rattle.filling_pair.specs.Walking.{count_to, own_of, track_of}
 use Rattle.filling_pair.proofs.Overall.{all_passed, over_join, over_same, own_parts}
 use Rattle.filling_pair.proofs.hours.pass_place.Goals as goal

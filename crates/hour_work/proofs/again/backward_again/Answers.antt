@@ -14,8 +14,11 @@ returns-clause-over c =
     let over = rw c.specs-specs.ensures.value at c.in_ok-aheads.ensures.over in
     subst (λ (v : List (List (Option ℤ))). AreAheadsOver cfg.specs c.args.hour (option_copied c.args.rows) c.args.blanked.now v c.in_ok-aheads.aheads) c.after.view_is over
 
-pub aheads_before_again-requires-clause-was_shape : goal.aheads_before_again-requires-clause-was_shape
-aheads_before_again-requires-clause-was_shape c = rw c.specs-specs.ensures.value (subst (λ (v : List (List (Option ℤ))). AreAheadsOf c.args.config.now.specs v) (sym c.was_before.view_is) c.requires.was.fit)
+pub aheads_before_again-requires-clause-was_after : goal.aheads_before_again-requires-clause-was_after
+aheads_before_again-requires-clause-was_after c = rw c.specs-specs.ensures.value (subst (λ (v : List (List (Option ℤ))). AreAheadsOf c.args.config.now.specs v) (sym c.was_after.view_is) c.requires.was.was)
+
+pub aheads_before_again-requires-clause-was_before : goal.aheads_before_again-requires-clause-was_before
+aheads_before_again-requires-clause-was_before c = rw c.specs-specs.ensures.value (subst (λ (v : List (List (Option ℤ))). AreAheadsOf c.args.config.now.specs v) (sym c.was_before.view_is) c.requires.was.fit)
 
 pub aheads_before_again-requires-clause-was : goal.aheads_before_again-requires-clause-was
 aheads_before_again-requires-clause-was c =

@@ -1,11 +1,11 @@
-use Rattle.std.proofs.Common.{◌≡◌, ◌≤◌, ◌+◌, length, drop}
-use Rattle.lane.specs.Kept.{HaveAheads, IsAhead, AreStandIns}
+use Rattle.std.proofs.Common.{◌≡◌, ◌≤◌, ◌+◌, length}
+use Rattle.lane.specs.Kept.{HaveAheads, Serves, AreStandIns}
 use Rattle.lane.proofs.ahead.aheads_of.Given as goal
 
 abbrev pub invariant-loop-place : goal.invariant-loop-place
 invariant-loop-place g l = record {
   within : l.place ≤ length l.moves;
-  ahead : IsAhead (g.M.Machine.rules l.machine) l.after (drop l.place l.moves) l.ahead;
+  serves : Serves (g.M.Machine.rules l.machine) l.after l.moves l.pasts l.place l.ahead;
   have : HaveAheads (g.M.Machine.rules l.machine).colours l.places.aheads.items;
   size : length l.places.numbers.items + l.place ≡ length l.moves;
   stand : AreStandIns (g.M.Machine.rules l.machine) l.after l.moves l.pasts (l.place + 1) l.places;

@@ -1,7 +1,7 @@
 use Rattle.std.proofs.Common.{None}
 use Rattle.signal_log.specs.Log.{log_of}
 use Rattle.rule_audit.specs.Rules.{rules_for}
-use Rattle.hour_work.specs.Rows.{hour_rows}
+use Rattle.signal_log.specs.Rows.{hour_rows}
 use Rattle.session.proofs.WindowLaws.{no_line, none_yet, windows_turn}
 use Rattle.session.proofs.audit.unbroken.Goals as goal
 

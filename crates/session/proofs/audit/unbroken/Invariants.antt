@@ -4,7 +4,7 @@ use Rattle.hour_store.specs.Store.{Store}
 use Rattle.ring_config.specs.Settings.{Settings}
 use Rattle.signal_log.specs.Log.{log_of}
 use Rattle.rule_audit.specs.Rules.{rules_for}
-use Rattle.hour_work.specs.Rows.{hour_rows}
+use Rattle.signal_log.specs.Rows.{hour_rows}
 use Rattle.session.specs.HourLines.{AreLinesIn}
 use Rattle.session.specs.Windows.{AreWithWindows}
 use Rattle.session.proofs.audit.unbroken.Given as goal

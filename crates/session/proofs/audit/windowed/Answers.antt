@@ -1,7 +1,7 @@
 use Rattle.std.proofs.Common.{sym, subst, get_or, ℕ}
 use Rattle.signal_log.specs.Log.{log_of}
 use Rattle.rule_audit.specs.Rules.{rules_for}
-use Rattle.hour_work.specs.Rows.{hour_rows}
+use Rattle.signal_log.specs.Rows.{hour_rows}
 use Rattle.decisive.specs.Lines.{AreHourMoves}
 use Rattle.session.specs.HourLines.{IsLineIn}
 use Rattle.session.proofs.GrowLaws.{grow_on, grow_same}

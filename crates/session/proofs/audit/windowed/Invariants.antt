@@ -2,7 +2,7 @@ use Rattle.std.proofs.Common.{ℕ, List, take}
 use Rattle.span_set.specs.declared.set.Span.{Span}
 use Rattle.signal_log.specs.Log.{log_of}
 use Rattle.rule_audit.specs.Rules.{rules_for}
-use Rattle.hour_work.specs.Rows.{hour_rows}
+use Rattle.signal_log.specs.Rows.{hour_rows}
 use Rattle.session.specs.HourLines.{AreLinesIn}
 use Rattle.sig_base.specs.Reads.{Grow}
 use Rattle.session.specs.Windows.{AreWithWindows}

@@ -8,7 +8,7 @@ returns-clause-once g c = opened_raised _ _ c.args.hour c.open_hour-rows.ensures
 
 pub returns-clause-backs : goal.returns-clause-backs
 returns-clause-backs g c =
-    backs_of c.args.config.now c.args.hour (option_copied c.open_hour-rows.result) _ c.blanked.result.now _ c.args.after.now c.backward_again.result c.open_hour-rows.ensures.rows c.blanked.ensures.value c.backward_again.ensures.fit c.backward_again.ensures.future c.backward_again.ensures.over
+    backs_of c.args.config.now c.args.hour (option_copied c.open_hour-rows.result) _ c.blanked.result.now _ c.args.after.now c.backward_again.result c.open_hour-rows.ensures.rows c.blanked.ensures.value c.requires.after.shape c.backward_again.ensures.fit c.backward_again.ensures.future c.backward_again.ensures.over
 
 pub backward_again-requires-clause-was : goal.backward_again-requires-clause-was
 backward_again-requires-clause-was g c =

@@ -8,4 +8,4 @@ returns-clause-once g c = opened_raised _ _ c.args.hour c.open_hour-rows.ensures
 
 pub returns-clause-backs : goal.returns-clause-backs
 returns-clause-backs g c =
-    backs_of c.args.config.now c.args.hour (option_copied c.open_hour-rows.result) _ c.blanked.result.now _ c.args.after.now c.backward.result c.open_hour-rows.ensures.rows c.blanked.ensures.value c.backward.ensures.fit c.backward.ensures.future c.backward.ensures.over
+    backs_of c.args.config.now c.args.hour (option_copied c.open_hour-rows.result) _ c.blanked.result.now _ c.args.after.now c.backward.result c.open_hour-rows.ensures.rows c.blanked.ensures.value c.requires.after.shape c.backward.ensures.fit c.backward.ensures.future c.backward.ensures.over

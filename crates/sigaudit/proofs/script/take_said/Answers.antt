@@ -1,6 +1,6 @@
-use Rattle.std.proofs.Common.{◌≡◌, refl, ap, arith, true, false, None, Ok, nat_lt}
+use Rattle.std.proofs.Common.{◌≡◌, ◌∙◌, refl, ap, sym, arith, true, false, None, Ok, nat_lt}
 use Rattle.script_lines.specs.Words as line
-use Rattle.script_lines.specs.Seen.{seen}
+use Rattle.script_lines.specs.Seen.{seen, seen_edit}
 use Rattle.report_text.specs.declared.refusal.Refusal.TheVariants.{BadLine}
 use Rattle.session.specs.Edits.{change_of}
 use Rattle.sigaudit.specs.Run.{world}
@@ -8,7 +8,7 @@ use Rattle.sigaudit.specs.Turns.{Turn, refuses}
 use Rattle.sigaudit.specs.Audit.{AreVerdicts, IsAudited}
 use Rattle.sigaudit.specs.Points.{points_of_phase}
 use Rattle.sigaudit.specs.Offsets.{offsets_of}
-use Rattle.sigaudit.specs.Script.{hour_bytes, hour_change, IsEdited, IsFetched, IsMeasured, IsMeasuredOf}
+use Rattle.sigaudit.specs.Script.{edit_said, hour_bytes, hour_change, IsEdited, IsFetched, IsMeasured, IsMeasuredOf}
 use Rattle.sigaudit.proofs.CountFacts.{bad_still, hour_still, line_edited, line_loaded, line_replaced, line_still, measures_still, skip_still}
 use Rattle.sigaudit.proofs.TakeFacts.{caused_of_by, never_of_by}
 use Rattle.sigaudit.proofs.LineFacts.{by_bad, line_as, line_by, line_skipped, turn_audit, turn_bad, turn_edit, turn_hour, turn_load, turn_measures, turn_offsets, turn_points, turn_replace, turn_verdicts}
@@ -28,15 +28,15 @@ returns-in-Bad-clause-cause g c = caused_of_by (λ (t : Turn). t ≡ refuses c.a
 pub returns-in-Bad-clause-never_fall : goal.returns-in-Bad-clause-never_fall
 returns-in-Bad-clause-never_fall g c = never_of_by (λ (t : Turn). t ≡ refuses c.args.session.now.config c.args.number BadLine c.args.session.now.store) (g.S.Shelf.counts c.args.shelf.now) (g.S.Shelf.counts c.args.shelf.now) _ _ c.args.session.now.store c.refuse.result (omega arith) (omega arith) (omega arith) (by_bad c.args.session.now.config c.config.result.now c.args.number BadLine c.args.session.now.store _ _ c.refuse.result c.config.ensures.value c.refuse.ensures)
 
-pub returns-in-Some-clause-turn : goal.returns-in-Some-clause-turn
-returns-in-Some-clause-turn g c = λ files told.
-    line_by files c.args.session.now.config c.args.number (seen c.args.line) (seen c.args.line) c.args.session.now.store (IsEdited c.args.session.now.config c.args.number None c.args.session.now.store (change_of c.in-Some.edit)) (g.S.Shelf.counts c.args.shelf.now) _ _ c.edit_line.new.session.store c.edit_line.result refl (turn_edit files c.args.session.now.config c.args.number (seen c.args.line) (change_of c.in-Some.edit) c.args.session.now.store c.in-Some.ensures) (c.edit_line.ensures.turn)
+pub returns-in-Edit-clause-turn : goal.returns-in-Edit-clause-turn
+returns-in-Edit-clause-turn g c = λ files told.
+    line_by files c.args.session.now.config c.args.number (seen c.args.line) (seen_edit c.in-Edit.edit) c.args.session.now.store (IsEdited c.args.session.now.config c.args.number None c.args.session.now.store (change_of c.plain_edit-edit.result)) (g.S.Shelf.counts c.args.shelf.now) _ _ c.edit_line.new.session.store c.edit_line.result (ap seen c.in-Edit.is) (turn_edit files c.args.session.now.config c.args.number (seen_edit c.in-Edit.edit) (change_of c.plain_edit-edit.result) c.args.session.now.store (sym c.plain_edit-edit.ensures)) (c.edit_line.ensures.turn)
 
-pub returns-in-Some-clause-cause : goal.returns-in-Some-clause-cause
-returns-in-Some-clause-cause g c = caused_of_by (IsEdited c.args.session.now.config c.args.number None c.args.session.now.store (change_of c.in-Some.edit)) (g.S.Shelf.counts c.args.shelf.now) (g.S.Shelf.counts c.args.shelf.now) _ _ c.edit_line.new.session.store c.edit_line.result refl (c.edit_line.ensures.turn)
+pub returns-in-Edit-clause-cause : goal.returns-in-Edit-clause-cause
+returns-in-Edit-clause-cause g c = caused_of_by (IsEdited c.args.session.now.config c.args.number None c.args.session.now.store (change_of c.plain_edit-edit.result)) (g.S.Shelf.counts c.args.shelf.now) (g.S.Shelf.counts c.args.shelf.now) _ _ c.edit_line.new.session.store c.edit_line.result refl (c.edit_line.ensures.turn)
 
-pub returns-in-Some-clause-never_fall : goal.returns-in-Some-clause-never_fall
-returns-in-Some-clause-never_fall g c = never_of_by (IsEdited c.args.session.now.config c.args.number None c.args.session.now.store (change_of c.in-Some.edit)) (g.S.Shelf.counts c.args.shelf.now) (g.S.Shelf.counts c.args.shelf.now) _ _ c.edit_line.new.session.store c.edit_line.result (omega arith) (omega arith) (omega arith) (c.edit_line.ensures.turn)
+pub returns-in-Edit-clause-never_fall : goal.returns-in-Edit-clause-never_fall
+returns-in-Edit-clause-never_fall g c = never_of_by (IsEdited c.args.session.now.config c.args.number None c.args.session.now.store (change_of c.plain_edit-edit.result)) (g.S.Shelf.counts c.args.shelf.now) (g.S.Shelf.counts c.args.shelf.now) _ _ c.edit_line.new.session.store c.edit_line.result (omega arith) (omega arith) (omega arith) (c.edit_line.ensures.turn)
 
 pub returns-in-Audit-clause-turn : goal.returns-in-Audit-clause-turn
 returns-in-Audit-clause-turn g c = λ files told.
@@ -108,9 +108,9 @@ returns-in-Replace-clause-turn g c = λ files told.
     line_as files c.args.session.now.config c.args.number (seen c.args.line) (line.replace c.in-Replace.hour c.in-Replace.name.now) c.args.session.now.store (IsFetched c.args.session.now.config c.args.number c.in-Replace.hour (hour_change true) c.args.session.now.store (hour_bytes files c.args.session.now.config c.in-Replace.hour c.in-Replace.name.now)) (world (g.S.Shelf.counts c.args.shelf.now) (g.K.Sink.taken c.args.sink.now)) (world (g.S.Shelf.counts c.file_line-in-Replace.new.shelf) (g.K.Sink.taken c.file_line-in-Replace.new.sink)) c.file_line-in-Replace.new.session.store c.file_line-in-Replace.result
     (ap seen c.in-Replace.is) (turn_replace files c.args.session.now.config c.args.number c.in-Replace.hour c.in-Replace.name.now c.args.session.now.store) (c.file_line-in-Replace.ensures.turn files told)
 
-pub returns-in-Some-clause-opens : goal.returns-in-Some-clause-opens
-returns-in-Some-clause-opens g c = λ files told plain.
-    line_edited files c.args.session.now.config (seen c.args.line) (change_of c.in-Some.edit) c.args.session.now.store c.args.reads.now c.edit_line.new.reads c.edit_line.result c.in-Some.ensures c.edit_line.ensures.opens
+pub returns-in-Edit-clause-opens : goal.returns-in-Edit-clause-opens
+returns-in-Edit-clause-opens g c = λ files told plain.
+    line_edited files c.args.session.now.config (seen c.args.line) (change_of c.plain_edit-edit.result) c.args.session.now.store c.args.reads.now c.edit_line.new.reads c.edit_line.result (sym c.plain_edit-edit.ensures ∙ ap (λ x. edit_said (seen x)) (sym c.in-Edit.is)) c.edit_line.ensures.opens
 
 pub returns-in-Load-clause-opens : goal.returns-in-Load-clause-opens
 returns-in-Load-clause-opens g c = λ files told plain.

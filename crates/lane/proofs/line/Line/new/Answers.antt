@@ -1,6 +1,3 @@
-use Rattle.std.proofs.Common.{arith}
-use Rattle.lane.proofs.Moving.{earlier_low}
-use Rattle.lane.proofs.Standing.{have_pasts}
 use Rattle.lane.proofs.Seeing.{keeps_both}
 use Rattle.lane.proofs.line.Line.new.Goals as goal
 
@@ -12,11 +9,8 @@ invariant_of-result g c =
     let aheads = rw c.as_slice-2.ensures.value at c.in_ok-aheads.ensures.aheads in
     rw (c.of.ensures, c.of-2.ensures, c.of-3.ensures) (keeps_both (g.M.Machine.rules c.args.machine.now) c.args.before.now c.args.after.now c.args.moves.items c.in_ok-pasts.pasts c.in_ok-aheads.aheads runs.0 a pasts aheads)
 
-pub aheads_of-requires-clause-order : goal.aheads_of-requires-clause-order
-aheads_of-requires-clause-order g c = rw c.as_slice-2.ensures.value (earlier_low (g.M.Machine.rules c.args.machine.now) 0 c.requires.order.0 c.args.moves.items (omega arith) c.requires.order.2)
-
 pub aheads_of-requires-clause-pasts : goal.aheads_of-requires-clause-pasts
 aheads_of-requires-clause-pasts g c =
     let runs = rw c.as_slice.ensures.value at c.in_ok-pasts.ensures.runs in
     let pasts = rw c.as_slice.ensures.value at c.in_ok-pasts.ensures.pasts in
-    rw c.as_slice-2.ensures.value (have_pasts (g.M.Machine.rules c.args.machine.now) c.args.before.now c.args.moves.items c.in_ok-pasts.pasts runs pasts)
+    rw c.as_slice-2.ensures.value (runs, (c.args.before.now, c.requires.order, pasts))

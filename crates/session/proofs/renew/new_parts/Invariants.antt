@@ -2,7 +2,7 @@ use Rattle.std.proofs.Common.{◌+◌}
 use Rattle.hour_work.specs.Numbers.{patched}
 use Rattle.session.specs.Opens.{AreOpened}
 use Rattle.session.specs.Renewed.{AreNewParts}
-use Rattle.session.proofs.renew.parts_between.Given as goal
+use Rattle.session.proofs.renew.new_parts.Given as goal
 
 abbrev pub invariant-loop-hour : goal.invariant-loop-hour
 invariant-loop-hour g l = record {

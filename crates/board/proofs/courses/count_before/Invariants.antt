@@ -1,5 +1,5 @@
 use Rattle.std.proofs.Common.{◌≡◌, ◌+◌, drop}
-use Rattle.board.proofs.courses.until.Given as goal
+use Rattle.board.proofs.courses.count_before.Given as goal
 use Rattle.board.specs.Moves.{count_before}
 
 abbrev pub invariant-loop-i : goal.invariant-loop-i

@@ -1,5 +1,5 @@
 -- A channel's moves with fills in the gaps.
-use Rattle.std.specs.Prelude.{◌≡◌, ◌⊎◌, ◌↔◌, ℕ, ℤ, pos, ◌+◌, ◌≤◌, ◌<ℤ◌, ◌≤ℤ◌, ◌+ℤ◌, ◌^◌, Bool, Option, List, [], ◌∷◌, ◌++◌, length, reverse}
+use Rattle.std.specs.Prelude.{◌≡◌, ◌⊎◌, ◌↔◌, ℕ, ℤ, pos, ◌+◌, ◌≤◌, ◌<ℤ◌, ◌≤ℤ◌, ◌+ℤ◌, ◌^◌, Bool, Option, List, [], ◌∷◌, ◌++◌, length, reverse, MatchOption}
 use Rattle.colour_machine.specs.Rules.{Rules}
 use Rattle.span_set.specs.declared.set.Span.{Span}
 use Rattle.gap_ways.specs.declared.states.Fill.{Fill}
@@ -69,6 +69,10 @@ IsAlone sets one = (s : State) → Holds sets s ↔ (s ≡ state_of one)
 -- the state passes the place and answers the test as asked, and these sets hold it alone; none of them is entered after the place
 abbrev pub PassesAlone : Rules → List (List Span) → List (Option ℤ) → List Move → List Move → Bool → Test → Passing → Type 0
 PassesAlone m before after xs ys met test p = Passes m before after xs ys (state_of p.state) × Answers met test (state_of p.state) × (p.state.entry ≤ℤ test.at) × (length p.only ≡ m.colours) × IsAlone p.only p.state
+
+-- none where no state that passes answers the test as asked; else one that does, and what is possible with it
+abbrev pub IsPassing : Rules → List (List Span) → List (Option ℤ) → List Move → List Move → Bool → Test → Option Passing → Type 0
+IsPassing m before after xs ys met test r = MatchOption r (NonePasses m before after xs ys met test) (PassesAlone m before after xs ys met test)
 
 -- the moves, which follow one another over a place at this tenth, and the entries before them; all lie before tenth 2 ^ 38
 pub record IsPassage (m : Rules) (before : List (List Span)) (xs ys : List Move) (at : ℤ) : Type 0 where

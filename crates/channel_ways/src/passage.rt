@@ -3,7 +3,7 @@ ghost use Rattle.std.specs.Prelude.{◌≡◌, length, IfOk, IfSome, MatchOption
 ghost use Rattle.reach.specs.Runs.{State};
 ghost use Rattle.reach.specs.Past.{Holds};
 ghost use Rattle.gap_ways.specs.Ways.{state_of};
-ghost use Rattle.channel_ways.specs.Moves.{AddedThrough, NonePasses, PassesAlone, IsPassage};
+ghost use Rattle.channel_ways.specs.Moves.{AddedThrough, IsPassage, IsPassing, NonePasses};
 
 use crate::back::walk_source;
 use crate::onward::walk_end;
@@ -45,11 +45,8 @@ pub fn passage_state<M: Machine>(
     requires colours { length passage.now.before.now ≡ (M.rules machine.now).colours }
     requires ahead { length passage.now.after.now ≡ (M.rules machine.now).colours }
     requires some { (s : State) × Holds passage.now.before.now s }
-    ensures { IfOk result (λ r. MatchOption r
-        (NonePasses (M.rules machine.now) passage.now.before.now passage.now.after.now
-        passage.now.left.now passage.now.right.now met test.now)
-        (PassesAlone (M.rules machine.now) passage.now.before.now passage.now.after.now
-        passage.now.left.now passage.now.right.now met test.now)) }
+    ensures { IfOk result (λ r. IsPassing (M.rules machine.now) passage.now.before.now
+        passage.now.after.now passage.now.left.now passage.now.right.now met test.now r) }
 {
     let mut past = passage.before.copy()?;
     if let Some(_stop) = walk_past(alloc, machine, &mut past, passage.left)? {

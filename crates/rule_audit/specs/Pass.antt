@@ -20,7 +20,7 @@ use Rattle.rule_audit.specs.declared.hour.AuditedHour.{AuditedHour}
 use Rattle.rule_audit.specs.declared.lines.AuditLine.{AuditLine}
 use Rattle.rule_audit.specs.declared.rules.Rule.{Rule}
 use Rattle.rule_audit.specs.declared.rules.Rule.TheVariants.{Interval, Conflict, Companion, Parents}
-use Rattle.rule_audit.specs.Obligations.{Obligation, obligations_from}
+use Rattle.rule_audit.specs.Obligations.{Obligation, end_obligation, is_due, obligations_from}
 use Rattle.rule_audit.specs.Index.{no_rule, AreOwn, AreSkips}
 use Rattle.rule_audit.specs.Judged.{HasRuns, HasVerdict}
 use Rattle.rule_audit.specs.Lines.{AreLinesOf}
@@ -99,6 +99,17 @@ AddsIn h os old new = (e : Ends) → IsLogOf h e → Adds (HasVerdict (log_of h 
 -- the same where the tenth is known
 abbrev pub AddsAt : AuditedHour → ℕ → List Obligation → List AuditLine → List AuditLine → Type 0
 AddsAt h at os old new = (e : Ends) → IsLogOf h e → known_at h.stretches.now at ≡ true → Adds (HasVerdict (log_of h e)) os old new
+
+-- a rule is due at the end of the tenth, and what it adds there
+abbrev pub IsDueAt : AuditedHour → Bool → ℕ → Rule → Type 0
+IsDueAt h before at rule = is_due h.specs.now h.rows.now before at rule ≡ true
+
+abbrev pub AddsEnd : AuditedHour → Ends → Bool → ℕ → ℕ → Rule → List AuditLine → List AuditLine → Type 0
+AddsEnd h e before at number rule old new = Adds (HasVerdict (log_of h e)) (end_obligation h.specs.now h.rows.now before at number rule) old new
+
+-- the tenth of a row is known
+abbrev pub IsKnownRow : AuditedHour → ℕ → Type 0
+IsKnownRow h n = known_at h.stretches.now (row_at h n).at ≡ true
 
 -- the lines of the first of the obligations come after those of before, and these obligations are left
 abbrev pub AddsUpTo : (Obligation → Verdict → Type 0) → List Obligation → List Obligation → List AuditLine → List AuditLine → Type 0

@@ -8,7 +8,7 @@ ghost use Rattle.reach.specs.Tests.{InBound};
 ghost use Rattle.ring_config.specs.Sound.{IsBound};
 ghost use Rattle.board.specs.Verdicts.{MayPassRow};
 ghost use Rattle.rule_audit.specs.Judged.{Closes, IsIntervalVerdict, KeepsInterval, Leaves};
-ghost use Rattle.rule_audit.specs.Pass.{log_of, row_at, spec_at, Ends, FitsItem, IsLogOf, IsReady, SeesColour};
+ghost use Rattle.rule_audit.specs.Pass.{log_of, row_at, spec_at, Ends, FitsItem, IsKnownRow, IsLogOf, IsReady, SeesColour};
 
 use crate::hour::AuditedHour;
 use channel_tables::{Spec, letter_of, machine_of};
@@ -81,11 +81,10 @@ fn closing_verdict(hour: &AuditedHour<'_>, index: u32, item: &IntervalItem) -> V
     requires ready { IsReady hour.now }
     requires item { FitsItem hour.now.specs.now item.now }
     requires index { index < length hour.now.rows.now }
-    ensures { (e : Ends) → IsLogOf hour.now e → known_at hour.now.stretches.now
-        (row_at hour.now index).at ≡ true → IsIntervalVerdict result
-        (MayPassRow (log_of hour.now e) index item.now.spec) (λ v. v.colour ≡ item.now.colour)
-        (λ v. v.colour ≡ item.now.colour → InBound item.now.bound (pos (row_at hour.now index).at)
-        v.entry) }
+    ensures { (e : Ends) → IsLogOf hour.now e → IsKnownRow hour.now index
+        → IsIntervalVerdict result (MayPassRow (log_of hour.now e) index item.now.spec)
+        (λ v. v.colour ≡ item.now.colour) (λ v. v.colour ≡ item.now.colour
+        → InBound item.now.bound (pos (row_at hour.now index).at) v.entry) }
 {
     let any = colour_seen(hour, index, item, AgeBound::Any);
     if !any.some_true {
@@ -112,9 +111,8 @@ pub(crate) fn interval_verdict(hour: &AuditedHour<'_>, index: u32, item: &Interv
     requires index { index < length hour.now.rows.now }
     requires own { channel_in_table (row_at hour.now index).code (row_at hour.now index).param
         ≡ Some (spec_at hour.now item.now.spec).channel }
-    ensures { (e : Ends) → IsLogOf hour.now e → known_at hour.now.stretches.now
-        (row_at hour.now index).at ≡ true → IsIntervalVerdict result
-        (MayPassRow (log_of hour.now e) index item.now.spec)
+    ensures { (e : Ends) → IsLogOf hour.now e → IsKnownRow hour.now index
+        → IsIntervalVerdict result (MayPassRow (log_of hour.now e) index item.now.spec)
         (Closes (spec_at hour.now item.now.spec) (row_at hour.now index) item.now)
         (KeepsInterval (spec_at hour.now item.now.spec) (row_at hour.now index) item.now) }
 {

@@ -4,10 +4,9 @@ ghost use Rattle.gap_map.specs.Stretches.{known_at};
 ghost use Rattle.board.specs.Verdicts.{AreWithin};
 ghost use Rattle.rule_audit.specs.declared.rules.Rule.{Rule};
 ghost use Rattle.rule_audit.specs.declared.rules.Rule.TheVariants.{Interval};
-ghost use Rattle.rule_audit.specs.Obligations.{end_obligation, end_obligations, is_clause, is_due, is_row_of, is_timed_by, row_obligation, row_obligations, rows_obligations, tenth_obligations, terms_of};
-ghost use Rattle.rule_audit.specs.Judged.{HasVerdict};
+ghost use Rattle.rule_audit.specs.Obligations.{end_obligations, is_clause, is_row_of, is_timed_by, row_obligation, row_obligations, rows_obligations, tenth_obligations, terms_of};
 ghost use Rattle.rule_audit.specs.Index.{is_due_by, IsNext, IsNextDue, IsSkips};
-ghost use Rattle.rule_audit.specs.Pass.{log_of, row_at, rule_at, Adds, AddsAt, AddsIn, Ends, FitsItem, IsCutAt, IsLogOf, IsReady};
+ghost use Rattle.rule_audit.specs.Pass.{row_at, rule_at, Adds, AddsAt, AddsEnd, AddsIn, Ends, FitsItem, IsCutAt, IsDueAt, IsLogOf, IsReady};
 
 use crate::hour::AuditedHour;
 use crate::index::Skips;
@@ -144,10 +143,8 @@ fn judge_clause(
     requires known { known_at hour.now.stretches.now at ≡ true }
     requires clause { AreWithin (length hour.now.specs.now) clause.now }
     ensures { OnOk result ((e : Ends) (before : Bool) (rule : Rule) → IsLogOf hour.now e
-        → is_clause rule ≡ true → terms_of rule ≡ clause.now
-        → is_due hour.now.specs.now hour.now.rows.now before at rule ≡ true
-        → Adds (HasVerdict (log_of hour.now e)) (end_obligation hour.now.specs.now hour.now.rows.now
-        before at number rule) lines.old.items lines.new.items) }
+        → is_clause rule ≡ true → terms_of rule ≡ clause.now → IsDueAt hour.now before at rule
+        → AddsEnd hour.now e before at number rule lines.old.items lines.new.items) }
 {
     let verdict = clause_verdict(hour.view, at, clause);
     push_line(lines, number, at, Place::EndOfTenth, verdict)
@@ -165,10 +162,10 @@ fn judge_after(
     requires known { known_at hour.now.stretches.now at ≡ true }
     requires place { place < length hour.now.rules.now }
     ensures { OnOk result ((e : Ends) (before : Bool) → IsLogOf hour.now e
-        → (is_clause (rule_at hour.now place) ≡ true → is_due hour.now.specs.now hour.now.rows.now
-        before at (rule_at hour.now place) ≡ true) → Adds (HasVerdict (log_of hour.now e))
-        (end_obligation hour.now.specs.now hour.now.rows.now before at (place + 1)
-        (rule_at hour.now place)) lines.old.items lines.new.items) }
+        → (is_clause (rule_at hour.now place) ≡ true
+        → IsDueAt hour.now before at (rule_at hour.now place))
+        → AddsEnd hour.now e before at (place + 1) (rule_at hour.now place) lines.old.items
+        lines.new.items) }
 {
     let number = number_of(place);
     match &hour.rules[place] {

@@ -2,7 +2,7 @@
 ghost use Rattle.std.specs.Prelude.{◌≡◌, ◌∷◌, [], ◌+◌, ◌/◌, MatchOption, IfOk};
 ghost use Rattle.channel_tables.specs.Spec.{rules_of};
 ghost use Rattle.board.specs.Channels.{AreSpecs};
-ghost use Rattle.channel_ways.specs.Moves.{NonePasses, PassesAlone};
+ghost use Rattle.channel_ways.specs.Moves.{IsPassing, NonePasses};
 ghost use Rattle.signal_log.specs.Points.{AreAheadsAt, ArePastsAt};
 ghost use Rattle.strand_search.specs.Crossings.{FitsCut, IsCrossed, IsCrossing};
 ghost use Rattle.sig_base.specs.Reads.{Grow};
@@ -55,11 +55,9 @@ fn state_at(
 ) -> Result<Option<Passing>, NoMemory>
     requires spec { AreSpecs (spec.now ∷ []) }
     requires fits { FitsCut spec.now asked.now before.now cut.now after.now }
-    ensures { IfOk result (λ r. MatchOption r
-        (NonePasses (rules_of spec.now) before.now after.now (moves_over spec.now cut.now.left)
-        (moves_over spec.now cut.now.right) asked.now.met (test_of asked.now))
-        (PassesAlone (rules_of spec.now) before.now after.now (moves_over spec.now cut.now.left)
-        (moves_over spec.now cut.now.right) asked.now.met (test_of asked.now))) }
+    ensures { IfOk result (λ r. IsPassing (rules_of spec.now) before.now after.now
+        (moves_over spec.now cut.now.left) (moves_over spec.now cut.now.right) asked.now.met
+        (test_of asked.now) r) }
 {
     let left = course_of(alloc, spec, &cut.left)?;
     let right = course_of(alloc, spec, &cut.right)?;

@@ -1,12 +1,12 @@
 // One channel's ways over moves.
-ghost use Rattle.std.specs.Prelude.{◌≡◌, ◌↔◌, ℕ, ℤ, pos, negsuc, ◌≤ℤ◌, ◌^◌, length, IfOk, MatchOption};
+ghost use Rattle.std.specs.Prelude.{◌≡◌, ◌↔◌, ℕ, ℤ, pos, negsuc, ◌≤ℤ◌, ◌^◌, length, IfOk};
 ghost use Rattle.channel_tables.specs.Spec.{IsSpec, rules_of};
 ghost use Rattle.reach.specs.Runs.{State};
 ghost use Rattle.reach.specs.Past.{Holds};
 ghost use Rattle.reach.specs.Ahead.{Admits};
 ghost use Rattle.lane.specs.Walks.{AfterMoves, BeforeMoves, EnteredBefore, InOrder};
 ghost use Rattle.gap_ways.specs.Ways.{NoneOlder, state_of};
-ghost use Rattle.channel_ways.specs.Moves.{AddedAlike, AddedMoves, ClampedAfter, IsAlone, IsPassage, NonePasses, PassesAlone};
+ghost use Rattle.channel_ways.specs.Moves.{AddedAlike, AddedMoves, ClampedAfter, IsAlone, IsPassage, IsPassing};
 ghost use Rattle.strand_search.specs.Parts.{GoOn, StandsAlone};
 
 use channel_tables::{Spec, machine_of};
@@ -84,11 +84,8 @@ pub(crate) fn state_between(
     requires colours { length passage.now.before.now ≡ (rules_of spec.now).colours }
     requires ahead { length passage.now.after.now ≡ (rules_of spec.now).colours }
     requires some { (s : State) × Holds passage.now.before.now s }
-    ensures { IfOk result (λ r. MatchOption r
-        (NonePasses (rules_of spec.now) passage.now.before.now passage.now.after.now
-        passage.now.left.now passage.now.right.now met test.now)
-        (PassesAlone (rules_of spec.now) passage.now.before.now passage.now.after.now
-        passage.now.left.now passage.now.right.now met test.now)) }
+    ensures { IfOk result (λ r. IsPassing (rules_of spec.now) passage.now.before.now
+        passage.now.after.now passage.now.left.now passage.now.right.now met test.now r) }
 {
     let machine = machine_of(spec);
     passage_state(alloc, &machine, passage, test, met)

@@ -19,7 +19,7 @@ use std::alloc::Global;
 const DETECTOR_ON: u8 = 82;
 
 /// Whether a detector is sure to have a fault.
-#[derive(Clone, Copy, Debug, PartialEq, Eq)]
+#[derive(Clone, Copy, PartialEq, Eq)]
 pub(crate) struct Flag {
     pub(crate) fault: bool,
 }

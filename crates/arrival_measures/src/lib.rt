@@ -28,8 +28,6 @@ mod points;
 mod same;
 mod sources;
 mod sums;
-#[cfg(test)]
-mod tests;
 mod under_way;
 
 pub use arrivals::arrival_points;

@@ -25,6 +25,3 @@ pub use courses::{Course, count_before, courses_of};
 pub use pasts::{Pasts, PastsError, pasts_hour};
 pub use spec_table::SpecTable;
 pub use view::HourView;
-
-#[cfg(test)]
-mod tests;

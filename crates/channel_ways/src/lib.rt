@@ -15,8 +15,6 @@ mod laws;
 mod onward;
 mod passage;
 mod pasts;
-#[cfg(test)]
-mod tests;
 
 pub use back::walk_source;
 pub use clamp::clamped_source;

@@ -10,6 +10,3 @@ mod in_tenth;
 mod open;
 
 pub use open::Open;
-
-#[cfg(test)]
-mod tests;

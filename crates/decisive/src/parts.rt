@@ -10,7 +10,7 @@ use sig_base::NoMemory;
 use std::alloc::Global;
 
 /// What the state of the channel with this place among the specs is to be.
-#[derive(Clone, Copy, Debug, PartialEq, Eq)]
+#[derive(Clone, Copy, PartialEq, Eq)]
 pub(crate) struct Part {
     pub(crate) spec: u16,
     pub(crate) keep: Keep,

@@ -7,7 +7,5 @@ mod order;
 mod records;
 mod rows;
 mod script;
-#[cfg(test)]
-mod tests;
 
 pub use demo::Demo;

@@ -17,8 +17,6 @@ mod hour;
 mod laws;
 mod part;
 mod tenths;
-#[cfg(test)]
-mod tests;
 
 pub use count::{greatest_on, least_on, sure_fault};
 pub use hour::switched;

@@ -32,6 +32,3 @@ pub use check::check_strands;
 pub use laws::{kept_by_states, obligations_have_lines, strands_are_of_history};
 pub use pair::find_pair;
 pub use strands::{Fill, Fills, Pair, Pairs, Strand, Strands};
-
-#[cfg(test)]
-mod tests;

@@ -3,7 +3,5 @@
 #![tactic(auto)]
 
 mod stretch;
-#[cfg(test)]
-mod tests;
 
 pub use stretch::{Stretch, stretches};

@@ -27,8 +27,6 @@ mod pack_error;
 mod packing;
 mod repeats;
 mod row;
-#[cfg(test)]
-mod tests;
 mod unpacking;
 
 pub use laws::{

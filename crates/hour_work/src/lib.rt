@@ -24,8 +24,6 @@ mod reported;
 mod seen;
 mod steps;
 mod stop_bars;
-#[cfg(test)]
-mod tests;
 
 pub use again::{backward_again, forward_again};
 pub use carry::{Between, Carry, Future};

@@ -3,4 +3,3 @@ pub mod Places
 pub mod Legs
 pub mod Kept
 pub mod Runs
-pub mod Ring

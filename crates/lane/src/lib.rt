@@ -11,8 +11,6 @@ mod leg;
 mod line;
 mod moves;
 mod past;
-#[cfg(test)]
-mod tests;
 
 pub use ahead::walk_ahead;
 pub use line::Line;

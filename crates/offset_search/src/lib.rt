@@ -13,6 +13,3 @@ mod steps;
 pub use arrival::Arrival;
 pub use search::shift_counts;
 pub use shifts::Shifts;
-
-#[cfg(test)]
-mod tests;

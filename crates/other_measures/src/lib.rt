@@ -20,8 +20,6 @@ mod preempts;
 mod same;
 mod states;
 mod sums;
-#[cfg(test)]
-mod tests;
 
 pub use carry::OtherCarry;
 pub use hour::{OtherSums, others_carried, others_hour};

@@ -6,7 +6,6 @@ pub mod Leaving
 pub mod Sets
 pub mod Arrivals
 pub mod Latest
-pub mod Table
 pub mod Single
 pub mod Holes
 pub mod Last

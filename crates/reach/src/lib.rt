@@ -10,8 +10,6 @@ mod ahead;
 mod before_gap;
 mod before_holes;
 mod before_row;
-#[cfg(test)]
-mod by_tenths;
 mod gap;
 mod holes;
 mod keep;
@@ -20,10 +18,6 @@ mod row;
 mod run;
 mod seen;
 mod sets;
-#[cfg(test)]
-mod table;
-#[cfg(test)]
-mod tests;
 
 pub use ahead::Ahead;
 pub use before_gap::ahead_gap;

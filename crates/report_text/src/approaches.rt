@@ -234,7 +234,7 @@ fn put_approach<K: Sink>(
 
 /// Writes for each approach, in file order, a line for its advance detector and two for its stop bar
 /// detector, where it has them. The sums stand in the same order.
-pub(crate) fn put_approaches<K: Sink>(
+pub fn put_approaches<K: Sink>(
     config: &Config,
     sums: &[ArrivalSum],
     splits: &[SplitSum],

@@ -25,6 +25,7 @@ mod usage;
 mod verdicts;
 
 pub use applied::put_applied;
+pub use approaches::put_approaches;
 pub use audit::{put_audit_counts, put_audit_line};
 pub use config_refusal::put_config_error;
 pub use counts::put_counts;
@@ -37,6 +38,3 @@ pub use shifts::put_shifts;
 pub use undecided::{put_nothing, put_pairs};
 pub use usage::put_usage;
 pub use verdicts::{put_audit, put_verdicts};
-
-#[cfg(test)]
-mod tests;

@@ -24,14 +24,14 @@ pub struct OverlapItem {
 }
 
 /// A channel that floors and interval rules may name: its place among the specs, and its kind.
-#[derive(Clone, Copy, Debug, PartialEq, Eq)]
+#[derive(Clone, Copy, PartialEq, Eq)]
 pub(crate) struct Named {
     pub(crate) spec: u16,
     pub(crate) kind: Kind,
 }
 
 /// The least age at which a colour of a channel may be left.
-#[derive(Clone, Copy, Debug, PartialEq, Eq)]
+#[derive(Clone, Copy, PartialEq, Eq)]
 pub(crate) struct FloorItem {
     pub(crate) spec: u16,
     pub(crate) colour: u8,

@@ -38,6 +38,3 @@ pub use config::Config;
 pub use error::{ConfigError, KeyAt, KeyName, TableName};
 pub use items::{Approach, IntervalItem, Name, OverlapItem};
 pub use read::read_config;
-
-#[cfg(test)]
-mod tests;

@@ -16,8 +16,6 @@ mod row;
 mod row_error;
 mod signal;
 mod stamp;
-#[cfg(test)]
-mod tests;
 mod trim;
 
 pub use count::count_code;

@@ -31,6 +31,3 @@ pub use audit::audit_rows;
 pub use laws::rules_are_of_their_channels;
 pub use lines::{AuditLine, Place};
 pub use rules::{Rule, rules_of};
-
-#[cfg(test)]
-mod tests;

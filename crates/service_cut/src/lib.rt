@@ -18,8 +18,6 @@ mod parts;
 mod same;
 mod services;
 mod signs;
-#[cfg(test)]
-mod tests;
 
 pub use carry::CutCarry;
 pub use hour::{Cuts, cut_hour};

@@ -17,8 +17,6 @@ mod points;
 mod renew;
 mod session;
 mod steps;
-#[cfg(test)]
-mod tests;
 
 pub use edit::Edit;
 pub use session::Session;

@@ -29,7 +29,7 @@ use Rattle.sigaudit.specs.Script.{nothing_told}
 use Rattle.sigaudit.proofs.ScriptFacts.{told_nothing}
 use Rattle.sigaudit.specs.declared.status.Status.{Status}
 use Rattle.sigaudit.specs.declared.status.Status.TheVariants as outer
-use Rattle.sigaudit.specs.declared.run.Got.TheVariants.{Nothing, Stop}
+use Rattle.sigaudit.specs.declared.one_run.Got.TheVariants.{Nothing, Stop}
 use Rattle.sigaudit.specs.declared.status.Ended.{Ended}
 use Rattle.sigaudit.specs.declared.status.Ended.TheVariants as ended
 use Rattle.sigaudit.specs.declared.status.Stopped.{Stopped}

@@ -23,8 +23,8 @@ use Rattle.sigaudit.specs.declared.status.Stopped.{Stopped}
 use Rattle.sigaudit.specs.declared.status.Stopped.TheVariants as stopped
 use Rattle.sigaudit.specs.declared.script.Fetched.{Fetched}
 use Rattle.sigaudit.specs.declared.script.Fetched.TheVariants.{There, Missed, Cut}
-use Rattle.sigaudit.specs.declared.run.Got.{Got}
-use Rattle.sigaudit.specs.declared.run.Got.TheVariants.{Have, Nothing, Stop}
+use Rattle.sigaudit.specs.declared.one_run.Got.{Got}
+use Rattle.sigaudit.specs.declared.one_run.Got.TheVariants.{Have, Nothing, Stop}
 
 -- the shelf's counts, and what the sink took and counted
 pub record World : Type 0 where

@@ -24,6 +24,3 @@ pub use laws::{
     only_what_comes_up_counts, points_at_both_ends, points_see_one_side, some_history_agrees,
 };
 pub use pasts::pasts_after;
-
-#[cfg(test)]
-mod tests;

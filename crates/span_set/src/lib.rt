@@ -7,7 +7,5 @@
 mod change;
 mod search;
 mod set;
-#[cfg(test)]
-mod tests;
 
 pub use set::{Span, SpanSet};

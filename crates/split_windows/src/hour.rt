@@ -18,7 +18,7 @@ use std::alloc::Global;
 const RED: u32 = 50;
 
 // The tenths of an hour: its first, and the first after it.
-#[derive(Clone, Copy, Debug, PartialEq, Eq)]
+#[derive(Clone, Copy, PartialEq, Eq)]
 struct Bounds {
     first: u32,
     end: u32,

@@ -11,8 +11,6 @@
 mod hour;
 mod items;
 mod laws;
-#[cfg(test)]
-mod tests;
 
 pub use hour::{Over, open_after, windows_hour};
 pub use items::{OpenGreen, Windows};

@@ -14,8 +14,6 @@ mod hour;
 mod laws;
 mod own;
 mod same;
-#[cfg(test)]
-mod tests;
 
 pub use all::{AtBars, Ended, bars_hour};
 pub use at_bar::AtBar;

@@ -25,6 +25,3 @@ mod search;
 mod ways;
 
 pub use search::{Asked, Found, find_run};
-
-#[cfg(test)]
-mod tests;

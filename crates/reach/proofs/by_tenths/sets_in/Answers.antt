@@ -1,1 +1,0 @@
-use Rattle.reach.proofs.by_tenths.sets_in.Goals as goal

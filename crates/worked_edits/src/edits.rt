@@ -1,0 +1,157 @@
+mod configured;
+mod many_hours;
+mod pairs;
+
+use crate::held::Mark;
+use configured::{one_phase, three_hours, two_hours};
+use session::{Edit, Session};
+use sig_base::{Applied, EditError, Hour, HourRows, Reads, Row, Tenth};
+use std::alloc::Global;
+use std::test::Fail;
+
+// An edit; the rows of a load or a replacement are two at the hour's sixth tenth.
+#[derive(Clone, Copy)]
+enum Step {
+    Load(Hour),
+    Replace(Hour),
+    Withdraw(Hour),
+    Blank(Tenth, Tenth),
+    Unblank(Tenth, Tenth),
+}
+
+fn rows_of(alloc: Global, hour: Hour) -> Result<HourRows<Mark>, Fail> {
+    let row = Row {
+        at: hour.saturating_mul(36_000).saturating_add(5),
+        code: 1,
+        param: 2,
+    };
+    let rows = HourRows::new(hour, vec![in alloc; row, row]?, 0).ok_or("rows")?;
+    Ok(rows)
+}
+
+fn edit_of(alloc: Global, step: Step) -> Result<Edit<Mark>, Fail> {
+    match step {
+        Step::Load(hour) => Ok(Edit::Load(rows_of(alloc, hour)?)),
+        Step::Replace(hour) => Ok(Edit::Replace(rows_of(alloc, hour)?)),
+        Step::Withdraw(hour) => Ok(Edit::Withdraw(hour)),
+        Step::Blank(from, to) => Ok(Edit::Blank { from, to }),
+        Step::Unblank(from, to) => Ok(Edit::Unblank { from, to }),
+    }
+}
+
+fn apply(
+    session: &mut Session<Mark>,
+    edit: Edit<Mark>,
+    reads: &mut Reads<Mark>,
+) -> Result<Applied, EditError> {
+    session.apply(edit, reads)
+}
+
+// The held hours, their rows and the known tenths.
+fn numbers(session: &Session<Mark>) -> [u64; 3] {
+    let total = session.report().total();
+    [total.held_hours(), total.held_rows(), total.known_tenths()]
+}
+
+const ALL: Result<Applied, EditError> = Ok(Applied { from: 0, to: 2 });
+
+const FIRST: Result<Applied, EditError> = Ok(Applied { from: 0, to: 1 });
+
+const SECOND: Result<Applied, EditError> = Ok(Applied { from: 1, to: 2 });
+
+// Edits of a window of two hours, what comes of each, and what is held and known after it.
+const STEPS: [(Step, Result<Applied, EditError>, [u64; 3]); 10] = [
+    (Step::Withdraw(1), Err(EditError::NotHeld), [0, 0, 0]),
+    (Step::Load(1), SECOND, [1, 2, 36_000]),
+    (Step::Load(1), Err(EditError::AlreadyHeld), [1, 2, 36_000]),
+    (Step::Load(2), Err(EditError::OutOfWindow), [1, 2, 36_000]),
+    (Step::Blank(35_990, 36_010), ALL, [1, 2, 35_990]),
+    (
+        Step::Blank(5, 5),
+        Err(EditError::EmptyRange),
+        [1, 2, 35_990],
+    ),
+    (Step::Load(0), FIRST, [2, 4, 71_980]),
+    (Step::Unblank(36_000, 36_001), SECOND, [2, 4, 71_981]),
+    (Step::Replace(0), FIRST, [2, 4, 71_981]),
+    (Step::Withdraw(1), SECOND, [1, 2, 35_990]),
+];
+
+#[test]
+fn edits_one_after_another(rt: HostRuntime) -> Result<(), Fail> {
+    let alloc = rt.alloc();
+    let mut session = Session::new(alloc, two_hours(alloc)?)?;
+    let mut reads = Reads::new(Mark);
+    for (step, wanted, after) in STEPS {
+        let edit = edit_of(alloc, step)?;
+        assert_eq!(rt; apply(&mut session, edit, &mut reads), wanted);
+        assert_eq!(rt; numbers(&session), after);
+    }
+    Ok(())
+}
+
+// Edits of a window of three hours without channels, the hours that they move, and how often each
+// hour was opened up to then. The carry at an hour point says only whether the tenth before it is
+// known, so an hour moves with the one before it where that tenth was known and is no longer, or
+// the other way round. An edited hour is opened three times, the one after it that moves twice.
+const MOVES: [(Step, u32, u32, [u64; 3]); 7] = [
+    (Step::Load(0), 0, 2, [3, 2, 0]),
+    (Step::Load(1), 1, 3, [3, 5, 2]),
+    (Step::Load(2), 2, 3, [3, 5, 5]),
+    (Step::Replace(1), 1, 2, [3, 8, 5]),
+    (Step::Blank(36_005, 36_006), 1, 2, [3, 11, 5]),
+    (Step::Withdraw(0), 0, 2, [6, 13, 5]),
+    (Step::Blank(0, 5), 0, 1, [9, 13, 5]),
+];
+
+fn counts(reads: &Reads<Mark>) -> [u64; 3] {
+    [reads.count(0), reads.count(1), reads.count(2)]
+}
+
+#[test]
+fn moves_no_other_hours(rt: HostRuntime) -> Result<(), Fail> {
+    let alloc = rt.alloc();
+    let mut session = Session::new(alloc, three_hours(alloc)?)?;
+    let mut reads = Reads::new(Mark);
+    for (step, from, to, opened) in MOVES {
+        let edit = edit_of(alloc, step)?;
+        assert_eq!(rt;
+            apply(&mut session, edit, &mut reads),
+            Ok(Applied { from, to })
+        );
+        assert_eq!(rt; counts(&reads), opened);
+    }
+    Ok(())
+}
+
+// Phase 2 becomes inactive at 100 and may then not show yellow at 200.
+fn contradicting(alloc: Global) -> Result<HourRows<Mark>, Fail> {
+    let inactive = Row {
+        at: 100,
+        code: 12,
+        param: 2,
+    };
+    let rows = vec![in alloc; inactive, YELLOW]?;
+    Ok(HourRows::new(0, rows, 0).ok_or("rows")?)
+}
+
+const YELLOW: Row = Row {
+    at: 200,
+    code: 8,
+    param: 2,
+};
+
+// The load names the second row, and nothing is held after it.
+#[test]
+fn refuses_what_contradicts(rt: HostRuntime) -> Result<(), Fail> {
+    let alloc = rt.alloc();
+    let mut session = Session::new(alloc, one_phase(alloc)?)?;
+    let mut reads = Reads::new(Mark);
+    let edit = Edit::Load(contradicting(alloc)?);
+    assert_eq!(rt;
+        apply(&mut session, edit, &mut reads),
+        Err(EditError::Contradiction(YELLOW))
+    );
+    assert_eq!(rt; numbers(&session), [0, 0, 0]);
+    Ok(())
+}

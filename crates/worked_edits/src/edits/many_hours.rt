@@ -1,0 +1,71 @@
+use super::apply;
+use super::configured::many_hours;
+use crate::held::Mark;
+use session::{Edit, Session};
+use sig_base::{Applied, Hour, HourRows, Reads, Row};
+use std::alloc::Global;
+use std::test::Fail;
+
+const MANY: Hour = 700;
+
+// A green of phase 2 in the hour, with its yellow and its red clearance.
+fn green_in(alloc: Global, hour: Hour) -> Result<HourRows<Mark>, Fail> {
+    let mut rows = Vec::new(alloc);
+    for (tenth, code) in [(100, 1), (400, 8), (435, 9)] {
+        let at = hour.saturating_mul(36_000).saturating_add(tenth);
+        rows.push(Row { at, code, param: 2 })?;
+    }
+    let rows = HourRows::new(hour, rows, 0).ok_or("rows")?;
+    Ok(rows)
+}
+
+// How often each hour was opened.
+fn counts(alloc: Global, reads: &Reads<Mark>) -> Result<Vec<u64>, Fail> {
+    let mut counts = Vec::new(alloc);
+    for hour in 0..MANY {
+        counts.push(reads.count(hour))?;
+    }
+    Ok(counts)
+}
+
+// Holds all hours.
+fn load_all(
+    alloc: Global,
+    session: &mut Session<Mark>,
+    reads: &mut Reads<Mark>,
+) -> Result<(), Fail> {
+    for hour in 0..MANY {
+        let edit = Edit::Load(green_in(alloc, hour)?);
+        apply(session, edit, reads).map_err(|_| "load")?;
+    }
+    Ok(())
+}
+
+// Whether hour 350 was opened once to three times, and no other hour.
+fn is_opened_alone(before: &[u64], after: &[u64]) -> bool {
+    for (hour, (old, new)) in before.iter().zip(after.iter()).enumerate() {
+        let opened = new.saturating_sub(*old);
+        let (least, most) = if hour == 350 { (1, 3) } else { (0, 0) };
+        if opened < least || opened > most {
+            return false;
+        }
+    }
+    true
+}
+
+// Of 700 held hours one is put anew with the rows that it has: it moves alone and is opened one to
+// three times, and no other hour is opened.
+#[test]
+fn one_hour_of_many(rt: HostRuntime) -> Result<(), Fail> {
+    let alloc = rt.alloc();
+    let mut session = Session::new(alloc, many_hours(alloc)?)?;
+    let mut reads = Reads::new(Mark);
+    load_all(alloc, &mut session, &mut reads)?;
+    let before = counts(alloc, &reads)?;
+    let edit = Edit::Replace(green_in(alloc, 350)?);
+    let alone = Applied { from: 350, to: 351 };
+    assert_eq!(rt; apply(&mut session, edit, &mut reads), Ok(alone));
+    let after = counts(alloc, &reads)?;
+    assert!(rt; is_opened_alone(before.as_slice(), after.as_slice()));
+    Ok(())
+}

@@ -1,0 +1,111 @@
+use crate::given::Mark;
+use outside::{MemShelf, MemSink};
+use sig_base::{NoMemory, Reads};
+use sigaudit::{Status, Words, run};
+use std::alloc::Global;
+use std::test::Fail;
+
+const RULE: &str =
+    "signal = \"7\"\nstart = \"2024-03-04T06\"\nhours = 2\n[[phase]]\nnumber = 2\nring = 1\nside = 1\n[[interval]]\nchannel = \"phase 2\"\ncolour = \"Green\"\nat_least = 150\n";
+
+const SCRIPT: &str =
+    "blank 2024-03-04T06:01:45.0 2024-03-04T06:01:47.0\nload 0 f\naudit\nmeasures\n";
+
+// Too short a green, with a hole in it or none.
+const FILE: &str = "7,2024-03-04 06:01:40.0,1,2\n7,2024-03-04 06:02:00.0,8,2\n";
+
+const NOTHING: &str = "nothing undecided\n";
+
+fn words_for(alloc: Global, rule: &str, at: &str) -> Result<Words, NoMemory> {
+    let mut words = Words::new(alloc);
+    for word in ["--config", "c", "--script", "s", "--rule", rule, "--at", at] {
+        words.push(word)?;
+    }
+    Ok(words)
+}
+
+// A rule and a tenth that aren't there have no undecided line, and the script's lines write nothing.
+#[test]
+fn rules_and_tenths_that_are_not_there(rt: HostRuntime) -> Result<(), Fail> {
+    let alloc = rt.alloc();
+    let mut reads = Reads::new(Mark);
+    for (rule, at, script, status, text) in [
+        ("2", "2024-03-04T06:02:00.0", SCRIPT, Status::Done, NOTHING),
+        ("0", "2024-03-04T06:02:00.0", SCRIPT, Status::Done, NOTHING),
+        ("1", "2024-03-04T08:00:00.0", SCRIPT, Status::Done, NOTHING),
+        ("1", "3/4/2024T5:59:59.9", "", Status::Done, NOTHING),
+        (
+            "000002",
+            "2024-03-04T06:02:00.0",
+            "lod 0 f\n",
+            Status::SomeRefused,
+            NOTHING,
+        ),
+    ] {
+        let words = words_for(alloc, rule, at)?;
+        let mut shelf = MemShelf::new(alloc);
+        shelf.add("c", RULE.as_bytes())?;
+        shelf.add("s", script.as_bytes())?;
+        shelf.add("f", FILE.as_bytes())?;
+        let mut sink = MemSink::new(alloc, 1000)?;
+        assert_eq!(rt;
+            run(alloc, &words, &mut shelf, &mut sink, &mut reads),
+            status
+        );
+        assert_eq!(rt; sink.bytes(), text.as_bytes(), "of rule {rule} at {at}");
+    }
+    Ok(())
+}
+
+// Without a script, and with a faulty configuration, the answer is that of a script's own words.
+#[test]
+fn words_of_pairs_without_their_files(rt: HostRuntime) -> Result<(), Fail> {
+    let alloc = rt.alloc();
+    let mut reads = Reads::new(Mark);
+    let words = words_for(alloc, "1", "2024-03-04T06:02:00.0")?;
+    for (config, status, text) in [
+        (RULE, Status::NoFile, ""),
+        (
+            "hours = 2",
+            Status::BadConfig,
+            "config refused: missing top.signal\n",
+        ),
+    ] {
+        let mut shelf = MemShelf::new(alloc);
+        shelf.add("c", config.as_bytes())?;
+        let mut sink = MemSink::new(alloc, 1000)?;
+        assert_eq!(rt;
+            run(alloc, &words, &mut shelf, &mut sink, &mut reads),
+            status
+        );
+        assert_eq!(rt; sink.bytes(), text.as_bytes());
+    }
+    Ok(())
+}
+
+// A hole in the green that makes its line undecided, and the same line of a log without a hole.
+#[test]
+fn a_line_that_a_hole_leaves_undecided(rt: HostRuntime) -> Result<(), Fail> {
+    let alloc = rt.alloc();
+    let mut reads = Reads::new(Mark);
+    let words = words_for(alloc, "1", "2024-03-04T06:02:00.0")?;
+    for (script, front) in [
+        (
+            SCRIPT,
+            "undecided 1 2024-03-04T06:02:00.0\nkeeps\nchannel phase 2 from ",
+        ),
+        ("load 0 f\naudit\n", NOTHING),
+    ] {
+        let mut shelf = MemShelf::new(alloc);
+        shelf.add("c", RULE.as_bytes())?;
+        shelf.add("s", script.as_bytes())?;
+        shelf.add("f", FILE.as_bytes())?;
+        let mut sink = MemSink::new(alloc, 1000)?;
+        assert_eq!(rt;
+            run(alloc, &words, &mut shelf, &mut sink, &mut reads),
+            Status::Done
+        );
+        assert!(rt; sink.bytes().starts_with(front.as_bytes()));
+    }
+    Ok(())
+}

@@ -3,9 +3,10 @@ mod many_hours;
 mod pairs;
 
 use crate::held::Mark;
-use configured::{one_phase, three_hours, two_hours};
+use configured::{one_interval, one_phase, three_hours, two_hours};
+use rule_audit::{AuditLine, Place};
 use session::{Edit, Session};
-use sig_base::{Applied, EditError, Hour, HourRows, Reads, Row, Tenth};
+use sig_base::{Applied, EditError, Hour, HourRows, NoMemory, Reads, Row, Tenth, Verdict};
 use std::alloc::Global;
 use std::test::Fail;
 
@@ -153,5 +154,60 @@ fn refuses_what_contradicts(rt: HostRuntime) -> Result<(), Fail> {
         Err(EditError::Contradiction(YELLOW))
     );
     assert_eq!(rt; numbers(&session), [0, 0, 0]);
+    Ok(())
+}
+
+// Phase 2 begins green at 1000 and ends it at 1149, a tenth too early.
+fn too_short(alloc: Global) -> Result<HourRows<Mark>, Fail> {
+    let green = Row {
+        at: 1000,
+        code: 1,
+        param: 2,
+    };
+    let yellow = Row {
+        at: 1149,
+        code: 8,
+        param: 2,
+    };
+    let rows = vec![in alloc; green, yellow]?;
+    Ok(HourRows::new(0, rows, 0).ok_or("rows")?)
+}
+
+fn audited(
+    alloc: Global,
+    session: &Session<Mark>,
+    windows: bool,
+    reads: &mut Reads<Mark>,
+) -> Result<Vec<AuditLine>, NoMemory> {
+    if session.config().hours() == 0 {
+        return Ok(Vec::new(alloc));
+    }
+    session.audit_hour(0, windows, reads)
+}
+
+const BROKEN: AuditLine = AuditLine {
+    rule: 1,
+    at: 1149,
+    place: Place::BeforeRow(1),
+    verdict: Verdict::Broken,
+    window: None,
+};
+
+// The broken line has its window where that is wanted.
+#[test]
+fn finds_what_decides(rt: HostRuntime) -> Result<(), Fail> {
+    let alloc = rt.alloc();
+    let mut session = Session::new(alloc, one_interval(alloc)?)?;
+    let mut reads = Reads::new(Mark);
+    let edit = Edit::Load(too_short(alloc)?);
+    assert_eq!(rt; apply(&mut session, edit, &mut reads), ALL);
+    let plain = audited(alloc, &session, false, &mut reads)?;
+    assert_eq!(rt; plain.as_slice(), [BROKEN].as_slice());
+    let window = Some((1000, 1149));
+    let with = audited(alloc, &session, true, &mut reads)?;
+    assert_eq!(rt;
+        with.as_slice(),
+        [AuditLine { window, ..BROKEN }].as_slice()
+    );
     Ok(())
 }

@@ -11,7 +11,7 @@ use Rattle.colour_machine.proofs.Ways.{goes_stays, change_stays}
 use Rattle.reach.specs.Runs.{State, state, OldEnough, Step, Steps, Run}
 use Rattle.reach.specs.Past.{Holds}
 use Rattle.reach.specs.Sets.{at}
-use Rattle.reach.specs.Arrivals.{Arrives, AreArrivals, IsArrival, IsFirst, IsLeave, IsLowered, ByColours}
+use Rattle.reach.specs.Arrivals.{Arrives, AreArrivals, AreDepartures, IsArrival, IsLeave, IsLowered, ByColours}
 use Rattle.gap_ways.specs.Ways.{AllBefore}
 use Rattle.gap_ways.specs.Rounds.{IsNext, AreRounds}
 use Rattle.reach.proofs.Arriving.{within_next, fills_later, from_old, from_arrival}
@@ -68,7 +68,7 @@ agree_same (suc n) a b c h l d lt k =
 module _ (m : Rules) (laws : IsMachine m) (sets : List (List Span)) (f t : ℤ) (ft : f <ℤ t) (dep leave a b best : List ℤ)
     (size : length sets ≡ m.colours)
     (before : AllBefore sets f)
-    (first : (c : ℕ) → c < m.colours → IsFirst (get_or sets c []) (m.floor c) f t (at dep c))
+    (first : AreDepartures m sets f t dep)
     (leaves : (c : ℕ) → c < m.colours → IsLeave (at dep c) (at a c) (m.floor c) (at leave c))
     (lowered : IsLowered a b (ByColours m m.colours leave))
     (was : AreArrivals m sets f t a)

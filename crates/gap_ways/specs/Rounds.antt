@@ -4,13 +4,9 @@ use Rattle.span_set.specs.declared.set.Span.{Span}
 use Rattle.colour_machine.specs.Rules.{Rules, Goes, Change}
 use Rattle.reach.specs.Leaving.{HasOld}
 use Rattle.reach.specs.Sets.{at, set_of}
-use Rattle.reach.specs.Arrivals.{IsFirst, IsLeave}
+use Rattle.reach.specs.Arrivals.{IsLeave}
 use Rattle.gap_ways.specs.declared.states.Entered.{Entered}
 use Rattle.gap_ways.specs.declared.edges.Edge.{Edge}
-
--- for each colour the first tenth from f on at which a state of the sets is old enough to leave it, or the end t
-abbrev pub AreDepartures : Rules → List (List Span) → ℤ → ℤ → List ℤ → Type 0
-AreDepartures m sets f t dep = (c : ℕ) → c < m.colours → IsFirst (set_of sets c) (m.floor c) f t (at dep c)
 
 -- of the first n letters none changes colour c to colour d
 abbrev pub NoneOf : Rules → ℕ → ℕ → ℕ → Type 0

@@ -1,16 +1,17 @@
 // The way back over a gap.
 ghost use Rattle.std.specs.Prelude.{◌≡◌, ℤ, pos, negsuc, ◌≤ℤ◌, ◌<ℤ◌, ◌<◌, ◌≤◌, ◌^◌, length, reverse, IfOk};
 ghost use Rattle.reach.specs.Past.{Holds, AfterGap};
+ghost use Rattle.reach.specs.Arrivals.{AreDepartures};
 ghost use Rattle.gap_ways.specs.Ways.{state_of, AllBefore, NoneOlder, AfterEarly, IsEarly, Added};
-ghost use Rattle.gap_ways.specs.Rounds.{AreDepartures, InRounds, InGap};
+ghost use Rattle.gap_ways.specs.Rounds.{InRounds, InGap};
 
 use crate::ask::old_entry;
 use crate::edges::edge_to;
 use crate::narrow::early_states;
-use crate::rounds::{Rounds, leaves, rounds_of};
+use crate::rounds::{Rounds, rounds_of};
 use crate::states::{Entered, Fill};
 use colour_machine::Machine;
-use reach::Past;
+use reach::{Past, leaves};
 use sig_base::{NoMemory, Tenth};
 use std::alloc::Global;
 

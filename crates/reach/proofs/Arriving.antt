@@ -1,6 +1,8 @@
 -- A gap in one step: earliest arrivals.
-use Rattle.std.proofs.Common.{◌≡◌, refl, sym, ◌∙◌, subst, ◌⊎◌, inl, inr, ◌↔◌, ℕ, zero, suc, ◌+◌, ◌<◌, ◌≤◌, ℤ, pos, negsuc, ◌+ℤ◌, ◌-ℤ◌, ◌<ℤ◌, ◌≤ℤ◌, List, [], ◌∷◌, ◌++◌, length, get_or, arith}
-use Rattle.std.proofs.lemmas.Int.{ints}
+use Rattle.std.proofs.Common.{◌≡◌, refl, sym, ◌∙◌, subst, ◌⊎◌, inl, inr, ◌↔◌, ℕ, zero, suc, ◌+◌, ◌<◌, ◌≤◌, ℤ, pos, negsuc, ◌+ℤ◌, ◌-ℤ◌, ◌<ℤ◌, ◌≤ℤ◌, List, [], ◌∷◌, ◌++◌, length, get_or, replicate, fold, arith}
+use Rattle.std.specs.Int.{int_min}
+use Rattle.std.proofs.lemmas.Int.{ints, fold-int_min_bounds}
+use Rattle.std.proofs.lemmas.List.Elements.{All-get_or}
 use Rattle.span_set.proofs.Sets.{int_cases}
 use Rattle.span_set.specs.declared.set.Span.{Span}
 use Rattle.colour_machine.specs.Rules.{Rules, IsMachine, Change}
@@ -8,9 +10,9 @@ use Rattle.colour_machine.proofs.Ways.{goes_stays}
 use Rattle.reach.specs.Runs.{State, state, OldEnough, Step, Steps, Run, Fills}
 use Rattle.reach.specs.Past.{Holds, AfterGap}
 use Rattle.reach.specs.Sets.{at, AreAdded}
-use Rattle.reach.specs.Arrivals.{StandsIn, ArrivesFrom, AreArrivals, IsArrival, IsFirst, IsLeave, IsLowered, ByColours}
+use Rattle.reach.specs.Arrivals.{StandsIn, ArrivesFrom, AreArrivals, IsArrival, AreDepartures, IsLeave, IsLowered, ByColours}
 use Rattle.reach.proofs.States.{in_sets}
-use Rattle.std.proofs.lemmas.List.{get_or_default, get_or_past}
+use Rattle.std.proofs.lemmas.List.{get_or_default, get_or_past, get_or-replicate}
 use Rattle.std.proofs.lemmas.Bool.{cases_lt}
 use Rattle.reach.proofs.States.{fills_none}
 
@@ -106,18 +108,51 @@ module _ (m : Rules) (sets : List (List Span)) (f t : ℤ) (arrival : ℕ → �
   )
 
 -- ---- the rounds
+-- the least of the departures and the end
+abbrev pub least : ℤ → List ℤ → ℤ
+least t dep = fold int_min t dep
+
+pub least_end : (t : ℤ) (dep : List ℤ) → least t dep ≤ℤ t
+least_end t dep = (fold-int_min_bounds t dep (least t dep) refl).0
+
+pub least_at : (t : ℤ) (dep : List ℤ) (c : ℕ) → c < length dep → least t dep ≤ℤ at dep c
+least_at t dep c lt = All-get_or (λ x. least t dep ≤ℤ x) dep c (pos 0) lt (fold-int_min_bounds t dep (least t dep) refl).1
+
+-- before the rounds no colour arrives before the end
+pub none_late : (t : ℤ) (dep : List ℤ) (d : ℕ) → d < 16 → least t dep ≤ℤ at (replicate 16 t) d
+none_late t dep d lt = rw (get_or-replicate 16 d t (pos 0) lt) (least_end t dep)
+
+pub none_by_end : (t : ℤ) (d : ℕ) → d < 16 → at (replicate 16 t) d ≤ℤ t
+none_by_end t d lt = rw (get_or-replicate 16 d t (pos 0) lt) (omega (arith, ints))
+
+pub none_arrive : (m : Rules) (sets : List (List Span)) (f t : ℤ) → f <ℤ t → AreArrivals m sets f t (replicate 16 t)
+none_arrive m sets f t ft = (
+  refl,
+  λ d lt. rw (get_or-replicate 16 d t (pos 0) lt) (omega (arith, ints), omega (arith, ints), λ out. refl),
+  λ d lt b. let e = none_by_end t d lt in let i = get_or-replicate 16 d t (pos 0) lt in absurd (omega (arith, ints)),
+)
+
+-- none of a round's arrivals is before a tenth that no departure and no arrival of before was before
+module _ (m : Rules) (laws : IsMachine m) (x : ℤ) (dep leave a b : List ℤ)
+    (late : (c : ℕ) → c < m.colours → x ≤ℤ at dep c)
+    (leaves : (c : ℕ) → c < m.colours → IsLeave (at dep c) (at a c) (m.floor c) (at leave c))
+    (lowered : IsLowered a b (ByColours m m.colours leave))
+    (was : (d : ℕ) → d < 16 → x ≤ℤ at a d) where
+  leave_late : (c : ℕ) → c < m.colours → x ≤ℤ at leave c
+  leave_late c lt =
+      let few = laws.few_colours in
+      let i = late c lt in let j = was c (omega arith) in
+      elim (leaves c lt).2 [ inl e ↦ omega (arith, ints) | inr e ↦ omega (arith, ints) ]
+
+  pub round_late : (d : ℕ) → d < 16 → x ≤ℤ at b d
+  round_late d h = elim (lowered.1 d h).2 [ inl e ↦ let i = was d h in omega (arith, ints) | inr (c, lt, (l, ll, (n, ne, y))) ↦ let i = leave_late c lt in omega (arith, ints) ]
+
 module _ (m : Rules) (laws : IsMachine m) (sets : List (List Span)) (f t : ℤ) (ft : f <ℤ t) (dep leave a b : List ℤ)
     (size : length sets ≡ m.colours)
-    (first : (c : ℕ) → c < m.colours → IsFirst (get_or sets c []) (m.floor c) f t (at dep c))
+    (first : AreDepartures m sets f t dep)
     (leaves : (c : ℕ) → c < m.colours → IsLeave (at dep c) (at a c) (m.floor c) (at leave c))
     (lowered : IsLowered a b (ByColours m m.colours leave))
     (was : AreArrivals m sets f t a) where
-  leave_late : (c : ℕ) → c < m.colours → f ≤ℤ at leave c
-  leave_late c lt =
-      let few = laws.few_colours in
-      let i = (first c lt).1 in let j = (was.1 c (omega arith)).0 in
-      elim (leaves c lt).2 [ inl x ↦ omega (arith, ints) | inr x ↦ omega (arith, ints) ]
-
   by_sound : (d : ℕ) → ByColours m m.colours leave d (at b d) → at b d <ℤ t → ArrivesFrom m sets f t d (at b d)
   by_sound d (c, lt, (l, ll, (n, ne, y))) bt =
       let few = laws.few_colours in
@@ -133,7 +168,7 @@ module _ (m : Rules) (laws : IsMachine m) (sets : List (List Span)) (f t : ℤ) 
   round_arrivals = (
     lowered.0,
     λ d h. let low = lowered.1 d h in let w = was.1 d h in (
-      elim low.2 [ inl e ↦ omega (arith, ints) | inr (c, lt, (l, ll, (n, ne, y))) ↦ let i = leave_late c lt in omega (arith, ints) ],
+      round_late m laws f dep leave a b (λ c lt. (first c lt).1) leaves lowered (λ c lt. (was.1 c lt).0) d h,
       omega (arith, ints),
       λ out. elim low.2 [ inl e ↦ e ∙ w.2 out | inr (c, lt, (l, ll, (n, ne, y))) ↦ let s = goes_stays m c l d laws n in absurd (omega arith) ],
     ),

@@ -5,7 +5,7 @@ use Rattle.span_set.specs.Spans.{Member}
 use Rattle.colour_machine.specs.Rules.{Rules, Goes}
 use Rattle.reach.specs.Past.{Holds, AfterGap}
 use Rattle.reach.specs.Leaving.{HasOld}
-use Rattle.reach.specs.Sets.{at}
+use Rattle.reach.specs.Sets.{at, set_of}
 use Rattle.reach.specs.Runs.{State, state, Steps, Fills}
 
 -- colour c is left at tenth x by a letter, for colour d
@@ -25,6 +25,10 @@ IsLowered a b C = (length b ≡ 16) × ((d : ℕ) → d < 16 → (at b d ≤ℤ 
 -- the least tenth from f on at which an entry of the set is old enough, or the end t
 abbrev pub IsFirst : List Span → ℕ → ℤ → ℤ → ℤ → Type 0
 IsFirst set floor f t x = ((e y : ℤ) → Member set e → f ≤ℤ y → (e +ℤ pos floor) ≤ℤ y → y <ℤ t → x ≤ℤ y) × (f ≤ℤ x) × (x ≤ℤ t) × (x <ℤ t → HasOld set floor x)
+
+-- for each colour the first tenth from f on at which an entry of its set is old enough to leave it, or the end t
+abbrev pub AreDepartures : Rules → List (List Span) → ℤ → ℤ → List ℤ → Type 0
+AreDepartures m sets f t dep = (c : ℕ) → c < m.colours → IsFirst (set_of sets c) (m.floor c) f t (at dep c)
 
 -- when a colour may be left: the earlier of the departure from the old entries and the one after an arrival
 abbrev pub IsLeave : ℤ → ℤ → ℕ → ℤ → Type 0

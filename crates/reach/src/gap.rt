@@ -1,11 +1,12 @@
 // The states after a gap, in one step: each colour's entries of before stay, and its new ones are
 // all tenths of the gap from its earliest arrival on.
-ghost use Rattle.std.specs.Prelude.{◌≡◌, ◌≢◌, ℕ, ℤ, pos, negsuc, ◌+ℤ◌, ◌-ℤ◌, ◌≤ℤ◌, ◌<ℤ◌, ◌<◌, ◌≤◌, ◌^◌, ◌⊎◌, ◌↔◌, [], length, IsTrue, OnOk, OnErr, slice_index_or};
+ghost use Rattle.std.specs.Prelude.{◌≡◌, ◌≢◌, ℕ, ℤ, pos, negsuc, ◌+ℤ◌, ◌-ℤ◌, ◌≤ℤ◌, ◌<ℤ◌, ◌<◌, ◌≤◌, ◌^◌, ◌⊎◌, ◌↔◌, List, length, IsTrue, OnOk, OnErr};
+ghost use Rattle.span_set.specs.declared.set.Span.{Span};
 ghost use Rattle.reach.specs.Runs.{State};
 ghost use Rattle.reach.specs.Past.{Holds, AfterGap, NoneLater};
 ghost use Rattle.reach.specs.Sets.{at};
 ghost use Rattle.reach.specs.Single.{sets_of, IsSingle};
-ghost use Rattle.reach.specs.Arrivals.{IsArrival, IsFirst, IsLeave, IsLowered, ByLetter, ByLetters, ByColours};
+ghost use Rattle.reach.specs.Arrivals.{IsArrival, IsFirst, AreDepartures, IsLeave, IsLowered, ByLetter, ByLetters, ByColours};
 
 use crate::past::{Past, Single, spread};
 use crate::sets::add_each;
@@ -82,7 +83,7 @@ fn gap_sets<M: Machine>(
     ensures err { OnErr result (sets.new ≡ sets.old) }
 {
     let departure = departures(machine, sets, from, to);
-    let arrival = arrivals(machine, sets, &departure, from, to);
+    let arrival = arrivals(machine, &departure, from, to);
     add_each(sets, &arrival, to)?;
     Ok(())
 }
@@ -93,9 +94,7 @@ fn departures<M: Machine>(machine: &M, sets: &[SpanSet], from: Tenth, to: Tenth)
     requires some { from <ℤ to }
     requires high { to ≤ℤ pos (2 ^ 39) }
     requires colours { length sets.now ≡ (M.rules machine.now).colours }
-    ensures { (c : ℕ) → c < (M.rules machine.now).colours
-        → IsFirst (slice_index_or sets.now c []) ((M.rules machine.now).floor c) from to
-        (at result c) }
+    ensures { AreDepartures (M.rules machine.now) sets.now from to result }
 {
     let mut new = [to; 16];
     for colour in 0..machine.colours() {
@@ -121,22 +120,20 @@ fn first_leave(set: &SpanSet, floor: u32, from: Tenth, to: Tenth) -> Tenth
     (least + i64::from(floor)).max(from).min(to)
 }
 
-// Earliest arrivals: by rounds, until one changes nothing.
-fn arrivals<M: Machine>(
+/// The earliest arrivals in a gap from `from` up to but without `to`, of any sets with these
+/// departures: for each colour the tenth from which on it may be entered, or `to`. They are found by
+/// rounds, until one changes nothing.
+pub fn arrivals<M: Machine>(
     machine: &M,
-    sets: &[SpanSet],
     departure: &[Tenth; 16],
     from: Tenth,
     to: Tenth,
 ) -> [Tenth; 16]
-    requires low { negsuc (2 ^ 39) ≤ℤ from }
     requires some { from <ℤ to }
     requires high { to ≤ℤ pos (2 ^ 39) }
-    requires colours { length sets.now ≡ (M.rules machine.now).colours }
-    requires first { (c : ℕ) → c < (M.rules machine.now).colours
-        → IsFirst (slice_index_or sets.now c []) ((M.rules machine.now).floor c) from to
-        (at departure.now c) }
-    ensures { IsArrival (M.rules machine.now) sets.now from to result }
+    ensures { (sets : List (List Span)) → length sets ≡ (M.rules machine.now).colours
+        → AreDepartures (M.rules machine.now) sets from to departure.now
+        → IsArrival (M.rules machine.now) sets from to result }
 {
     let mut arrival = [to; 16];
     'rounds: loop {
@@ -149,8 +146,12 @@ fn arrivals<M: Machine>(
     }
 }
 
-// For each colour the first tenth at which it may be left, after an old entry or an arrival.
-fn leaves<M: Machine>(machine: &M, departure: &[Tenth; 16], arrival: &[Tenth; 16]) -> [Tenth; 16]
+/// For each colour the first tenth at which it may be left, after an old entry or an arrival.
+pub fn leaves<M: Machine>(
+    machine: &M,
+    departure: &[Tenth; 16],
+    arrival: &[Tenth; 16],
+) -> [Tenth; 16]
     requires { (c : ℕ) → c < 16 → at arrival.now c ≤ℤ pos (2 ^ 39) }
     ensures { (c : ℕ) → c < (M.rules machine.now).colours
         → IsLeave (at departure.now c) (at arrival.now c) ((M.rules machine.now).floor c)
@@ -172,8 +173,8 @@ fn leave_one(departure: Tenth, arrival: Tenth, floor: u32) -> Tenth
     departure.min(arrival + i64::from(floor))
 }
 
-// Lowers the arrivals to those by one change of a colour at the tenth at which it may be left. None
-// of them is after the end.
+/// Lowers the arrivals to those by one change of a colour at the tenth at which it may be left. None
+/// of them is after the end.
 pub fn relax<M: Machine>(machine: &M, leave: &[Tenth; 16], to: Tenth, arrival: &mut [Tenth; 16])
     requires { (d : ℕ) → d < 16 → at arrival.old d ≤ℤ to }
     ensures { IsLowered arrival.old arrival.new (ByColours (M.rules machine.now)

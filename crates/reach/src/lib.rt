@@ -23,7 +23,7 @@ pub use ahead::Ahead;
 pub use before_gap::ahead_gap;
 pub use before_holes::{ahead_holes, ahead_in, places_are_gaps};
 pub use before_row::ahead_row;
-pub use gap::past_gap;
+pub use gap::{arrivals, leaves, past_gap, relax};
 pub use holes::{holes_are_gaps, past_holes};
 pub use keep::{past_is_some, past_keep, past_only};
 pub use past::Past;

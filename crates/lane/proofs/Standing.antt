@@ -95,6 +95,19 @@ adds_more colours past a b P Q old now new below same many one =
       ];
     }
 
+-- a place whose Ahead is the first gets its number
+pub adds_first : (now all : List (Option ℤ)) (past : List (List Span)) (old new : PlaceAheads) → now ≡ all → get_or old.aheads.items 0 [] ≡ all → HaveAheads (length now) old.aheads.items → (new.aheads ≡ old.aheads) × (new.numbers.items ≡ old.numbers.items ++ 0 ∷ []) → AddsPlaces (length now) past 0 1 (λ j. Admits now) old new
+adds_first now all past old new same first have (aheads, numbers) = record {
+  fresh = 0 ∷ [];
+  added = numbers;
+  size = omega arith;
+  more = rw aheads (more_same old.aheads.items);
+  all = rw aheads have;
+  stand = λ j k lt sum.
+      let last : k ≡ 0 = omega arith in
+      rw (aheads, last) (have.0, λ s held. rw (first, ← same) ((λ a. a), λ a. a));
+}
+
 -- the same with another word for what goes on
 pub adds_same : (colours : ℕ) (past : List (List Span)) (a b : ℕ) (P Q : ℕ → State → Type 0) (old new : PlaceAheads) → ((j : ℕ) → a < j → j ≤ b → (s : State) → P j s ↔ Q j s) → AddsPlaces colours past a b P old new → AddsPlaces colours past a b Q old new
 adds_same colours past a b P Q old new same adds = record {

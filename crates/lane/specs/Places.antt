@@ -9,7 +9,7 @@ use Rattle.reach.specs.Tests.{Meets}
 use Rattle.reach.specs.declared.seen.Test.{Test}
 use Rattle.reach.specs.declared.seen.Seen.{Seen}
 use Rattle.lane.specs.declared.moves.Move.{Move}
-use Rattle.lane.specs.Walks.{limit_before, limit_after, AfterMoves, BeforeMoves}
+use Rattle.lane.specs.Walks.{limit_before, limit_after, AfterMoves, BeforeMoves, EnteredBefore, InOrder}
 
 -- the state is entered early enough for the first of the moves
 abbrev pub EntersBefore : List Move → State → Type 0
@@ -41,6 +41,10 @@ Passes m before after xs ys v = AfterMoves m before xs v × BeforeMoves m after 
 pub record SeesPassing (m : Rules) (before : List (List Span)) (after : List (Option ℤ)) (xs : List Move) (ys : List Move) (test : Test) (seen : Seen) : Type 0 where
   pub some_true : IsTrue seen.some_true ↔ ((v : State) × Passes m before after xs ys v × Meets test v)
   pub some_false : IsTrue seen.some_false ↔ ((v : State) × Passes m before after xs ys v × (Meets test v → ⊥))
+
+-- the same at the place before the move with this number, at each tenth that parts the moves there
+abbrev pub SeesPlace : Rules → List (List Span) → List (Option ℤ) → List Move → ℕ → Test → Seen → Type 0
+SeesPlace m before after moves place test seen = (low at : ℕ) → EnteredBefore before low → InOrder m low moves → limit_of low (take place moves) ≤ at + 1 → TakesFrom (at + 1) (drop place moves) → test.at ≡ pos at → SeesPassing m before after (take place moves) (drop place moves) test seen
 
 -- of the states that enter early enough for the later moves, those that the Past holds and the Ahead admits are exactly those between the moves
 abbrev pub IsBetween : Rules → List (List Span) → List (Option ℤ) → List Move → List Move → List (List Span) → List (Option ℤ) → Type 0

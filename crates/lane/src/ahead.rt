@@ -1,5 +1,5 @@
 // The states before moves.
-ghost use Rattle.std.specs.Prelude.{◌≡◌, ℕ, pos, ◌+◌, ◌<◌, ◌<ℤ◌, ◌^◌, ◌↔◌, length, drop, false, IsTrue, IfOk, OnOk, slice_index_or, []};
+ghost use Rattle.std.specs.Prelude.{◌≡◌, ℕ, pos, ◌+◌, ◌<◌, ◌<ℤ◌, ◌^◌, ◌↔◌, ◌++◌, ◌∷◌, length, drop, false, IsTrue, IfOk, OnOk, slice_index_or, []};
 ghost use Rattle.reach.specs.Runs.{State};
 ghost use Rattle.reach.specs.Past.{Holds, IsAlone};
 ghost use Rattle.reach.specs.Ahead.{Admits};
@@ -67,7 +67,8 @@ const FAR: i64 = 500_000_000_000;
 
 // An Ahead for the place before no move, before the last move, before the last two and so on. Where
 // some run goes on after the moves, it goes through each place. So where a place has one state
-// alone, that goes on, and nothing need be known of what comes after the place.
+// alone, that goes on, and nothing need be known of what comes after the place: between two such
+// places a letter is passed over.
 pub fn aheads_of<M: Machine>(
     alloc: Global,
     machine: &M,
@@ -88,12 +89,18 @@ pub fn aheads_of<M: Machine>(
     let mut places = PlaceAheads { aheads, numbers };
     let some = goes_on(past_at(pasts, moves.len()), after);
     let mut ahead = after.copy();
+    let mut is_all = false;
     let mut holes = Vec::new(alloc);
     let mut place = moves.len();
     while place > 0 {
         let begin = leg_begin(moves, place);
-        let past = past_at(pasts, place);
         let certain = is_certain(some, past_at(pasts, begin), &all);
+        if certain && is_all && begin + 1 == place {
+            add_first(&mut places)?;
+            place = begin;
+            continue;
+        }
+        let past = past_at(pasts, place);
         back_over(
             machine,
             &mut ahead,
@@ -106,10 +113,20 @@ pub fn aheads_of<M: Machine>(
         if certain {
             ahead = all.copy();
         }
+        is_all = certain;
         place = begin;
     }
     add_place(&mut places, past_at(pasts, 0), &ahead)?;
     Ok(places)
+}
+
+// A place gets the number of the first Ahead.
+fn add_first(places: &mut PlaceAheads) -> Result<(), NoMemory>
+    ensures { OnOk result ((places.new.aheads ≡ places.old.aheads)
+        × (places.new.numbers.items ≡ places.old.numbers.items ++ 0 ∷ [])) }
+{
+    places.numbers.push(0)?;
+    Ok(())
 }
 
 // Whether some run goes on, and the Past has one state alone, which is admitted.

@@ -1,7 +1,7 @@
 // The states at each place between one channel's moves.
 ghost use Rattle.std.specs.Prelude.{◌≡◌, ℕ, ◌^◌, negsuc, pos, ◌+◌, ◌≤◌, ◌≤ℤ◌, length, take, drop, IfOk};
 ghost use Rattle.lane.specs.Walks.{InOrder, EnteredBefore};
-ghost use Rattle.lane.specs.Places.{limit_of, TakesFrom, SeesPassing};
+ghost use Rattle.lane.specs.Places.{SeesPlace};
 
 use crate::ahead::{PlaceAheads, aheads_of};
 use crate::moves::Move;
@@ -88,12 +88,8 @@ impl<M: Machine> Line<M> {
         requires place { place ≤ length self.now.moves }
         requires low { negsuc (2 ^ 39) ≤ℤ test.now.at }
         requires high { test.now.at ≤ℤ pos (2 ^ 39) }
-        ensures { (low at : ℕ) → EnteredBefore self.now.before low
-            → InOrder (M.rules self.now.machine) low self.now.moves
-            → limit_of low (take place self.now.moves) ≤ at + 1
-            → TakesFrom (at + 1) (drop place self.now.moves) → test.now.at ≡ pos at
-            → SeesPassing (M.rules self.now.machine) self.now.before self.now.after
-            (take place self.now.moves) (drop place self.now.moves) test.now result }
+        ensures { SeesPlace (M.rules self.now.machine) self.now.before self.now.after
+            self.now.moves place test.now result }
     {
         let run = self.pasts.runs[place];
         let number = self.aheads.numbers[self.moves.len() - place];

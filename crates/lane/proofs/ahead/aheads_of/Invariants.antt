@@ -1,4 +1,5 @@
-use Rattle.std.proofs.Common.{◌≡◌, ◌≤◌, ◌+◌, length}
+use Rattle.std.proofs.Common.{◌≡◌, ◌≤◌, ◌+◌, [], get_or, length}
+use Rattle.std.specs.Prelude.{IsTrue}
 use Rattle.lane.specs.Kept.{HaveAheads, Serves, AreStandIns}
 use Rattle.lane.proofs.ahead.aheads_of.Given as goal
 
@@ -6,6 +7,8 @@ abbrev pub invariant-loop-place : goal.invariant-loop-place
 invariant-loop-place g l = record {
   within : l.place ≤ length l.moves;
   serves : Serves (g.M.Machine.rules l.machine) l.after l.moves l.pasts l.place l.ahead;
+  all : IsTrue l.is_all → l.ahead ≡ l.all;
+  first : get_or l.places.aheads.items 0 [] ≡ l.all;
   have : HaveAheads (g.M.Machine.rules l.machine).colours l.places.aheads.items;
   size : length l.places.numbers.items + l.place ≡ length l.moves;
   stand : AreStandIns (g.M.Machine.rules l.machine) l.after l.moves l.pasts (l.place + 1) l.places;

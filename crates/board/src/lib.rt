@@ -13,6 +13,7 @@ mod again;
 mod aheads;
 mod clause;
 mod courses;
+mod marks;
 mod meeting;
 mod pasts;
 mod spec_table;

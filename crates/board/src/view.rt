@@ -13,6 +13,7 @@ ghost use Rattle.board.specs.Verdicts.{SeesRow, SeesEnd};
 
 use crate::aheads::{Aheads, first_of};
 use crate::courses::courses_of;
+use crate::marks::{Marks, marks_of};
 use crate::pasts::Pasts;
 use channel_tables::{AnyMachine, Spec, machine_of};
 use gap_map::Stretch;
@@ -35,9 +36,12 @@ pub struct HourView {
     stretches: Shown<Stretch>,
     after: Snapshot<Aheads>,
     lines: Vec<Line<AnyMachine>>,
+    // Those of each line's moves.
+    marks: Vec<Marks>,
 }
 
 impl Model for HourView {
+    ghost use Rattle.std.specs.Prelude.{◌≡◌, length};
     ghost use Rattle.board.specs.Logs.{HourLog, hour_log};
     ghost use Rattle.board.specs.Places.{IsView};
 
@@ -47,7 +51,8 @@ impl Model for HourView {
         v.after.value };
 
     ghost invariant = { λ v. IsView (hour_log v.hour v.specs.items v.rows.items v.stretches.items
-        v.before.value v.after.value) v.lines.items };
+        v.before.value v.after.value) v.lines.items
+        × (length v.marks.items ≡ length v.lines.items) };
 }
 
 // The hour of the stretches.
@@ -98,6 +103,7 @@ impl HourView {
             after.now) }
     {
         let courses = courses_of(alloc, specs, rows, stretches)?;
+        let marks = marks_of(alloc, courses.as_slice(), first_of(stretches))?;
         let mut lines = Vec::new(alloc);
         for i in 0..specs.len() {
             let line = line_of(
@@ -117,6 +123,7 @@ impl HourView {
             stretches: Shown::of(stretches),
             after: Snapshot::of(after),
             lines,
+            marks,
         })
     }
 
@@ -150,7 +157,8 @@ impl HourView {
             → SeesRow self.now index spec test.now result }
     {
         let line = &self.lines[spec as usize];
-        let place = place_of(line.moves(), test.at, Some(index));
+        let marks = &self.marks[spec as usize];
+        let place = place_of(line.moves(), marks, test.at, Some(index));
         line.seen(place, test)
     }
 
@@ -161,7 +169,8 @@ impl HourView {
         ensures { known_at self.now.stretches at ≡ true → SeesEnd self.now at spec test.now result }
     {
         let line = &self.lines[spec as usize];
-        let place = place_of(line.moves(), i64::from(at), None);
+        let marks = &self.marks[spec as usize];
+        let place = place_of(line.moves(), marks, i64::from(at), None);
         line.seen(place, test)
     }
 }
@@ -187,14 +196,17 @@ fn line_of(
     Ok(line)
 }
 
-// The number of moves that come before the place. Each turn halves what is left, whether the half
-// before comes before the place or not.
-fn place_of(moves: &[Move], at: Tenth, index: Option<u32>) -> usize
+// The number of moves that come before the place. The search begins between the marks about it,
+// where both agree with the moves. Each turn halves what is left, whether the half before comes
+// before the place or not.
+fn place_of(moves: &[Move], marks: &Marks, at: Tenth, index: Option<u32>) -> usize
     ensures within { result ≤ length moves.now }
     ensures place { (j : ℕ) → IsSplit at index moves.now j → result ≡ j }
 {
-    let mut low = 0;
-    let mut left = moves.len();
+    let (below, above) = marks.about(at);
+    let high = high_of(moves, above, at, index);
+    let mut low = low_of(moves, below, at, index).min(high);
+    let mut left = high - low;
     'search: while left > 0 {
         let half = left - left / 2;
         if is_before(moves[low + half - 1], at, index) {
@@ -203,6 +215,27 @@ fn place_of(moves: &[Move], at: Tenth, index: Option<u32>) -> usize
         left -= half;
     }
     low
+}
+
+// The guess, where that many moves come before the place, and else none.
+fn low_of(moves: &[Move], guess: usize, at: Tenth, index: Option<u32>) -> usize
+    ensures { (j : ℕ) → IsSplit at index moves.now j → result ≤ j }
+{
+    if guess > 0 && guess <= moves.len() && is_before(moves[guess - 1], at, index) {
+        return guess;
+    }
+    0
+}
+
+// The guess, where no more moves come before the place, and else all.
+fn high_of(moves: &[Move], guess: usize, at: Tenth, index: Option<u32>) -> usize
+    ensures within { result ≤ length moves.now }
+    ensures place { (j : ℕ) → IsSplit at index moves.now j → j ≤ result }
+{
+    if guess < moves.len() && !is_before(moves[guess], at, index) {
+        return guess;
+    }
+    moves.len()
 }
 
 // Whether the move comes before a place at the tenth: before the row with the number, or at the

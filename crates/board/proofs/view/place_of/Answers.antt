@@ -30,3 +30,12 @@ returns-clause-place c =
     let i = simp to_z-of_z at c.search.invariant in
     let t = c.search-test.false in
     λ j s. let k = i.1 j s in let a = k.0 in let b = k.1 in omega arith
+
+pub search-init : goal.search-init
+search-init c =
+    let r = c.ranges.at in
+    let below = simp to_z-of_z at c.low_of.ensures in
+    let above = simp to_z-of_z at c.high_of-high.ensures.place in
+    let within = c.high_of-high.ensures.within in
+    let least = c.min-low.ensures in
+    simp to_z-of_z (omega arith, λ j s. let a = below j s in let b = above j s in (omega arith, omega arith))

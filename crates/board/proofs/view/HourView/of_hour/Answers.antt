@@ -1,10 +1,14 @@
-use Rattle.std.proofs.Common.{arith, ap, ◌≡◌, ◌∙◌, ◌+◌, ◌<◌, [], ◌∷◌, ◌++◌, length, get_or}
+use Rattle.std.proofs.Common.{arith, ap, sym, ◌≡◌, ◌∙◌, ◌+◌, ◌<◌, [], ◌∷◌, ◌++◌, length, get_or}
 use Rattle.std.proofs.lemmas.List.{get_or_default, length_push}
 use Rattle.channel_tables.specs.declared.spec.Spec.{Spec}
 use Rattle.board.specs.Logs.{HourLog, hour_log, no_spec, first_tenth}
 use Rattle.board.proofs.Hours.{moves_order, course_is}
 use Rattle.board.proofs.Viewing.{lines_more, element}
+use Rattle.board.proofs.Within.{some_stretch}
 use Rattle.board.proofs.view.HourView.of_hour.Goals as goal
+
+pub first_of-requires : goal.first_of-requires
+first_of-requires c = some_stretch c.args.hour c.args.rows.now c.args.stretches.now c.requires.log.is_hour
 
 pub line_of-requires-clause-order : goal.line_of-requires-clause-order
 line_of-requires-clause-order c =
@@ -38,4 +42,5 @@ loop-i-preserved c =
 pub invariant_of-result : goal.invariant_of-result
 invariant_of-result c =
     let all : c.loop-i.i ≡ length c.args.specs.now = omega arith in
-    rw (c.of.ensures, c.of-2.ensures, c.of-3.ensures, c.of-4.ensures, c.of-5.ensures) (record { is_log = c.requires.log; count = c.loop-i.invariant.0 ∙ all; are_lines = rw (← all) c.loop-i.invariant.1 })
+    let marks = c.in_ok-marks.ensures ∙ (ap length c.as_slice.ensures.value ∙ c.in_ok-courses.ensures.0) in
+    rw (c.of.ensures, c.of-2.ensures, c.of-3.ensures, c.of-4.ensures, c.of-5.ensures) (record { is_log = c.requires.log; count = c.loop-i.invariant.0 ∙ all; are_lines = rw (← all) c.loop-i.invariant.1 }, marks ∙ sym (c.loop-i.invariant.0 ∙ all))

@@ -23,3 +23,4 @@ pub mod Cells
 pub mod Few
 pub mod Suiting
 pub mod Back
+pub mod Among

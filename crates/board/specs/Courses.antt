@@ -1,5 +1,5 @@
 -- The moves of each channel.
-use Rattle.std.specs.Prelude.{◌≡◌, ℕ, ◌<◌, List, [], ◌++◌, length, slice_index_or}
+use Rattle.std.specs.Prelude.{◌≡◌, ℕ, zero, suc, ◌<◌, Bool, true, false, if◌then◌else◌, List, [], ◌++◌, length, slice_index_or}
 use Rattle.lane.specs.declared.moves.Move.{Move}
 use Rattle.sig_base.specs.declared.values.Row.{Row}
 use Rattle.gap_map.specs.declared.stretch.Stretch.{Stretch}
@@ -14,3 +14,16 @@ AreAdded old new more = (length new ≡ length old) × ((i : ℕ) → i < length
 -- each list has the moves of its spec
 abbrev pub AreCourses : List Spec → List Row → List Stretch → List (List Move) → Type 0
 AreCourses specs rows ss courses = (length courses ≡ length specs) × ((i : ℕ) (d : Spec) → i < length specs → slice_index_or courses i [] ≡ own (track (slice_index_or specs i d)) 0 rows ss)
+
+-- how many of the first n are true
+abbrev pub chosen_before : List Bool → ℕ → ℕ
+chosen_before wanted zero = 0
+chosen_before wanted (suc n) = if slice_index_or wanted n false then suc (chosen_before wanted n) else chosen_before wanted n
+
+-- each of the first n specs that is wanted stands among these at its turn
+abbrev pub AreAmong : List Spec → List Bool → ℕ → List Spec → Type 0
+AreAmong specs wanted n few = (i : ℕ) (d : Spec) → i < n → slice_index_or wanted i false ≡ true → (chosen_before wanted i < length few) × (slice_index_or few (chosen_before wanted i) d ≡ slice_index_or specs i d)
+
+-- each spec that is wanted has its moves among these at its turn
+abbrev pub AreCoursesAmong : List Spec → List Bool → List Row → List Stretch → List (List Move) → Type 0
+AreCoursesAmong specs wanted rows ss courses = (i : ℕ) (d : Spec) → i < length specs → slice_index_or wanted i false ≡ true → (chosen_before wanted i < length courses) × (slice_index_or courses (chosen_before wanted i) [] ≡ own (track (slice_index_or specs i d)) 0 rows ss)

@@ -1,19 +1,14 @@
 // What is said of an hour again, from other states about it: only the channels that differ are gone
 // through anew.
-ghost use Rattle.std.specs.Prelude.{◌≡◌, ◌↔◌, ℕ, pos, ◌-ℤ◌, ◌<ℤ◌, ◌<◌, ◌≤◌, ◌^◌, [], None, IsTrue, length, slice_index_or, MatchOption, IfOk, IfErr};
-ghost use Rattle.channel_tables.specs.Letters.{IsNumber};
-ghost use Rattle.channel_tables.specs.Spec.{IsSpec, rules_of};
+ghost use Rattle.std.specs.Prelude.{◌≡◌, ℕ, ◌<◌, ◌^◌, [], false, List, None, IsTrue, length, slice_index_or, IfOk, IfErr};
+ghost use Rattle.span_set.specs.declared.set.Span.{Span};
 ghost use Rattle.channel_tables.specs.declared.spec.Spec.{Spec};
-ghost use Rattle.reach.specs.Runs.{State};
-ghost use Rattle.reach.specs.Past.{Holds};
-ghost use Rattle.reach.specs.Ahead.{Admits};
-ghost use Rattle.lane.specs.Walks.{EnteredBefore};
-ghost use Rattle.board.specs.Channels.{track, AreSpecs};
-ghost use Rattle.board.specs.Moves.{own};
+ghost use Rattle.board.specs.Channels.{AreSpecs};
+ghost use Rattle.board.specs.Courses.{AreAmong, AreCoursesAmong};
 ghost use Rattle.board.specs.Logs.{IsHour, end_tenth, first_tenth};
-ghost use Rattle.board.specs.Stops.{StopRow, Survives, IsFirstStop, AreBefore};
+ghost use Rattle.board.specs.Stops.{IsFirstStop, AreBefore};
 ghost use Rattle.board.specs.Places.{AllEarly, AreAheadsOf};
-ghost use Rattle.board.specs.Hours.{AreAheadsBefore, IsBeforeHour, IsAfterHour, Clamped, AreClampedPasts, ArePastsOf, NamesStop};
+ghost use Rattle.board.specs.Hours.{AreAheadsBefore, AreClampedPasts, ArePastsOf, NamesStop};
 
 use crate::aheads::{Aheads, ahead_before, first_of};
 use crate::courses::{Course, courses_of};
@@ -21,52 +16,59 @@ use crate::meeting::aheads_meeting;
 use crate::pasts::{After, Pasts, PastsError, clamp_past, earlier, end_of, pasts_hour, walk_spec};
 use channel_tables::Spec;
 use gap_map::Stretch;
-use reach::{Ahead, Past};
 use sig_base::{NoMemory, Row};
 use std::alloc::Global;
 
 // Up to so many channels are gone through one by one.
 const FEW: usize = 6;
 
-// The moves of one channel.
-fn course_of(
-    alloc: Global,
-    spec: &Spec,
-    rows: &[Row],
-    stretches: &[Stretch],
-) -> Result<Course, NoMemory>
-    requires fits { IsSpec spec.now }
-    requires number { IsNumber spec.now.channel.kind spec.now.channel.number }
-    requires few { length rows.now < 2 ^ 32 }
-    ensures { IfOk result (λ c. c ≡ own (track spec.now) 0 rows.now stretches.now) }
-{
-    let alone = [*spec];
-    let mut courses = courses_of(alloc, &alone, rows, stretches)?;
-    match courses.pop() {
-        Some(course) => Ok(course),
-        None => unreachable!(),
+// Whether at most so many of the channels are others.
+fn are_few(others: &[bool]) -> bool {
+    let mut count = 0;
+    for other in others {
+        if *other && count <= FEW {
+            count += 1;
+        }
     }
+    count <= FEW
 }
 
-// Which states of one channel before the hour can be completed.
-fn ahead_alone(
+// The specs that are wanted, in their order.
+fn specs_among(alloc: Global, specs: &[Spec], wanted: &[bool]) -> Result<Vec<Spec>, NoMemory>
+    requires specs { AreSpecs specs.now }
+    requires same { length wanted.now ≡ length specs.now }
+    ensures specs { IfOk result (λ v. AreSpecs v.items) }
+    ensures places { IfOk result (λ v. AreAmong specs.now wanted.now (length specs.now) v.items) }
+{
+    let mut few = Vec::new(alloc);
+    for i in 0..specs.len() {
+        if !wanted[i] {
+            continue;
+        }
+        few.push(specs[i])?;
+    }
+    Ok(few)
+}
+
+// The moves of each channel that is wanted, in one pass, and in none where none is wanted.
+fn courses_among(
     alloc: Global,
-    spec: &Spec,
-    after: &Ahead,
+    specs: &[Spec],
+    wanted: &[bool],
     rows: &[Row],
     stretches: &[Stretch],
-) -> Result<Ahead, NoMemory>
-    requires fits { IsSpec spec.now }
-    requires number { IsNumber spec.now.channel.kind spec.now.channel.number }
-    requires hour { (h : ℕ) × IsHour h rows.now stretches.now }
-    requires colours { length after.now ≡ (rules_of spec.now).colours }
-    ensures colours { IfOk result (λ a. length a ≡ length after.now) }
-    ensures before { IfOk result (λ a. (h : ℕ) → IsHour h rows.now stretches.now → (s : State)
-        → Admits a s ↔ ((s.entry <ℤ pos (first_tenth h)) × IsBeforeHour (track spec.now) rows.now
-        stretches.now (first_tenth h) (end_tenth h) after.now s)) }
+) -> Result<Vec<Course>, NoMemory>
+    requires specs { AreSpecs specs.now }
+    requires same { length wanted.now ≡ length specs.now }
+    requires few { length rows.now < 2 ^ 32 }
+    ensures { IfOk result (λ v. AreCoursesAmong specs.now wanted.now rows.now stretches.now
+        v.items) }
 {
-    let course = course_of(alloc, spec, rows, stretches)?;
-    Ok(ahead_before(spec, after, course.moves(), first_of(stretches)))
+    let few = specs_among(alloc, specs, wanted)?;
+    if few.is_empty() {
+        return Ok(Vec::new(alloc));
+    }
+    courses_of(alloc, &few, rows, stretches)
 }
 
 // Whether the channel with this place admits the same in both.
@@ -76,15 +78,18 @@ fn same_ahead(a: &Aheads, b: &Aheads, place: usize) -> bool
     place < a.aheads.len() && place < b.aheads.len() && a.aheads[place].same(&b.aheads[place])
 }
 
-// Whether few of so many channels admit other states in the one than in the other.
-fn few_aheads(a: &Aheads, b: &Aheads, count: usize) -> bool {
-    let mut others = 0;
+// Of each of so many channels, whether it admits other states in the one than in the other.
+fn other_aheads(alloc: Global, a: &Aheads, b: &Aheads, count: usize) -> Result<Vec<bool>, NoMemory>
+    ensures count { IfOk result (λ v. length v.items ≡ count) }
+    ensures same { IfOk result (λ v. (i : ℕ) → i < count
+        → slice_index_or v.items i false ≡ false
+        → slice_index_or a.now i [] ≡ slice_index_or b.now i []) }
+{
+    let mut others = Vec::new(alloc);
     for place in 0..count {
-        if !same_ahead(a, b, place) && others <= FEW {
-            others += 1;
-        }
+        others.push(!same_ahead(a, b, place))?;
     }
-    others <= FEW
+    Ok(others)
 }
 
 /// The same as `aheads_hour` of an hour for which it was answered already, from `was_after`
@@ -109,50 +114,24 @@ pub fn aheads_again(
     ensures before { IfOk result (λ a. AreAheadsBefore specs.now rows.now stretches.now after.now
         a) }
 {
-    if !few_aheads(after, was_after, specs.len()) {
+    let others = other_aheads(alloc, after, was_after, specs.len())?;
+    if !are_few(&others) {
         return aheads_meeting(alloc, specs, after, was_after, was_before, rows, stretches);
     }
+    let courses = courses_among(alloc, specs, &others, rows, stretches)?;
+    let first = first_of(stretches);
     let mut aheads = Vec::new(alloc);
+    let mut next: usize = 0;
     for i in 0..specs.len() {
-        if same_ahead(after, was_after, i) {
+        if !others[i] {
             aheads.push(was_before.aheads[i].copy())?;
             continue;
         }
-        let ahead = ahead_alone(alloc, &specs[i], &after.aheads[i], rows, stretches)?;
+        let ahead = ahead_before(&specs[i], &after.aheads[i], courses[next].moves(), first);
         aheads.push(ahead)?;
+        next += 1;
     }
     Ok(Aheads { aheads, alloc })
-}
-
-// Makes of one channel's states before the hour those after it, those older than an hour made one.
-// Answers the row after which there is none.
-fn past_alone(
-    alloc: Global,
-    spec: &Spec,
-    past: &mut Past,
-    rows: &[Row],
-    stretches: &[Stretch],
-) -> Result<Option<u32>, NoMemory>
-    requires fits { IsSpec spec.now }
-    requires number { IsNumber spec.now.channel.kind spec.now.channel.number }
-    requires hour { (h : ℕ) × IsHour h rows.now stretches.now
-        × EnteredBefore past.old (first_tenth h) }
-    requires colours { length past.old ≡ (rules_of spec.now).colours }
-    requires some { (s : State) × Holds past.old s }
-    ensures stop { IfOk result (λ r. let m = rules_of spec.now
-        in let moves = own (track spec.now) 0 rows.now stretches.now
-        in MatchOption r (Survives m past.old moves) (StopRow m past.old moves)) }
-    ensures after { IfOk result (λ r. r ≡ None → (h : ℕ) → IsHour h rows.now stretches.now
-        → (u : State) → Holds past.new u ↔ Clamped (pos (end_tenth h) -ℤ pos 36001)
-        (IsAfterHour (track spec.now) rows.now stretches.now (first_tenth h) (end_tenth h)
-        past.old) u) }
-    ensures some { IfOk result (λ r. r ≡ None → (s : State) × Holds past.new s) }
-    ensures colours { length past.new ≡ length past.old }
-{
-    let course = course_of(alloc, spec, rows, stretches)?;
-    let stop = walk_spec(alloc, spec, past, course.moves())?;
-    clamp_past(past, end_of(stretches));
-    Ok(stop)
 }
 
 // Whether the channel with this place has the same states in both.
@@ -162,34 +141,42 @@ fn same_past(a: &Pasts, b: &Pasts, place: usize) -> bool
     place < a.pasts.len() && place < b.pasts.len() && a.pasts[place].same(&b.pasts[place])
 }
 
-// Whether few of so many channels have other states in the one than in the other.
-fn few_pasts(a: &Pasts, b: &Pasts, count: usize) -> bool {
-    let mut others = 0;
+// Of each of so many channels, whether it has other states in the one than in the other.
+fn other_pasts(alloc: Global, a: &Pasts, b: &Pasts, count: usize) -> Result<Vec<bool>, NoMemory>
+    ensures count { IfOk result (λ v. length v.items ≡ count) }
+    ensures same { IfOk result (λ v. (i : ℕ) → i < count
+        → slice_index_or v.items i false ≡ false
+        → slice_index_or a.now i [] ≡ slice_index_or b.now i []) }
+{
+    let mut others = Vec::new(alloc);
     for place in 0..count {
-        if !same_past(a, b, place) && others <= FEW {
-            others += 1;
-        }
+        others.push(!same_past(a, b, place))?;
     }
-    others <= FEW
+    Ok(others)
 }
 
 // The states after the hour, those older than an hour made one, and the first stop: taken from
-// `was_after` for each channel with the same states before it as in `was_before`.
+// `was_after` for each channel that isn't one of the others, since its states before the hour are
+// those that it had then.
 fn pasts_kept(
     alloc: Global,
     specs: &[Spec],
+    others: &[bool],
     before: &Pasts,
-    was_before: &Pasts,
     was_after: &Pasts,
     rows: &[Row],
     stretches: &[Stretch],
 ) -> Result<After, NoMemory>
     requires specs { AreSpecs specs.now }
+    requires others { length others.now ≡ length specs.now }
     requires hour { (h : ℕ) × IsHour h rows.now stretches.now
         × AllEarly (first_tenth h) before.now }
     requires before { AreBefore specs.now before.now }
     requires shape { AreBefore specs.now was_after.now }
-    requires was { ArePastsOf specs.now rows.now stretches.now was_before.now was_after.now }
+    requires was { (b : List (List (List Span))) × ArePastsOf specs.now rows.now stretches.now b
+        was_after.now × ((i : ℕ) → i < length specs.now
+        → slice_index_or others.now i false ≡ false
+        → slice_index_or before.now i [] ≡ slice_index_or b i []) }
     ensures stop { IfOk result (λ a. IsFirstStop specs.now rows.now stretches.now before.now
         (length specs.now) a.stop) }
     ensures shape { IfOk result (λ a. a.stop ≡ None → AreBefore specs.now a.pasts) }
@@ -197,18 +184,23 @@ fn pasts_kept(
         → AreClampedPasts specs.now rows.now stretches.now (first_tenth h) (end_tenth h)
         before.now a.pasts) }
 {
+    let courses = courses_among(alloc, specs, others, rows, stretches)?;
+    let end = end_of(stretches);
     let mut pasts = Vec::new(alloc);
     let mut stop = None;
+    let mut next: usize = 0;
     for i in 0..specs.len() {
-        if same_past(before, was_before, i) {
+        if !others[i] {
             let past = was_after.pasts[i].copy()?;
             pasts.push(past)?;
             continue;
         }
         let mut past = before.pasts[i].copy()?;
-        let next = past_alone(alloc, &specs[i], &mut past, rows, stretches)?;
-        stop = earlier(stop, next);
+        let here = walk_spec(alloc, &specs[i], &mut past, courses[next].moves())?;
+        clamp_past(&mut past, end);
+        stop = earlier(stop, here);
         pasts.push(past)?;
+        next += 1;
     }
     Ok(After {
         pasts: Pasts { pasts, alloc },
@@ -240,10 +232,11 @@ pub fn pasts_again(
     ensures early { IfOk result (λ p. (h : ℕ) → IsHour h rows.now stretches.now
         → AllEarly (end_tenth h) p) }
 {
-    if !few_pasts(before, was_before, specs.len()) {
+    let others = other_pasts(alloc, before, was_before, specs.len())?;
+    if !are_few(&others) {
         return pasts_hour(alloc, specs, before, rows, stretches);
     }
-    let after = pasts_kept(alloc, specs, before, was_before, was_after, rows, stretches)?;
+    let after = pasts_kept(alloc, specs, &others, before, was_after, rows, stretches)?;
     match after.stop {
         Some(stop) => Err(PastsError::NoState(rows[stop as usize])),
         None => Ok(after.pasts),

@@ -6,6 +6,9 @@ use Rattle.board.proofs.Plain.{stop_within, pasts_early}
 use Rattle.board.proofs.Within.{one_hour}
 use Rattle.board.proofs.again.pasts_again.Goals as goal
 
+pub pasts_kept-requires-clause-was : goal.pasts_kept-requires-clause-was
+pasts_kept-requires-clause-was c = (c.args.was_before.now, c.requires.was, rw c.deref-2.ensures.value c.in_ok-others.ensures.same)
+
 pub bounds-rows-stop : goal.bounds-rows-stop
 bounds-rows-stop c =
     let specs = c.args.specs.now in let rows = c.args.rows.now in let ss = c.args.stretches.now in let before = c.args.before.now in
@@ -18,17 +21,17 @@ returns-in-Some-clause-stop c =
     let told = λ (h : ℕ). stop_told c.args.specs.now c.args.rows.now c.args.stretches.now h c.args.before.now c.in_ok-after.after.stop in
     (c.in-Some.stop, refl, λ h is. rw c.in-Some.is at (told h is c.in_ok-after.ensures.stop))
 
-pub returns-in-None-clause-pasts : goal.returns-in-None-clause-pasts
-returns-in-None-clause-pasts c =
+pub returns-clause-pasts : goal.returns-clause-pasts
+returns-clause-pasts c =
     λ h is.
     let stop = stop_told c.args.specs.now c.args.rows.now c.args.stretches.now h c.args.before.now c.in_ok-after.after.stop is c.in_ok-after.ensures.stop in
     (rw c.in-None.is at stop, c.in_ok-after.ensures.pasts c.in-None.is h is)
 
-pub returns-in-None-clause-shape : goal.returns-in-None-clause-shape
-returns-in-None-clause-shape c = c.in_ok-after.ensures.shape c.in-None.is
+pub returns-clause-shape : goal.returns-clause-shape
+returns-clause-shape c = c.in_ok-after.ensures.shape c.in-None.is
 
-pub returns-in-None-clause-early : goal.returns-in-None-clause-early
-returns-in-None-clause-early c =
+pub returns-clause-early : goal.returns-clause-early
+returns-clause-early c =
     let specs = c.args.specs.now in let rows = c.args.rows.now in let ss = c.args.stretches.now in let before = c.args.before.now in
     λ h is.
     let early = subst (λ (k : ℕ). AllEarly (first_tenth k) before) (one_hour c.requires.hour.0 h rows ss c.requires.hour.1 is) c.requires.hour.2 in

@@ -1,5 +1,6 @@
 use Rattle.std.proofs.Common.{◌≡◌, ◌<◌, ℕ, length, get_or, [], None}
 use Rattle.channel_tables.specs.declared.spec.Spec.{Spec}
+use Rattle.board.specs.Courses.{chosen_before}
 use Rattle.board.specs.Stops.{IsFirstStop, rules_at}
 use Rattle.board.proofs.Keeping.{AreClampedTo, HaveStates}
 use Rattle.board.proofs.again.pasts_kept.Given as goal
@@ -7,6 +8,7 @@ use Rattle.board.proofs.again.pasts_kept.Given as goal
 abbrev pub invariant-loop-i : goal.invariant-loop-i
 invariant-loop-i l = record {
   count : length l.pasts.items ≡ l.i;
+  next : l.next ≡ chosen_before l.others l.i;
   stop : IsFirstStop l.specs l.rows l.stretches l.before l.i l.stop;
   colours : (i : ℕ) (d : Spec) → i < l.i → length (get_or l.pasts.items i []) ≡ (rules_at l.specs i d).colours;
   some : (l.stop ≡ None) → HaveStates l.i l.pasts.items;

@@ -18,25 +18,44 @@ const FAULT: u8 = 2;
 pub fn least_on(switched: &Switched, from: u32, to: u32) -> u32
     ensures { IsLeastOn switched.now from to result }
 {
-    tenths(switched.parts(), from, to, Asked::Only(ON))
+    least_among(ending_after(switched.parts(), from), from, to)
 }
 
 /// The greatest number of tenths that it was on: those at the end of which it may be on.
 pub fn greatest_on(switched: &Switched, from: u32, to: u32) -> u32
     ensures { IsGreatestOn switched.now from to result }
 {
-    tenths(switched.parts(), from, to, Asked::May(ON))
+    greatest_among(ending_after(switched.parts(), from), from, to)
 }
 
 /// Whether it is sure at the end of some of these tenths that the detector has a fault.
 pub fn sure_fault(switched: &Switched, from: u32, to: u32) -> bool
     ensures { IsSureFault switched.now from to result }
 {
-    tenths(switched.parts(), from, to, Asked::Only(FAULT)) > 0
+    fault_among(ending_after(switched.parts(), from), from, to)
 }
 
-// The parts without those that end at the tenth or before.
-fn ending_after(parts: &[Part], from: u32) -> &[Part]
+/// The same numbers by these parts.
+pub(crate) fn least_among(parts: &[Part], from: u32, to: u32) -> u32
+    ensures { IsLeastOn parts.now from to result }
+{
+    tenths(parts, from, to, Asked::Only(ON))
+}
+
+pub(crate) fn greatest_among(parts: &[Part], from: u32, to: u32) -> u32
+    ensures { IsGreatestOn parts.now from to result }
+{
+    tenths(parts, from, to, Asked::May(ON))
+}
+
+pub(crate) fn fault_among(parts: &[Part], from: u32, to: u32) -> bool
+    ensures { IsSureFault parts.now from to result }
+{
+    tenths(parts, from, to, Asked::Only(FAULT)) > 0
+}
+
+/// The parts without those that end at the tenth or before.
+pub(crate) fn ending_after(parts: &[Part], from: u32) -> &[Part]
     ensures { (log : Log) (i a b : ℕ) → TellsEach log i a b parts.now → a ≤ from
         → (m : ℕ) × (m ≤ from) × TellsEach log i m b result.now }
 {
@@ -53,8 +72,7 @@ fn tenths(parts: &[Part], from: u32, to: u32, asked: Asked) -> u32
 {
     let mut count: u32 = 0;
     let mut at = from;
-    let later = ending_after(parts, from);
-    for part in later {
+    for part in parts {
         if at >= to {
             return count;
         }

@@ -3,7 +3,7 @@ ghost use Rattle.std.specs.Prelude.{ℕ};
 ghost use Rattle.signal_log.specs.Log.{Log};
 ghost use Rattle.detector_state.specs.Hours.{AreTenths, GoesOn};
 
-use crate::count::{greatest_on, least_on, sure_fault};
+use crate::count::{ending_after, fault_among, greatest_among, least_among};
 use crate::part::Switched;
 
 /// Of a range of tenths: at how many the channel was sure to be on, at how many it may have been,
@@ -31,12 +31,13 @@ impl OnTenths {
     pub fn on(self, switched: &Switched, from: u32, to: u32) -> OnTenths
         ensures { GoesOn switched.now from to self result }
     {
+        let parts = ending_after(switched.parts(), from);
         OnTenths {
-            least: self.least.saturating_add(least_on(switched, from, to)),
+            least: self.least.saturating_add(least_among(parts, from, to)),
             greatest: self
                 .greatest
-                .saturating_add(greatest_on(switched, from, to)),
-            fault: self.fault || sure_fault(switched, from, to),
+                .saturating_add(greatest_among(parts, from, to)),
+            fault: self.fault || fault_among(parts, from, to),
         }
     }
 }

@@ -6,8 +6,10 @@ use Rattle.event_codes.specs.declared.channels.Kind.TheVariants.{Detector}
 use Rattle.colour_machine.specs.Mask.{Has}
 use Rattle.reach.specs.Runs.{State}
 use Rattle.reach.specs.declared.seen.Seen.{Seen}
+use Rattle.gap_map.specs.declared.stretch.Stretch.{Stretch}
 use Rattle.gap_map.specs.Stretches.{known_at}
 use Rattle.board.specs.Logs.{HourLog, no_row}
+use Rattle.board.specs.Verdicts.{MayPass}
 use Rattle.hour_sums.specs.Numbers.{capped, one_if}
 use Rattle.hour_sweep.specs.Rows.{known_rows}
 use Rattle.hour_sweep.specs.Hours.{AreOrdered, IsHour, point}
@@ -32,10 +34,11 @@ use Rattle.arrival_measures.specs.declared.cycles.CycleSum.{CycleSum}
 use Rattle.arrival_measures.specs.declared.sums.ArrivalSum.{ArrivalSum}
 use Rattle.arrival_measures.specs.Faults.{arrivals_from, begins_fault, faults_from, faulty, is_own}
 use Rattle.arrival_measures.specs.Travel.{arrivals_at, from_tenth}
-use Rattle.arrival_measures.specs.Crossing.{crossing_of, flags_of, has_detector}
+use Rattle.arrival_measures.specs.Crossing.{crossing_of, flags_of, has_detector, open_since}
 use Rattle.arrival_measures.specs.Judged.{AllPass, NonePass, OnlySomePass, CountOf}
 use Rattle.arrival_measures.specs.Cycles.{CycleNumbers}
-use Rattle.arrival_measures.specs.Hours.{cycle_numbers, is_last}
+use Rattle.arrival_measures.specs.Hours.{cycle_numbers, is_last, is_seen}
+use Rattle.arrival_measures.specs.Views.{IsSeen}
 
 -- ---- detections
 
@@ -169,6 +172,10 @@ pub record AreJudgedRows (test : ℕ → Bool) (May : ℕ → State → Type 0) 
   pub some : CountOf (λ x. OnlySomePass test (May x.at)) (filter sees rows) j.some
   pub unseen : j.unseen ≡ capped (length (filter (λ x. not (sees x)) rows))
 
+-- by the view of an hour these rows, none before its first tenth, are judged by whether the channel with this place has one of the colours
+abbrev pub JudgesRows : HourLog → List Stretch → ℕ → ℕ → List Row → Judged → Type 0
+JudgesRows view ss spec colours rows j = (known : ℕ → Bool) (hour : ℕ) (c : Settings) (all : List Row) (log : HourLog) (test : ℕ → Bool) → IsHour known hour all ss → IsSeen c view all ss log → IsMaskOf test colours → All (λ x. point hour ≤ x.at) rows → AreJudgedRows test (λ t v. MayPass log t spec v) (is_seen known hour) rows j
+
 -- the row is a known one of the hour, with this number among its rows
 pub record IsKnownRow (log : HourLog) (n : ℕ) (x : Row) : Type 0 where
   pub within : n < length log.rows
@@ -229,6 +236,10 @@ GiveSame p d xs ys cycles = All (λ c. c.phase ≡ p → open_at p d c.from c.to
 -- the cycle that has begun at tenth t, where there is one, runs up to it
 abbrev pub IsOpenUnderWay : (ℕ → Bool) → ℕ → ℕ → List Row → List Row → ℕ → ℕ → Option Open → ℕ → Option OpenCycle → Type 0
 IsOpenUnderWay known p d before rows first end begun t o = IfSome o (λ y. IsUnderWay known p d before rows first end begun y.from t)
+
+-- of the cycle that has begun at the end of an hour with the first tenth `first`, this has begun there, whatever was told before the hour
+abbrev pub IsOpenAfter : ℕ → ℕ → Option Open → Option OpenCycle → List Row → ℕ → Option Open → Type 0
+IsOpenAfter p d begun o rows first new = (known : ℕ → Bool) (before : List Row) (end to : ℕ) → to ≡ min (first + 36000) (2 ^ 32 - 1) → IsOpenUnderWay known p d before rows first end begun to o → new ≡ open_since p d to (before ++ known_rows known rows) o
 
 -- a cycle of phase p runs from tenth a up to tenth b, each of them known, and what had begun of it before tenth `first` is this, by what was told before
 pub record IsCycleOf (known : ℕ → Bool) (p d first : ℕ) (told : List Row) (begun : Option Open) (a b : ℕ) : Type 0 where

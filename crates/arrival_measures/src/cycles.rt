@@ -1,11 +1,10 @@
 // The numbers of whole cycles, and the cycles that cross the next point.
-ghost use Rattle.std.specs.Prelude.{◌≡◌, ◌==◌, find, min, ◌+◌, ◌-◌, ◌^◌, ◌++◌, ℕ, Bool, List};
+ghost use Rattle.std.specs.Prelude.{◌≡◌, ◌==◌, find, ◌+◌, ◌++◌, ℕ, Bool, List};
 ghost use Rattle.sig_base.specs.declared.values.Row.{Row};
 ghost use Rattle.hour_sums.specs.Numbers.{own};
 ghost use Rattle.hour_sweep.specs.Rows.{known_rows};
-ghost use Rattle.arrival_measures.specs.Crossing.{open_since};
 ghost use Rattle.arrival_measures.specs.Cycles.{numbers_of};
-ghost use Rattle.arrival_measures.specs.Steps.{AreUnderWay, GiveSame, IsOpenUnderWay, no_cycle, numbers_in, sum_with};
+ghost use Rattle.arrival_measures.specs.Steps.{AreUnderWay, GiveSame, IsOpenAfter, no_cycle, numbers_in, sum_with};
 
 use crate::under_way::cycle_given;
 use cycle_arrivals::Open;
@@ -91,12 +90,8 @@ pub(crate) fn open_after(
     rows: &[Row],
     first: u32,
 ) -> Option<Open>
-    ensures { (known : ℕ → Bool) (before : List Row) (end to : ℕ)
-        → to ≡ min (first + 36000) (2 ^ 32 - 1)
-        → IsOpenUnderWay known phase detector before rows.now first end begun to
-        (find (λ y. y.phase == phase) cuts.now.open_cycles)
-        → result ≡ open_since phase detector to (before ++ known_rows known rows.now)
-        (find (λ y. y.phase == phase) cuts.now.open_cycles) }
+    ensures { IsOpenAfter phase detector begun (find (λ y. y.phase == phase) cuts.now.open_cycles)
+        rows.now first result }
 {
     let cycle = open_cycle_of(cuts.open_cycles(), phase)?;
     let end = first.saturating_add(36_000);

@@ -3,15 +3,11 @@ ghost use Rattle.std.specs.Prelude.{◌≡◌, ◌≤◌, ◌<◌, ◌+◌, ◌&
 ghost use Rattle.sig_base.specs.declared.values.Row.{Row};
 ghost use Rattle.gap_map.specs.Stretches.{AreStretches, known_at};
 ghost use Rattle.hour_sums.specs.Numbers.{capped, one_if};
-ghost use Rattle.hour_sweep.specs.Hours.{IsHour, point};
 ghost use Rattle.board.specs.Logs.{HourLog};
 ghost use Rattle.board.specs.Places.{IsViewOf};
 ghost use Rattle.board.specs.Verdicts.{MayPass};
-ghost use Rattle.ring_config.specs.Settings.{Settings};
-ghost use Rattle.arrival_measures.specs.Hours.{is_seen};
 ghost use Rattle.arrival_measures.specs.Judged.{is_green, is_red};
-ghost use Rattle.arrival_measures.specs.Steps.{AreJudgedRows, IsMaskOf, Says, judged_unseen, judged_with, no_judged};
-ghost use Rattle.arrival_measures.specs.Views.{IsSeen};
+ghost use Rattle.arrival_measures.specs.Steps.{AreJudgedRows, IsMaskOf, JudgesRows, Says, judged_unseen, judged_with, no_judged};
 
 use board::HourView;
 use colour_machine::Mask;
@@ -127,12 +123,7 @@ pub(crate) fn judged_rows(
     stretches: &[Stretch],
 ) -> Judged
     requires { spec < length view.now.specs }
-    ensures { (known : ℕ → Bool) (hour : ℕ) (c : Settings) (all : List Row) (log : HourLog)
-        (test : ℕ → Bool)
-        → IsHour known hour all stretches.now → IsSeen c view.now all stretches.now log
-        → IsMaskOf test colours
-        → All (λ x. point hour ≤ x.at) rows.now
-        → AreJudgedRows test (λ t v. MayPass log t spec v) (is_seen known hour) rows.now result }
+    ensures { JudgesRows view.now stretches.now spec colours rows.now result }
 {
     let mut judged = nothing();
     for row in rows {

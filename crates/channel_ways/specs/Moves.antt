@@ -74,6 +74,10 @@ PassesAlone m before after xs ys met test p = Passes m before after xs ys (state
 abbrev pub IsPassing : Rules → List (List Span) → List (Option ℤ) → List Move → List Move → Bool → Test → Option Passing → Type 0
 IsPassing m before after xs ys met test r = MatchOption r (NonePasses m before after xs ys met test) (PassesAlone m before after xs ys met test)
 
+-- none where no state that passes answers the test as asked; else a state before the moves, from which what was added leads through one that does
+abbrev pub IsSourceThrough : Rules → List (List Span) → List (Option ℤ) → List Move → List Move → Bool → Test → List Fill → List Fill → Option Entered → Type 0
+IsSourceThrough m before after xs ys met test old new r = MatchOption r (NonePasses m before after xs ys met test) (AddedThrough m xs ys after met test old new)
+
 -- the moves, which follow one another over a place at this tenth, and the entries before them; all lie before tenth 2 ^ 38
 pub record IsPassage (m : Rules) (before : List (List Span)) (xs ys : List Move) (at : ℤ) : Type 0 where
   pub low : ℕ

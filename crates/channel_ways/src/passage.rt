@@ -3,7 +3,7 @@ ghost use Rattle.std.specs.Prelude.{◌≡◌, length, IfOk, IfSome, MatchOption
 ghost use Rattle.reach.specs.Runs.{State};
 ghost use Rattle.reach.specs.Past.{Holds};
 ghost use Rattle.gap_ways.specs.Ways.{state_of};
-ghost use Rattle.channel_ways.specs.Moves.{AddedThrough, IsPassage, IsPassing, NonePasses};
+ghost use Rattle.channel_ways.specs.Moves.{IsPassage, IsPassing, IsSourceThrough};
 
 use crate::back::walk_source;
 use crate::onward::walk_end;
@@ -79,11 +79,9 @@ pub fn passage_source<M: Machine>(
     requires ahead { length passage.now.after.now ≡ (M.rules machine.now).colours }
     requires some { (s : State) × Holds passage.now.before.now s }
     ensures held { IfOk result (λ r. IfSome r (λ s. Holds passage.now.before.now (state_of s))) }
-    ensures way { IfOk result (λ r. MatchOption r
-        (NonePasses (M.rules machine.now) passage.now.before.now passage.now.after.now
-        passage.now.left.now passage.now.right.now met test.now)
-        (AddedThrough (M.rules machine.now) passage.now.left.now passage.now.right.now
-        passage.now.after.now met test.now fills.old.items fills.new.items)) }
+    ensures way { IfOk result (IsSourceThrough (M.rules machine.now) passage.now.before.now
+        passage.now.after.now passage.now.left.now passage.now.right.now met test.now
+        fills.old.items fills.new.items) }
 {
     let passing = passage_state(alloc, machine, passage, test, met)?;
     let Some(found) = passing else {

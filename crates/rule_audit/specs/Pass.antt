@@ -1,5 +1,5 @@
 -- What the pass over an hour adds to the lines, step by step.
-use Rattle.std.specs.Prelude.{◌≡◌, ◌↔◌, ℕ, ◌-◌, ◌<◌, ◌≤◌, ℤ, Bool, true, false, IsTrue, Option, List, ◌++◌, length, slice_index_or, All}
+use Rattle.std.specs.Prelude.{◌≡◌, ◌↔◌, ℕ, ◌+◌, ◌-◌, ◌<◌, ◌≤◌, ℤ, Bool, true, false, IsTrue, Option, List, ◌++◌, length, slice_index_or, All}
 use Rattle.span_set.specs.declared.set.Span.{Span}
 use Rattle.sig_base.specs.declared.values.Row.{Row}
 use Rattle.sig_base.specs.declared.values.Verdict.{Verdict}
@@ -20,7 +20,7 @@ use Rattle.rule_audit.specs.declared.hour.AuditedHour.{AuditedHour}
 use Rattle.rule_audit.specs.declared.lines.AuditLine.{AuditLine}
 use Rattle.rule_audit.specs.declared.rules.Rule.{Rule}
 use Rattle.rule_audit.specs.declared.rules.Rule.TheVariants.{Interval, Conflict, Companion, Parents}
-use Rattle.rule_audit.specs.Obligations.{Obligation, end_obligation, is_due, obligations_from}
+use Rattle.rule_audit.specs.Obligations.{Obligation, end_obligation, is_clause, is_due, obligations_from}
 use Rattle.rule_audit.specs.Index.{no_rule, AreOwn, AreSkips}
 use Rattle.rule_audit.specs.Judged.{HasRuns, HasVerdict}
 use Rattle.rule_audit.specs.Lines.{AreLinesOf}
@@ -106,6 +106,10 @@ IsDueAt h before at rule = is_due h.specs.now h.rows.now before at rule ≡ true
 
 abbrev pub AddsEnd : AuditedHour → Ends → Bool → ℕ → ℕ → Rule → List AuditLine → List AuditLine → Type 0
 AddsEnd h e before at number rule old new = Adds (HasVerdict (log_of h e)) (end_obligation h.specs.now h.rows.now before at number rule) old new
+
+-- what the rule with this place adds at the end of the tenth, where it is due there if it is a clause
+abbrev pub AddsAfter : AuditedHour → ℕ → ℕ → List AuditLine → List AuditLine → Type 0
+AddsAfter h at place old new = (e : Ends) (before : Bool) → IsLogOf h e → (is_clause (rule_at h place) ≡ true → IsDueAt h before at (rule_at h place)) → AddsEnd h e before at (place + 1) (rule_at h place) old new
 
 -- the tenth of a row is known
 abbrev pub IsKnownRow : AuditedHour → ℕ → Type 0

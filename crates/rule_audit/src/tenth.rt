@@ -6,7 +6,7 @@ ghost use Rattle.rule_audit.specs.declared.rules.Rule.{Rule};
 ghost use Rattle.rule_audit.specs.declared.rules.Rule.TheVariants.{Interval};
 ghost use Rattle.rule_audit.specs.Obligations.{end_obligations, is_clause, is_row_of, is_timed_by, row_obligation, row_obligations, rows_obligations, tenth_obligations, terms_of};
 ghost use Rattle.rule_audit.specs.Index.{is_due_by, IsNext, IsNextDue, IsSkips};
-ghost use Rattle.rule_audit.specs.Pass.{row_at, rule_at, Adds, AddsAt, AddsEnd, AddsIn, Ends, FitsItem, IsCutAt, IsDueAt, IsLogOf, IsReady};
+ghost use Rattle.rule_audit.specs.Pass.{row_at, rule_at, Adds, AddsAfter, AddsAt, AddsEnd, AddsIn, Ends, FitsItem, IsCutAt, IsDueAt, IsLogOf, IsReady};
 
 use crate::hour::AuditedHour;
 use crate::index::Skips;
@@ -161,11 +161,7 @@ fn judge_after(
     requires ready { IsReady hour.now }
     requires known { known_at hour.now.stretches.now at ≡ true }
     requires place { place < length hour.now.rules.now }
-    ensures { OnOk result ((e : Ends) (before : Bool) → IsLogOf hour.now e
-        → (is_clause (rule_at hour.now place) ≡ true
-        → IsDueAt hour.now before at (rule_at hour.now place))
-        → AddsEnd hour.now e before at (place + 1) (rule_at hour.now place) lines.old.items
-        lines.new.items) }
+    ensures { OnOk result (AddsAfter hour.now at place lines.old.items lines.new.items) }
 {
     let number = number_of(place);
     match &hour.rules[place] {

@@ -1,9 +1,10 @@
 -- What an hour lists.
-use Rattle.std.specs.Prelude.{ℕ, ◌≡◌, ◌+◌, nat_le, nat_lt, ◌&&◌, Bool, List, ◌++◌, filter_map}
+use Rattle.std.specs.Prelude.{ℕ, ◌≡◌, ◌+◌, nat_le, nat_lt, ◌&&◌, Bool, List, [], ◌++◌, filter_map}
+use Rattle.std.specs.List.{filter}
 use Rattle.sig_base.specs.declared.values.Row.{Row}
 use Rattle.sig_base.specs.declared.values.PhaseItem.{PhaseItem}
 use Rattle.hour_sweep.specs.Rows.{known_rows}
-use Rattle.hour_sweep.specs.Hours.{point}
+use Rattle.hour_sweep.specs.Hours.{AreOrdered, point}
 use Rattle.hour_sweep.specs.Numbers.{outs_from}
 use Rattle.service_cut.specs.declared.items.Service.{Service}
 use Rattle.service_cut.specs.declared.items.Cycle.{Cycle}
@@ -27,6 +28,10 @@ service_is_in a b s = nat_le a s.r && nat_lt s.r b
 
 abbrev pub cycle_is_in : ℕ → ℕ → Cycle → Bool
 cycle_is_in a b c = nat_le a c.to && nat_lt c.to b
+
+-- of all that is listed of a log, what is in an hour from tenth a up to tenth b is the hour's part
+abbrev pub AreHourParts : {X : Type 0} → ((ℕ → Bool) → List PhaseItem → List Row → List Row → List X) → (ℕ → ℕ → X → Bool) → Type 0
+AreHourParts of is_in = (known : ℕ → Bool) (phases : List PhaseItem) (a b c : ℕ) (before rows later : List Row) → AreOrdered 0 a before → AreOrdered a b rows → AreOrdered b c later → filter (is_in a b) (of known phases [] (before ++ (rows ++ later))) ≡ of known phases before rows
 
 -- what is seen of an hour's lists
 pub record CutLists : Type 0 where

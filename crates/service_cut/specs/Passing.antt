@@ -4,7 +4,6 @@ use Rattle.std.proofs.Common.{refl, arith}
 use Rattle.std.proofs.lemmas.Bool.{leb-false, ne_eqb}
 use Rattle.sig_base.specs.declared.values.Row.{Row}
 use Rattle.hour_sweep.specs.Numbers.{PassesOver}
-use Rattle.service_cut.specs.declared.parts.Part.{Part}
 use Rattle.service_cut.specs.declared.signs.Sign.{Sign}
 use Rattle.service_cut.specs.declared.signs.Sign.TheVariants.{Other}
 use Rattle.service_cut.specs.Signs.{code_sign, is_told_by, sign}

@@ -1,6 +1,5 @@
 // What the definitions say of whole logs. Each law is the contract of a function that does nothing.
 ghost use Rattle.std.specs.Prelude.{◌≡◌, ◌↔◌, ◌≤◌, ◌++◌, ℕ, Bool, true, Some, All, List, []};
-ghost use Rattle.std.specs.List.{filter};
 ghost use Rattle.sig_base.specs.declared.values.Row.{Row};
 ghost use Rattle.sig_base.specs.declared.values.PhaseItem.{PhaseItem};
 ghost use Rattle.hour_sweep.specs.Hours.{AreOrdered};
@@ -9,7 +8,7 @@ ghost use Rattle.service_cut.specs.declared.items.Cycle.{Cycle};
 ghost use Rattle.service_cut.specs.Services.{service_at};
 ghost use Rattle.service_cut.specs.Cycles.{cycle_at};
 ghost use Rattle.service_cut.specs.Whole.{IsService, IsCycle, CycleFits};
-ghost use Rattle.service_cut.specs.Cut.{services_from, cycles_from, service_is_in, cycle_is_in};
+ghost use Rattle.service_cut.specs.Cut.{AreHourParts, services_from, cycles_from, service_is_in, cycle_is_in};
 
 /// A row ends exactly the whole services: four rows of the phase, each the first of its kind, no
 /// begin of green between, every tenth between known.
@@ -48,14 +47,6 @@ pub fn hours_add_up()
 
 /// Of all services and cycles of a log, those whose last row is in an hour are the hour's part.
 pub fn hours_count()
-    ensures services { (known : ℕ → Bool) (phases : List PhaseItem) (a b c : ℕ)
-        (before rows later : List Row) → AreOrdered 0 a before → AreOrdered a b rows
-        → AreOrdered b c later → filter (service_is_in a b)
-        (services_from known phases [] (before ++ (rows ++ later)))
-        ≡ services_from known phases before rows }
-    ensures cycles { (known : ℕ → Bool) (phases : List PhaseItem) (a b c : ℕ)
-        (before rows later : List Row) → AreOrdered 0 a before → AreOrdered a b rows
-        → AreOrdered b c later → filter (cycle_is_in a b)
-        (cycles_from known phases [] (before ++ (rows ++ later)))
-        ≡ cycles_from known phases before rows }
+    ensures services { AreHourParts services_from service_is_in }
+    ensures cycles { AreHourParts cycles_from cycle_is_in }
 {}

@@ -7,11 +7,9 @@ use Rattle.std.proofs.lemmas.List.{take_more}
 use Rattle.std.proofs.lemmas.List.Folds.{list_any_at}
 use Rattle.sig_base.specs.declared.values.Frac.{Frac}
 use Rattle.sig_base.specs.declared.values.Row.{Row}
-use Rattle.event_codes.specs.declared.channels.Channel.{Channel}
 use Rattle.event_codes.specs.declared.channels.Kind.TheVariants.{Detector}
-use Rattle.board.specs.Channels.{AreSpecs}
 use Rattle.board.specs.Logs.{end_tenth, first_tenth, no_spec}
-use Rattle.signal_log.specs.Log.{HasHistory, Log, window_end}
+use Rattle.signal_log.specs.Log.{Log, window_end}
 use Rattle.service_cut.specs.declared.items.Service.{Service}
 use Rattle.ring_config.specs.Settings.{Settings, detectors, some_number, spec_place}
 use Rattle.ring_config.specs.Values.{has_number}
@@ -32,8 +30,8 @@ use Rattle.stop_bar.proofs.ToldAt.{place_channel}
 use Rattle.split_measures.specs.declared.failures.SplitSum.{SplitSum}
 use Rattle.split_measures.specs.declared.verdict.SplitVerdict.{SplitVerdict}
 use Rattle.split_measures.specs.Failures.{split_sum_of}
-use Rattle.split_measures.specs.Hours.{AreSplitSums, IsApproachSum, IsLogUpto, IsSplitSum, open_at_end, open_in, opens_of}
-use Rattle.split_measures.specs.Verdicts.{AreInLog, AreVerdicts, IsInLog, IsVerdict, verdicts_by}
+use Rattle.split_measures.specs.Hours.{IsApproachSum, IsLogUpto, IsSplitSum, open_at_end, open_in, opens_of}
+use Rattle.split_measures.specs.Verdicts.{AreInLog, AreVerdicts, IsVerdict, verdicts_by}
 use Rattle.split_measures.proofs.Telling.{verdicts_tell}
 
 -- ---- stop bars by their approaches

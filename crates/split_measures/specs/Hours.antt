@@ -1,6 +1,5 @@
 -- The verdicts of an hour's services, stop bar by stop bar.
 use Rattle.std.specs.Prelude.{ℕ, ◌≡◌, ◌≤◌, ◌+◌, ◌++◌, nat_le, true, if◌then◌else◌, All, List, [], map, Option, Some, None}
-use Rattle.sig_base.specs.declared.values.Frac.{Frac}
 use Rattle.sig_base.specs.declared.values.Row.{Row}
 use Rattle.board.specs.Channels.{AreSpecs}
 use Rattle.board.specs.Logs.{end_tenth, first_tenth}
@@ -27,7 +26,7 @@ use Rattle.split_measures.specs.declared.verdict.SplitVerdict.{SplitVerdict}
 use Rattle.split_measures.specs.declared.verdict.SplitVerdict.TheVariants.{Open}
 use Rattle.split_measures.specs.Failures.{both_sums, split_sum_of}
 use Rattle.split_measures.specs.Phases.{added}
-use Rattle.split_measures.specs.Verdicts.{IsVerdict}
+use Rattle.split_measures.specs.Verdicts.{IsVerdict, verdicts_by}
 
 -- the numbers of each phase, and of each approach
 pub record Splits : Type 0 where
@@ -50,6 +49,10 @@ opens_of ss = map (λ s. Open) ss
 -- of those that wait at the hour's end, where it is the last one or isn't
 abbrev pub open_at_end : ℕ → ℕ → Crossing → List Service
 open_at_end hours hour at = if nat_le hours (hour + 1) then services_of at.pending else []
+
+-- the sum of an approach with a stop bar, by the windows of the services that ended and by what waits at the hour's end
+abbrev pub IsBarSum : ℕ → ℕ → Approach → Option (List Windows) → Option Crossing → SplitSum → Type 0
+IsBarSum hours hour approach ended at sum = (b : StopBar) (ws : List Windows) (x : Crossing) → bar_with approach approach.stop_bar ≡ Some b → ended ≡ Some ws → at ≡ Some x → sum ≡ split_sum_of (verdicts_by b.high ws ++ opens_of (open_at_end hours hour x))
 
 -- the sum over the services of an hour at a stop bar, whose detector has place i, by the known rows up to the hour's end: each service whose red window ends in the hour has the verdict that all histories tell, and in the window's last hour those are open whose red window isn't over
 pub record IsSplitSum (log : Log) (c : Settings) (i : ℕ) (b : StopBar) (hour : ℕ) (upto : List Row) (sum : SplitSum) : Type 0 where

@@ -6,10 +6,9 @@ ghost use Rattle.service_cut.specs.declared.items.Service.{Service};
 ghost use Rattle.ring_config.specs.declared.items.Approach.{Approach};
 ghost use Rattle.split_windows.specs.declared.items.Windows.{Windows};
 ghost use Rattle.stop_bar.specs.Crossing.{Crossing};
-ghost use Rattle.stop_bar.specs.declared.bars.StopBar.{StopBar};
-ghost use Rattle.stop_bar.specs.All.{AreAllOver, AreAtBars, bar_with, bars_of};
+ghost use Rattle.stop_bar.specs.All.{AreAllOver, AreAtBars, bars_of};
 ghost use Rattle.split_measures.specs.Failures.{split_sum_of};
-ghost use Rattle.split_measures.specs.Hours.{AreSplitSums, IsLogUpto, open_at_end, opens_of};
+ghost use Rattle.split_measures.specs.Hours.{AreSplitSums, IsBarSum, IsLogUpto, open_at_end, opens_of};
 ghost use Rattle.split_measures.specs.Verdicts.{verdicts_by};
 
 use crate::failures::{SplitSum, no_verdict, verdict_sum};
@@ -84,11 +83,8 @@ fn approach_sum(
     requires num { approach.now.high.num < 2 ^ 32 }
     requires den { approach.now.high.den < 2 ^ 32 }
     ensures none { approach.now.stop_bar ≡ None → result ≡ split_sum_of [] }
-    ensures some { (b : StopBar) (ws : List Windows) (x : Crossing)
-        → bar_with approach.now approach.now.stop_bar ≡ Some b
-        → option_copied ended.entry ≡ Some ws → option_copied at.entry ≡ Some x
-        → let last = open_at_end config.now.window.hours hour x in
-        result ≡ split_sum_of (verdicts_by b.high ws ++ opens_of last) }
+    ensures some { IsBarSum config.now.window.hours hour approach.now (option_copied ended.entry)
+        (option_copied at.entry) result }
 {
     if approach.stop_bar.is_none() {
         return no_verdict();

@@ -1,4 +1,4 @@
-use Rattle.std.proofs.Common.{◌≡◌, ◌≤◌, ◌+◌, ℕ, List, length, take}
+use Rattle.std.proofs.Common.{◌≡◌, ◌≤◌, ◌+◌, List, length, take}
 use Rattle.sig_base.specs.declared.values.Row.{Row}
 use Rattle.signal_log.specs.Log.{Log}
 use Rattle.stop_bar.specs.Lists.{Each}

@@ -1,4 +1,4 @@
-use Rattle.std.proofs.Common.{◌≡◌, ◌≤◌, ◌+◌, ◌∙◌, List, ap, sym, arith, length}
+use Rattle.std.proofs.Common.{◌≤◌, ◌+◌, ◌∙◌, List, ap, sym, arith, length}
 use Rattle.std.proofs.lemmas.Bool.{le-leb}
 use Rattle.split_windows.specs.declared.items.Windows.{Windows}
 use Rattle.stop_bar.specs.Crossing.{Crossing}

@@ -193,21 +193,36 @@ const BROKEN: AuditLine = AuditLine {
     window: None,
 };
 
+// A session that holds this green.
+fn with_too_short(alloc: Global, reads: &mut Reads<Mark>) -> Result<Session<Mark>, Fail> {
+    let mut session = Session::new(alloc, one_interval(alloc)?)?;
+    let edit = Edit::Load(too_short(alloc)?);
+    let _applied = apply(&mut session, edit, reads);
+    Ok(session)
+}
+
 // The broken line has its window where that is wanted.
 #[test]
 fn finds_what_decides(rt: HostRuntime) -> Result<(), Fail> {
     let alloc = rt.alloc();
-    let mut session = Session::new(alloc, one_interval(alloc)?)?;
     let mut reads = Reads::new(Mark);
-    let edit = Edit::Load(too_short(alloc)?);
-    assert_eq!(rt; apply(&mut session, edit, &mut reads), ALL);
-    let plain = audited(alloc, &session, false, &mut reads)?;
-    assert_eq!(rt; plain.as_slice(), [BROKEN].as_slice());
+    let session = with_too_short(alloc, &mut reads)?;
+    let lines = audited(alloc, &session, true, &mut reads)?;
     let window = Some((1000, 1149));
-    let with = audited(alloc, &session, true, &mut reads)?;
     assert_eq!(rt;
-        with.as_slice(),
+        lines.as_slice(),
         [AuditLine { window, ..BROKEN }].as_slice()
     );
+    Ok(())
+}
+
+// It has none where that isn't.
+#[test]
+fn finds_a_line_alone(rt: HostRuntime) -> Result<(), Fail> {
+    let alloc = rt.alloc();
+    let mut reads = Reads::new(Mark);
+    let session = with_too_short(alloc, &mut reads)?;
+    let lines = audited(alloc, &session, false, &mut reads)?;
+    assert_eq!(rt; lines.as_slice(), [BROKEN].as_slice());
     Ok(())
 }

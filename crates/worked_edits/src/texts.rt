@@ -127,6 +127,31 @@ fn lines_of_a_diagram(rt: HostRuntime) -> Result<(), Fail> {
     Ok(())
 }
 
+// The lines of the shifts from the first up to the last, each with this count.
+fn put_range(
+    alloc: Global,
+    wanted: &mut String,
+    from: u32,
+    to: u32,
+    count: u32,
+) -> Result<(), Fail> {
+    for shift in from..to {
+        wanted.push_str(&format!(in alloc; "shift {shift} count {count}\n")?)?;
+    }
+    Ok(())
+}
+
+// The lines of two arrivals in cycles of 120 s, one at the start of green, one before its end.
+fn wanted_shifts(alloc: Global) -> Result<String, Fail> {
+    let mut wanted = format!(in alloc; "5 offsets NB\nbest 30 count 2 of 2\n")?;
+    put_range(alloc, &mut wanted, 0, 30, 1)?;
+    put_range(alloc, &mut wanted, 30, 34, 2)?;
+    put_range(alloc, &mut wanted, 34, 65, 1)?;
+    put_range(alloc, &mut wanted, 65, 119, 0)?;
+    put_range(alloc, &mut wanted, 119, 120, 1)?;
+    Ok(wanted)
+}
+
 #[test]
 fn lines_of_shifts(rt: HostRuntime) -> Result<(), Fail> {
     let alloc = rt.alloc();
@@ -141,20 +166,9 @@ fn lines_of_shifts(rt: HostRuntime) -> Result<(), Fail> {
         ..early
     };
     let shifts = shift_counts(alloc, &[early, late])?;
-    let mut wanted = format!(in alloc; "5 offsets NB\nbest 30 count 2 of 2\n")?;
-    for (from, to, count) in [
-        (0u32, 30u32, 1u32),
-        (30, 34, 2),
-        (34, 65, 1),
-        (65, 119, 0),
-        (119, 120, 1),
-    ] {
-        for shift in from..to {
-            wanted.push_str(&format!(in alloc; "shift {shift} count {count}\n")?)?;
-        }
-    }
     let mut sink = MemSink::new(alloc, 10_000)?;
     assert_eq!(rt; put_shifts(5, b"NB", 2, &shifts, &mut sink), Ok(()));
+    let wanted = wanted_shifts(alloc)?;
     assert_eq!(rt; sink.bytes(), wanted.as_bytes());
     Ok(())
 }

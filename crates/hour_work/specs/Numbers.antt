@@ -1,5 +1,5 @@
 -- What is counted of one hour, and the sums over hours.
-use Rattle.std.specs.Prelude.{◌≡◌, ◌≤◌, ◌<◌, ◌⊎◌, ◌+◌, ◌*◌, ◌++◌, ℕ, zero, suc, Bool, true, false, List, [], length, take, drop, map, slice_index_or, sum_by, All}
+use Rattle.std.specs.Prelude.{◌≡◌, ◌≤◌, ◌<◌, ◌⊎◌, ◌+◌, ◌*◌, ◌++◌, ℕ, zero, suc, Bool, List, [], length, take, drop, map, slice_index_or, sum_by, All}
 use Rattle.std.specs.List.{fold}
 use Rattle.hour_sums.specs.Numbers.{merged, one_if}
 use Rattle.split_measures.specs.declared.sums.PhaseSum.{PhaseSum}

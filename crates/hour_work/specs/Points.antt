@@ -39,14 +39,24 @@ pub record FitPoint (c : Settings) (k : ℕ) (carry : Carried) : Type 0 where
   pub shape : AreBefore c.specs carry.pasts
   pub early : AllEarly (first_tenth k) carry.pasts
 
+-- what is under way of phases at point k of a store, of arrivals, and of pedestrian signals and preempts
+abbrev pub AreCutsAt : Settings → Store → ℕ → List (Option Part) → Type 0
+AreCutsAt c s k cuts = IsCut (is_known s) c.phases (earlier_rows s k) k cuts
+
+abbrev pub AreOpenAt : Settings → Store → ℕ → CarryParts → Type 0
+AreOpenAt c s k arrivals = AreOpen (is_known s) c (earlier_rows s k) k arrivals
+
+abbrev pub AreCrossingAt : Settings → Store → ℕ → Crossing → Type 0
+AreCrossingAt c s k others = IsCrossing (is_known s) c (earlier_rows s k) k others
+
 -- this is what the store says up to point k
 pub record IsCarryAt (c : Settings) (s : Store) (k : ℕ) (carry : Carried) : Type 0 where
   pub pasts : ArePastsAt (log_of c.specs s) k carry.pasts
   pub known : carry.known ≡ is_known_before (is_known s) (first_tenth k)
-  pub cuts : IsCut (is_known s) c.phases (earlier_rows s k) k carry.cuts
+  pub cuts : AreCutsAt c s k carry.cuts
   pub splits : AreAtBars (log_of c.specs s) c (earlier_rows s k) k carry.splits
-  pub others : IsCrossing (is_known s) c (earlier_rows s k) k carry.others
-  pub arrivals : AreOpen (is_known s) c (earlier_rows s k) k carry.arrivals
+  pub others : AreCrossingAt c s k carry.others
+  pub arrivals : AreOpenAt c s k carry.arrivals
 
 -- these admit the states at point k with which the store can be completed
 abbrev pub IsFutureAt : Settings → Store → ℕ → List (List (Option ℤ)) → Type 0

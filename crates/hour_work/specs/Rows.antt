@@ -2,8 +2,7 @@
 use Rattle.std.specs.Prelude.{ℕ, List, take}
 use Rattle.sig_base.specs.declared.values.Row.{Row}
 use Rattle.hour_sweep.specs.Rows.{known_rows}
-use Rattle.hour_store.specs.Store.{Store, is_known, rows_at, rows_of}
-use Rattle.signal_log.specs.Points.{rows_or_none}
+use Rattle.hour_store.specs.Store.{Store, is_known, rows_of}
 use Rattle.signal_log.specs.Rows.{hour_rows}
 
 -- the known rows of an hour, and those of all hours before it

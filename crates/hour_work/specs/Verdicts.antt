@@ -1,9 +1,8 @@
 -- Verdicts of a store: over all histories of the whole window that agree with it.
-use Rattle.std.specs.Prelude.{ℕ, List, length, take, slice_index_or}
+use Rattle.std.specs.Prelude.{ℕ, List, slice_index_or}
 use Rattle.sig_base.specs.declared.values.Row.{Row}
 use Rattle.sig_base.specs.declared.values.Verdict.{Verdict}
 use Rattle.hour_store.specs.Store.{Store, is_known}
-use Rattle.board.specs.History.{events_at}
 use Rattle.board.specs.Logs.{first_tenth, no_row}
 use Rattle.ring_config.specs.Settings.{Settings}
 use Rattle.signal_log.specs.Log.{log_of}

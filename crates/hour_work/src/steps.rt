@@ -4,7 +4,7 @@ ghost use Rattle.span_set.specs.declared.set.Span.{Span};
 ghost use Rattle.sig_base.specs.declared.values.Row.{Row};
 ghost use Rattle.channel_tables.specs.declared.spec.Spec.{Spec};
 ghost use Rattle.sig_base.specs.HourRows.{AreRowsOf};
-ghost use Rattle.hour_store.specs.Store.{Store, is_known};
+ghost use Rattle.hour_store.specs.Store.{Store};
 ghost use Rattle.board.specs.Logs.{first_tenth};
 ghost use Rattle.board.specs.Places.{AllEarly, AreAheadsOf};
 ghost use Rattle.board.specs.Stops.{AreBefore};
@@ -12,13 +12,10 @@ ghost use Rattle.gap_map.specs.Stretches.{known_in};
 ghost use Rattle.signal_log.specs.Log.{Log, log_of};
 ghost use Rattle.signal_log.specs.Points.{ArePastsAt, HasHour, NamesContradiction, rows_or_none};
 ghost use Rattle.signal_log.specs.Over.{AreAheadsOver, ArePastsOver, NamesStopOver};
-ghost use Rattle.service_cut.specs.Parts.{IsCarry as IsCut};
 ghost use Rattle.stop_bar.specs.All.{AreAtBars};
-ghost use Rattle.other_measures.specs.Crossing.{IsCarry as IsCrossing};
-ghost use Rattle.arrival_measures.specs.Crossing.{IsCarry as AreOpen};
 ghost use Rattle.hour_work.specs.Rows.{earlier_rows};
 ghost use Rattle.hour_work.specs.declared.steps.ForwardError.TheVariants.{Memory};
-ghost use Rattle.hour_work.specs.Points.{FitPoint, IsCarryAt, IsFutureAt, NamesRow, NamesStop};
+ghost use Rattle.hour_work.specs.Points.{AreCrossingAt, AreCutsAt, AreOpenAt, FitPoint, IsCarryAt, IsFutureAt, NamesRow, NamesStop};
 
 use crate::stop_bars::splits_over;
 use crate::{Carry, Future};
@@ -177,22 +174,19 @@ fn under_way(
     requires of_hour { IfSome rows (λ r. AreRowsOf hour r.now) }
     requires shape { AreBefore config.now.specs before.now.pasts }
     ensures cuts { IfOk result (λ u. (s : Store) → HasHour s hour (option_copied rows.entry)
-        blanked.now → IsCut (is_known s) config.now.phases (earlier_rows s hour) hour
-        before.now.cuts → IsCut (is_known s) config.now.phases (earlier_rows s (hour + 1))
-        (hour + 1) u.cuts) }
+        blanked.now → AreCutsAt config.now s hour before.now.cuts
+        → AreCutsAt config.now s (hour + 1) u.cuts) }
     ensures splits { IfOk result (λ u. (s : Store) → HasHour s hour (option_copied rows.entry)
         blanked.now → IsCarryAt config.now s hour before.now
         → AreAtBars (log_of config.now.specs s) config.now (earlier_rows s (hour + 1)) (hour + 1)
         u.splits) }
     ensures others { IfOk result (λ u. (s : Store) → HasHour s hour (option_copied rows.entry)
-        blanked.now → IsCrossing (is_known s) config.now (earlier_rows s hour) hour
-        before.now.others → IsCrossing (is_known s) config.now (earlier_rows s (hour + 1))
-        (hour + 1) u.others) }
+        blanked.now → AreCrossingAt config.now s hour before.now.others
+        → AreCrossingAt config.now s (hour + 1) u.others) }
     ensures arrivals { IfOk result (λ u. (s : Store) → HasHour s hour (option_copied rows.entry)
-        blanked.now → IsCut (is_known s) config.now.phases (earlier_rows s hour) hour
-        before.now.cuts → AreOpen (is_known s) config.now (earlier_rows s hour) hour
-        before.now.arrivals → AreOpen (is_known s) config.now (earlier_rows s (hour + 1)) (hour + 1)
-        u.arrivals) }
+        blanked.now → AreCutsAt config.now s hour before.now.cuts
+        → AreOpenAt config.now s hour before.now.arrivals
+        → AreOpenAt config.now s (hour + 1) u.arrivals) }
 {
     let held = held_rows(rows);
     let parts = stretches(alloc, hour, rows.is_some(), blanked)?;

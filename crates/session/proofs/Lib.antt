@@ -15,3 +15,4 @@ pub mod LessLaws
 pub mod DiagramLaws
 pub mod WindowLaws
 pub mod PairLaws
+pub mod RangeEditLaws

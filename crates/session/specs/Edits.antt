@@ -7,6 +7,8 @@ use Rattle.hour_store.specs.Store.{Store, held_at, rows_held, with_hour, with_bl
 use Rattle.session.specs.Ranges.{ranges_of, blanked_with, blanked_without}
 use Rattle.session.specs.declared.edit.Edit.{Edit}
 use Rattle.session.specs.declared.edit.Edit.TheVariants as code
+use Rattle.session.specs.declared.blanks.RangeEdit.{RangeEdit}
+use Rattle.session.specs.declared.blanks.RangeEdit.TheVariants as range
 
 -- an edit; the tenth `to` of a range is left out
 pub data Change : Type 0 where
@@ -22,6 +24,11 @@ change_of (code.Replace rows) = replace rows
 change_of (code.Withdraw hour) = withdraw hour
 change_of (code.Blank from to) = blank from to
 change_of (code.Unblank from to) = unblank from to
+
+-- the edit of a range
+abbrev pub range_change : RangeEdit → ℤ → ℤ → Change
+range_change range.Blank from to = blank from to
+range_change range.Unblank from to = unblank from to
 
 -- the tenths from `from` to `to` reach out of a window of so many hours
 abbrev pub reaches_out : ℕ → ℤ → ℤ → Bool

@@ -5,6 +5,8 @@ use Rattle.span_set.specs.declared.set.Span.{Span}
 use Rattle.span_set.specs.Spans.{Member, Within, is_member}
 use Rattle.span_set.specs.Changes.{span}
 use Rattle.hour_store.specs.Store.{Store}
+use Rattle.session.specs.declared.blanks.RangeEdit.{RangeEdit}
+use Rattle.session.specs.declared.blanks.RangeEdit.TheVariants as range
 
 -- ranges that all begin after a tenth, with this tenth too
 abbrev pub with_first : ℕ → List Span → List Span
@@ -49,3 +51,8 @@ Without old from to new = (e : ℤ) → Member new e ↔ (Member old e × (Withi
 -- the new ranges have the tenths of the old ones, but for those of the range
 abbrev pub SameApart : List Span → ℤ → ℤ → List Span → Type 0
 SameApart old from to new = (e : ℤ) → (Within (span from to) e → ⊥) → Member new e ↔ Member old e
+
+-- these ranges come of the edit of the range
+abbrev pub IsEdited : RangeEdit → List Span → ℤ → ℤ → List Span → Type 0
+IsEdited range.Blank old f t new = With old f t new
+IsEdited range.Unblank old f t new = Without old f t new

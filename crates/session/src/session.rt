@@ -10,7 +10,7 @@ ghost use Rattle.signal_log.specs.Log.{HasHistory, log_of};
 ghost use Rattle.rule_audit.specs.Rules.{rules_for};
 ghost use Rattle.hour_work.specs.Points.{NamesRow};
 ghost use Rattle.hour_work.specs.Reports.{IsReport};
-ghost use Rattle.session.specs.Edits.{Change, blank, change_of, load, replace, step_of, unblank, withdraw};
+ghost use Rattle.session.specs.Edits.{Change, blank, change_of, load, range_change, replace, step_of, withdraw};
 ghost use Rattle.session.specs.Moved.{AreMoved, KeepParts, Moves, Touches};
 ghost use Rattle.session.specs.Opens.{OpensBy};
 ghost use Rattle.session.specs.Pairs.{ArePairsAt};
@@ -22,7 +22,7 @@ ghost use Rattle.session.specs.Windows.{AreHourLines};
 use crate::Edit;
 use crate::audit::{lines_of, with_windows};
 use crate::begin::begin;
-use crate::blanks::{reaches_out, with_range, without_range};
+use crate::blanks::{RangeEdit, edited, reaches_out};
 use crate::hours::{exchange, hour_at};
 use crate::pairs::{Asked, pairs_of};
 use crate::points::phase_diagrams;
@@ -369,48 +369,23 @@ impl<L> Session<L> {
         self.hold(hour, None, reads)
     }
 
+    // Blanks the tenths of a range, or no longer.
     #[tactic(auto, using(crate::proofs::EditLaws::steps_done, crate::proofs::GrowLaws::grow_same), unfolding(crate::specs::Edits::step_of, crate::specs::Opens::OpensBy))]
-    fn blank(&mut self, from: Tenth, to: Tenth, reads: &mut Reads<L>) -> Result<Applied, EditError>
-        ensures step { Steps self.old.config (step_of self.old.store (blank from to)) self.old.store
-            self.new.store result }
-        ensures never { IfErr result (MayRefuse (blank from to)) }
-        ensures moved { IfOk result (Moves self.old.config self.old.store self.new.store
-            (blank from to)) }
-        ensures stays { IfOk result (KeepParts self.old.config self.old.store self.new.store) }
-        ensures config { self.new.config ≡ self.old.config }
-        ensures opens { OpensBy (blank from to) reads.old reads.new result }
-        ensures grow { Grow reads.old reads.new }
-    {
-        if reaches_out(self.config.hours(), from, to) {
-            return Err(EditError::OutOfWindow);
-        }
-        if to <= from {
-            return Err(EditError::EmptyRange);
-        }
-        let blanks = match with_range(self.store.blanked(), from, to) {
-            Ok(blanks) => blanks,
-            Err(_) => return Err(EditError::Memory),
-        };
-        if blanks.ranges().len() > MOST_BLANKS {
-            return Err(EditError::TooManyBlanks);
-        }
-        self.mask(blanks, from, to, reads)
-    }
-
-    #[tactic(auto, using(crate::proofs::EditLaws::steps_done, crate::proofs::GrowLaws::grow_same), unfolding(crate::specs::Edits::step_of, crate::specs::Opens::OpensBy))]
-    fn unblank(
+    fn edit_range(
         &mut self,
+        edit: RangeEdit,
         from: Tenth,
         to: Tenth,
         reads: &mut Reads<L>,
     ) -> Result<Applied, EditError>
-        ensures step { Steps self.old.config (step_of self.old.store (unblank from to))
+        ensures step { Steps self.old.config (step_of self.old.store (range_change edit from to))
             self.old.store self.new.store result }
+        ensures never { IfErr result (MayRefuse (range_change edit from to)) }
         ensures moved { IfOk result (Moves self.old.config self.old.store self.new.store
-            (unblank from to)) }
+            (range_change edit from to)) }
         ensures stays { IfOk result (KeepParts self.old.config self.old.store self.new.store) }
         ensures config { self.new.config ≡ self.old.config }
-        ensures opens { OpensBy (unblank from to) reads.old reads.new result }
+        ensures opens { OpensBy (range_change edit from to) reads.old reads.new result }
         ensures grow { Grow reads.old reads.new }
     {
         if reaches_out(self.config.hours(), from, to) {
@@ -419,7 +394,7 @@ impl<L> Session<L> {
         if to <= from {
             return Err(EditError::EmptyRange);
         }
-        let blanks = match without_range(self.store.blanked(), from, to) {
+        let blanks = match edited(self.store.blanked(), edit, from, to) {
             Ok(blanks) => blanks,
             Err(_) => return Err(EditError::Memory),
         };
@@ -453,8 +428,8 @@ impl<L> Session<L> {
             Edit::Load(rows) => self.load(rows, reads),
             Edit::Replace(rows) => self.replace(rows, reads),
             Edit::Withdraw(hour) => self.withdraw(hour, reads),
-            Edit::Blank { from, to } => self.blank(from, to, reads),
-            Edit::Unblank { from, to } => self.unblank(from, to, reads),
+            Edit::Blank { from, to } => self.edit_range(RangeEdit::Blank, from, to, reads),
+            Edit::Unblank { from, to } => self.edit_range(RangeEdit::Unblank, from, to, reads),
         }
     }
 }

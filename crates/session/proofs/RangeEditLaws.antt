@@ -1,0 +1,50 @@
+-- An edit of a range, whether it blanks the tenths or unblanks them.
+use Rattle.std.proofs.Common.{◌≡◌, ◌*◌, ℕ, ℤ, pos, ◌≤◌, ◌<ℤ◌, ◌≤ℤ◌, false, List, length, IfOk, IfErr, Result, Ok, Err}
+use Rattle.sig_base.specs.declared.values.Applied.{Applied}
+use Rattle.sig_base.specs.declared.values.EditError.{EditError}
+use Rattle.span_set.specs.declared.set.Span.{Span}
+use Rattle.span_set.specs.Spans.{AreRanges}
+use Rattle.hour_store.specs.Store.{IsStore, LieWithin, Store, with_blanks}
+use Rattle.ring_config.specs.Settings.{Settings}
+use Rattle.ring_config.specs.Sound.{IsSound}
+use Rattle.signal_log.specs.Log.{HasHistory, log_of}
+use Rattle.session.specs.declared.blanks.RangeEdit.{RangeEdit}
+use Rattle.session.specs.declared.blanks.RangeEdit.TheVariants as range
+use Rattle.session.specs.Edits.{blank, range_change, reaches_out, step_of, unless_many_blanks}
+use Rattle.session.specs.Moved.{Moves}
+use Rattle.session.specs.Opens.{OpensBy}
+use Rattle.session.specs.Ranges.{IsEdited, SameApart}
+use Rattle.session.specs.Sessions.{MayRefuse, StopsAt}
+use Rattle.session.proofs.EditLaws.{blank_step, unblank_step}
+use Rattle.session.proofs.LessLaws.{never_blanked}
+use Rattle.session.proofs.MaskLaws.{with_same, without_same}
+use Rattle.session.proofs.OpenLaws.{opens_unblank}
+use Rattle.session.proofs.RangeLaws.{with_within, without_within}
+
+pub range_step : (edit : RangeEdit) (s : Store) (hours : ℕ) (f t : ℤ) (ns : List Span) → hours ≡ length s.hours → hours ≤ 744 → LieWithin (length s.hours) s.blanks → reaches_out hours f t ≡ false → f <ℤ t → AreRanges ns → IsEdited edit s.blanks f t ns
+    → step_of s (range_change edit f t) ≡ unless_many_blanks (with_blanks s ns)
+range_step range.Blank s hours f t ns n few l out some an w = blank_step s hours f t ns n few l out some an w
+range_step range.Unblank s hours f t ns n few l out some an w = unblank_step s hours f t ns n few l out some an w
+
+pub range_within : (edit : RangeEdit) (hours : ℕ) (old ns : List Span) (f t : ℤ) → LieWithin hours old → pos 0 ≤ℤ f → t ≤ℤ pos (36000 * hours) → IsEdited edit old f t ns → LieWithin hours ns
+range_within range.Blank hours old ns f t l low high w = with_within hours old ns f t l low high w
+range_within range.Unblank hours old ns f t l low high w = without_within hours old ns f t l w
+
+pub range_same : (edit : RangeEdit) (old new : List Span) (f t : ℤ) → IsEdited edit old f t new → SameApart old f t new
+range_same range.Blank old new f t w = with_same old new f t w
+range_same range.Unblank old new f t w = without_same old new f t w
+
+-- both touch the same hours
+pub range_moves_if : (edit : RangeEdit) (c : Settings) (s new : Store) (f t : ℤ) (result : Result Applied EditError) → IfOk result (Moves c s new (blank f t)) → IfOk result (Moves c s new (range_change edit f t))
+range_moves_if range.Blank c s new f t result moved = moved
+range_moves_if range.Unblank c s new f t result moved = moved
+
+pub range_opens : (edit : RangeEdit) (f t : ℤ) (a b : List ℕ) (result : Result Applied EditError) → OpensBy (blank f t) a b result → OpensBy (range_change edit f t) a b result
+range_opens range.Blank f t a b result opens = opens
+range_opens range.Unblank f t a b result opens = opens_unblank f t a b result opens
+
+-- a blanking contradicts nothing
+pub never_edited : (edit : RangeEdit) (c : Settings) (s : Store) (ns : List Span) (f t : ℤ) (result : Result Applied EditError) → IsSound c → IsStore s → IsStore (with_blanks s ns) → HasHistory (log_of c.specs s) → IsEdited edit s.blanks f t ns → IfErr result (StopsAt c (with_blanks s ns)) → IfErr result (MayRefuse (range_change edit f t))
+never_edited range.Blank c s ns f t result sound is less has made stop = never_blanked c s ns f t result sound is less has made stop
+never_edited range.Unblank c s ns f t (Ok x) sound is less has made stop = tt
+never_edited range.Unblank c s ns f t (Err e) sound is less has made stop = tt

@@ -1,12 +1,13 @@
 -- What the calls of an hour know of it.
-use Rattle.std.proofs.Common.{◌≡◌, refl, sym, ◌∙◌, subst, ℕ, ℤ, ◌+◌, ◌*◌, ◌<◌, Bool, List, arith, Option, Some, None, Bor}
-use Rattle.std.specs.Prelude.{is_some, option_copied, IfSome, IfOk, IfErr, Result, Ok, Err}
+use Rattle.std.proofs.Common.{◌≡◌, refl, sym, ◌∙◌, ap, subst, zero, suc, ℕ, ℤ, ◌+◌, ◌-◌, ◌*◌, ◌<◌, Bool, List, [], ◌∷◌, length, arith, Option, Some, None, Bor}
+use Rattle.std.specs.Prelude.{is_some, slice_get, option_copied, IfSome, IfOk, IfErr, Result, Ok, Err}
+use Rattle.std.proofs.lemmas.Option.{same_Some}
 use Rattle.std.proofs.lemmas.Result.{IfErr-weaker, IfOk-weaker}
 use Rattle.span_set.specs.declared.set.Span.{Span}
 use Rattle.sig_base.specs.declared.values.Row.{Row}
 use Rattle.sig_base.specs.HourRows.{AreRowsOf}
 use Rattle.gap_map.specs.declared.stretch.Stretch.{Stretch}
-use Rattle.gap_map.specs.Stretches.{IsCut, known_in}
+use Rattle.gap_map.specs.Stretches.{AreStretches, IsCut, known_in}
 use Rattle.gap_map.proofs.Following.{follow}
 use Rattle.channel_tables.specs.declared.spec.Spec.{Spec}
 use Rattle.hour_store.specs.Store.{Store}
@@ -22,6 +23,7 @@ use Rattle.board.proofs.Within.{hour_rows, one_hour}
 use Rattle.signal_log.specs.Log.{IsContradiction, log_of}
 use Rattle.signal_log.specs.Points.{AreAheadsAt, ArePastsAt, HasHour, NamesContradiction, rows_or_none}
 use Rattle.signal_log.specs.Over.{AreAheadsOver, ArePastsOver, IsCutOf, NamesStopOver}
+use Rattle.signal_log.specs.Opened.{IsOpened, Opened}
 use Rattle.signal_log.proofs.Hour.{aheads_at, pasts_at}
 use Rattle.signal_log.proofs.Stopped.{contradicts}
 
@@ -47,21 +49,39 @@ pub ok_both : {X E : Type 0} (r : Result X E) (P Q S : X → Type 0) → ((x : X
 ok_both (Ok x) P Q S h p q = h x p q
 ok_both (Err e) P Q S h p q = tt
 
--- what a call knows of the list that it cut: it's the hour's one cut
+-- what a call knows of the stretches of the hour that it's given: they are its one cut
 pub record IsTold (hour : ℕ) (rows : Option (List Row)) (blanks : List Span) (ss : List Stretch) : Type 0 where
   pub cut : IsCutOf hour rows blanks ss
   pub is : IsHour hour (rows_or_none rows) ss
   pub one : (zs : List Stretch) → IsCutOf hour rows blanks zs → zs ≡ ss
 
-pub told : (hour : ℕ) (rows : Option (Bor (List Row))) (held : Bool) (blanks : List Span) (ss : List Stretch) → hour < 744 → IfSome rows (λ s. AreRowsOf hour s.now) → held ≡ is_some rows → IsCut (known_in held blanks) (36000 * hour) (36000 * hour + 36000) ss → ((zs : List Stretch) → IsCut (known_in held blanks) (36000 * hour) (36000 * hour + 36000) zs → zs ≡ ss) → IsTold hour (option_copied rows) blanks ss
-told hour rows held blanks ss lt fit same cut only =
+pub opened_told : (o : Opened) → IsOpened o → IsTold o.hour o.rows o.blanks o.stretches
+opened_told o is = record {
+  cut = is.cut;
+  is = hour_told o.hour o.rows o.blanks o.stretches is.are_rows is.cut;
+  one = is.one;
+}
+
+-- what an hour that is opened is, by what it's made of
+pub opened : (hour : ℕ) (rows : Option (Bor (List Row))) (held : Bool) (blanks : List Span) (ss : List Stretch) → hour < 744 → IfSome rows (λ s. AreRowsOf hour s.now) → held ≡ is_some rows → IsCut (known_in held blanks) (36000 * hour) (36000 * hour + 36000) ss → ((zs : List Stretch) → IsCut (known_in held blanks) (36000 * hour) (36000 * hour + 36000) zs → zs ≡ ss) → IsOpened (record { hour = hour; rows = option_copied rows; blanks = blanks; stretches = ss })
+opened hour rows held blanks ss lt fit same cut only =
     let is_held = same ∙ copied_some rows in
-    let cut_of = cut_as hour (option_copied rows) held blanks ss is_held cut in
     record {
-      cut = cut_of;
-      is = hour_told hour (option_copied rows) blanks ss (rows_fit hour rows lt fit) cut_of;
+      in_range = lt;
+      are_rows = rows_fit hour rows lt fit;
+      cut = cut_as hour (option_copied rows) held blanks ss is_held cut;
       one = one_as hour (option_copied rows) held blanks ss is_held only;
     }
+
+-- the last stretch says whether the last tenth is known
+pub end_known : (known : ℕ → Bool) (a b n : ℕ) (ss : List Stretch) (x : Stretch) → n + 1 ≡ length ss → AreStretches known a b ss → slice_get ss n ≡ Some x → x.known ≡ known (b - 1)
+end_known known a b n [] x le h is = absurd (omega arith)
+end_known known a b zero (s ∷ []) x le (from, lt, each, end) is =
+    let same : s ≡ x = same_Some s x is in
+    let at : s.to - 1 ≡ b - 1 = ap (λ (t : ℕ). t - 1) end in
+    ap (λ (q : Stretch). q.known) (sym same) ∙ (sym (each (s.to - 1) (omega arith) (omega arith)) ∙ ap known at)
+end_known known a b zero (s ∷ q ∷ ss) x le h is = absurd (omega arith)
+end_known known a b (suc n) (s ∷ ss) x le (from, lt, each, rest) is = end_known known s.to b n ss x (omega arith) rest is
 
 -- the row that is named
 pub names : (specs : List Spec) (s : Store) (hour : ℕ) (rows : Option (List Row)) (blanks : List Span) (ss : List Stretch) (before : List (List (List Span))) → AreSpecs specs → AreRowsOf hour (rows_or_none rows) → IsCutOf hour rows blanks ss → (e : PastsError) → NamesStop specs (rows_or_none rows) ss before e → HasHour s hour rows blanks → ArePastsAt (log_of specs s) hour before → NamesContradiction (log_of specs s) e

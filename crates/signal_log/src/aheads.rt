@@ -8,10 +8,9 @@ ghost use Rattle.signal_log.specs.Log.{log_of};
 ghost use Rattle.signal_log.specs.Points.{AreAheadsAt, HasHour};
 ghost use Rattle.signal_log.specs.Over.{AreAheadsOver};
 
-use crate::pasts::held_rows;
+use crate::place::Place;
 use board::{Aheads, aheads_hour};
 use channel_tables::Spec;
-use gap_map::stretches;
 use sig_base::{Hour, NoMemory, Row};
 use span_set::SpanSet;
 use std::alloc::Global;
@@ -38,6 +37,25 @@ pub fn aheads_before(
     ensures over { IfOk result (AreAheadsOver specs.now hour (option_copied rows.entry) blanked.now
         after.now) }
 {
-    let cut = stretches(alloc, hour, rows.is_some(), blanked)?;
-    aheads_hour(alloc, specs, after, held_rows(rows), &cut)
+    let place = Place::new(alloc, hour, rows, blanked)?;
+    aheads_over(alloc, specs, &place, after)
+}
+
+/// The same, of an hour that is opened.
+pub fn aheads_over(
+    alloc: Global,
+    specs: &[Spec],
+    place: &Place<'_>,
+    after: &Aheads,
+) -> Result<Aheads, NoMemory>
+    requires specs { AreSpecs specs.now }
+    requires shape { AreAheadsOf specs.now after.now }
+    ensures shape { IfOk result (λ a. AreAheadsOf specs.now a) }
+    ensures aheads { IfOk result (λ a. (s : Store) → HasHour s place.now.hour place.now.rows
+        place.now.blanks → AreAheadsAt (log_of specs.now s) (place.now.hour + 1) after.now
+        → AreAheadsAt (log_of specs.now s) place.now.hour a) }
+    ensures over { IfOk result (AreAheadsOver specs.now place.now.hour place.now.rows
+        place.now.blanks after.now) }
+{
+    aheads_hour(alloc, specs, after, place.rows(), place.stretches())
 }

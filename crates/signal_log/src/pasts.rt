@@ -1,5 +1,5 @@
 // The states of each channel from one hour point to the next.
-ghost use Rattle.std.specs.Prelude.{◌≡◌, ◌<◌, ◌+◌, [], option_copied, IfSome, IfOk, IfErr};
+ghost use Rattle.std.specs.Prelude.{◌<◌, ◌+◌, option_copied, IfSome, IfOk, IfErr};
 ghost use Rattle.sig_base.specs.HourRows.{AreRowsOf};
 ghost use Rattle.hour_store.specs.Store.{Store};
 ghost use Rattle.board.specs.Channels.{AreSpecs};
@@ -7,12 +7,12 @@ ghost use Rattle.board.specs.Logs.{first_tenth, end_tenth};
 ghost use Rattle.board.specs.Stops.{AreBefore};
 ghost use Rattle.board.specs.Places.{AllEarly};
 ghost use Rattle.signal_log.specs.Log.{log_of};
-ghost use Rattle.signal_log.specs.Points.{ArePastsAt, HasHour, NamesContradiction, rows_or_none};
+ghost use Rattle.signal_log.specs.Points.{ArePastsAt, HasHour, NamesContradiction};
 ghost use Rattle.signal_log.specs.Over.{ArePastsOver, NamesStopOver};
 
+use crate::place::Place;
 use board::{Pasts, PastsError, pasts_hour};
 use channel_tables::Spec;
-use gap_map::stretches;
 use sig_base::{Hour, Row};
 use span_set::SpanSet;
 use std::alloc::Global;
@@ -46,16 +46,31 @@ pub fn pasts_after(
     ensures stop_over { IfErr result (NamesStopOver specs.now hour (option_copied rows.entry)
         blanked.now before.now) }
 {
-    let cut = stretches(alloc, hour, rows.is_some(), blanked)?;
-    pasts_hour(alloc, specs, before, held_rows(rows), &cut)
+    let place = Place::new(alloc, hour, rows, blanked)?;
+    pasts_over(alloc, specs, &place, before)
 }
 
-// The rows of the hour, none where it isn't held.
-pub(crate) fn held_rows<'a>(rows: Option<&'a [Row]>) -> &'a [Row]
-    ensures { result.now ≡ rows_or_none (option_copied rows.entry) }
+/// The same, of an hour that is opened.
+pub fn pasts_over(
+    alloc: Global,
+    specs: &[Spec],
+    place: &Place<'_>,
+    before: &Pasts,
+) -> Result<Pasts, PastsError>
+    requires specs { AreSpecs specs.now }
+    requires shape { AreBefore specs.now before.now }
+    requires early { AllEarly (first_tenth place.now.hour) before.now }
+    ensures shape { IfOk result (λ p. AreBefore specs.now p × AllEarly (end_tenth place.now.hour) p) }
+    ensures pasts { IfOk result (λ p. (s : Store) → HasHour s place.now.hour place.now.rows
+        place.now.blanks → ArePastsAt (log_of specs.now s) place.now.hour before.now
+        → ArePastsAt (log_of specs.now s) (place.now.hour + 1) p) }
+    ensures stop { IfErr result (λ e. (s : Store) → HasHour s place.now.hour place.now.rows
+        place.now.blanks → ArePastsAt (log_of specs.now s) place.now.hour before.now
+        → NamesContradiction (log_of specs.now s) e) }
+    ensures over { IfOk result (ArePastsOver specs.now place.now.hour place.now.rows
+        place.now.blanks before.now) }
+    ensures stop_over { IfErr result (NamesStopOver specs.now place.now.hour place.now.rows
+        place.now.blanks before.now) }
 {
-    match rows {
-        Some(rows) => rows,
-        None => &[],
-    }
+    pasts_hour(alloc, specs, before, place.rows(), place.stretches())
 }

@@ -1,0 +1,37 @@
+use Rattle.signal_log.proofs.Calls.{pasts_answer, pasts_answer_over, pasts_shape, pasts_was, stop_answer, stop_answer_over, opened_told}
+use Rattle.signal_log.proofs.again.pasts_over_again.Goals as goal
+
+pub pasts_again-requires-clause-hour : goal.pasts_again-requires-clause-hour
+pasts_again-requires-clause-hour c =
+    let it = opened_told c.args.place.now c.stretches.ensures.opened in
+    (c.args.place.now.hour, rw (c.rows.ensures.value, c.stretches.ensures.value) it.is, c.requires.early)
+
+pub pasts_again-requires-clause-was : goal.pasts_again-requires-clause-was
+pasts_again-requires-clause-was c =
+    let it = opened_told c.args.place.now c.stretches.ensures.opened in
+    rw (c.rows.ensures.value, c.stretches.ensures.value) (pasts_was c.args.specs.now c.args.place.now.hour c.args.place.now.rows c.args.place.now.blanks c.args.place.now.stretches c.args.was.now.before.now c.args.was.now.after.now it c.requires.was)
+
+pub returns-clause-shape : goal.returns-clause-shape
+returns-clause-shape c =
+    let it = opened_told c.args.place.now c.stretches.ensures.opened in
+    pasts_shape c.args.specs.now c.args.place.now.hour c.args.place.now.rows c.args.place.now.blanks c.args.place.now.stretches c.args.before.now it c.pasts_again.result c.pasts_again.ensures.shape (rw (c.rows.ensures.value, c.stretches.ensures.value) at c.pasts_again.ensures.early)
+
+pub returns-clause-pasts : goal.returns-clause-pasts
+returns-clause-pasts c =
+    let it = opened_told c.args.place.now c.stretches.ensures.opened in
+    pasts_answer c.args.specs.now c.args.place.now.hour c.args.place.now.rows c.args.place.now.blanks c.args.place.now.stretches c.args.before.now it c.pasts_again.result c.requires.specs (returns-clause-shape c) (rw (c.rows.ensures.value, c.stretches.ensures.value) at c.pasts_again.ensures.pasts)
+
+pub returns-clause-stop : goal.returns-clause-stop
+returns-clause-stop c =
+    let it = opened_told c.args.place.now c.stretches.ensures.opened in
+    stop_answer c.args.specs.now c.args.place.now.hour c.args.place.now.rows c.args.place.now.blanks c.args.place.now.stretches c.args.before.now it c.pasts_again.result c.requires.specs (rw (c.rows.ensures.value, c.stretches.ensures.value) at c.pasts_again.ensures.stop)
+
+pub returns-clause-over : goal.returns-clause-over
+returns-clause-over c =
+    let it = opened_told c.args.place.now c.stretches.ensures.opened in
+    pasts_answer_over c.args.specs.now c.args.place.now.hour c.args.place.now.rows c.args.place.now.blanks c.args.place.now.stretches c.args.before.now it c.pasts_again.result (rw (c.rows.ensures.value, c.stretches.ensures.value) at c.pasts_again.ensures.pasts)
+
+pub returns-clause-stop_over : goal.returns-clause-stop_over
+returns-clause-stop_over c =
+    let it = opened_told c.args.place.now c.stretches.ensures.opened in
+    stop_answer_over c.args.specs.now c.args.place.now.hour c.args.place.now.rows c.args.place.now.blanks c.args.place.now.stretches c.args.before.now it c.pasts_again.result (rw (c.rows.ensures.value, c.stretches.ensures.value) at c.pasts_again.ensures.stop)

@@ -4,11 +4,10 @@ use Rattle.std.specs.Prelude.{is_some, option_map}
 use Rattle.std.specs.List.{All}
 use Rattle.std.proofs.lemmas.Bool.Decides.{nat_tests}
 use Rattle.span_set.specs.declared.set.Span.{Span}
-use Rattle.sig_base.specs.HourRows.{AreRowsOf, Shown}
+use Rattle.sig_base.specs.HourRows.{Shown}
 use Rattle.sig_base.specs.declared.values.Row.{Row}
 use Rattle.gap_map.specs.declared.stretch.Stretch.{Stretch}
 use Rattle.gap_map.specs.Stretches.{IsCut as IsStretched, known_in}
-use Rattle.gap_map.proofs.Following.{follow}
 use Rattle.hour_store.specs.Store.{Store, count_in, held_at, is_known, rows_at, rows_of}
 use Rattle.hour_sweep.specs.Rows.{known_rows}
 use Rattle.service_cut.specs.declared.parts.Part.{Part}
@@ -19,7 +18,7 @@ use Rattle.stop_bar.specs.All.{AreAtBars}
 use Rattle.arrival_measures.specs.Crossing.{CarryParts, IsCarry as AreOpen}
 use Rattle.arrival_measures.specs.declared.sums.ArrivalSum.{ArrivalSum}
 use Rattle.board.specs.Hours.{AreEnds, AreStarts}
-use Rattle.board.specs.Logs.{HourLog, IsHour, first_tenth, hour_log}
+use Rattle.board.specs.Logs.{HourLog, first_tenth, hour_log}
 use Rattle.board.specs.Places.{AreAheadsOf, IsViewOf}
 use Rattle.board.specs.Stops.{AreBefore}
 use Rattle.ring_config.specs.Settings.{Settings}
@@ -90,8 +89,13 @@ known_after s hour rows blanks held has e =
 
 -- ---- an hour
 
-pub hour_cut : (hour : ℕ) (rows : List Row) (blanks : List Span) (ss : List Stretch) → AreRowsOf hour rows → IsStretched (known_in true blanks) (36000 * hour) (36000 * hour + 36000) ss → IsHour hour rows ss
-hour_cut hour rows blanks ss are cut = record { are_rows = are; follow = follow (known_in true blanks) (36000 * hour) (36000 * hour + 36000) ss cut.stretches }
+pub held_rows : (o : Option (List Row)) → is_some o ≡ true → o ≡ Some (rows_or_none o)
+held_rows None e = absurd (let bad : true ≡ false = sym e in cc)
+held_rows (Some rows) e = refl
+
+pub no_held_rows : (o : Option (List Row)) → is_some o ≡ false → o ≡ None
+no_held_rows None e = refl
+no_held_rows (Some rows) e = absurd (let bad : true ≡ false = e in cc)
 
 module _ (c : Settings) (sound : IsSound c) (s : Store) (hour : ℕ) (before : Carried) (rows : List Row) (blanks : List Span) (after : List (List (Option ℤ))) (ss : List Stretch) (is : IsHourBetween c s hour before (Some rows) blanks after) (cut : IsStretched (known_in true blanks) (36000 * hour) (36000 * hour + 36000) ss) where
   pub between_hour : IsHourOf s (hour_log hour c.specs rows ss before.pasts after)

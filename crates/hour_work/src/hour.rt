@@ -1,5 +1,5 @@
 // The numbers of one hour, and the lines of its audit.
-ghost use Rattle.std.specs.Prelude.{◌≡◌, ◌<◌, Some, None, length, option_copied, IfOk, IfSome};
+ghost use Rattle.std.specs.Prelude.{◌≡◌, ◌<◌, true, false, is_some, length, option_copied, IfOk, IfSome};
 ghost use Rattle.sig_base.specs.HourRows.{AreRowsOf};
 ghost use Rattle.hour_store.specs.Store.{Store};
 ghost use Rattle.board.specs.Stops.{AreBefore};
@@ -16,12 +16,12 @@ use crate::seen::{audit_seen, cut_seen, known_in, others_seen, seen_hour};
 use crate::stop_bars::splits_seen;
 use crate::{Between, Carry, Future, Partial};
 use arrival_measures::arrivals_unheld;
-use gap_map::stretches;
 use other_measures::OtherSums;
 use ring_config::Config;
 use rule_audit::{AuditLine, Rule};
 use service_cut::cut_hour;
 use sig_base::{Hour, NoMemory, Row};
+use signal_log::Place;
 use span_set::SpanSet;
 use std::alloc::Global;
 
@@ -46,13 +46,30 @@ pub fn partial(
         (option_copied rows.entry) blanked.now after.now → IsHourPart config.now s hour p) }
     ensures small { IfOk result (FitHours 1) }
 {
-    match rows {
-        Some(rows) => {
-            let between = Between { before, after };
-            held_part(alloc, config, rules, hour, &between, rows, blanked)
-        }
-        None => unheld_part(alloc, config, rules.len(), hour, before, blanked),
+    let place = Place::new(alloc, hour, rows, blanked)?;
+    partial_over(alloc, config, rules, &place, &Between { before, after })
+}
+
+/// `partial` of an hour that is opened.
+pub fn partial_over(
+    alloc: Global,
+    config: &Config,
+    rules: &[Rule],
+    place: &Place<'_>,
+    between: &Between<'_>,
+) -> Result<Partial, NoMemory>
+    requires rules { rules.now ≡ rules_for config.now }
+    requires agrees { (s : Store) × IsHourBetween config.now s place.now.hour between.now.before.now
+        place.now.rows place.now.blanks between.now.after.now }
+    ensures value { IfOk result (λ p. (s : Store) → IsHourBetween config.now s place.now.hour
+        between.now.before.now place.now.rows place.now.blanks between.now.after.now
+        → IsHourPart config.now s place.now.hour p) }
+    ensures small { IfOk result (FitHours 1) }
+{
+    if place.is_held() {
+        return held_part(alloc, config, rules, place, between);
     }
+    unheld_part(alloc, config, rules.len(), place, between.before)
 }
 
 /// The lines of the audit of an hour, in their order: the verdicts that aren't idle, over all
@@ -76,13 +93,29 @@ pub fn audit_lines(
         (option_copied rows.entry) blanked.now after.now
         → AreAuditLines config.now s hour v.items) }
 {
-    match rows {
-        Some(rows) => {
-            let between = Between { before, after };
-            held_lines(alloc, config, rules, hour, &between, rows, blanked)
-        }
-        None => Ok(Vec::new(alloc)),
+    let place = Place::new(alloc, hour, rows, blanked)?;
+    audit_over(alloc, config, rules, &place, &Between { before, after })
+}
+
+/// `audit_lines` of an hour that is opened.
+pub fn audit_over(
+    alloc: Global,
+    config: &Config,
+    rules: &[Rule],
+    place: &Place<'_>,
+    between: &Between<'_>,
+) -> Result<Vec<AuditLine>, NoMemory>
+    requires rules { rules.now ≡ rules_for config.now }
+    requires agrees { (s : Store) × IsHourBetween config.now s place.now.hour between.now.before.now
+        place.now.rows place.now.blanks between.now.after.now }
+    ensures { IfOk result (λ v. (s : Store) → IsHourBetween config.now s place.now.hour
+        between.now.before.now place.now.rows place.now.blanks between.now.after.now
+        → AreAuditLines config.now s place.now.hour v.items) }
+{
+    if place.is_held() {
+        return held_lines(alloc, config, rules, place, between);
     }
+    Ok(Vec::new(alloc))
 }
 
 // The numbers of an hour that isn't held, where there are so many rules: the services whose red
@@ -92,61 +125,60 @@ fn unheld_part(
     alloc: Global,
     config: &Config,
     rules: usize,
-    hour: Hour,
+    place: &Place<'_>,
     before: &Carry,
-    blanked: &SpanSet,
 ) -> Result<Partial, NoMemory>
-    requires in_range { hour < 744 }
+    requires unheld { is_some place.now.rows ≡ false }
     requires shape { AreBefore config.now.specs before.now.pasts }
     ensures value { IfOk result (λ p. (s : Store) → rules ≡ length (rules_for config.now)
-        → HasHistory (log_of config.now.specs s) → HasHour s hour None blanked.now
-        → IsCarryAt config.now s hour before.now → IsHourPart config.now s hour p) }
+        → HasHistory (log_of config.now.specs s) → HasHour s place.now.hour place.now.rows
+        place.now.blanks → IsCarryAt config.now s place.now.hour before.now
+        → IsHourPart config.now s place.now.hour p) }
     ensures small { IfOk result (FitHours 1) }
 {
-    let parts = stretches(alloc, hour, false, blanked)?;
+    let parts = place.stretches();
     let mut carry = before.cuts.copy()?;
-    let cuts = cut_hour(alloc, config.phases(), &mut carry, &[], &parts)?;
+    let cuts = cut_hour(alloc, config.phases(), &mut carry, place.rows(), parts)?;
     let mut arrival_carry = before.arrivals.copy()?;
     Ok(Partial {
         held_hours: 0,
         held_rows: 0,
         known_tenths: 0,
         rules: counts_of(alloc, rules, &[])?,
-        splits: splits_seen(alloc, config, hour, before, &cuts, &[], &parts)?,
+        splits: splits_seen(alloc, config, place, before, &cuts)?,
         others: OtherSums::none(alloc, config)?,
-        arrivals: arrivals_unheld(alloc, config, &mut arrival_carry, &cuts, &parts)?,
+        arrivals: arrivals_unheld(alloc, config, &mut arrival_carry, &cuts, parts)?,
     })
 }
 
-// The numbers of an hour of which these rows are held.
+// The numbers of an hour that is held.
 fn held_part(
     alloc: Global,
     config: &Config,
     rules: &[Rule],
-    hour: Hour,
+    place: &Place<'_>,
     between: &Between<'_>,
-    rows: &[Row],
-    blanked: &SpanSet,
 ) -> Result<Partial, NoMemory>
-    requires of_hour { AreRowsOf hour rows.now }
+    requires held { is_some place.now.rows ≡ true }
     requires rules { rules.now ≡ rules_for config.now }
-    requires agrees { (s : Store) × IsHourBetween config.now s hour between.now.before.now
-        (Some rows.now) blanked.now between.now.after.now }
-    ensures value { IfOk result (λ p. (s : Store)
-        → IsHourBetween config.now s hour between.now.before.now (Some rows.now) blanked.now
-        between.now.after.now → IsHourPart config.now s hour p) }
+    requires agrees { (s : Store) × IsHourBetween config.now s place.now.hour between.now.before.now
+        place.now.rows place.now.blanks between.now.after.now }
+    ensures value { IfOk result (λ p. (s : Store) → IsHourBetween config.now s place.now.hour
+        between.now.before.now place.now.rows place.now.blanks between.now.after.now
+        → IsHourPart config.now s place.now.hour p) }
     ensures small { IfOk result (FitHours 1) }
 {
     let before = between.before;
-    let (parts, view) = seen_hour(alloc, config, hour, before, rows, blanked, between.after)?;
-    let lines = audit_seen(alloc, config, rules, before, rows, &parts, &view)?;
+    let parts = place.stretches();
+    let view = seen_hour(alloc, config, place, between)?;
+    let lines = audit_seen(alloc, config, rules, place, before, &view)?;
     let counts = counts_of(alloc, rules.len(), &lines)?;
-    let (splits, arrivals) = cut_seen(alloc, config, hour, before, rows, &parts, &view)?;
-    let others = others_seen(alloc, config, hour, before, rows, &parts, &view)?;
+    let (splits, arrivals) = cut_seen(alloc, config, place, before, &view)?;
+    let others = others_seen(alloc, config, place, before, &view)?;
     Ok(Partial {
         held_hours: 1,
-        held_rows: rows.len() as u64,
-        known_tenths: known_in(&parts) as u64,
+        held_rows: place.rows().len() as u64,
+        known_tenths: known_in(parts) as u64,
         rules: counts,
         splits,
         others,
@@ -154,25 +186,22 @@ fn held_part(
     })
 }
 
-// The lines of an hour of which these rows are held.
+// The lines of an hour that is held.
 fn held_lines(
     alloc: Global,
     config: &Config,
     rules: &[Rule],
-    hour: Hour,
+    place: &Place<'_>,
     between: &Between<'_>,
-    rows: &[Row],
-    blanked: &SpanSet,
 ) -> Result<Vec<AuditLine>, NoMemory>
-    requires of_hour { AreRowsOf hour rows.now }
+    requires held { is_some place.now.rows ≡ true }
     requires rules { rules.now ≡ rules_for config.now }
-    requires agrees { (s : Store) × IsHourBetween config.now s hour between.now.before.now
-        (Some rows.now) blanked.now between.now.after.now }
-    ensures { IfOk result (λ v. (s : Store)
-        → IsHourBetween config.now s hour between.now.before.now (Some rows.now) blanked.now
-        between.now.after.now → AreAuditLines config.now s hour v.items) }
+    requires agrees { (s : Store) × IsHourBetween config.now s place.now.hour between.now.before.now
+        place.now.rows place.now.blanks between.now.after.now }
+    ensures { IfOk result (λ v. (s : Store) → IsHourBetween config.now s place.now.hour
+        between.now.before.now place.now.rows place.now.blanks between.now.after.now
+        → AreAuditLines config.now s place.now.hour v.items) }
 {
-    let before = between.before;
-    let (parts, view) = seen_hour(alloc, config, hour, before, rows, blanked, between.after)?;
-    audit_seen(alloc, config, rules, before, rows, &parts, &view)
+    let view = seen_hour(alloc, config, place, between)?;
+    audit_seen(alloc, config, rules, place, between.before, &view)
 }

@@ -8,6 +8,8 @@
 //! all histories of the whole window that agree with the log. A `Report` has the numbers of all
 //! hours. `phase_cycles` and `phase_points` list an hour's whole cycles of a phase and its arrivals.
 //!
+//! Each of these calls has another, `forward_over` and so on, over an hour that is opened already.
+//!
 //! A tenth is known where its hour is held and the tenth isn't blanked. Held rows count at blanked
 //! tenths too.
 #![tactic(auto)]
@@ -28,13 +30,13 @@ mod stop_bars;
 pub use again::{backward_again, forward_again};
 pub use carry::{Between, Carry, Future};
 pub use counts::RuleCount;
-pub use hour::{audit_lines, partial};
+pub use hour::{audit_lines, audit_over, partial, partial_over};
 pub use laws::{
     cycles_show_green, green_before_yellow, hours_make_up_the_log, points_are_one, reports_are_one,
     totals_are_of_the_log,
 };
 pub use lists::{pick, put_in};
 pub use numbers::Partial;
-pub use points::{phase_cycles, phase_points};
+pub use points::{cycles_over, phase_cycles, phase_points, points_over};
 pub use reported::{Report, Sums};
-pub use steps::{ForwardError, backward, forward};
+pub use steps::{ForwardError, backward, backward_over, forward, forward_over};

@@ -1,5 +1,5 @@
 // The cycles of a phase in one hour, and its arrivals.
-ghost use Rattle.std.specs.Prelude.{◌≡◌, ◌<◌, Some, option_copied, IfOk, IfSome};
+ghost use Rattle.std.specs.Prelude.{◌≡◌, ◌<◌, true, is_some, option_copied, IfOk, IfSome};
 ghost use Rattle.sig_base.specs.HourRows.{AreRowsOf};
 ghost use Rattle.hour_store.specs.Store.{Store, is_known};
 ghost use Rattle.hour_sums.specs.Numbers.{own};
@@ -11,13 +11,12 @@ ghost use Rattle.hour_work.specs.Points.{IsCarryAt};
 ghost use Rattle.hour_work.specs.Reports.{IsHourBetween};
 
 use crate::seen::seen_hour;
-use crate::steps::held_rows;
 use crate::{Between, Carry, Future};
 use arrival_measures::{Points, arrival_points};
-use gap_map::stretches;
 use ring_config::Config;
 use service_cut::{Cycle, cut_hour};
 use sig_base::{Hour, NoMemory, Row};
+use signal_log::Place;
 use span_set::SpanSet;
 use std::alloc::Global;
 
@@ -43,35 +42,50 @@ pub fn phase_points(
         → IsCarryAt config.now s hour before.now
         → p ≡ points_from (is_known s) config.now phase (earlier_rows s hour) (own_rows s hour)) }
 {
-    match rows {
-        Some(rows) => {
-            let between = Between { before, after };
-            held_points(alloc, config, phase, hour, &between, rows, blanked)
-        }
-        None => Ok(Points::new(alloc)),
-    }
+    let place = Place::new(alloc, hour, rows, blanked)?;
+    points_over(alloc, config, phase, &place, &Between { before, after })
 }
 
-// Those of an hour of which these rows are held.
+/// `phase_points` of an hour that is opened.
+pub fn points_over(
+    alloc: Global,
+    config: &Config,
+    phase: u8,
+    place: &Place<'_>,
+    between: &Between<'_>,
+) -> Result<Points, NoMemory>
+    requires agrees { (s : Store) × IsHourBetween config.now s place.now.hour between.now.before.now
+        place.now.rows place.now.blanks between.now.after.now }
+    ensures { IfOk result (λ p. (s : Store) → HasHour s place.now.hour place.now.rows
+        place.now.blanks → IsCarryAt config.now s place.now.hour between.now.before.now
+        → p ≡ points_from (is_known s) config.now phase (earlier_rows s place.now.hour)
+        (own_rows s place.now.hour)) }
+{
+    if place.is_held() {
+        return held_points(alloc, config, phase, place, between);
+    }
+    Ok(Points::new(alloc))
+}
+
+// Those of an hour that is held.
 fn held_points(
     alloc: Global,
     config: &Config,
     phase: u8,
-    hour: Hour,
+    place: &Place<'_>,
     between: &Between<'_>,
-    rows: &[Row],
-    blanked: &SpanSet,
 ) -> Result<Points, NoMemory>
-    requires of_hour { AreRowsOf hour rows.now }
-    requires agrees { (s : Store) × IsHourBetween config.now s hour between.now.before.now
-        (Some rows.now) blanked.now between.now.after.now }
-    ensures { IfOk result (λ p. (s : Store) → HasHour s hour (Some rows.now) blanked.now
-        → IsCarryAt config.now s hour between.now.before.now
-        → p ≡ points_from (is_known s) config.now phase (earlier_rows s hour) (own_rows s hour)) }
+    requires held { is_some place.now.rows ≡ true }
+    requires agrees { (s : Store) × IsHourBetween config.now s place.now.hour between.now.before.now
+        place.now.rows place.now.blanks between.now.after.now }
+    ensures { IfOk result (λ p. (s : Store) → HasHour s place.now.hour place.now.rows
+        place.now.blanks → IsCarryAt config.now s place.now.hour between.now.before.now
+        → p ≡ points_from (is_known s) config.now phase (earlier_rows s place.now.hour)
+        (own_rows s place.now.hour)) }
 {
-    let before = between.before;
-    let (parts, view) = seen_hour(alloc, config, hour, before, rows, blanked, between.after)?;
-    arrival_points(alloc, config, phase, &view, rows, &parts)
+    let view = seen_hour(alloc, config, place, between)?;
+    let parts = place.stretches();
+    arrival_points(alloc, config, phase, &view, place.rows(), parts)
 }
 
 /// The whole cycles of a phase that end in an hour, 0 to 743, in their order, from what is kept at
@@ -91,9 +105,25 @@ pub fn phase_cycles(
         → IsCarryAt config.now s hour before.now → v.items
         ≡ own (λ x. x.phase) phase (cycles_in config.now s hour)) }
 {
-    let parts = stretches(alloc, hour, rows.is_some(), blanked)?;
+    let place = Place::new(alloc, hour, rows, blanked)?;
+    cycles_over(alloc, config, phase, &place, before)
+}
+
+/// `phase_cycles` of an hour that is opened.
+pub fn cycles_over(
+    alloc: Global,
+    config: &Config,
+    phase: u8,
+    place: &Place<'_>,
+    before: &Carry,
+) -> Result<Vec<Cycle>, NoMemory>
+    ensures { IfOk result (λ v. (s : Store) → HasHour s place.now.hour place.now.rows
+        place.now.blanks → IsCarryAt config.now s place.now.hour before.now
+        → v.items ≡ own (λ x. x.phase) phase (cycles_in config.now s place.now.hour)) }
+{
+    let parts = place.stretches();
     let mut carry = before.cuts.copy()?;
-    let cuts = cut_hour(alloc, config.phases(), &mut carry, held_rows(rows), &parts)?;
+    let cuts = cut_hour(alloc, config.phases(), &mut carry, place.rows(), parts)?;
     own_cycles(alloc, cuts.cycles(), phase)
 }
 

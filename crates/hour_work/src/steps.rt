@@ -1,5 +1,5 @@
 // From one hour point to the next, and back.
-ghost use Rattle.std.specs.Prelude.{◌≡◌, ◌+◌, ◌*◌, ◌<◌, ℕ, List, Option, option_copied, IfOk, IfErr, IfSome};
+ghost use Rattle.std.specs.Prelude.{◌≡◌, ◌+◌, ◌<◌, ℕ, List, Option, option_copied, IfOk, IfErr, IfSome};
 ghost use Rattle.span_set.specs.declared.set.Span.{Span};
 ghost use Rattle.sig_base.specs.declared.values.Row.{Row};
 ghost use Rattle.channel_tables.specs.declared.spec.Spec.{Spec};
@@ -8,9 +8,8 @@ ghost use Rattle.hour_store.specs.Store.{Store};
 ghost use Rattle.board.specs.Logs.{first_tenth};
 ghost use Rattle.board.specs.Places.{AllEarly, AreAheadsOf};
 ghost use Rattle.board.specs.Stops.{AreBefore};
-ghost use Rattle.gap_map.specs.Stretches.{known_in};
 ghost use Rattle.signal_log.specs.Log.{Log, log_of};
-ghost use Rattle.signal_log.specs.Points.{ArePastsAt, HasHour, NamesContradiction, rows_or_none};
+ghost use Rattle.signal_log.specs.Points.{ArePastsAt, HasHour, NamesContradiction};
 ghost use Rattle.signal_log.specs.Over.{AreAheadsOver, ArePastsOver, NamesStopOver};
 ghost use Rattle.stop_bar.specs.All.{AreAtBars};
 ghost use Rattle.hour_work.specs.Rows.{earlier_rows};
@@ -21,12 +20,11 @@ use crate::stop_bars::splits_over;
 use crate::{Carry, Future};
 use arrival_measures::{ArrivalCarry, arrivals_carried};
 use board::{Pasts, PastsError};
-use gap_map::stretches;
 use other_measures::{OtherCarry, others_carried};
 use ring_config::Config;
 use service_cut::{CutCarry, cut_hour};
 use sig_base::{Hour, NoMemory, Row};
-use signal_log::{aheads_before, pasts_after};
+use signal_log::{Place, aheads_over, pasts_over};
 use span_set::SpanSet;
 use split_measures::SplitCarry;
 use std::alloc::{AllocFailed, Global};
@@ -82,38 +80,58 @@ pub fn forward(
     ensures stop_over { IfErr result (NamesStop config.now.specs hour (option_copied rows.entry)
         blanked.now before.now.pasts) }
 {
-    let pasts = pasts_over(alloc, config, hour, before, rows, blanked)?;
-    Ok(carried(alloc, config, hour, before, pasts, rows, blanked)?)
+    let place = Place::new(alloc, hour, rows, blanked)?;
+    forward_over(alloc, config, &place, before)
+}
+
+/// `forward` over an hour that is opened.
+pub fn forward_over(
+    alloc: Global,
+    config: &Config,
+    place: &Place<'_>,
+    before: &Carry,
+) -> Result<Carry, ForwardError>
+    requires fit { FitPoint config.now place.now.hour before.now }
+    ensures fit { IfOk result (FitPoint config.now (place.now.hour + 1)) }
+    ensures carry { IfOk result (λ c. (s : Store) → HasHour s place.now.hour place.now.rows
+        place.now.blanks → IsCarryAt config.now s place.now.hour before.now
+        → IsCarryAt config.now s (place.now.hour + 1) c) }
+    ensures stop { IfErr result (λ e. (s : Store) → HasHour s place.now.hour place.now.rows
+        place.now.blanks → IsCarryAt config.now s place.now.hour before.now
+        → NamesRow (log_of config.now.specs s) e) }
+    ensures over { IfOk result (λ c. ArePastsOver config.now.specs place.now.hour place.now.rows
+        place.now.blanks before.now.pasts c.pasts) }
+    ensures stop_over { IfErr result (NamesStop config.now.specs place.now.hour place.now.rows
+        place.now.blanks before.now.pasts) }
+{
+    let pasts = states_over(alloc, config, place, before)?;
+    Ok(carried(alloc, config, place, before, pasts)?)
 }
 
 // What is kept at the point after an hour, where these are the states of each channel there.
 pub(crate) fn carried(
     alloc: Global,
     config: &Config,
-    hour: Hour,
+    place: &Place<'_>,
     before: &Carry,
     pasts: Pasts,
-    rows: Option<&[Row]>,
-    blanked: &SpanSet,
 ) -> Result<Carry, NoMemory>
-    requires in_range { hour < 744 }
-    requires of_hour { IfSome rows (λ r. AreRowsOf hour r.now) }
     requires shape { AreBefore config.now.specs before.now.pasts }
     ensures pasts { IfOk result (λ c. c.pasts ≡ pasts) }
-    ensures carry { IfOk result (λ c. (s : Store) → HasHour s hour (option_copied rows.entry)
-        blanked.now → IsCarryAt config.now s hour before.now
-        → ArePastsAt (log_of config.now.specs s) (hour + 1) pasts
-        → IsCarryAt config.now s (hour + 1) c) }
+    ensures carry { IfOk result (λ c. (s : Store) → HasHour s place.now.hour place.now.rows
+        place.now.blanks → IsCarryAt config.now s place.now.hour before.now
+        → ArePastsAt (log_of config.now.specs s) (place.now.hour + 1) pasts
+        → IsCarryAt config.now s (place.now.hour + 1) c) }
 {
     let UnderWay {
         cuts,
         splits,
         others,
         arrivals,
-    } = under_way(alloc, config, hour, before, rows, blanked)?;
+    } = under_way(alloc, config, place, before)?;
     Ok(Carry {
         pasts,
-        known: is_last_known(hour, rows.is_some(), blanked),
+        known: place.is_end_known(),
         cuts,
         splits,
         others,
@@ -122,31 +140,27 @@ pub(crate) fn carried(
 }
 
 // The states of each channel at the point after an hour.
-fn pasts_over(
+fn states_over(
     alloc: Global,
     config: &Config,
-    hour: Hour,
+    place: &Place<'_>,
     before: &Carry,
-    rows: Option<&[Row]>,
-    blanked: &SpanSet,
 ) -> Result<Pasts, ForwardError>
-    requires in_range { hour < 744 }
-    requires of_hour { IfSome rows (λ r. AreRowsOf hour r.now) }
-    requires fit { FitPoint config.now hour before.now }
+    requires fit { FitPoint config.now place.now.hour before.now }
     ensures shape { IfOk result (λ p. AreBefore config.now.specs p
-        × AllEarly (first_tenth (hour + 1)) p) }
-    ensures pasts { IfOk result (λ p. (s : Store) → HasHour s hour (option_copied rows.entry)
-        blanked.now → IsCarryAt config.now s hour before.now
-        → ArePastsAt (log_of config.now.specs s) (hour + 1) p) }
-    ensures stop { IfErr result (λ e. (s : Store) → HasHour s hour (option_copied rows.entry)
-        blanked.now → IsCarryAt config.now s hour before.now
+        × AllEarly (first_tenth (place.now.hour + 1)) p) }
+    ensures pasts { IfOk result (λ p. (s : Store) → HasHour s place.now.hour place.now.rows
+        place.now.blanks → IsCarryAt config.now s place.now.hour before.now
+        → ArePastsAt (log_of config.now.specs s) (place.now.hour + 1) p) }
+    ensures stop { IfErr result (λ e. (s : Store) → HasHour s place.now.hour place.now.rows
+        place.now.blanks → IsCarryAt config.now s place.now.hour before.now
         → NamesRow (log_of config.now.specs s) e) }
-    ensures over { IfOk result (λ p. ArePastsOver config.now.specs hour (option_copied rows.entry)
-        blanked.now before.now.pasts p) }
-    ensures stop_over { IfErr result (NamesStop config.now.specs hour (option_copied rows.entry)
-        blanked.now before.now.pasts) }
+    ensures over { IfOk result (λ p. ArePastsOver config.now.specs place.now.hour place.now.rows
+        place.now.blanks before.now.pasts p) }
+    ensures stop_over { IfErr result (NamesStop config.now.specs place.now.hour place.now.rows
+        place.now.blanks before.now.pasts) }
 {
-    match pasts_after(alloc, config.specs(), hour, &before.pasts, rows, blanked) {
+    match pasts_over(alloc, config.specs(), place, &before.pasts) {
         Ok(pasts) => Ok(pasts),
         Err(error) => Err(forward_error(error)),
     }
@@ -165,54 +179,40 @@ struct UnderWay {
 fn under_way(
     alloc: Global,
     config: &Config,
-    hour: Hour,
+    place: &Place<'_>,
     before: &Carry,
-    rows: Option<&[Row]>,
-    blanked: &SpanSet,
 ) -> Result<UnderWay, NoMemory>
-    requires in_range { hour < 744 }
-    requires of_hour { IfSome rows (λ r. AreRowsOf hour r.now) }
     requires shape { AreBefore config.now.specs before.now.pasts }
-    ensures cuts { IfOk result (λ u. (s : Store) → HasHour s hour (option_copied rows.entry)
-        blanked.now → AreCutsAt config.now s hour before.now.cuts
-        → AreCutsAt config.now s (hour + 1) u.cuts) }
-    ensures splits { IfOk result (λ u. (s : Store) → HasHour s hour (option_copied rows.entry)
-        blanked.now → IsCarryAt config.now s hour before.now
-        → AreAtBars (log_of config.now.specs s) config.now (earlier_rows s (hour + 1)) (hour + 1)
-        u.splits) }
-    ensures others { IfOk result (λ u. (s : Store) → HasHour s hour (option_copied rows.entry)
-        blanked.now → AreCrossingAt config.now s hour before.now.others
-        → AreCrossingAt config.now s (hour + 1) u.others) }
-    ensures arrivals { IfOk result (λ u. (s : Store) → HasHour s hour (option_copied rows.entry)
-        blanked.now → AreCutsAt config.now s hour before.now.cuts
-        → AreOpenAt config.now s hour before.now.arrivals
-        → AreOpenAt config.now s (hour + 1) u.arrivals) }
+    ensures cuts { IfOk result (λ u. (s : Store) → HasHour s place.now.hour place.now.rows
+        place.now.blanks → AreCutsAt config.now s place.now.hour before.now.cuts
+        → AreCutsAt config.now s (place.now.hour + 1) u.cuts) }
+    ensures splits { IfOk result (λ u. (s : Store) → HasHour s place.now.hour place.now.rows
+        place.now.blanks → IsCarryAt config.now s place.now.hour before.now
+        → AreAtBars (log_of config.now.specs s) config.now (earlier_rows s (place.now.hour + 1))
+        (place.now.hour + 1) u.splits) }
+    ensures others { IfOk result (λ u. (s : Store) → HasHour s place.now.hour place.now.rows
+        place.now.blanks → AreCrossingAt config.now s place.now.hour before.now.others
+        → AreCrossingAt config.now s (place.now.hour + 1) u.others) }
+    ensures arrivals { IfOk result (λ u. (s : Store) → HasHour s place.now.hour place.now.rows
+        place.now.blanks → AreCutsAt config.now s place.now.hour before.now.cuts
+        → AreOpenAt config.now s place.now.hour before.now.arrivals
+        → AreOpenAt config.now s (place.now.hour + 1) u.arrivals) }
 {
-    let held = held_rows(rows);
-    let parts = stretches(alloc, hour, rows.is_some(), blanked)?;
+    let rows = place.rows();
+    let parts = place.stretches();
     let mut cuts = before.cuts.copy()?;
-    let cut = cut_hour(alloc, config.phases(), &mut cuts, held, &parts)?;
-    let splits = splits_over(alloc, config, hour, before, &cut, held, &parts)?;
+    let cut = cut_hour(alloc, config.phases(), &mut cuts, rows, parts)?;
+    let splits = splits_over(alloc, config, place, before, &cut)?;
     let mut arrivals = before.arrivals.copy()?;
-    arrivals_carried(alloc, config, &mut arrivals, &cut, held, &parts)?;
+    arrivals_carried(alloc, config, &mut arrivals, &cut, rows, parts)?;
     let mut others = before.others.copy()?;
-    others_carried(alloc, config, &mut others, held, &parts)?;
+    others_carried(alloc, config, &mut others, rows, parts)?;
     Ok(UnderWay {
         cuts,
         splits,
         others,
         arrivals,
     })
-}
-
-// The rows of the hour, none where it isn't held.
-pub(crate) fn held_rows<'a>(rows: Option<&'a [Row]>) -> &'a [Row]
-    ensures { result.now ≡ rows_or_none (option_copied rows.entry) }
-{
-    match rows {
-        Some(rows) => rows,
-        None => &[],
-    }
 }
 
 /// The same backward: what is kept at the point before an hour, from what is kept at the one after
@@ -235,7 +235,26 @@ pub fn backward(
     ensures over { IfOk result (AreAheadsOver config.now.specs hour (option_copied rows.entry)
         blanked.now after.now) }
 {
-    let aheads = aheads_before(alloc, config.specs(), hour, &after.aheads, rows, blanked)?;
+    let place = Place::new(alloc, hour, rows, blanked)?;
+    backward_over(alloc, config, &place, after)
+}
+
+/// `backward` over an hour that is opened.
+pub fn backward_over(
+    alloc: Global,
+    config: &Config,
+    place: &Place<'_>,
+    after: &Future,
+) -> Result<Future, NoMemory>
+    requires fit { AreAheadsOf config.now.specs after.now }
+    ensures fit { IfOk result (AreAheadsOf config.now.specs) }
+    ensures future { IfOk result (λ f. (s : Store) → HasHour s place.now.hour place.now.rows
+        place.now.blanks → IsFutureAt config.now s (place.now.hour + 1) after.now
+        → IsFutureAt config.now s place.now.hour f) }
+    ensures over { IfOk result (AreAheadsOver config.now.specs place.now.hour place.now.rows
+        place.now.blanks after.now) }
+{
+    let aheads = aheads_over(alloc, config.specs(), place, &after.aheads)?;
     Ok(Future { aheads })
 }
 
@@ -249,12 +268,4 @@ pub(crate) fn forward_error(error: PastsError) -> ForwardError
         PastsError::NoState(row) => ForwardError::Contradiction(row),
         PastsError::Memory => ForwardError::Memory,
     }
-}
-
-// Whether the hour's last tenth is known.
-fn is_last_known(hour: Hour, held: bool, blanked: &SpanSet) -> bool
-    requires { hour < 744 }
-    ensures { result ≡ known_in held blanked.now (36000 * hour + 35999) }
-{
-    held && !blanked.contains(i64::from(36_000 * hour + 35_999))
 }

@@ -3,6 +3,7 @@ ghost use Rattle.std.specs.Prelude.{◌≡◌, ◌<◌, ◌+◌, ◌++◌, IfOk}
 ghost use Rattle.hour_store.specs.Store.{Store};
 ghost use Rattle.board.specs.Stops.{AreBefore};
 ghost use Rattle.signal_log.specs.Log.{HasHistory, log_of};
+ghost use Rattle.signal_log.specs.Points.{rows_or_none};
 ghost use Rattle.stop_bar.specs.All.{AreAtBars};
 ghost use Rattle.split_measures.specs.Phases.{phase_sums};
 ghost use Rattle.split_measures.specs.Hours.{AreSplitSums};
@@ -10,10 +11,10 @@ ghost use Rattle.hour_work.specs.Rows.{earlier_rows, own_rows};
 ghost use Rattle.hour_work.specs.Reports.{IsHourCut};
 
 use crate::Carry;
-use gap_map::Stretch;
 use ring_config::Config;
 use service_cut::Cuts;
-use sig_base::{Hour, NoMemory, Row};
+use sig_base::NoMemory;
+use signal_log::Place;
 use split_measures::{SplitCarry, SplitSums, splits_carried, splits_hour};
 use std::alloc::Global;
 use stop_bar::detectors_hour;
@@ -22,45 +23,41 @@ use stop_bar::detectors_hour;
 pub(crate) fn splits_seen(
     alloc: Global,
     config: &Config,
-    hour: Hour,
+    place: &Place<'_>,
     before: &Carry,
     cuts: &Cuts,
-    rows: &[Row],
-    parts: &[Stretch],
 ) -> Result<SplitSums, NoMemory>
-    requires hour { hour < 744 }
     requires shape { AreBefore config.now.specs before.now.pasts }
     ensures phases { IfOk result (λ v. v.phases
         ≡ phase_sums config.now.phases cuts.now.services cuts.now.cycles) }
     ensures verdicts { IfOk result (λ v. (s : Store) → HasHistory (log_of config.now.specs s)
-        → IsHourCut config.now s hour before.now rows.now parts.now cuts.now
-        → AreSplitSums (log_of config.now.specs s) config.now hour
-        (earlier_rows s hour ++ own_rows s hour) v.approaches) }
+        → IsHourCut config.now s place.now.hour before.now (rows_or_none place.now.rows)
+        place.now.stretches cuts.now → AreSplitSums (log_of config.now.specs s) config.now
+        place.now.hour (earlier_rows s place.now.hour ++ own_rows s place.now.hour) v.approaches) }
 {
-    let detectors = detectors_hour(alloc, config, &before.pasts, rows, parts)?;
+    let parts = place.stretches();
+    let detectors = detectors_hour(alloc, config, &before.pasts, place.rows(), parts)?;
     let mut carry = before.splits.copy()?;
-    splits_hour(alloc, config, &mut carry, cuts, &detectors, hour)
+    splits_hour(alloc, config, &mut carry, cuts, &detectors, place.hour())
 }
 
 /// What crosses the point after the hour at stop bars.
 pub(crate) fn splits_over(
     alloc: Global,
     config: &Config,
-    hour: Hour,
+    place: &Place<'_>,
     before: &Carry,
     cuts: &Cuts,
-    rows: &[Row],
-    parts: &[Stretch],
 ) -> Result<SplitCarry, NoMemory>
-    requires hour { hour < 744 }
     requires shape { AreBefore config.now.specs before.now.pasts }
-    ensures { IfOk result (λ v. (s : Store)
-        → IsHourCut config.now s hour before.now rows.now parts.now cuts.now
-        → AreAtBars (log_of config.now.specs s) config.now (earlier_rows s (hour + 1))
-        (hour + 1) v) }
+    ensures { IfOk result (λ v. (s : Store) → IsHourCut config.now s place.now.hour before.now
+        (rows_or_none place.now.rows) place.now.stretches cuts.now
+        → AreAtBars (log_of config.now.specs s) config.now (earlier_rows s (place.now.hour + 1))
+        (place.now.hour + 1) v) }
 {
-    let detectors = detectors_hour(alloc, config, &before.pasts, rows, parts)?;
+    let parts = place.stretches();
+    let detectors = detectors_hour(alloc, config, &before.pasts, place.rows(), parts)?;
     let mut carry = before.splits.copy()?;
-    splits_carried(alloc, config, &mut carry, cuts, &detectors, hour)?;
+    splits_carried(alloc, config, &mut carry, cuts, &detectors, place.hour())?;
     Ok(carry)
 }

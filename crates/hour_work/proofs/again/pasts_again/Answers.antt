@@ -1,5 +1,4 @@
 use Rattle.std.proofs.Common.{◌≡◌, ℕ, ◌+◌, arith, subst, sym}
-use Rattle.std.specs.Prelude.{option_copied}
 use Rattle.board.specs.Logs.{end_tenth, first_tenth}
 use Rattle.board.specs.Places.{AllEarly}
 use Rattle.board.specs.Stops.{AreBefore}
@@ -9,16 +8,16 @@ use Rattle.hour_work.specs.Points.{Carried, FitPoint, IsCarryAt, NamesStop}
 use Rattle.rule_audit.proofs.Tracked.{channels_are}
 use Rattle.hour_work.proofs.again.pasts_again.Goals as goal
 
-pub pasts_after_again-requires-clause-specs : goal.pasts_after_again-requires-clause-specs
-pasts_after_again-requires-clause-specs c = rw c.specs-specs.ensures.value (channels_are c.args.config.now c.specs-specs.ensures.sound)
+pub pasts_over_again-requires-clause-specs : goal.pasts_over_again-requires-clause-specs
+pasts_over_again-requires-clause-specs c = rw c.specs-specs.ensures.value (channels_are c.args.config.now c.specs-specs.ensures.sound)
 
-pub pasts_after_again-requires-clause-shape : goal.pasts_after_again-requires-clause-shape
-pasts_after_again-requires-clause-shape c = rw c.specs-specs.ensures.value (subst (λ (v : Carried). FitPoint c.args.config.now c.args.hour v) (sym c.before-2.view_is) c.requires.fit).shape
+pub pasts_over_again-requires-clause-shape : goal.pasts_over_again-requires-clause-shape
+pasts_over_again-requires-clause-shape c = rw c.specs-specs.ensures.value (subst (λ (v : Carried). FitPoint c.args.config.now c.args.place.now.hour v) (sym c.before-2.view_is) c.requires.fit).shape
 
 pub returns-in-Err-clause-stop : goal.returns-in-Err-clause-stop
 returns-in-Err-clause-stop c = λ s has is.
     let cfg = c.args.config.now in
-    let carry = subst (λ (v : Carried). IsCarryAt cfg s c.args.hour v) (sym c.before-2.view_is) is in
+    let carry = subst (λ (v : Carried). IsCarryAt cfg s c.args.place.now.hour v) (sym c.before-2.view_is) is in
     let stop = rw c.specs-specs.ensures.value at c.in-Err.ensures.stop in
     c.forward_error.ensures.row (log_of cfg.specs s) (stop s has carry.pasts)
 
@@ -26,36 +25,36 @@ pub returns-in-Err-clause-stop_over : goal.returns-in-Err-clause-stop_over
 returns-in-Err-clause-stop_over c =
     let cfg = c.args.config.now in
     let stop = rw c.specs-specs.ensures.value at c.in-Err.ensures.stop_over in
-    let rows = option_copied c.args.rows in
-    let blanks = c.args.blanked.now in
-    subst (λ (v : Carried). NamesStop cfg.specs c.args.hour rows blanks v.pasts c.forward_error.result) c.before-2.view_is (c.forward_error.ensures.stop cfg.specs c.args.hour rows blanks _ stop)
+    let rows = c.args.place.now.rows in
+    let blanks = c.args.place.now.blanks in
+    subst (λ (v : Carried). NamesStop cfg.specs c.args.place.now.hour rows blanks v.pasts c.forward_error.result) c.before-2.view_is (c.forward_error.ensures.stop cfg.specs c.args.place.now.hour rows blanks _ stop)
 
 pub returns-in-Ok-clause-over : goal.returns-in-Ok-clause-over
 returns-in-Ok-clause-over c =
     let cfg = c.args.config.now in
     let over = rw c.specs-specs.ensures.value at c.in-Ok.ensures.over in
-    subst (λ (v : Carried). ArePastsOver cfg.specs c.args.hour (option_copied c.args.rows) c.args.blanked.now v.pasts c.in-Ok.pasts) c.before-2.view_is over
+    subst (λ (v : Carried). ArePastsOver cfg.specs c.args.place.now.hour c.args.place.now.rows c.args.place.now.blanks v.pasts c.in-Ok.pasts) c.before-2.view_is over
 
 pub returns-in-Ok-clause-shape : goal.returns-in-Ok-clause-shape
 returns-in-Ok-clause-shape c =
     let shape = rw c.specs-specs.ensures.value at c.in-Ok.ensures.shape in
-    let at : end_tenth c.args.hour ≡ first_tenth (c.args.hour + 1) = omega arith in
+    let at : end_tenth c.args.place.now.hour ≡ first_tenth (c.args.place.now.hour + 1) = omega arith in
     (shape.0, subst (λ (t : ℕ). AllEarly t c.in-Ok.pasts) at shape.1)
 
 pub returns-in-Ok-clause-pasts : goal.returns-in-Ok-clause-pasts
 returns-in-Ok-clause-pasts c = λ s has is.
-    let carry = subst (λ (v : Carried). IsCarryAt c.args.config.now s c.args.hour v) (sym c.before-2.view_is) is in
+    let carry = subst (λ (v : Carried). IsCarryAt c.args.config.now s c.args.place.now.hour v) (sym c.before-2.view_is) is in
     let pasts = rw c.specs-specs.ensures.value at c.in-Ok.ensures.pasts in
     pasts s has carry.pasts
 
-pub pasts_after_again-requires-clause-was_shape : goal.pasts_after_again-requires-clause-was_shape
-pasts_after_again-requires-clause-was_shape c = rw c.specs-specs.ensures.value (subst (λ (v : Carried). AreBefore c.args.config.now.specs v.pasts) (sym c.was_after.view_is) c.requires.was.fit.shape)
+pub pasts_over_again-requires-clause-was_shape : goal.pasts_over_again-requires-clause-was_shape
+pasts_over_again-requires-clause-was_shape c = rw c.specs-specs.ensures.value (subst (λ (v : Carried). AreBefore c.args.config.now.specs v.pasts) (sym c.was_after.view_is) c.requires.was.fit.shape)
 
-pub pasts_after_again-requires-clause-was : goal.pasts_after_again-requires-clause-was
-pasts_after_again-requires-clause-was c =
+pub pasts_over_again-requires-clause-was : goal.pasts_over_again-requires-clause-was
+pasts_over_again-requires-clause-was c =
     let specs = c.args.config.now.specs in
-    let hour = c.args.hour in
-    let rows = option_copied c.args.rows in
-    let blanks = c.args.blanked.now in
+    let hour = c.args.place.now.hour in
+    let rows = c.args.place.now.rows in
+    let blanks = c.args.place.now.blanks in
     let after = subst (λ (v : Carried). ArePastsOver specs hour rows blanks c.args.was.now.before.now.pasts v.pasts) (sym c.was_after.view_is) c.requires.was.over in
     rw c.specs-specs.ensures.value (subst (λ (v : Carried). ArePastsOver specs hour rows blanks v.pasts c.was_after.inside.pasts) (sym c.was_before.view_is) after)

@@ -1,34 +1,39 @@
-use Rattle.std.proofs.Common.{◌≡◌, Some}
+use Rattle.std.proofs.Common.{◌≡◌, ◌+◌, ◌*◌, Bool, List, Option, subst}
 use Rattle.std.proofs.lemmas.Result.{IfOk-weaker}
+use Rattle.sig_base.specs.declared.values.Row.{Row}
+use Rattle.gap_map.specs.Stretches.{IsCut, known_in}
 use Rattle.board.specs.Logs.{HourLog}
 use Rattle.hour_store.specs.Store.{Store, is_known}
-use Rattle.signal_log.specs.Points.{HasHour}
+use Rattle.signal_log.specs.Points.{HasHour, rows_or_none}
 use Rattle.arrival_measures.specs.Points.{ArePointsOf, points_from}
 use Rattle.arrival_measures.specs.Views.{IsSeen}
 use Rattle.hour_work.specs.Points.{IsCarryAt}
 use Rattle.hour_work.specs.Rows.{earlier_rows, own_rows}
 use Rattle.hour_work.proofs.PickedLaws.{seen_points_of}
+use Rattle.hour_work.proofs.PointLaws.{held_rows}
 use Rattle.hour_work.proofs.SeenLaws.{seen_width}
 use Rattle.hour_work.proofs.points.held_points.Goals as goal
 
 pub arrival_points-requires : goal.arrival_points-requires
 arrival_points-requires c =
     let (s, is) = c.requires.agrees in
-    record { view = seen_width c.args.config.now s c.args.hour c.args.between.now.before.now c.args.rows.now _ _ (c.in_ok-parts.ensures.seen s is) }
+    record { view = seen_width c.args.config.now s c.args.place.now.hour c.args.between.now.before.now _ _ _ (c.in_ok-view.ensures s is) }
 
 pub returns : goal.returns
 returns c =
     let cfg = c.args.config.now in
+    let o = c.args.place.now in
     let phase = c.args.phase in
-    let hour = c.args.hour in
-    let rows = c.args.rows.now in
-    let blanks = c.args.blanked.now in
+    let hour = o.hour in
+    let rows = rows_or_none o.rows in
     let before = c.args.between.now.before.now in
     let (s, is) = c.requires.agrees in
-    let seen = c.in_ok-parts.ensures.seen s is in
-    let told = rw c.deref.ensures.value at c.arrival_points.ensures in
+    let seen = c.in_ok-view.ensures s is in
+    let told = rw (c.rows.ensures.value, c.stretches-parts.ensures.value) at c.arrival_points.ensures in
+    let some = held_rows o.rows c.requires.held in
+    let cut = subst (λ (b : Bool). IsCut (known_in b o.blanks) (36000 * hour) (36000 * hour + 36000) o.stretches) c.requires.held c.stretches-parts.ensures.opened.cut in
     IfOk-weaker c.arrival_points.result
     (λ points. (log : HourLog) → IsSeen cfg _ rows _ log → ArePointsOf cfg log phase points)
-    (λ points. (o : Store) → HasHour o hour (Some rows) blanks → IsCarryAt cfg o hour before → points ≡ points_from (is_known o) cfg phase (earlier_rows o hour) (own_rows o hour))
-    (λ points h o has carry. seen_points_of cfg s hour before rows _ _ seen phase points h blanks c.in_ok-parts.ensures.cut o has carry)
+    (λ points. (p : Store) → HasHour p hour o.rows o.blanks → IsCarryAt cfg p hour before → points ≡ points_from (is_known p) cfg phase (earlier_rows p hour) (own_rows p hour))
+    (λ points h p has carry. seen_points_of cfg s hour before rows _ _ seen phase points h o.blanks cut p (subst (λ (r : Option (List Row)). HasHour p hour r o.blanks) some has) carry)
     told

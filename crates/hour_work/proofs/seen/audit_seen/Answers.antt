@@ -1,9 +1,10 @@
-use Rattle.std.proofs.Common.{ℕ, ap, subst}
+use Rattle.std.proofs.Common.{ap, subst}
 use Rattle.std.proofs.lemmas.Result.{IfOk-weaker}
 use Rattle.hour_store.specs.Store.{Store}
 use Rattle.board.specs.Logs.{HourLog}
 use Rattle.rule_audit.specs.Lines.{AreLines, IsAudited}
 use Rattle.rule_audit.specs.Rules.{rules_for}
+use Rattle.signal_log.specs.Points.{rows_or_none}
 use Rattle.hour_work.specs.Points.{Carried}
 use Rattle.hour_work.specs.Verdicts.{AreAuditLines}
 use Rattle.hour_work.specs.Reports.{IsHourSeen}
@@ -12,23 +13,25 @@ use Rattle.hour_work.proofs.seen.audit_seen.Goals as goal
 
 pub audit_rows-requires-clause-view : goal.audit_rows-requires-clause-view
 audit_rows-requires-clause-view c =
-    let (s, hour, seen) = c.requires.seen in (
-      seen_log c.args.config.now s hour c.args.before.now c.args.rows.now c.args.parts.now c.args.view.now seen,
-      seen_audited c.args.config.now s hour c.args.before.now c.args.rows.now c.args.parts.now c.args.view.now seen,
+    let (s, seen) = c.requires.seen in
+    let hour = c.args.place.now.hour in (
+      seen_log c.args.config.now s hour c.args.before.now (rows_or_none c.args.place.now.rows) c.args.place.now.stretches c.args.view.now seen,
+      rw (c.rows-rows.ensures.value, c.stretches-parts.ensures.value) (seen_audited c.args.config.now s hour c.args.before.now (rows_or_none c.args.place.now.rows) c.args.place.now.stretches c.args.view.now seen),
     )
 
 pub returns : goal.returns
 returns c =
     let cfg = c.args.config.now in
+    let hour = c.args.place.now.hour in
     let before = c.args.before.now in
-    let rows = c.args.rows.now in
-    let ss = c.args.parts.now in
+    let rows = rows_or_none c.args.place.now.rows in
+    let ss = c.args.place.now.stretches in
     let view = c.args.view.now in
     let flag = ap (λ (v : Carried). v.known) c.before-2.view_is in
     IfOk-weaker c.audit_rows.result
     (λ v. (l : HourLog) → IsAudited cfg view rows ss l → AreLines l (rules_for cfg) c.before-2.inside.known v.items)
-    (λ v. (s : Store) (hour : ℕ) → IsHourSeen cfg s hour before rows ss view → AreAuditLines cfg s hour v.items)
-    (λ v h s hour seen.
+    (λ v. (s : Store) → IsHourSeen cfg s hour before rows ss view → AreAuditLines cfg s hour v.items)
+    (λ v h s seen.
     let log = seen_log cfg s hour before rows ss view seen in
     seen_lines cfg s hour before rows ss view seen v.items (subst (λ b. AreLines log (rules_for cfg) b v.items) flag (h log (seen_audited cfg s hour before rows ss view seen))))
-    (rw c.requires.rules at c.audit_rows.ensures)
+    (rw (c.requires.rules, c.rows-rows.ensures.value, c.stretches-parts.ensures.value) at c.audit_rows.ensures)

@@ -1,6 +1,4 @@
 use Rattle.std.proofs.Common.{◌∙◌, ap, subst, sym, refl, List, Option}
-use Rattle.std.specs.Prelude.{option_copied}
-use Rattle.signal_log.proofs.Calls.{copied_some, cut_as, rows_fit}
 use Rattle.service_cut.specs.Parts.{IsCarry as IsCut}
 use Rattle.other_measures.specs.Crossing.{IsCarry as IsCrossing}
 use Rattle.hour_work.specs.Points.{Carried}
@@ -14,43 +12,43 @@ use Rattle.hour_work.proofs.steps.under_way.Goals as goal
 
 pub returns-clause-cuts : goal.returns-clause-cuts
 returns-clause-cuts c = λ s has is.
-    let rows = option_copied c.args.rows in
-    let ss = c.in_ok-parts.parts.items in
-    let cut = cut_as c.args.hour rows c.is_some.result c.args.blanked.now ss (c.is_some.ensures ∙ copied_some c.args.rows) c.in_ok-parts.ensures.cut in
-    let law = rw (c.phases.ensures.value, c.deref.ensures.value, c.held_rows-held.ensures) at c.in_ok-cut.ensures.carry in
-    over_hour (λ known before k v. IsCut known c.args.config.now.phases before k v) s c.args.hour rows c.args.blanked.now ss c.in_ok-cuts.cuts c.args.before.now.cuts c.cut_hour.new.carry
-    (c.in_ok-cuts.ensures ∙ ap (λ (v : Carried). v.cuts) c.before-2.view_is) has (rows_fit c.args.hour c.args.rows c.requires.in_range c.requires.of_hour) cut law is
+    let rows = c.args.place.now.rows in
+    let ss = c.args.place.now.stretches in
+    let cut = c.stretches-parts.ensures.opened.cut in
+    let law = rw (c.phases.ensures.value, c.rows-rows.ensures.value, c.stretches-parts.ensures.value) at c.in_ok-cut.ensures.carry in
+    over_hour (λ known before k v. IsCut known c.args.config.now.phases before k v) s c.args.place.now.hour rows c.args.place.now.blanks ss c.in_ok-cuts.cuts c.args.before.now.cuts c.cut_hour.new.carry
+    (c.in_ok-cuts.ensures ∙ ap (λ (v : Carried). v.cuts) c.before-2.view_is) has c.stretches-parts.ensures.opened.are_rows cut law is
 
 pub returns-clause-others : goal.returns-clause-others
 returns-clause-others c = λ s has is.
-    let rows = option_copied c.args.rows in
-    let ss = c.in_ok-parts.parts.items in
-    let cut = cut_as c.args.hour rows c.is_some.result c.args.blanked.now ss (c.is_some.ensures ∙ copied_some c.args.rows) c.in_ok-parts.ensures.cut in
-    let law = rw (c.deref-4.ensures.value, c.held_rows-held.ensures) at c.in_ok-others_carried.ensures.carry in
-    over_hour (λ known before k v. IsCrossing known c.args.config.now before k v) s c.args.hour rows c.args.blanked.now ss c.in_ok-others.others c.args.before.now.others c.others_carried.new.carry
-    (c.in_ok-others.ensures ∙ ap (λ (v : Carried). v.others) c.before-2.view_is) has (rows_fit c.args.hour c.args.rows c.requires.in_range c.requires.of_hour) cut law is
+    let rows = c.args.place.now.rows in
+    let ss = c.args.place.now.stretches in
+    let cut = c.stretches-parts.ensures.opened.cut in
+    let law = rw (c.rows-rows.ensures.value, c.stretches-parts.ensures.value) at c.in_ok-others_carried.ensures.carry in
+    over_hour (λ known before k v. IsCrossing known c.args.config.now before k v) s c.args.place.now.hour rows c.args.place.now.blanks ss c.in_ok-others.others c.args.before.now.others c.others_carried.new.carry
+    (c.in_ok-others.ensures ∙ ap (λ (v : Carried). v.others) c.before-2.view_is) has c.stretches-parts.ensures.opened.are_rows cut law is
 
 pub returns-clause-arrivals : goal.returns-clause-arrivals
 returns-clause-arrivals c = λ s has is opens.
-    let rows = option_copied c.args.rows in
-    let ss = c.in_ok-parts.parts.items in
-    let cut = cut_as c.args.hour rows c.is_some.result c.args.blanked.now ss (c.is_some.ensures ∙ copied_some c.args.rows) c.in_ok-parts.ensures.cut in
-    let cutting = rw (c.phases.ensures.value, c.deref.ensures.value, c.held_rows-held.ensures) at c.in_ok-cut.ensures.cut in
-    let law = rw (c.deref-3.ensures.value, c.held_rows-held.ensures) at c.in_ok-arrivals_carried.ensures.carry in
-    opens_over c.args.config.now s c.args.hour rows c.args.blanked.now ss c.in_ok-cuts.cuts c.args.before.now.cuts c.in_ok-cut.cut c.in_ok-arrivals.arrivals c.args.before.now.arrivals c.arrivals_carried.new.carry
-    (c.in_ok-cuts.ensures ∙ ap (λ (v : Carried). v.cuts) c.before-2.view_is) (c.in_ok-arrivals.ensures ∙ ap (λ (v : Carried). v.arrivals) c.before-2.view_is) has (rows_fit c.args.hour c.args.rows c.requires.in_range c.requires.of_hour) cut cutting law is opens
+    let rows = c.args.place.now.rows in
+    let ss = c.args.place.now.stretches in
+    let cut = c.stretches-parts.ensures.opened.cut in
+    let cutting = rw (c.phases.ensures.value, c.rows-rows.ensures.value, c.stretches-parts.ensures.value) at c.in_ok-cut.ensures.cut in
+    let law = rw (c.rows-rows.ensures.value, c.stretches-parts.ensures.value) at c.in_ok-arrivals_carried.ensures.carry in
+    opens_over c.args.config.now s c.args.place.now.hour rows c.args.place.now.blanks ss c.in_ok-cuts.cuts c.args.before.now.cuts c.in_ok-cut.cut c.in_ok-arrivals.arrivals c.args.before.now.arrivals c.arrivals_carried.new.carry
+    (c.in_ok-cuts.ensures ∙ ap (λ (v : Carried). v.cuts) c.before-2.view_is) (c.in_ok-arrivals.ensures ∙ ap (λ (v : Carried). v.arrivals) c.before-2.view_is) has c.stretches-parts.ensures.opened.are_rows cut cutting law is opens
 
 pub returns-clause-splits : goal.returns-clause-splits
 returns-clause-splits c = λ s has is.
     let cfg = c.args.config.now in
-    let hour = c.args.hour in
-    let rows = option_copied c.args.rows in
-    let ss = c.in_ok-parts.parts.items in
-    let blanks = c.args.blanked.now in
+    let hour = c.args.place.now.hour in
+    let rows = c.args.place.now.rows in
+    let ss = c.args.place.now.stretches in
+    let blanks = c.args.place.now.blanks in
     let cuts = c.in_ok-cut.cut in
-    let cut = cut_as hour rows c.is_some.result blanks ss (c.is_some.ensures ∙ copied_some c.args.rows) c.in_ok-parts.ensures.cut in
-    let are = rows_fit hour c.args.rows c.requires.in_range c.requires.of_hour in
-    let cutting = rw (c.phases.ensures.value, c.deref.ensures.value, c.held_rows-held.ensures) at c.in_ok-cut.ensures.cut in
+    let cut = c.stretches-parts.ensures.opened.cut in
+    let are = c.stretches-parts.ensures.opened.are_rows in
+    let cutting = rw (c.phases.ensures.value, c.rows-rows.ensures.value, c.stretches-parts.ensures.value) at c.in_ok-cut.ensures.cut in
     let same = c.in_ok-cuts.ensures ∙ ap (λ (v : Carried). v.cuts) c.before-2.view_is in
     let begun = subst (λ (ps : List (Option Part)). IsCut (is_known s) cfg.phases (earlier_rows s hour) hour ps) (sym same) is.cuts in
     let here : IsHourCut cfg s hour c.args.before.now (rows_or_none rows) ss cuts = record {
@@ -64,4 +62,4 @@ returns-clause-splits c = λ s has is.
       is_before = is;
       lists = cutting (is_known s) (earlier_rows s hour) hour (hour_is s hour rows blanks ss has are cut) begun;
     } in
-    c.in_ok-splits.ensures s (rw (c.held_rows-held.ensures, c.deref-2.ensures.value) here)
+    c.in_ok-splits.ensures s here

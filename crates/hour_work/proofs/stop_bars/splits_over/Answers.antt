@@ -1,5 +1,6 @@
 use Rattle.std.proofs.Common.{◌∙◌, ap, subst, sym}
 use Rattle.board.specs.Stops.{AreBefore}
+use Rattle.signal_log.specs.Points.{rows_or_none}
 use Rattle.stop_bar.specs.All.{IsHourHeld}
 use Rattle.hour_work.specs.Points.{Carried}
 use Rattle.hour_work.proofs.BarLaws.{crosses_told, held}
@@ -11,11 +12,12 @@ detectors_hour-requires c = subst (λ (v : Carried). AreBefore c.args.config.now
 pub returns : goal.returns
 returns c = λ s is.
     let cfg = c.args.config.now in
-    let hour = c.args.hour in
+    let hour = c.args.place.now.hour in
     let before = c.args.before.now in
-    let rows = c.args.rows.now in
-    let ss = c.args.parts.now in
+    let rows = rows_or_none c.args.place.now.rows in
+    let ss = c.args.place.now.stretches in
     let cuts = c.args.cuts.now in
     let here = subst (λ (x : Carried). IsHourHeld cfg s hour rows ss x.pasts) (sym c.before-2.view_is) (held cfg s hour before rows ss cuts is) in
+    let law = rw (c.rows.ensures.value, c.stretches-parts.ensures.value) at c.in_ok-detectors.ensures in
     let same = c.in_ok-carry.ensures ∙ ap (λ (x : Carried). x.splits) c.before-2.view_is in
-    crosses_told cfg s hour before rows ss cuts is c.in_ok-detectors.detectors.items c.in_ok-carry.carry c.splits_carried.new.carry (c.in_ok-detectors.ensures s hour here) same (rw c.deref.ensures.value at c.in_ok-splits_carried.ensures.carry)
+    crosses_told cfg s hour before rows ss cuts is c.in_ok-detectors.detectors.items c.in_ok-carry.carry c.splits_carried.new.carry (law s hour here) same (rw (c.deref.ensures.value, c.hour.ensures.value) at c.in_ok-splits_carried.ensures.carry)

@@ -16,10 +16,11 @@ use crate::renew::Worked;
 use board::Pasts;
 use decisive::{HourMoves, window_in};
 use hour_store::HourStore;
-use hour_work::{Between, audit_lines};
+use hour_work::{Between, audit_over};
 use ring_config::Config;
 use rule_audit::{AuditLine, Rule};
 use sig_base::{Hour, NoMemory, Reads, Verdict};
+use signal_log::Place;
 use std::alloc::Global;
 
 // The lines of the audit of an hour, which is opened, between what is kept at the points about it.
@@ -41,18 +42,8 @@ fn lines_between<L>(
     ensures grow { Grow reads.old reads.new }
 {
     let rows = store.open_hour(hour, reads);
-    let blanked = store.blanked();
-    let before = between.before;
-    audit_lines(
-        alloc,
-        config,
-        rules,
-        hour,
-        before,
-        rows,
-        blanked,
-        between.after,
-    )
+    let place = Place::new(alloc, hour, rows, store.blanked())?;
+    audit_over(alloc, config, rules, &place, between)
 }
 
 // The lines of the audit of an hour. No other hour is opened.

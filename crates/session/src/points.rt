@@ -13,10 +13,11 @@ ghost use Rattle.sig_base.specs.Reads.{Grow};
 use crate::renew::Worked;
 use arrival_measures::{Diagram, Point, Points, diagrams};
 use hour_store::HourStore;
-use hour_work::{Between, hours_make_up_the_log, phase_cycles, phase_points};
+use hour_work::{Between, cycles_over, hours_make_up_the_log, points_over};
 use ring_config::Config;
 use service_cut::Cycle;
 use sig_base::{Hour, NoMemory, Reads};
+use signal_log::Place;
 use std::alloc::Global;
 
 // The whole cycles of a phase that end in the hours so far, and its arrivals in them.
@@ -61,12 +62,10 @@ fn add_hour<L>(
     ensures grow { Grow reads.old reads.new }
 {
     let rows = store.open_hour(hour, reads);
-    let blanked = store.blanked();
+    let place = Place::new(alloc, hour, rows, store.blanked())?;
     let phase = found.phase;
-    let before = between.before;
-    let after = between.after;
-    let mut cycles = phase_cycles(alloc, config, phase, hour, before, rows, blanked)?;
-    let points = phase_points(alloc, config, phase, hour, before, rows, blanked, after)?;
+    let mut cycles = cycles_over(alloc, config, phase, &place, between.before)?;
+    let points = points_over(alloc, config, phase, &place, between)?;
     found.cycles.append(&mut cycles)?;
     add_points(&mut found.points, points.list())?;
     Ok(())

@@ -10,13 +10,13 @@ ghost use Rattle.session.specs.Opens.{AreOpened, NamesRowOf};
 
 use hour_store::HourStore;
 use hour_work::{
-    Between, Carry, ForwardError, Future, Partial, backward, backward_again, forward,
-    forward_again, partial,
+    Between, Carry, ForwardError, Future, Partial, backward_again, backward_over, forward_again,
+    forward_over, partial_over,
 };
 use ring_config::Config;
 use rule_audit::Rule;
 use sig_base::{Hour, NoMemory, Reads};
-use signal_log::About;
+use signal_log::{About, Place};
 use std::alloc::Global;
 
 // What is kept at the point after the hour.
@@ -37,7 +37,8 @@ pub fn carry_over<L>(
     ensures once { AreOpened hour (hour + 1) 1 1 reads.old reads.new }
 {
     let rows = store.open_hour(hour, reads);
-    forward(alloc, config, hour, before, rows, store.blanked())
+    let place = Place::new(alloc, hour, rows, store.blanked())?;
+    forward_over(alloc, config, &place, before)
 }
 
 // The same of an hour that is as it was told before, from other states at the point before it.
@@ -61,7 +62,8 @@ pub fn carry_again<L>(
     ensures once { AreOpened hour (hour + 1) 1 1 reads.old reads.new }
 {
     let rows = store.open_hour(hour, reads);
-    forward_again(alloc, config, hour, before, was, rows, store.blanked())
+    let place = Place::new(alloc, hour, rows, store.blanked())?;
+    forward_again(alloc, config, &place, before, was)
 }
 
 // What is kept going back at the point before the hour.
@@ -80,7 +82,8 @@ pub fn future_before<L>(
     ensures once { AreOpened hour (hour + 1) 1 1 reads.old reads.new }
 {
     let rows = store.open_hour(hour, reads);
-    backward(alloc, config, hour, after, rows, store.blanked())
+    let place = Place::new(alloc, hour, rows, store.blanked())?;
+    backward_over(alloc, config, &place, after)
 }
 
 // The same of an hour that is as it was told before, from other states at the point after it.
@@ -102,7 +105,8 @@ pub fn future_again<L>(
     ensures once { AreOpened hour (hour + 1) 1 1 reads.old reads.new }
 {
     let rows = store.open_hour(hour, reads);
-    backward_again(alloc, config, hour, after, was, rows, store.blanked())
+    let place = Place::new(alloc, hour, rows, store.blanked())?;
+    backward_again(alloc, config, &place, after, was)
 }
 
 // The numbers of the hour.
@@ -126,14 +130,6 @@ pub fn part_between<L>(
     ensures once { AreOpened hour (hour + 1) 1 1 reads.old reads.new }
 {
     let rows = store.open_hour(hour, reads);
-    partial(
-        alloc,
-        config,
-        rules,
-        hour,
-        between.before,
-        rows,
-        store.blanked(),
-        between.after,
-    )
+    let place = Place::new(alloc, hour, rows, store.blanked())?;
+    partial_over(alloc, config, rules, &place, between)
 }

@@ -3,13 +3,18 @@ use Rattle.session.proofs.OpenLaws.{opened_raised}
 use Rattle.session.proofs.StepLaws.{backs_of}
 use Rattle.session.proofs.steps.future_again.Goals as goal
 
+pub returns-in_err-place-clause-once : goal.returns-in_err-place-clause-once
+returns-in_err-place-clause-once g c = opened_raised _ _ c.args.hour c.open_hour-rows.ensures.raised
+
 pub returns-clause-once : goal.returns-clause-once
 returns-clause-once g c = opened_raised _ _ c.args.hour c.open_hour-rows.ensures.raised
 
 pub returns-clause-backs : goal.returns-clause-backs
 returns-clause-backs g c =
-    backs_of c.args.config.now c.args.hour (option_copied c.open_hour-rows.result) _ c.blanked.result.now _ c.args.after.now c.backward_again.result c.open_hour-rows.ensures.rows c.blanked.ensures.value c.requires.after.shape c.backward_again.ensures.fit c.backward_again.ensures.future c.backward_again.ensures.over
+    let (at, held, blanked) = c.in_ok-place.ensures in
+    backs_of c.args.config.now c.args.hour (option_copied c.open_hour-rows.result) _ c.blanked.result.now _ c.args.after.now c.backward_again.result c.open_hour-rows.ensures.rows c.blanked.ensures.value c.requires.after.shape c.backward_again.ensures.fit (rw (at, held, blanked) at c.backward_again.ensures.future) (rw (at, held, blanked) at c.backward_again.ensures.over)
 
 pub backward_again-requires-clause-was : goal.backward_again-requires-clause-was
 backward_again-requires-clause-was g c =
-    rw (c.open_hour-rows.ensures.rows, c.blanked.ensures.value) c.requires.was
+    let (at, held, blanked) = c.in_ok-place.ensures in
+    rw (at, held, blanked, c.open_hour-rows.ensures.rows, c.blanked.ensures.value) c.requires.was

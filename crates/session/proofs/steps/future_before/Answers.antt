@@ -3,9 +3,13 @@ use Rattle.session.proofs.OpenLaws.{opened_raised}
 use Rattle.session.proofs.StepLaws.{backs_of}
 use Rattle.session.proofs.steps.future_before.Goals as goal
 
+pub returns-in_err-place-clause-once : goal.returns-in_err-place-clause-once
+returns-in_err-place-clause-once g c = opened_raised _ _ c.args.hour c.open_hour-rows.ensures.raised
+
 pub returns-clause-once : goal.returns-clause-once
 returns-clause-once g c = opened_raised _ _ c.args.hour c.open_hour-rows.ensures.raised
 
 pub returns-clause-backs : goal.returns-clause-backs
 returns-clause-backs g c =
-    backs_of c.args.config.now c.args.hour (option_copied c.open_hour-rows.result) _ c.blanked.result.now _ c.args.after.now c.backward.result c.open_hour-rows.ensures.rows c.blanked.ensures.value c.requires.after.shape c.backward.ensures.fit c.backward.ensures.future c.backward.ensures.over
+    let (at, held, blanked) = c.in_ok-place.ensures in
+    backs_of c.args.config.now c.args.hour (option_copied c.open_hour-rows.result) _ c.blanked.result.now _ c.args.after.now c.backward_over.result c.open_hour-rows.ensures.rows c.blanked.ensures.value c.requires.after.shape c.backward_over.ensures.fit (rw (at, held, blanked) at c.backward_over.ensures.future) (rw (at, held, blanked) at c.backward_over.ensures.over)

@@ -83,8 +83,8 @@ fn pasts_again(
     }
 }
 
-/// `backward_over` of an hour of which it was said before, from other states at the point after it: the
-/// channels that had the same ones there have those that they had at the point before it.
+/// `backward_over` of an hour of which it was said before, from other states at the point after it:
+/// the channels that had the same ones there have those that they had at the point before it.
 pub fn backward_again(
     alloc: Global,
     config: &Config,

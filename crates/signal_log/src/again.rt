@@ -67,7 +67,8 @@ pub fn pasts_over_again(
     requires was_shape { AreBefore specs.now was.now.after.now }
     requires was { ArePastsOver specs.now place.now.hour place.now.rows place.now.blanks
         was.now.before.now was.now.after.now }
-    ensures shape { IfOk result (λ p. AreBefore specs.now p × AllEarly (end_tenth place.now.hour) p) }
+    ensures shape { IfOk result (λ p. AreBefore specs.now p
+        × AllEarly (end_tenth place.now.hour) p) }
     ensures pasts { IfOk result (λ p. (s : Store) → HasHour s place.now.hour place.now.rows
         place.now.blanks → ArePastsAt (log_of specs.now s) place.now.hour before.now
         → ArePastsAt (log_of specs.now s) (place.now.hour + 1) p) }

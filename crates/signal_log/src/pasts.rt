@@ -60,7 +60,8 @@ pub fn pasts_over(
     requires specs { AreSpecs specs.now }
     requires shape { AreBefore specs.now before.now }
     requires early { AllEarly (first_tenth place.now.hour) before.now }
-    ensures shape { IfOk result (λ p. AreBefore specs.now p × AllEarly (end_tenth place.now.hour) p) }
+    ensures shape { IfOk result (λ p. AreBefore specs.now p
+        × AllEarly (end_tenth place.now.hour) p) }
     ensures pasts { IfOk result (λ p. (s : Store) → HasHour s place.now.hour place.now.rows
         place.now.blanks → ArePastsAt (log_of specs.now s) place.now.hour before.now
         → ArePastsAt (log_of specs.now s) (place.now.hour + 1) p) }

@@ -14,9 +14,12 @@ use Rattle.board.specs.Verdicts.{MayPass}
 use Rattle.hour_sweep.specs.Rows.{known_rows}
 use Rattle.hour_sweep.specs.Hours.{IsHour}
 use Rattle.ring_config.specs.Settings.{Settings, is_same_channel, spec_place}
+use Rattle.ring_config.specs.Sound.{IsSound}
 use Rattle.signal_log.specs.Log.{log_of, track_at}
 use Rattle.signal_log.specs.States.{MayBeAtEndOf}
 use Rattle.signal_log.specs.Laws.{ViewsTell}
+use Rattle.signal_log.specs.Opened.{HasPlace, IsOpened, Opened}
+use Rattle.signal_log.specs.Points.{rows_or_none}
 use Rattle.signal_log.proofs.Stored.{cut_known, known_cut, known_hour}
 use Rattle.signal_log.proofs.Viewed.{hours_tell}
 use Rattle.state_tenths.specs.declared.asked.Asked.{Asked}
@@ -40,7 +43,7 @@ use Rattle.arrival_measures.specs.Hours.{AreAllJudged, HaveCycles, IsUnheld}
 use Rattle.arrival_measures.specs.Judged.{phase_channel}
 use Rattle.arrival_measures.specs.Views.{IsSeen as IsShown}
 use Rattle.other_measures.specs.Crossing.{Crossing, IsCarry as IsCrossing}
-use Rattle.hour_work.specs.Points.{Carried}
+use Rattle.hour_work.specs.Points.{Carried, IsCarryAt}
 use Rattle.hour_work.specs.Verdicts.{AreAuditLines}
 use Rattle.hour_work.specs.Rows.{earlier_rows, own_rows}
 use Rattle.hour_work.specs.Measures.{AreMeasures, MayBeIn, MeetsIn, cycles_in, services_in}
@@ -73,6 +76,23 @@ unheld_measures c s hour splits failures others arrivals none e verdicts numbers
       judged = subst (λ (rs : List Row). AreAllJudged (MayBeIn c s) (is_known s) c (earlier_rows s hour) rs hour arrivals) own
           (all_judged_as (λ _ _ _. ⊥) (MayBeIn c s) (is_known s) c hour (λ p i at x seen. absurd (unseen s hour none x seen)) (earlier_rows s hour) [] arrivals tt judged);
       whole_cycles = subst (λ (rs : List Row). HaveCycles (is_known s) c (earlier_rows s hour) rs arrivals) own cycles;
+    }
+
+-- what service_cut lists of an hour that is opened
+pub cut_of : (c : Settings) (s : Store) (o : Opened) (before : Carried) (old : List (Option Part)) (cuts : CutLists) → IsSound c → IsOpened o → HasPlace s o → IsCarryAt c s o.hour before → old ≡ before.cuts
+    → ((known : ℕ → Bool) (b : List Row) (h : ℕ) → IsHour known h (rows_or_none o.rows) o.stretches → IsCutCarry known c.phases b h old → IsCutOf known c.phases b h (rows_or_none o.rows) cuts)
+    → IsHourCut c s o.hour before (rows_or_none o.rows) o.stretches cuts
+cut_of c s o before old cuts sound opened has is same law =
+    let hour = o.hour in record {
+      sound = sound;
+      held = o.rows;
+      blanks = o.blanks;
+      is_rows = refl;
+      are_rows = opened.are_rows;
+      has_hour = has;
+      cut = opened.cut;
+      is_before = is;
+      lists = law (is_known s) (earlier_rows s hour) hour (hour_is s hour o.rows o.blanks o.stretches has opened.are_rows opened.cut) (subst (λ ps. IsCutCarry (is_known s) c.phases (earlier_rows s hour) hour ps) (sym same) is.cuts);
     }
 
 -- the same hour as it is cut

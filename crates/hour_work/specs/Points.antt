@@ -19,6 +19,7 @@ use Rattle.stop_bar.specs.All.{AreAtBars}
 use Rattle.arrival_measures.specs.Crossing.{CarryParts, IsCarry as AreOpen}
 use Rattle.hour_work.specs.Rows.{earlier_rows}
 use Rattle.hour_work.specs.declared.steps.ForwardError.{ForwardError}
+use Rattle.hour_work.specs.declared.steps.UnderWay.{UnderWay}
 use Rattle.hour_work.specs.declared.steps.ForwardError.TheVariants.{Contradiction, Memory}
 
 -- the states of each channel, whether the tenth before the point is known, and what is under way of phases, at stop bars, of pedestrian signals and preempts, and of the arrivals of approaches
@@ -39,9 +40,12 @@ pub record FitPoint (c : Settings) (k : ℕ) (carry : Carried) : Type 0 where
   pub shape : AreBefore c.specs carry.pasts
   pub early : AllEarly (first_tenth k) carry.pasts
 
--- what is under way of phases at point k of a store, of arrivals, and of pedestrian signals and preempts
+-- what is under way of phases at point k of a store, at stop bars, of arrivals, and of pedestrian signals and preempts
 abbrev pub AreCutsAt : Settings → Store → ℕ → List (Option Part) → Type 0
 AreCutsAt c s k cuts = IsCut (is_known s) c.phases (earlier_rows s k) k cuts
+
+abbrev pub AreBarsAt : Settings → Store → ℕ → List AtBar → Type 0
+AreBarsAt c s k splits = AreAtBars (log_of c.specs s) c (earlier_rows s k) k splits
 
 abbrev pub AreOpenAt : Settings → Store → ℕ → CarryParts → Type 0
 AreOpenAt c s k arrivals = AreOpen (is_known s) c (earlier_rows s k) k arrivals
@@ -49,12 +53,19 @@ AreOpenAt c s k arrivals = AreOpen (is_known s) c (earlier_rows s k) k arrivals
 abbrev pub AreCrossingAt : Settings → Store → ℕ → Crossing → Type 0
 AreCrossingAt c s k others = IsCrossing (is_known s) c (earlier_rows s k) k others
 
+-- all that is under way at point k of a store
+pub record AreUnderWayAt (c : Settings) (s : Store) (k : ℕ) (way : UnderWay) : Type 0 where
+  pub cuts : AreCutsAt c s k way.cuts
+  pub splits : AreBarsAt c s k way.splits
+  pub others : AreCrossingAt c s k way.others
+  pub arrivals : AreOpenAt c s k way.arrivals
+
 -- this is what the store says up to point k
 pub record IsCarryAt (c : Settings) (s : Store) (k : ℕ) (carry : Carried) : Type 0 where
   pub pasts : ArePastsAt (log_of c.specs s) k carry.pasts
   pub known : carry.known ≡ is_known_before (is_known s) (first_tenth k)
   pub cuts : AreCutsAt c s k carry.cuts
-  pub splits : AreAtBars (log_of c.specs s) c (earlier_rows s k) k carry.splits
+  pub splits : AreBarsAt c s k carry.splits
   pub others : AreCrossingAt c s k carry.others
   pub arrivals : AreOpenAt c s k carry.arrivals
 

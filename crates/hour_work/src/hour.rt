@@ -1,18 +1,20 @@
 // The numbers of one hour, and the lines of its audit.
-ghost use Rattle.std.specs.Prelude.{◌≡◌, ◌<◌, true, false, is_some, length, option_copied, IfOk, IfSome};
+ghost use Rattle.std.specs.Prelude.{◌≡◌, ◌<◌, ◌+◌, true, false, is_some, length, option_copied, IfOk, IfSome};
 ghost use Rattle.sig_base.specs.HourRows.{AreRowsOf};
 ghost use Rattle.hour_store.specs.Store.{Store};
 ghost use Rattle.board.specs.Stops.{AreBefore};
 ghost use Rattle.signal_log.specs.Log.{HasHistory, log_of};
+ghost use Rattle.signal_log.specs.Opened.{HasPlace};
 ghost use Rattle.signal_log.specs.Points.{HasHour};
 ghost use Rattle.rule_audit.specs.Rules.{rules_for};
 ghost use Rattle.hour_work.specs.Numbers.{FitHours};
-ghost use Rattle.hour_work.specs.Points.{IsCarryAt};
+ghost use Rattle.hour_work.specs.Points.{AreUnderWayAt, IsCarryAt};
 ghost use Rattle.hour_work.specs.Verdicts.{AreAuditLines};
 ghost use Rattle.hour_work.specs.Reports.{IsHourBetween, IsHourPart};
 
 use crate::counts::counts_of;
 use crate::seen::{audit_seen, cut_seen, known_in, others_seen, seen_hour};
+use crate::steps::UnderWay;
 use crate::stop_bars::splits_seen;
 use crate::{Between, Carry, Future, Partial};
 use arrival_measures::arrivals_unheld;
@@ -67,7 +69,8 @@ pub fn partial_over(
     ensures small { IfOk result (FitHours 1) }
 {
     if place.is_held() {
-        return held_part(alloc, config, rules, place, between);
+        let HeldHour { part, .. } = held_hour(alloc, config, rules, place, between)?;
+        return Ok(part);
     }
     unheld_part(alloc, config, rules.len(), place, between.before)
 }
@@ -121,7 +124,7 @@ pub fn audit_over(
 // The numbers of an hour that isn't held, where there are so many rules: the services whose red
 // window ends in it have verdicts, the arrivals that come up in it aren't seen, and all else is
 // nothing.
-fn unheld_part(
+pub(crate) fn unheld_part(
     alloc: Global,
     config: &Config,
     rules: usize,
@@ -139,51 +142,69 @@ fn unheld_part(
     let parts = place.stretches();
     let mut carry = before.cuts.copy()?;
     let cuts = cut_hour(alloc, config.phases(), &mut carry, place.rows(), parts)?;
+    let (splits, _) = splits_seen(alloc, config, place, before, &cuts)?;
     let mut arrival_carry = before.arrivals.copy()?;
     Ok(Partial {
         held_hours: 0,
         held_rows: 0,
         known_tenths: 0,
         rules: counts_of(alloc, rules, &[])?,
-        splits: splits_seen(alloc, config, place, before, &cuts)?,
+        splits,
         others: OtherSums::none(alloc, config)?,
         arrivals: arrivals_unheld(alloc, config, &mut arrival_carry, &cuts, parts)?,
     })
 }
 
-// The numbers of an hour that is held.
-fn held_part(
+/// An hour that is held: its numbers, and what is under way of each measure at the point after it.
+#[derive(Drop)]
+pub(crate) struct HeldHour {
+    pub(crate) part: Partial,
+    pub(crate) way: UnderWay,
+}
+
+/// All of an hour that is held.
+pub(crate) fn held_hour(
     alloc: Global,
     config: &Config,
     rules: &[Rule],
     place: &Place<'_>,
     between: &Between<'_>,
-) -> Result<Partial, NoMemory>
+) -> Result<HeldHour, NoMemory>
     requires held { is_some place.now.rows ≡ true }
     requires rules { rules.now ≡ rules_for config.now }
     requires agrees { (s : Store) × IsHourBetween config.now s place.now.hour between.now.before.now
         place.now.rows place.now.blanks between.now.after.now }
-    ensures value { IfOk result (λ p. (s : Store) → IsHourBetween config.now s place.now.hour
+    ensures value { IfOk result (λ h. (s : Store) → IsHourBetween config.now s place.now.hour
         between.now.before.now place.now.rows place.now.blanks between.now.after.now
-        → IsHourPart config.now s place.now.hour p) }
-    ensures small { IfOk result (FitHours 1) }
+        → IsHourPart config.now s place.now.hour h.part) }
+    ensures small { IfOk result (λ h. FitHours 1 h.part) }
+    ensures way { IfOk result (λ h. (s : Store) → HasPlace s place.now
+        → IsCarryAt config.now s place.now.hour between.now.before.now
+        → AreUnderWayAt config.now s (place.now.hour + 1) h.way) }
 {
     let before = between.before;
     let parts = place.stretches();
     let view = seen_hour(alloc, config, place, between)?;
     let lines = audit_seen(alloc, config, rules, place, before, &view)?;
     let counts = counts_of(alloc, rules.len(), &lines)?;
-    let (splits, arrivals) = cut_seen(alloc, config, place, before, &view)?;
-    let others = others_seen(alloc, config, place, before, &view)?;
-    Ok(Partial {
+    let cut = cut_seen(alloc, config, place, before, &view)?;
+    let (others, crossing) = others_seen(alloc, config, place, before, &view)?;
+    let part = Partial {
         held_hours: 1,
         held_rows: place.rows().len() as u64,
         known_tenths: known_in(parts) as u64,
         rules: counts,
-        splits,
+        splits: cut.splits,
         others,
-        arrivals,
-    })
+        arrivals: cut.arrivals,
+    };
+    let way = UnderWay {
+        cuts: cut.cuts,
+        splits: cut.bars,
+        others: crossing,
+        arrivals: cut.opens,
+    };
+    Ok(HeldHour { part, way })
 }
 
 // The lines of an hour that is held.

@@ -8,7 +8,8 @@
 //! all histories of the whole window that agree with the log. A `Report` has the numbers of all
 //! hours. `phase_cycles` and `phase_points` list an hour's whole cycles of a phase and its arrivals.
 //!
-//! Each of these calls has another, `forward_over` and so on, over an hour that is opened already.
+//! Each of these calls has another, `forward_over` and so on, over an hour that is opened already;
+//! `work_over` gives what is kept at the point after such an hour and its numbers in one go.
 //!
 //! A tenth is known where its hour is held and the tenth isn't blanked. Held rows count at blanked
 //! tenths too.
@@ -26,6 +27,7 @@ mod reported;
 mod seen;
 mod steps;
 mod stop_bars;
+mod work;
 
 pub use again::{backward_again, forward_again};
 pub use carry::{Between, Carry, Future};
@@ -40,3 +42,4 @@ pub use numbers::Partial;
 pub use points::{cycles_over, phase_cycles, phase_points, points_over};
 pub use reported::{Report, Sums};
 pub use steps::{ForwardError, backward, backward_over, forward, forward_over};
+pub use work::{Worked, work_over};

@@ -5,6 +5,7 @@ ghost use Rattle.hour_store.specs.Store.{Store, is_known};
 ghost use Rattle.board.specs.Logs.{first_tenth};
 ghost use Rattle.rule_audit.specs.Rules.{rules_for};
 ghost use Rattle.signal_log.specs.Log.{log_of};
+ghost use Rattle.signal_log.specs.Opened.{HasPlace};
 ghost use Rattle.signal_log.specs.Points.{rows_or_none};
 ghost use Rattle.split_measures.specs.Phases.{phase_sums};
 ghost use Rattle.split_measures.specs.Hours.{AreSplitSums};
@@ -14,20 +15,21 @@ ghost use Rattle.hour_work.specs.Rows.{earlier_rows, own_rows};
 ghost use Rattle.hour_work.specs.Verdicts.{AreAuditLines};
 ghost use Rattle.arrival_measures.specs.Hours.{AreAllJudged, HaveCycles};
 ghost use Rattle.hour_work.specs.Measures.{MayBeIn, MeetsIn, cycles_in, services_in};
+ghost use Rattle.hour_work.specs.Points.{AreBarsAt, AreCrossingAt, AreCutsAt, AreOpenAt, IsCarryAt};
 ghost use Rattle.hour_work.specs.Reports.{IsHourBetween, IsHourSeen};
 
 use crate::stop_bars::splits_seen;
 use crate::{Between, Carry};
-use arrival_measures::{ArrivalSums, arrivals_hour};
+use arrival_measures::{ArrivalCarry, ArrivalSums, arrivals_hour};
 use board::HourView;
 use gap_map::Stretch;
-use other_measures::{OtherSums, others_hour};
+use other_measures::{OtherCarry, OtherSums, others_hour};
 use ring_config::Config;
 use rule_audit::{AuditLine, Rule, audit_rows};
-use service_cut::cut_hour;
+use service_cut::{CutCarry, cut_hour};
 use sig_base::NoMemory;
 use signal_log::Place;
-use split_measures::SplitSums;
+use split_measures::{SplitCarry, SplitSums};
 use std::alloc::Global;
 
 /// The view of an hour that is held, between the points before and after it.
@@ -78,65 +80,96 @@ pub(crate) fn audit_seen(
     audit_rows(alloc, config, rules, view, rows, parts, before.known)
 }
 
-/// The numbers of its phases and its approaches.
+/// What is cut of an hour: the numbers of its phases and its approaches, and what is under way of
+/// phases, at stop bars and of arrivals at the point after it.
+#[derive(Drop)]
+pub(crate) struct CutSeen {
+    pub(crate) splits: SplitSums,
+    pub(crate) arrivals: ArrivalSums,
+    pub(crate) cuts: CutCarry,
+    pub(crate) bars: SplitCarry,
+    pub(crate) opens: ArrivalCarry,
+}
+
+/// What is cut of it.
 pub(crate) fn cut_seen(
     alloc: Global,
     config: &Config,
     place: &Place<'_>,
     before: &Carry,
     view: &HourView,
-) -> Result<(SplitSums, ArrivalSums), NoMemory>
+) -> Result<CutSeen, NoMemory>
     requires seen { (s : Store) × IsHourSeen config.now s place.now.hour before.now
         (rows_or_none place.now.rows) place.now.stretches view.now }
     ensures splits { IfOk result (λ v. (s : Store) → IsHourSeen config.now s place.now.hour
         before.now (rows_or_none place.now.rows) place.now.stretches view.now
-        → v.0.phases ≡ phase_sums config.now.phases (services_in config.now s place.now.hour)
+        → v.splits.phases ≡ phase_sums config.now.phases (services_in config.now s place.now.hour)
         (cycles_in config.now s place.now.hour)) }
     ensures verdicts { IfOk result (λ v. (s : Store) → IsHourSeen config.now s place.now.hour
         before.now (rows_or_none place.now.rows) place.now.stretches view.now
         → AreSplitSums (log_of config.now.specs s) config.now place.now.hour
-        (earlier_rows s place.now.hour ++ own_rows s place.now.hour) v.0.approaches) }
+        (earlier_rows s place.now.hour ++ own_rows s place.now.hour) v.splits.approaches) }
     ensures judged { IfOk result (λ v. (s : Store) → IsHourSeen config.now s place.now.hour
         before.now (rows_or_none place.now.rows) place.now.stretches view.now
         → AreAllJudged (MayBeIn config.now s) (is_known s) config.now
-        (earlier_rows s place.now.hour) (own_rows s place.now.hour) place.now.hour v.1) }
+        (earlier_rows s place.now.hour) (own_rows s place.now.hour) place.now.hour v.arrivals) }
     ensures cycles { IfOk result (λ v. (s : Store) → IsHourSeen config.now s place.now.hour
         before.now (rows_or_none place.now.rows) place.now.stretches view.now
         → HaveCycles (is_known s) config.now (earlier_rows s place.now.hour)
-        (own_rows s place.now.hour) v.1) }
+        (own_rows s place.now.hour) v.arrivals) }
+    ensures cuts { IfOk result (λ v. (s : Store) → HasPlace s place.now
+        → IsCarryAt config.now s place.now.hour before.now
+        → AreCutsAt config.now s (place.now.hour + 1) v.cuts) }
+    ensures bars { IfOk result (λ v. (s : Store) → HasPlace s place.now
+        → IsCarryAt config.now s place.now.hour before.now
+        → AreBarsAt config.now s (place.now.hour + 1) v.bars) }
+    ensures opens { IfOk result (λ v. (s : Store) → HasPlace s place.now
+        → IsCarryAt config.now s place.now.hour before.now
+        → AreOpenAt config.now s (place.now.hour + 1) v.opens) }
 {
     let rows = place.rows();
     let parts = place.stretches();
-    let mut cut_carry = before.cuts.copy()?;
-    let cuts = cut_hour(alloc, config.phases(), &mut cut_carry, rows, parts)?;
-    let splits = splits_seen(alloc, config, place, before, &cuts)?;
-    let mut arrival_carry = before.arrivals.copy()?;
-    let arrivals = arrivals_hour(alloc, config, &mut arrival_carry, &cuts, view, rows, parts)?;
-    Ok((splits, arrivals))
+    let mut cuts = before.cuts.copy()?;
+    let cut = cut_hour(alloc, config.phases(), &mut cuts, rows, parts)?;
+    let (splits, bars) = splits_seen(alloc, config, place, before, &cut)?;
+    let mut opens = before.arrivals.copy()?;
+    let arrivals = arrivals_hour(alloc, config, &mut opens, &cut, view, rows, parts)?;
+    Ok(CutSeen {
+        splits,
+        arrivals,
+        cuts,
+        bars,
+        opens,
+    })
 }
 
-/// The numbers of its pedestrian signals, preempts and coordination.
+/// The numbers of its pedestrian signals, preempts and coordination, and what is under way of them
+/// at the point after it.
 pub(crate) fn others_seen(
     alloc: Global,
     config: &Config,
     place: &Place<'_>,
     before: &Carry,
     view: &HourView,
-) -> Result<OtherSums, NoMemory>
+) -> Result<(OtherSums, OtherCarry), NoMemory>
     requires seen { (s : Store) × IsHourSeen config.now s place.now.hour before.now
         (rows_or_none place.now.rows) place.now.stretches view.now }
     ensures numbers { IfOk result (λ v. (s : Store) → IsHourSeen config.now s place.now.hour
         before.now (rows_or_none place.now.rows) place.now.stretches view.now
         → AreNumbers (is_known s) config.now (earlier_rows s place.now.hour)
-        (own_rows s place.now.hour) v) }
+        (own_rows s place.now.hour) v.0) }
     ensures states { IfOk result (λ v. (s : Store) → IsHourSeen config.now s place.now.hour
         before.now (rows_or_none place.now.rows) place.now.stretches view.now
-        → AreStates (MeetsIn config.now s) (first_tenth place.now.hour) config.now v) }
+        → AreStates (MeetsIn config.now s) (first_tenth place.now.hour) config.now v.0) }
+    ensures carry { IfOk result (λ v. (s : Store) → HasPlace s place.now
+        → IsCarryAt config.now s place.now.hour before.now
+        → AreCrossingAt config.now s (place.now.hour + 1) v.1) }
 {
     let rows = place.rows();
     let parts = place.stretches();
     let mut carry = before.others.copy()?;
-    others_hour(alloc, config, &mut carry, view, rows, parts)
+    let sums = others_hour(alloc, config, &mut carry, view, rows, parts)?;
+    Ok((sums, carry))
 }
 
 /// How many tenths of these stretches are known.

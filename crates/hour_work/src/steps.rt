@@ -8,13 +8,13 @@ ghost use Rattle.hour_store.specs.Store.{Store};
 ghost use Rattle.board.specs.Logs.{first_tenth};
 ghost use Rattle.board.specs.Places.{AllEarly, AreAheadsOf};
 ghost use Rattle.board.specs.Stops.{AreBefore};
+ghost use Rattle.ring_config.specs.Settings.{Settings};
 ghost use Rattle.signal_log.specs.Log.{Log, log_of};
+ghost use Rattle.signal_log.specs.Opened.{HasPlace};
 ghost use Rattle.signal_log.specs.Points.{ArePastsAt, HasHour, NamesContradiction};
 ghost use Rattle.signal_log.specs.Over.{AreAheadsOver, ArePastsOver, NamesStopOver};
-ghost use Rattle.stop_bar.specs.All.{AreAtBars};
-ghost use Rattle.hour_work.specs.Rows.{earlier_rows};
 ghost use Rattle.hour_work.specs.declared.steps.ForwardError.TheVariants.{Memory};
-ghost use Rattle.hour_work.specs.Points.{AreCrossingAt, AreCutsAt, AreOpenAt, FitPoint, IsCarryAt, IsFutureAt, NamesRow, NamesStop};
+ghost use Rattle.hour_work.specs.Points.{AreUnderWayAt, FitPoint, IsCarryAt, IsFutureAt, NamesRow, NamesStop};
 
 use crate::stop_bars::splits_over;
 use crate::{Carry, Future};
@@ -123,20 +123,31 @@ pub(crate) fn carried(
         → ArePastsAt (log_of config.now.specs s) (place.now.hour + 1) pasts
         → IsCarryAt config.now s (place.now.hour + 1) c) }
 {
+    let way = under_way(alloc, config, place, before)?;
+    Ok(kept(place, pasts, way))
+}
+
+// The same, where this is under way there.
+pub(crate) fn kept(place: &Place<'_>, pasts: Pasts, way: UnderWay) -> Carry
+    ensures pasts { result.pasts ≡ pasts }
+    ensures carry { (c : Settings) (s : Store) → HasPlace s place.now
+        → ArePastsAt (log_of c.specs s) (place.now.hour + 1) pasts
+        → AreUnderWayAt c s (place.now.hour + 1) way → IsCarryAt c s (place.now.hour + 1) result }
+{
     let UnderWay {
         cuts,
         splits,
         others,
         arrivals,
-    } = under_way(alloc, config, place, before)?;
-    Ok(Carry {
+    } = way;
+    Carry {
         pasts,
         known: place.is_end_known(),
         cuts,
         splits,
         others,
         arrivals,
-    })
+    }
 }
 
 // The states of each channel at the point after an hour.
@@ -168,11 +179,11 @@ fn states_over(
 
 // What is under way of each measure at a point.
 #[derive(Drop)]
-struct UnderWay {
-    cuts: CutCarry,
-    splits: SplitCarry,
-    others: OtherCarry,
-    arrivals: ArrivalCarry,
+pub(crate) struct UnderWay {
+    pub(crate) cuts: CutCarry,
+    pub(crate) splits: SplitCarry,
+    pub(crate) others: OtherCarry,
+    pub(crate) arrivals: ArrivalCarry,
 }
 
 // What is under way of each measure at the point after an hour.
@@ -183,20 +194,9 @@ fn under_way(
     before: &Carry,
 ) -> Result<UnderWay, NoMemory>
     requires shape { AreBefore config.now.specs before.now.pasts }
-    ensures cuts { IfOk result (λ u. (s : Store) → HasHour s place.now.hour place.now.rows
-        place.now.blanks → AreCutsAt config.now s place.now.hour before.now.cuts
-        → AreCutsAt config.now s (place.now.hour + 1) u.cuts) }
-    ensures splits { IfOk result (λ u. (s : Store) → HasHour s place.now.hour place.now.rows
-        place.now.blanks → IsCarryAt config.now s place.now.hour before.now
-        → AreAtBars (log_of config.now.specs s) config.now (earlier_rows s (place.now.hour + 1))
-        (place.now.hour + 1) u.splits) }
-    ensures others { IfOk result (λ u. (s : Store) → HasHour s place.now.hour place.now.rows
-        place.now.blanks → AreCrossingAt config.now s place.now.hour before.now.others
-        → AreCrossingAt config.now s (place.now.hour + 1) u.others) }
-    ensures arrivals { IfOk result (λ u. (s : Store) → HasHour s place.now.hour place.now.rows
-        place.now.blanks → AreCutsAt config.now s place.now.hour before.now.cuts
-        → AreOpenAt config.now s place.now.hour before.now.arrivals
-        → AreOpenAt config.now s (place.now.hour + 1) u.arrivals) }
+    ensures { IfOk result (λ u. (s : Store) → HasPlace s place.now
+        → IsCarryAt config.now s place.now.hour before.now
+        → AreUnderWayAt config.now s (place.now.hour + 1) u) }
 {
     let rows = place.rows();
     let parts = place.stretches();

@@ -4,10 +4,10 @@ ghost use Rattle.hour_store.specs.Store.{Store};
 ghost use Rattle.board.specs.Stops.{AreBefore};
 ghost use Rattle.signal_log.specs.Log.{HasHistory, log_of};
 ghost use Rattle.signal_log.specs.Points.{rows_or_none};
-ghost use Rattle.stop_bar.specs.All.{AreAtBars};
 ghost use Rattle.split_measures.specs.Phases.{phase_sums};
 ghost use Rattle.split_measures.specs.Hours.{AreSplitSums};
 ghost use Rattle.hour_work.specs.Rows.{earlier_rows, own_rows};
+ghost use Rattle.hour_work.specs.Points.{AreBarsAt};
 ghost use Rattle.hour_work.specs.Reports.{IsHourCut};
 
 use crate::Carry;
@@ -19,26 +19,31 @@ use split_measures::{SplitCarry, SplitSums, splits_carried, splits_hour};
 use std::alloc::Global;
 use stop_bar::detectors_hour;
 
-/// The numbers of the hour's phases, and of the services at the stop bars of approaches.
+/// The numbers of the hour's phases, and of the services at the stop bars of approaches, and what
+/// crosses the point after the hour there.
 pub(crate) fn splits_seen(
     alloc: Global,
     config: &Config,
     place: &Place<'_>,
     before: &Carry,
     cuts: &Cuts,
-) -> Result<SplitSums, NoMemory>
+) -> Result<(SplitSums, SplitCarry), NoMemory>
     requires shape { AreBefore config.now.specs before.now.pasts }
-    ensures phases { IfOk result (λ v. v.phases
+    ensures phases { IfOk result (λ v. v.0.phases
         ≡ phase_sums config.now.phases cuts.now.services cuts.now.cycles) }
     ensures verdicts { IfOk result (λ v. (s : Store) → HasHistory (log_of config.now.specs s)
         → IsHourCut config.now s place.now.hour before.now (rows_or_none place.now.rows)
         place.now.stretches cuts.now → AreSplitSums (log_of config.now.specs s) config.now
-        place.now.hour (earlier_rows s place.now.hour ++ own_rows s place.now.hour) v.approaches) }
+        place.now.hour (earlier_rows s place.now.hour ++ own_rows s place.now.hour) v.0.approaches) }
+    ensures carry { IfOk result (λ v. (s : Store) → IsHourCut config.now s place.now.hour
+        before.now (rows_or_none place.now.rows) place.now.stretches cuts.now
+        → AreBarsAt config.now s (place.now.hour + 1) v.1) }
 {
     let parts = place.stretches();
     let detectors = detectors_hour(alloc, config, &before.pasts, place.rows(), parts)?;
     let mut carry = before.splits.copy()?;
-    splits_hour(alloc, config, &mut carry, cuts, &detectors, place.hour())
+    let sums = splits_hour(alloc, config, &mut carry, cuts, &detectors, place.hour())?;
+    Ok((sums, carry))
 }
 
 /// What crosses the point after the hour at stop bars.
@@ -52,8 +57,7 @@ pub(crate) fn splits_over(
     requires shape { AreBefore config.now.specs before.now.pasts }
     ensures { IfOk result (λ v. (s : Store) → IsHourCut config.now s place.now.hour before.now
         (rows_or_none place.now.rows) place.now.stretches cuts.now
-        → AreAtBars (log_of config.now.specs s) config.now (earlier_rows s (place.now.hour + 1))
-        (place.now.hour + 1) v) }
+        → AreBarsAt config.now s (place.now.hour + 1) v) }
 {
     let parts = place.stretches();
     let detectors = detectors_hour(alloc, config, &before.pasts, place.rows(), parts)?;

@@ -23,7 +23,7 @@ use Rattle.board.proofs.Within.{hour_rows, one_hour}
 use Rattle.signal_log.specs.Log.{IsContradiction, log_of}
 use Rattle.signal_log.specs.Points.{AreAheadsAt, ArePastsAt, HasHour, NamesContradiction, rows_or_none}
 use Rattle.signal_log.specs.Over.{AreAheadsOver, ArePastsOver, IsCutOf, NamesStopOver}
-use Rattle.signal_log.specs.Opened.{IsOpened, Opened}
+use Rattle.signal_log.specs.Opened.{HasPlace, IsOpened, Opened}
 use Rattle.signal_log.proofs.Hour.{aheads_at, pasts_at}
 use Rattle.signal_log.proofs.Stopped.{contradicts}
 
@@ -120,6 +120,12 @@ aheads_was specs hour rows blanks ss after aheads it over = λ h is. rw (one_hou
 
 pub pasts_was : (specs : List Spec) (hour : ℕ) (rows : Option (List Row)) (blanks : List Span) (ss : List Stretch) (before pasts : List (List (List Span))) → IsTold hour rows blanks ss → ArePastsOver specs hour rows blanks before pasts → ArePastsOf specs (rows_or_none rows) ss before pasts
 pasts_was specs hour rows blanks ss before pasts it over = λ h is. rw (one_hour h hour (rows_or_none rows) ss is it.is) (over.0 ss it.cut, over.1 ss it.cut)
+
+-- states that an hour leads to from those at the point before it are those at the point after it
+pub over_leads : (specs : List Spec) (s : Store) (o : Opened) (before pasts : List (List (List Span))) → AreSpecs specs → IsOpened o → ArePastsOver specs o.hour o.rows o.blanks before pasts → AreBefore specs pasts → AllEarly (first_tenth (o.hour + 1)) pasts → HasPlace s o → ArePastsAt (log_of specs s) o.hour before → ArePastsAt (log_of specs s) (o.hour + 1) pasts
+over_leads specs s o before pasts are opened over shape early has at =
+    let end : first_tenth (o.hour + 1) ≡ end_tenth o.hour = omega arith in
+    pasts_at specs s o.hour o.rows o.blanks o.stretches before pasts are has opened.cut at shape (subst (λ (t : ℕ). AllEarly t pasts) end early) (over.1 o.stretches opened.cut)
 
 -- what the calls of an hour answer, by what those of its cut do
 module _ {E : Type 0} (specs : List Spec) (hour : ℕ) (rows : Option (List Row)) (blanks : List Span) (ss : List Stretch) (after : List (List (Option ℤ))) (it : IsTold hour rows blanks ss) (r : Result (List (List (Option ℤ))) E) (before : IfOk r (λ a. AreAheadsBefore specs (rows_or_none rows) ss after a)) where

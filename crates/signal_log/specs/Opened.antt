@@ -4,7 +4,8 @@ use Rattle.span_set.specs.declared.set.Span.{Span}
 use Rattle.sig_base.specs.declared.values.Row.{Row}
 use Rattle.sig_base.specs.HourRows.{AreRowsOf}
 use Rattle.gap_map.specs.declared.stretch.Stretch.{Stretch}
-use Rattle.signal_log.specs.Points.{rows_or_none}
+use Rattle.hour_store.specs.Store.{Store}
+use Rattle.signal_log.specs.Points.{HasHour, rows_or_none}
 use Rattle.signal_log.specs.Over.{IsCutOf}
 
 -- the hour, its rows where it is held, the blanked ranges, and its stretches
@@ -20,3 +21,7 @@ pub record IsOpened (o : Opened) : Type 0 where
   pub are_rows : AreRowsOf o.hour (rows_or_none o.rows)
   pub cut : IsCutOf o.hour o.rows o.blanks o.stretches
   pub one : (ss : List Stretch) → IsCutOf o.hour o.rows o.blanks ss → ss ≡ o.stretches
+
+-- of the store this is held of the hour, and this is what it says of its tenths
+abbrev pub HasPlace : Store → Opened → Type 0
+HasPlace s o = HasHour s o.hour o.rows o.blanks

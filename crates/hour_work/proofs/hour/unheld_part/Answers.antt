@@ -9,7 +9,8 @@ use Rattle.service_cut.specs.declared.parts.Part.{Part}
 use Rattle.service_cut.specs.Parts.{IsCarry as IsCut}
 use Rattle.split_measures.specs.Phases.{phase_sums}
 use Rattle.hour_work.specs.Points.{Carried}
-use Rattle.hour_work.specs.Reports.{IsHourCut}
+use Rattle.split_measures.specs.Hours.{Splits}
+use Rattle.hour_work.specs.Reports.{IsHourCut, IsHourPart}
 use Rattle.hour_work.specs.Rows.{earlier_rows}
 use Rattle.hour_work.proofs.MeasureLaws.{hour_is}
 use Rattle.hour_work.proofs.PointLaws.{no_held_rows, none_fit, unheld_part}
@@ -48,15 +49,16 @@ returns-clause-value c = λ s n some told is.
       is_before = is;
       lists = lists;
     } in
-    let verdicts = (rw none at c.in_ok-splits_seen.ensures.verdicts) s some here in
+    let verdicts = (rw none at c.in_ok-splits.ensures.verdicts) s some here in
     let nothing = ap₂ (λ (zs : List Service) (cs : List Cycle). phase_sums cfg.phases zs cs) lists.services_are lists.cycles_are in
     let opens = c.in_ok-arrival_carry.arrival_carry in
     let sums = c.in_ok-arrivals_unheld.field-0 in
     let first = c.in_ok-arrival_carry.ensures ∙ ap (λ (v : Carried). v.arrivals) c.before-2.view_is in
     let judged = unheld_judged cfg s hour c.args.before.now ss cuts here opens sums first has.held (rw c.stretches-parts.ensures.value at c.in_ok-arrivals_unheld.ensures.judged) in
     let cycles = unheld_cycles cfg s hour c.args.before.now ss cuts here opens sums first (rw c.stretches-parts.ensures.value at c.in_ok-arrivals_unheld.ensures.cycles) in
-    let measures = unheld_measures cfg s hour c.in_ok-splits_seen.field-0.phases c.in_ok-splits_seen.field-0.approaches c.in_ok-none.field-0 sums has.held (c.in_ok-splits_seen.ensures.phases ∙ nothing) verdicts c.in_ok-none.ensures.numbers c.in_ok-none.ensures.states judged cycles in
-    unheld_part cfg s hour c.args.rules c.in_ok-counts_of.field-0.items c.in_ok-splits_seen.field-0.phases c.in_ok-splits_seen.field-0.approaches c.in_ok-none.field-0 sums c.in_ok-counts_of.ensures measures has.held n
+    let measures = unheld_measures cfg s hour c.in_ok-splits.splits.phases c.in_ok-splits.splits.approaches c.in_ok-none.field-0 sums has.held (c.in_ok-splits.ensures.phases ∙ nothing) verdicts c.in_ok-none.ensures.numbers c.in_ok-none.ensures.states judged cycles in
+    let part = unheld_part cfg s hour c.args.rules c.in_ok-counts_of.field-0.items c.in_ok-splits.splits.phases c.in_ok-splits.splits.approaches c.in_ok-none.field-0 sums c.in_ok-counts_of.ensures measures has.held n in
+    subst (λ (v : Splits). IsHourPart cfg s hour (record { held_hours = 0; held_rows = 0; known_tenths = 0; rules = c.in_ok-counts_of.field-0.items; splits = v.phases; failures = v.approaches; others = c.in_ok-none.field-0; arrivals = sums })) (sym c.splits.view_is) part
 
 pub returns-clause-small : goal.returns-clause-small
 returns-clause-small c = record {

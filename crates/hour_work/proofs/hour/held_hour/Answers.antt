@@ -8,7 +8,7 @@ use Rattle.hour_work.specs.Numbers.{count_from}
 use Rattle.hour_work.specs.Reports.{IsHourBetween}
 use Rattle.hour_work.proofs.CountLaws.{count_le, hour_counted, stretches_order}
 use Rattle.hour_work.proofs.PointLaws.{held_count, held_one, held_rows, known_count, lines_fit, lines_numbered}
-use Rattle.hour_work.proofs.hour.held_part.Goals as goal
+use Rattle.hour_work.proofs.hour.held_hour.Goals as goal
 
 pub counts_of-requires-clause-numbers : goal.counts_of-requires-clause-numbers
 counts_of-requires-clause-numbers c =
@@ -54,12 +54,12 @@ returns-clause-value c = λ s is.
       are_lines = c.in_ok-lines.ensures s seen;
       rules = rw (c.deref.ensures.value, c.requires.rules) at c.in_ok-counts.ensures;
       measures = record {
-        phases = c.in_ok-splits.ensures.splits s seen;
-        verdicts = c.in_ok-splits.ensures.verdicts s seen;
+        phases = c.in_ok-cut.ensures.splits s seen;
+        verdicts = c.in_ok-cut.ensures.verdicts s seen;
         numbers = c.in_ok-others.ensures.numbers s seen;
         states = c.in_ok-others.ensures.states s seen;
-        judged = c.in_ok-splits.ensures.judged s seen;
-        whole_cycles = c.in_ok-splits.ensures.cycles s seen;
+        judged = c.in_ok-cut.ensures.judged s seen;
+        whole_cycles = c.in_ok-cut.ensures.cycles s seen;
       };
     }
 
@@ -79,3 +79,11 @@ returns-clause-small c =
       known_tenths = omega arith;
       rules = rw (c.in_ok-counts.ensures, c.deref.ensures.value, c.requires.rules) (lines_fit cfg s o.hour (length (rules_for cfg)) (Some (rows_or_none o.rows)) c.in_ok-lines.lines.items own.has_hour.held few (c.in_ok-lines.ensures s (c.in_ok-view.ensures s is)));
     }
+
+pub returns-clause-way : goal.returns-clause-way
+returns-clause-way c = λ s has is. record {
+  cuts = c.in_ok-cut.ensures.cuts s has is;
+  splits = c.in_ok-cut.ensures.bars s has is;
+  others = c.in_ok-others.ensures.carry s has is;
+  arrivals = c.in_ok-cut.ensures.opens s has is;
+}

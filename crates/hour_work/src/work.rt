@@ -1,0 +1,84 @@
+// All of one hour: what is kept at the point after it, and its numbers.
+ghost use Rattle.std.specs.Prelude.{◌≡◌, ◌+◌, IfOk};
+ghost use Rattle.hour_store.specs.Store.{Store};
+ghost use Rattle.board.specs.Logs.{first_tenth};
+ghost use Rattle.board.specs.Places.{AllEarly};
+ghost use Rattle.board.specs.Stops.{AreBefore};
+ghost use Rattle.rule_audit.specs.Rules.{rules_for};
+ghost use Rattle.signal_log.specs.Log.{log_of};
+ghost use Rattle.signal_log.specs.Opened.{HasPlace};
+ghost use Rattle.signal_log.specs.Over.{ArePastsOver};
+ghost use Rattle.signal_log.specs.Points.{ArePastsAt, HasHour};
+ghost use Rattle.hour_work.specs.Numbers.{FitHours};
+ghost use Rattle.hour_work.specs.Points.{FitPoint, IsCarryAt};
+ghost use Rattle.hour_work.specs.Reports.{IsHourBetween, IsHourPart};
+
+use crate::hour::{HeldHour, held_hour, unheld_part};
+use crate::steps::{carried, kept};
+use crate::{Between, Carry, Partial};
+use board::Pasts;
+use ring_config::Config;
+use rule_audit::Rule;
+use sig_base::NoMemory;
+use signal_log::Place;
+use std::alloc::Global;
+
+/// What an hour gives: what is kept at the point after it, and its numbers.
+#[derive(Drop)]
+pub struct Worked {
+    pub carry: Carry,
+    pub part: Partial,
+}
+
+/// What is kept at the point after an hour that is opened, and the hour's numbers, where these are
+/// the states of each channel at that point. Some history agrees with the log.
+pub fn work_over(
+    alloc: Global,
+    config: &Config,
+    rules: &[Rule],
+    place: &Place<'_>,
+    between: &Between<'_>,
+    pasts: Pasts,
+) -> Result<Worked, NoMemory>
+    requires rules { rules.now ≡ rules_for config.now }
+    requires over { ArePastsOver config.now.specs place.now.hour place.now.rows place.now.blanks
+        between.now.before.now.pasts pasts }
+    requires shape { AreBefore config.now.specs pasts }
+    requires early { AllEarly (first_tenth (place.now.hour + 1)) pasts }
+    requires agrees { (s : Store) × IsHourBetween config.now s place.now.hour between.now.before.now
+        place.now.rows place.now.blanks between.now.after.now }
+    ensures fit { IfOk result (λ w. FitPoint config.now (place.now.hour + 1) w.carry) }
+    ensures pasts { IfOk result (λ w. w.carry.pasts ≡ pasts) }
+    ensures carry { IfOk result (λ w. (s : Store) → HasHour s place.now.hour place.now.rows
+        place.now.blanks → IsCarryAt config.now s place.now.hour between.now.before.now
+        → IsCarryAt config.now s (place.now.hour + 1) w.carry) }
+    ensures value { IfOk result (λ w. (s : Store) → IsHourBetween config.now s place.now.hour
+        between.now.before.now place.now.rows place.now.blanks between.now.after.now
+        → IsHourPart config.now s place.now.hour w.part) }
+    ensures small { IfOk result (λ w. FitHours 1 w.part) }
+{
+    let before = between.before;
+    lead(config, place, before, &pasts);
+    if place.is_held() {
+        let HeldHour { part, way } = held_hour(alloc, config, rules, place, between)?;
+        let carry = kept(place, pasts, way);
+        return Ok(Worked { carry, part });
+    }
+    let part = unheld_part(alloc, config, rules.len(), place, before)?;
+    let carry = carried(alloc, config, place, before, pasts)?;
+    Ok(Worked { carry, part })
+}
+
+// Does nothing: states to which an hour leads are those at the point after it.
+fn lead(config: &Config, place: &Place<'_>, before: &Carry, pasts: &Pasts)
+    requires over { ArePastsOver config.now.specs place.now.hour place.now.rows place.now.blanks
+        before.now.pasts pasts.now }
+    requires shape { AreBefore config.now.specs pasts.now }
+    requires early { AllEarly (first_tenth (place.now.hour + 1)) pasts.now }
+    ensures { (s : Store) → HasPlace s place.now
+        → IsCarryAt config.now s place.now.hour before.now
+        → ArePastsAt (log_of config.now.specs s) (place.now.hour + 1) pasts.now }
+{
+    let _specs = config.specs();
+    let _parts = place.stretches();
+}

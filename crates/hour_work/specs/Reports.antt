@@ -11,6 +11,7 @@ use Rattle.sig_base.specs.HourRows.{AreRowsOf}
 use Rattle.ring_config.specs.Settings.{Settings}
 use Rattle.ring_config.specs.Sound.{IsSound}
 use Rattle.signal_log.specs.Log.{HasHistory, log_of}
+use Rattle.signal_log.specs.Opened.{Opened}
 use Rattle.signal_log.specs.Points.{HasHour, rows_or_none}
 use Rattle.service_cut.specs.Cut.{CutLists, IsCut as IsCutOf}
 use Rattle.rule_audit.specs.declared.lines.AuditLine.{AuditLine}
@@ -65,3 +66,13 @@ pub record IsHourCut (c : Settings) (s : Store) (hour : ℕ) (before : Carried) 
   pub cut : IsCut (known_in (is_some held) blanks) (36000 * hour) (36000 * hour + 36000) ss
   pub is_before : IsCarryAt c s hour before
   pub lists : IsCutOf (is_known s) c.phases (earlier_rows s hour) hour rows cuts
+
+-- the same three of an hour that is opened
+abbrev pub IsBetweenAt : Settings → Store → Opened → Carried → List (List (Option ℤ)) → Type 0
+IsBetweenAt c s o before after = IsHourBetween c s o.hour before o.rows o.blanks after
+
+abbrev pub IsSeenAt : Settings → Store → Opened → Carried → HourLog → Type 0
+IsSeenAt c s o before view = IsHourSeen c s o.hour before (rows_or_none o.rows) o.stretches view
+
+abbrev pub IsCutAtPlace : Settings → Store → Opened → Carried → CutLists → Type 0
+IsCutAtPlace c s o before cuts = IsHourCut c s o.hour before (rows_or_none o.rows) o.stretches cuts

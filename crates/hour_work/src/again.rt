@@ -6,7 +6,8 @@ ghost use Rattle.board.specs.Logs.{first_tenth};
 ghost use Rattle.board.specs.Places.{AllEarly, AreAheadsOf};
 ghost use Rattle.board.specs.Stops.{AreBefore};
 ghost use Rattle.signal_log.specs.Log.{log_of};
-ghost use Rattle.signal_log.specs.Points.{ArePastsAt, HasHour};
+ghost use Rattle.signal_log.specs.Opened.{HasPlace};
+ghost use Rattle.signal_log.specs.Points.{ArePastsAt};
 ghost use Rattle.signal_log.specs.Over.{AreAheadsOver, ArePastsOver};
 ghost use Rattle.hour_work.specs.Points.{ComesBack, FitPoint, GoesOver, IsCarryAt, IsFutureAt, NamesRow, NamesStop};
 
@@ -31,11 +32,11 @@ pub fn forward_again(
     requires was { GoesOver config.now place.now.hour place.now.rows place.now.blanks
         was.now.before.now was.now.after.now }
     ensures fit { IfOk result (FitPoint config.now (place.now.hour + 1)) }
-    ensures carry { IfOk result (λ c. (s : Store) → HasHour s place.now.hour place.now.rows
-        place.now.blanks → IsCarryAt config.now s place.now.hour before.now
+    ensures carry { IfOk result (λ c. (s : Store) → HasPlace s place.now
+        → IsCarryAt config.now s place.now.hour before.now
         → IsCarryAt config.now s (place.now.hour + 1) c) }
-    ensures stop { IfErr result (λ e. (s : Store) → HasHour s place.now.hour place.now.rows
-        place.now.blanks → IsCarryAt config.now s place.now.hour before.now
+    ensures stop { IfErr result (λ e. (s : Store) → HasPlace s place.now
+        → IsCarryAt config.now s place.now.hour before.now
         → NamesRow (log_of config.now.specs s) e) }
     ensures over { IfOk result (λ c. ArePastsOver config.now.specs place.now.hour place.now.rows
         place.now.blanks before.now.pasts c.pasts) }
@@ -59,11 +60,11 @@ fn pasts_again(
         was.now.before.now was.now.after.now }
     ensures shape { IfOk result (λ p. AreBefore config.now.specs p
         × AllEarly (first_tenth (place.now.hour + 1)) p) }
-    ensures pasts { IfOk result (λ p. (s : Store) → HasHour s place.now.hour place.now.rows
-        place.now.blanks → IsCarryAt config.now s place.now.hour before.now
+    ensures pasts { IfOk result (λ p. (s : Store) → HasPlace s place.now
+        → IsCarryAt config.now s place.now.hour before.now
         → ArePastsAt (log_of config.now.specs s) (place.now.hour + 1) p) }
-    ensures stop { IfErr result (λ e. (s : Store) → HasHour s place.now.hour place.now.rows
-        place.now.blanks → IsCarryAt config.now s place.now.hour before.now
+    ensures stop { IfErr result (λ e. (s : Store) → HasPlace s place.now
+        → IsCarryAt config.now s place.now.hour before.now
         → NamesRow (log_of config.now.specs s) e) }
     ensures over { IfOk result (λ p. ArePastsOver config.now.specs place.now.hour place.now.rows
         place.now.blanks before.now.pasts p) }
@@ -96,8 +97,8 @@ pub fn backward_again(
     requires was { ComesBack config.now place.now.hour place.now.rows place.now.blanks
         was.now.after.now was.now.before.now }
     ensures fit { IfOk result (AreAheadsOf config.now.specs) }
-    ensures future { IfOk result (λ f. (s : Store) → HasHour s place.now.hour place.now.rows
-        place.now.blanks → IsFutureAt config.now s (place.now.hour + 1) after.now
+    ensures future { IfOk result (λ f. (s : Store) → HasPlace s place.now
+        → IsFutureAt config.now s (place.now.hour + 1) after.now
         → IsFutureAt config.now s place.now.hour f) }
     ensures over { IfOk result (AreAheadsOver config.now.specs place.now.hour place.now.rows
         place.now.blanks after.now) }

@@ -5,12 +5,11 @@ ghost use Rattle.hour_store.specs.Store.{Store};
 ghost use Rattle.board.specs.Stops.{AreBefore};
 ghost use Rattle.signal_log.specs.Log.{HasHistory, log_of};
 ghost use Rattle.signal_log.specs.Opened.{HasPlace};
-ghost use Rattle.signal_log.specs.Points.{HasHour};
 ghost use Rattle.rule_audit.specs.Rules.{rules_for};
 ghost use Rattle.hour_work.specs.Numbers.{FitHours};
 ghost use Rattle.hour_work.specs.Points.{AreUnderWayAt, IsCarryAt};
 ghost use Rattle.hour_work.specs.Verdicts.{AreAuditLines};
-ghost use Rattle.hour_work.specs.Reports.{IsHourBetween, IsHourPart};
+ghost use Rattle.hour_work.specs.Reports.{IsBetweenAt, IsHourBetween, IsHourPart};
 
 use crate::counts::counts_of;
 use crate::seen::{audit_seen, cut_seen, known_in, others_seen, seen_hour};
@@ -61,10 +60,10 @@ pub fn partial_over(
     between: &Between<'_>,
 ) -> Result<Partial, NoMemory>
     requires rules { rules.now ≡ rules_for config.now }
-    requires agrees { (s : Store) × IsHourBetween config.now s place.now.hour between.now.before.now
-        place.now.rows place.now.blanks between.now.after.now }
-    ensures value { IfOk result (λ p. (s : Store) → IsHourBetween config.now s place.now.hour
-        between.now.before.now place.now.rows place.now.blanks between.now.after.now
+    requires agrees { (s : Store)
+        × IsBetweenAt config.now s place.now between.now.before.now between.now.after.now }
+    ensures value { IfOk result (λ p. (s : Store)
+        → IsBetweenAt config.now s place.now between.now.before.now between.now.after.now
         → IsHourPart config.now s place.now.hour p) }
     ensures small { IfOk result (FitHours 1) }
 {
@@ -109,10 +108,10 @@ pub fn audit_over(
     between: &Between<'_>,
 ) -> Result<Vec<AuditLine>, NoMemory>
     requires rules { rules.now ≡ rules_for config.now }
-    requires agrees { (s : Store) × IsHourBetween config.now s place.now.hour between.now.before.now
-        place.now.rows place.now.blanks between.now.after.now }
-    ensures { IfOk result (λ v. (s : Store) → IsHourBetween config.now s place.now.hour
-        between.now.before.now place.now.rows place.now.blanks between.now.after.now
+    requires agrees { (s : Store)
+        × IsBetweenAt config.now s place.now between.now.before.now between.now.after.now }
+    ensures { IfOk result (λ v. (s : Store)
+        → IsBetweenAt config.now s place.now between.now.before.now between.now.after.now
         → AreAuditLines config.now s place.now.hour v.items) }
 {
     if place.is_held() {
@@ -134,8 +133,8 @@ pub(crate) fn unheld_part(
     requires unheld { is_some place.now.rows ≡ false }
     requires shape { AreBefore config.now.specs before.now.pasts }
     ensures value { IfOk result (λ p. (s : Store) → rules ≡ length (rules_for config.now)
-        → HasHistory (log_of config.now.specs s) → HasHour s place.now.hour place.now.rows
-        place.now.blanks → IsCarryAt config.now s place.now.hour before.now
+        → HasHistory (log_of config.now.specs s) → HasPlace s place.now
+        → IsCarryAt config.now s place.now.hour before.now
         → IsHourPart config.now s place.now.hour p) }
     ensures small { IfOk result (FitHours 1) }
 {
@@ -172,10 +171,10 @@ pub(crate) fn held_hour(
 ) -> Result<HeldHour, NoMemory>
     requires held { is_some place.now.rows ≡ true }
     requires rules { rules.now ≡ rules_for config.now }
-    requires agrees { (s : Store) × IsHourBetween config.now s place.now.hour between.now.before.now
-        place.now.rows place.now.blanks between.now.after.now }
-    ensures value { IfOk result (λ h. (s : Store) → IsHourBetween config.now s place.now.hour
-        between.now.before.now place.now.rows place.now.blanks between.now.after.now
+    requires agrees { (s : Store)
+        × IsBetweenAt config.now s place.now between.now.before.now between.now.after.now }
+    ensures value { IfOk result (λ h. (s : Store)
+        → IsBetweenAt config.now s place.now between.now.before.now between.now.after.now
         → IsHourPart config.now s place.now.hour h.part) }
     ensures small { IfOk result (λ h. FitHours 1 h.part) }
     ensures way { IfOk result (λ h. (s : Store) → HasPlace s place.now
@@ -217,10 +216,10 @@ fn held_lines(
 ) -> Result<Vec<AuditLine>, NoMemory>
     requires held { is_some place.now.rows ≡ true }
     requires rules { rules.now ≡ rules_for config.now }
-    requires agrees { (s : Store) × IsHourBetween config.now s place.now.hour between.now.before.now
-        place.now.rows place.now.blanks between.now.after.now }
-    ensures { IfOk result (λ v. (s : Store) → IsHourBetween config.now s place.now.hour
-        between.now.before.now place.now.rows place.now.blanks between.now.after.now
+    requires agrees { (s : Store)
+        × IsBetweenAt config.now s place.now between.now.before.now between.now.after.now }
+    ensures { IfOk result (λ v. (s : Store)
+        → IsBetweenAt config.now s place.now between.now.before.now between.now.after.now
         → AreAuditLines config.now s place.now.hour v.items) }
 {
     let view = seen_hour(alloc, config, place, between)?;

@@ -3,12 +3,13 @@ ghost use Rattle.std.specs.Prelude.{◌≡◌, ◌<◌, true, is_some, option_co
 ghost use Rattle.sig_base.specs.HourRows.{AreRowsOf};
 ghost use Rattle.hour_store.specs.Store.{Store, is_known};
 ghost use Rattle.hour_sums.specs.Numbers.{own};
+ghost use Rattle.signal_log.specs.Opened.{HasPlace};
 ghost use Rattle.signal_log.specs.Points.{HasHour};
 ghost use Rattle.arrival_measures.specs.Points.{points_from};
 ghost use Rattle.hour_work.specs.Rows.{earlier_rows, own_rows};
 ghost use Rattle.hour_work.specs.Measures.{cycles_in};
 ghost use Rattle.hour_work.specs.Points.{IsCarryAt};
-ghost use Rattle.hour_work.specs.Reports.{IsHourBetween};
+ghost use Rattle.hour_work.specs.Reports.{IsBetweenAt, IsHourBetween};
 
 use crate::seen::seen_hour;
 use crate::{Between, Carry, Future};
@@ -54,10 +55,10 @@ pub fn points_over(
     place: &Place<'_>,
     between: &Between<'_>,
 ) -> Result<Points, NoMemory>
-    requires agrees { (s : Store) × IsHourBetween config.now s place.now.hour between.now.before.now
-        place.now.rows place.now.blanks between.now.after.now }
-    ensures { IfOk result (λ p. (s : Store) → HasHour s place.now.hour place.now.rows
-        place.now.blanks → IsCarryAt config.now s place.now.hour between.now.before.now
+    requires agrees { (s : Store)
+        × IsBetweenAt config.now s place.now between.now.before.now between.now.after.now }
+    ensures { IfOk result (λ p. (s : Store) → HasPlace s place.now
+        → IsCarryAt config.now s place.now.hour between.now.before.now
         → p ≡ points_from (is_known s) config.now phase (earlier_rows s place.now.hour)
         (own_rows s place.now.hour)) }
 {
@@ -76,10 +77,10 @@ fn held_points(
     between: &Between<'_>,
 ) -> Result<Points, NoMemory>
     requires held { is_some place.now.rows ≡ true }
-    requires agrees { (s : Store) × IsHourBetween config.now s place.now.hour between.now.before.now
-        place.now.rows place.now.blanks between.now.after.now }
-    ensures { IfOk result (λ p. (s : Store) → HasHour s place.now.hour place.now.rows
-        place.now.blanks → IsCarryAt config.now s place.now.hour between.now.before.now
+    requires agrees { (s : Store)
+        × IsBetweenAt config.now s place.now between.now.before.now between.now.after.now }
+    ensures { IfOk result (λ p. (s : Store) → HasPlace s place.now
+        → IsCarryAt config.now s place.now.hour between.now.before.now
         → p ≡ points_from (is_known s) config.now phase (earlier_rows s place.now.hour)
         (own_rows s place.now.hour)) }
 {
@@ -117,8 +118,8 @@ pub fn cycles_over(
     place: &Place<'_>,
     before: &Carry,
 ) -> Result<Vec<Cycle>, NoMemory>
-    ensures { IfOk result (λ v. (s : Store) → HasHour s place.now.hour place.now.rows
-        place.now.blanks → IsCarryAt config.now s place.now.hour before.now
+    ensures { IfOk result (λ v. (s : Store) → HasPlace s place.now
+        → IsCarryAt config.now s place.now.hour before.now
         → v.items ≡ own (λ x. x.phase) phase (cycles_in config.now s place.now.hour)) }
 {
     let parts = place.stretches();

@@ -6,7 +6,6 @@ ghost use Rattle.board.specs.Logs.{first_tenth};
 ghost use Rattle.rule_audit.specs.Rules.{rules_for};
 ghost use Rattle.signal_log.specs.Log.{log_of};
 ghost use Rattle.signal_log.specs.Opened.{HasPlace};
-ghost use Rattle.signal_log.specs.Points.{rows_or_none};
 ghost use Rattle.split_measures.specs.Phases.{phase_sums};
 ghost use Rattle.split_measures.specs.Hours.{AreSplitSums};
 ghost use Rattle.other_measures.specs.Hours.{AreNumbers, AreStates};
@@ -16,7 +15,7 @@ ghost use Rattle.hour_work.specs.Verdicts.{AreAuditLines};
 ghost use Rattle.arrival_measures.specs.Hours.{AreAllJudged, HaveCycles};
 ghost use Rattle.hour_work.specs.Measures.{MayBeIn, MeetsIn, cycles_in, services_in};
 ghost use Rattle.hour_work.specs.Points.{AreBarsAt, AreCrossingAt, AreCutsAt, AreOpenAt, IsCarryAt};
-ghost use Rattle.hour_work.specs.Reports.{IsHourBetween, IsHourSeen};
+ghost use Rattle.hour_work.specs.Reports.{IsBetweenAt, IsSeenAt};
 
 use crate::stop_bars::splits_seen;
 use crate::{Between, Carry};
@@ -40,12 +39,11 @@ pub(crate) fn seen_hour(
     between: &Between<'_>,
 ) -> Result<HourView, NoMemory>
     requires held { is_some place.now.rows ≡ true }
-    requires agrees { (s : Store) × IsHourBetween config.now s place.now.hour between.now.before.now
-        place.now.rows place.now.blanks between.now.after.now }
-    ensures { IfOk result (λ v. (s : Store) → IsHourBetween config.now s place.now.hour
-        between.now.before.now place.now.rows place.now.blanks between.now.after.now
-        → IsHourSeen config.now s place.now.hour between.now.before.now
-        (rows_or_none place.now.rows) place.now.stretches v) }
+    requires agrees { (s : Store)
+        × IsBetweenAt config.now s place.now between.now.before.now between.now.after.now }
+    ensures { IfOk result (λ v. (s : Store)
+        → IsBetweenAt config.now s place.now between.now.before.now between.now.after.now
+        → IsSeenAt config.now s place.now between.now.before.now v) }
 {
     let before = between.before;
     let after = between.after;
@@ -69,10 +67,8 @@ pub(crate) fn audit_seen(
     view: &HourView,
 ) -> Result<Vec<AuditLine>, NoMemory>
     requires rules { rules.now ≡ rules_for config.now }
-    requires seen { (s : Store) × IsHourSeen config.now s place.now.hour before.now
-        (rows_or_none place.now.rows) place.now.stretches view.now }
-    ensures { IfOk result (λ v. (s : Store) → IsHourSeen config.now s place.now.hour before.now
-        (rows_or_none place.now.rows) place.now.stretches view.now
+    requires seen { (s : Store) × IsSeenAt config.now s place.now before.now view.now }
+    ensures { IfOk result (λ v. (s : Store) → IsSeenAt config.now s place.now before.now view.now
         → AreAuditLines config.now s place.now.hour v.items) }
 {
     let rows = place.rows();
@@ -99,22 +95,21 @@ pub(crate) fn cut_seen(
     before: &Carry,
     view: &HourView,
 ) -> Result<CutSeen, NoMemory>
-    requires seen { (s : Store) × IsHourSeen config.now s place.now.hour before.now
-        (rows_or_none place.now.rows) place.now.stretches view.now }
-    ensures splits { IfOk result (λ v. (s : Store) → IsHourSeen config.now s place.now.hour
-        before.now (rows_or_none place.now.rows) place.now.stretches view.now
+    requires seen { (s : Store) × IsSeenAt config.now s place.now before.now view.now }
+    ensures splits { IfOk result (λ v. (s : Store)
+        → IsSeenAt config.now s place.now before.now view.now
         → v.splits.phases ≡ phase_sums config.now.phases (services_in config.now s place.now.hour)
         (cycles_in config.now s place.now.hour)) }
-    ensures verdicts { IfOk result (λ v. (s : Store) → IsHourSeen config.now s place.now.hour
-        before.now (rows_or_none place.now.rows) place.now.stretches view.now
+    ensures verdicts { IfOk result (λ v. (s : Store)
+        → IsSeenAt config.now s place.now before.now view.now
         → AreSplitSums (log_of config.now.specs s) config.now place.now.hour
         (earlier_rows s place.now.hour ++ own_rows s place.now.hour) v.splits.approaches) }
-    ensures judged { IfOk result (λ v. (s : Store) → IsHourSeen config.now s place.now.hour
-        before.now (rows_or_none place.now.rows) place.now.stretches view.now
+    ensures judged { IfOk result (λ v. (s : Store)
+        → IsSeenAt config.now s place.now before.now view.now
         → AreAllJudged (MayBeIn config.now s) (is_known s) config.now
         (earlier_rows s place.now.hour) (own_rows s place.now.hour) place.now.hour v.arrivals) }
-    ensures cycles { IfOk result (λ v. (s : Store) → IsHourSeen config.now s place.now.hour
-        before.now (rows_or_none place.now.rows) place.now.stretches view.now
+    ensures cycles { IfOk result (λ v. (s : Store)
+        → IsSeenAt config.now s place.now before.now view.now
         → HaveCycles (is_known s) config.now (earlier_rows s place.now.hour)
         (own_rows s place.now.hour) v.arrivals) }
     ensures cuts { IfOk result (λ v. (s : Store) → HasPlace s place.now
@@ -152,14 +147,13 @@ pub(crate) fn others_seen(
     before: &Carry,
     view: &HourView,
 ) -> Result<(OtherSums, OtherCarry), NoMemory>
-    requires seen { (s : Store) × IsHourSeen config.now s place.now.hour before.now
-        (rows_or_none place.now.rows) place.now.stretches view.now }
-    ensures numbers { IfOk result (λ v. (s : Store) → IsHourSeen config.now s place.now.hour
-        before.now (rows_or_none place.now.rows) place.now.stretches view.now
+    requires seen { (s : Store) × IsSeenAt config.now s place.now before.now view.now }
+    ensures numbers { IfOk result (λ v. (s : Store)
+        → IsSeenAt config.now s place.now before.now view.now
         → AreNumbers (is_known s) config.now (earlier_rows s place.now.hour)
         (own_rows s place.now.hour) v.0) }
-    ensures states { IfOk result (λ v. (s : Store) → IsHourSeen config.now s place.now.hour
-        before.now (rows_or_none place.now.rows) place.now.stretches view.now
+    ensures states { IfOk result (λ v. (s : Store)
+        → IsSeenAt config.now s place.now before.now view.now
         → AreStates (MeetsIn config.now s) (first_tenth place.now.hour) config.now v.0) }
     ensures carry { IfOk result (λ v. (s : Store) → HasPlace s place.now
         → IsCarryAt config.now s place.now.hour before.now

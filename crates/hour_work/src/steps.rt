@@ -93,11 +93,11 @@ pub fn forward_over(
 ) -> Result<Carry, ForwardError>
     requires fit { FitPoint config.now place.now.hour before.now }
     ensures fit { IfOk result (FitPoint config.now (place.now.hour + 1)) }
-    ensures carry { IfOk result (λ c. (s : Store) → HasHour s place.now.hour place.now.rows
-        place.now.blanks → IsCarryAt config.now s place.now.hour before.now
+    ensures carry { IfOk result (λ c. (s : Store) → HasPlace s place.now
+        → IsCarryAt config.now s place.now.hour before.now
         → IsCarryAt config.now s (place.now.hour + 1) c) }
-    ensures stop { IfErr result (λ e. (s : Store) → HasHour s place.now.hour place.now.rows
-        place.now.blanks → IsCarryAt config.now s place.now.hour before.now
+    ensures stop { IfErr result (λ e. (s : Store) → HasPlace s place.now
+        → IsCarryAt config.now s place.now.hour before.now
         → NamesRow (log_of config.now.specs s) e) }
     ensures over { IfOk result (λ c. ArePastsOver config.now.specs place.now.hour place.now.rows
         place.now.blanks before.now.pasts c.pasts) }
@@ -118,8 +118,8 @@ pub(crate) fn carried(
 ) -> Result<Carry, NoMemory>
     requires shape { AreBefore config.now.specs before.now.pasts }
     ensures pasts { IfOk result (λ c. c.pasts ≡ pasts) }
-    ensures carry { IfOk result (λ c. (s : Store) → HasHour s place.now.hour place.now.rows
-        place.now.blanks → IsCarryAt config.now s place.now.hour before.now
+    ensures carry { IfOk result (λ c. (s : Store) → HasPlace s place.now
+        → IsCarryAt config.now s place.now.hour before.now
         → ArePastsAt (log_of config.now.specs s) (place.now.hour + 1) pasts
         → IsCarryAt config.now s (place.now.hour + 1) c) }
 {
@@ -160,11 +160,11 @@ fn states_over(
     requires fit { FitPoint config.now place.now.hour before.now }
     ensures shape { IfOk result (λ p. AreBefore config.now.specs p
         × AllEarly (first_tenth (place.now.hour + 1)) p) }
-    ensures pasts { IfOk result (λ p. (s : Store) → HasHour s place.now.hour place.now.rows
-        place.now.blanks → IsCarryAt config.now s place.now.hour before.now
+    ensures pasts { IfOk result (λ p. (s : Store) → HasPlace s place.now
+        → IsCarryAt config.now s place.now.hour before.now
         → ArePastsAt (log_of config.now.specs s) (place.now.hour + 1) p) }
-    ensures stop { IfErr result (λ e. (s : Store) → HasHour s place.now.hour place.now.rows
-        place.now.blanks → IsCarryAt config.now s place.now.hour before.now
+    ensures stop { IfErr result (λ e. (s : Store) → HasPlace s place.now
+        → IsCarryAt config.now s place.now.hour before.now
         → NamesRow (log_of config.now.specs s) e) }
     ensures over { IfOk result (λ p. ArePastsOver config.now.specs place.now.hour place.now.rows
         place.now.blanks before.now.pasts p) }
@@ -248,8 +248,8 @@ pub fn backward_over(
 ) -> Result<Future, NoMemory>
     requires fit { AreAheadsOf config.now.specs after.now }
     ensures fit { IfOk result (AreAheadsOf config.now.specs) }
-    ensures future { IfOk result (λ f. (s : Store) → HasHour s place.now.hour place.now.rows
-        place.now.blanks → IsFutureAt config.now s (place.now.hour + 1) after.now
+    ensures future { IfOk result (λ f. (s : Store) → HasPlace s place.now
+        → IsFutureAt config.now s (place.now.hour + 1) after.now
         → IsFutureAt config.now s place.now.hour f) }
     ensures over { IfOk result (AreAheadsOver config.now.specs place.now.hour place.now.rows
         place.now.blanks after.now) }

@@ -3,12 +3,11 @@ ghost use Rattle.std.specs.Prelude.{◌≡◌, ◌<◌, ◌+◌, ◌++◌, IfOk}
 ghost use Rattle.hour_store.specs.Store.{Store};
 ghost use Rattle.board.specs.Stops.{AreBefore};
 ghost use Rattle.signal_log.specs.Log.{HasHistory, log_of};
-ghost use Rattle.signal_log.specs.Points.{rows_or_none};
 ghost use Rattle.split_measures.specs.Phases.{phase_sums};
 ghost use Rattle.split_measures.specs.Hours.{AreSplitSums};
 ghost use Rattle.hour_work.specs.Rows.{earlier_rows, own_rows};
 ghost use Rattle.hour_work.specs.Points.{AreBarsAt};
-ghost use Rattle.hour_work.specs.Reports.{IsHourCut};
+ghost use Rattle.hour_work.specs.Reports.{IsCutAtPlace};
 
 use crate::Carry;
 use ring_config::Config;
@@ -32,11 +31,11 @@ pub(crate) fn splits_seen(
     ensures phases { IfOk result (λ v. v.0.phases
         ≡ phase_sums config.now.phases cuts.now.services cuts.now.cycles) }
     ensures verdicts { IfOk result (λ v. (s : Store) → HasHistory (log_of config.now.specs s)
-        → IsHourCut config.now s place.now.hour before.now (rows_or_none place.now.rows)
-        place.now.stretches cuts.now → AreSplitSums (log_of config.now.specs s) config.now
-        place.now.hour (earlier_rows s place.now.hour ++ own_rows s place.now.hour) v.0.approaches) }
-    ensures carry { IfOk result (λ v. (s : Store) → IsHourCut config.now s place.now.hour
-        before.now (rows_or_none place.now.rows) place.now.stretches cuts.now
+        → IsCutAtPlace config.now s place.now before.now cuts.now
+        → AreSplitSums (log_of config.now.specs s) config.now place.now.hour
+        (earlier_rows s place.now.hour ++ own_rows s place.now.hour) v.0.approaches) }
+    ensures carry { IfOk result (λ v. (s : Store)
+        → IsCutAtPlace config.now s place.now before.now cuts.now
         → AreBarsAt config.now s (place.now.hour + 1) v.1) }
 {
     let parts = place.stretches();
@@ -55,8 +54,8 @@ pub(crate) fn splits_over(
     cuts: &Cuts,
 ) -> Result<SplitCarry, NoMemory>
     requires shape { AreBefore config.now.specs before.now.pasts }
-    ensures { IfOk result (λ v. (s : Store) → IsHourCut config.now s place.now.hour before.now
-        (rows_or_none place.now.rows) place.now.stretches cuts.now
+    ensures { IfOk result (λ v. (s : Store)
+        → IsCutAtPlace config.now s place.now before.now cuts.now
         → AreBarsAt config.now s (place.now.hour + 1) v) }
 {
     let parts = place.stretches();

@@ -8,10 +8,10 @@ ghost use Rattle.rule_audit.specs.Rules.{rules_for};
 ghost use Rattle.signal_log.specs.Log.{log_of};
 ghost use Rattle.signal_log.specs.Opened.{HasPlace};
 ghost use Rattle.signal_log.specs.Over.{ArePastsOver};
-ghost use Rattle.signal_log.specs.Points.{ArePastsAt, HasHour};
+ghost use Rattle.signal_log.specs.Points.{ArePastsAt};
 ghost use Rattle.hour_work.specs.Numbers.{FitHours};
 ghost use Rattle.hour_work.specs.Points.{FitPoint, IsCarryAt};
-ghost use Rattle.hour_work.specs.Reports.{IsHourBetween, IsHourPart};
+ghost use Rattle.hour_work.specs.Reports.{IsBetweenAt, IsHourPart};
 
 use crate::hour::{HeldHour, held_hour, unheld_part};
 use crate::steps::{carried, kept};
@@ -45,15 +45,15 @@ pub fn work_over(
         between.now.before.now.pasts pasts }
     requires shape { AreBefore config.now.specs pasts }
     requires early { AllEarly (first_tenth (place.now.hour + 1)) pasts }
-    requires agrees { (s : Store) × IsHourBetween config.now s place.now.hour between.now.before.now
-        place.now.rows place.now.blanks between.now.after.now }
+    requires agrees { (s : Store)
+        × IsBetweenAt config.now s place.now between.now.before.now between.now.after.now }
     ensures fit { IfOk result (λ w. FitPoint config.now (place.now.hour + 1) w.carry) }
     ensures pasts { IfOk result (λ w. w.carry.pasts ≡ pasts) }
-    ensures carry { IfOk result (λ w. (s : Store) → HasHour s place.now.hour place.now.rows
-        place.now.blanks → IsCarryAt config.now s place.now.hour between.now.before.now
+    ensures carry { IfOk result (λ w. (s : Store) → HasPlace s place.now
+        → IsCarryAt config.now s place.now.hour between.now.before.now
         → IsCarryAt config.now s (place.now.hour + 1) w.carry) }
-    ensures value { IfOk result (λ w. (s : Store) → IsHourBetween config.now s place.now.hour
-        between.now.before.now place.now.rows place.now.blanks between.now.after.now
+    ensures value { IfOk result (λ w. (s : Store)
+        → IsBetweenAt config.now s place.now between.now.before.now between.now.after.now
         → IsHourPart config.now s place.now.hour w.part) }
     ensures small { IfOk result (λ w. FitHours 1 w.part) }
 {

@@ -7,7 +7,8 @@ ghost use Rattle.board.specs.Logs.{first_tenth, end_tenth};
 ghost use Rattle.board.specs.Stops.{AreBefore};
 ghost use Rattle.board.specs.Places.{AllEarly, AreAheadsOf};
 ghost use Rattle.signal_log.specs.Log.{log_of};
-ghost use Rattle.signal_log.specs.Points.{AreAheadsAt, ArePastsAt, HasHour, NamesContradiction};
+ghost use Rattle.signal_log.specs.Opened.{HasPlace};
+ghost use Rattle.signal_log.specs.Points.{AreAheadsAt, ArePastsAt, NamesContradiction};
 ghost use Rattle.signal_log.specs.Over.{AreAheadsOver, ArePastsOver, NamesStopOver};
 
 use crate::about::About;
@@ -34,8 +35,8 @@ pub fn aheads_over_again(
     requires was { AreAheadsOver specs.now place.now.hour place.now.rows place.now.blanks
         was.now.after.now was.now.before.now }
     ensures shape { IfOk result (λ a. AreAheadsOf specs.now a) }
-    ensures aheads { IfOk result (λ a. (s : Store) → HasHour s place.now.hour place.now.rows
-        place.now.blanks → AreAheadsAt (log_of specs.now s) (place.now.hour + 1) after.now
+    ensures aheads { IfOk result (λ a. (s : Store) → HasPlace s place.now
+        → AreAheadsAt (log_of specs.now s) (place.now.hour + 1) after.now
         → AreAheadsAt (log_of specs.now s) place.now.hour a) }
     ensures over { IfOk result (AreAheadsOver specs.now place.now.hour place.now.rows
         place.now.blanks after.now) }
@@ -69,11 +70,11 @@ pub fn pasts_over_again(
         was.now.before.now was.now.after.now }
     ensures shape { IfOk result (λ p. AreBefore specs.now p
         × AllEarly (end_tenth place.now.hour) p) }
-    ensures pasts { IfOk result (λ p. (s : Store) → HasHour s place.now.hour place.now.rows
-        place.now.blanks → ArePastsAt (log_of specs.now s) place.now.hour before.now
+    ensures pasts { IfOk result (λ p. (s : Store) → HasPlace s place.now
+        → ArePastsAt (log_of specs.now s) place.now.hour before.now
         → ArePastsAt (log_of specs.now s) (place.now.hour + 1) p) }
-    ensures stop { IfErr result (λ e. (s : Store) → HasHour s place.now.hour place.now.rows
-        place.now.blanks → ArePastsAt (log_of specs.now s) place.now.hour before.now
+    ensures stop { IfErr result (λ e. (s : Store) → HasPlace s place.now
+        → ArePastsAt (log_of specs.now s) place.now.hour before.now
         → NamesContradiction (log_of specs.now s) e) }
     ensures over { IfOk result (ArePastsOver specs.now place.now.hour place.now.rows
         place.now.blanks before.now) }

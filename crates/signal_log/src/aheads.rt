@@ -5,6 +5,7 @@ ghost use Rattle.hour_store.specs.Store.{Store};
 ghost use Rattle.board.specs.Channels.{AreSpecs};
 ghost use Rattle.board.specs.Places.{AreAheadsOf};
 ghost use Rattle.signal_log.specs.Log.{log_of};
+ghost use Rattle.signal_log.specs.Opened.{HasPlace};
 ghost use Rattle.signal_log.specs.Points.{AreAheadsAt, HasHour};
 ghost use Rattle.signal_log.specs.Over.{AreAheadsOver};
 
@@ -51,8 +52,8 @@ pub fn aheads_over(
     requires specs { AreSpecs specs.now }
     requires shape { AreAheadsOf specs.now after.now }
     ensures shape { IfOk result (λ a. AreAheadsOf specs.now a) }
-    ensures aheads { IfOk result (λ a. (s : Store) → HasHour s place.now.hour place.now.rows
-        place.now.blanks → AreAheadsAt (log_of specs.now s) (place.now.hour + 1) after.now
+    ensures aheads { IfOk result (λ a. (s : Store) → HasPlace s place.now
+        → AreAheadsAt (log_of specs.now s) (place.now.hour + 1) after.now
         → AreAheadsAt (log_of specs.now s) place.now.hour a) }
     ensures over { IfOk result (AreAheadsOver specs.now place.now.hour place.now.rows
         place.now.blanks after.now) }

@@ -7,6 +7,7 @@ ghost use Rattle.board.specs.Logs.{first_tenth, end_tenth};
 ghost use Rattle.board.specs.Stops.{AreBefore};
 ghost use Rattle.board.specs.Places.{AllEarly};
 ghost use Rattle.signal_log.specs.Log.{log_of};
+ghost use Rattle.signal_log.specs.Opened.{HasPlace};
 ghost use Rattle.signal_log.specs.Points.{ArePastsAt, HasHour, NamesContradiction};
 ghost use Rattle.signal_log.specs.Over.{ArePastsOver, NamesStopOver};
 
@@ -62,11 +63,11 @@ pub fn pasts_over(
     requires early { AllEarly (first_tenth place.now.hour) before.now }
     ensures shape { IfOk result (λ p. AreBefore specs.now p
         × AllEarly (end_tenth place.now.hour) p) }
-    ensures pasts { IfOk result (λ p. (s : Store) → HasHour s place.now.hour place.now.rows
-        place.now.blanks → ArePastsAt (log_of specs.now s) place.now.hour before.now
+    ensures pasts { IfOk result (λ p. (s : Store) → HasPlace s place.now
+        → ArePastsAt (log_of specs.now s) place.now.hour before.now
         → ArePastsAt (log_of specs.now s) (place.now.hour + 1) p) }
-    ensures stop { IfErr result (λ e. (s : Store) → HasHour s place.now.hour place.now.rows
-        place.now.blanks → ArePastsAt (log_of specs.now s) place.now.hour before.now
+    ensures stop { IfErr result (λ e. (s : Store) → HasPlace s place.now
+        → ArePastsAt (log_of specs.now s) place.now.hour before.now
         → NamesContradiction (log_of specs.now s) e) }
     ensures over { IfOk result (ArePastsOver specs.now place.now.hour place.now.rows
         place.now.blanks before.now) }

@@ -30,7 +30,7 @@ mod steps;
 mod stop_bars;
 mod work;
 
-pub use again::{backward_again, forward_again};
+pub use again::backward_again;
 pub use carry::{Between, Carry, Future};
 pub use counts::RuleCount;
 pub use hour::{audit_lines, audit_over, partial, partial_over};
@@ -42,5 +42,5 @@ pub use lists::{pick, put_in};
 pub use numbers::Partial;
 pub use points::{cycles_over, phase_cycles, phase_points, points_over};
 pub use reported::{Report, Sums};
-pub use steps::{ForwardError, backward, backward_over, forward, forward_over};
+pub use steps::{ForwardError, backward, backward_over, forward, forward_error};
 pub use work::{Worked, work_over};

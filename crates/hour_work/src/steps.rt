@@ -84,8 +84,8 @@ pub fn forward(
     forward_over(alloc, config, &place, before)
 }
 
-/// `forward` over an hour that is opened.
-pub fn forward_over(
+// The same over an hour that is opened.
+fn forward_over(
     alloc: Global,
     config: &Config,
     place: &Place<'_>,
@@ -258,7 +258,8 @@ pub fn backward_over(
     Ok(Future { aheads })
 }
 
-pub(crate) fn forward_error(error: PastsError) -> ForwardError
+/// Why nothing is carried over an hour, where there are no states after it for this reason.
+pub fn forward_error(error: PastsError) -> ForwardError
     ensures row { (log : Log) → NamesContradiction log error → NamesRow log result }
     ensures stop { (specs : List Spec) (hour : ℕ) (rows : Option (List Row)) (blanks : List Span)
         (before : List (List (List Span))) → NamesStopOver specs hour rows blanks before error

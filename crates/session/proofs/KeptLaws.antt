@@ -5,13 +5,10 @@ use Rattle.span_set.specs.declared.set.Span.{Span}
 use Rattle.gap_map.specs.Stretches.{known_in}
 use Rattle.hour_store.specs.Store.{IsStore, Store, rows_at}
 use Rattle.ring_config.specs.Settings.{Settings}
-use Rattle.ring_config.specs.Sound.{IsSound}
 use Rattle.signal_log.specs.Log.{HasHistory, log_of}
 use Rattle.signal_log.specs.Points.{HasHour}
-use Rattle.signal_log.proofs.Lawful.{some_history}
 use Rattle.signal_log.proofs.Stored.{known_hour}
 use Rattle.signal_log.proofs.Suiting.{all_count}
-use Rattle.rule_audit.proofs.Tracked.{channels_are}
 use Rattle.hour_work.specs.Numbers.{Numbers}
 use Rattle.hour_work.specs.Points.{Carried, IsCarryAt, IsFutureAt}
 use Rattle.hour_work.specs.Reports.{IsHourBetween, IsReport}
@@ -54,12 +51,6 @@ carry_is c s xs k x is are le e = subst (λ (v : Carried). IsCarryAt c s k v) (s
 
 pub future_is : (c : Settings) (s : Store) (xs : List Ahead) (k : ℕ) (x : Ahead) → IsStore s → AreFutures c s xs → k ≤ length s.hours → x ≡ get_or xs k x → IsFutureAt c s k x
 future_is c s xs k x is are le e = subst (λ (v : Ahead). IsFutureAt c s k v) (sym e) (future_kept c s xs is are k x le)
-
--- some history agrees, where the carries reach the window's end
-pub history_kept : (c : Settings) (s : Store) (xs : List Carried) → IsSound c → IsStore s → AreCarries c s xs → HasHistory (log_of c.specs s)
-history_kept c s xs sound is are =
-    let d : Carried = record { pasts = []; known = true; cuts = []; splits = []; others = record { peds = []; preempts = [] }; arrivals = record { crossings = []; flags = [] } } in
-    some_history (log_of c.specs s) (get_or xs (length s.hours) d).pasts (channels_are c sound) (carry_kept c s xs is are (length s.hours) d (omega arith)).pasts
 
 pub between_kept : (c : Settings) (s : Store) (xs : List Carried) (ys : List Ahead) → IsStore s → AreCarries c s xs → AreFutures c s ys → HasHistory (log_of c.specs s) → (k : ℕ) (d : Carried) (e : Ahead) → k < length s.hours → IsHourBetween c s k (get_or xs k d) (rows_at s k) s.blanks (get_or ys (k + 1) e)
 between_kept c s xs ys is forth back some k d e lt = record { has_hour = has s k is lt; is_before = carry_kept c s xs is forth k d (omega arith); is_after = all_count (log_of c.specs s) (k + 1) (get_or ys (k + 1) e) (future_kept c s ys is back (k + 1) e (omega arith)); history = some }

@@ -6,8 +6,10 @@ pub mod KeptLaws
 pub mod StepLaws
 pub mod ReportLaws
 pub mod ForwardLaws
+pub mod StatesLaws
 pub mod BackLaws
 pub mod RenewLaws
+pub mod WorkLaws
 pub mod BeginLaws
 pub mod MaskLaws
 pub mod MovedLaws

@@ -149,19 +149,38 @@ opened_across f m n t a b c fm mn nt p q = record {
   ];
 }
 
--- hours that lie among those that were opened
-pub opened_among : (f t l u g n v w : ℕ) (a b c : List ℕ) → f ≤ g → n ≤ t → AreOpened f t l u a b → AreOpened g n v w b c → AreOpened f t l (u + w) a c
-opened_among f t l u g n v w a b c low_in high_in p q = record {
+-- hours, and then those from there on
+pub opened_join : (f m t : ℕ) (a b c : List ℕ) → f ≤ m → m ≤ t → AreOpened f m 1 1 a b → AreOpened m t 1 1 b c → AreOpened f t 1 1 a c
+opened_join f m t a b c fm mt p q = record {
+  size = q.size ∙ p.size;
+  within = λ h lt low high.
+      let there : h < length b = (let n = p.size in omega arith) in
+      elim (cases_lt h m) [
+        | inl before ↦ subst (λ (n : ℕ). IsOpened 1 1 (get_or a h 0) n) (sym (q.outside h (inl before))) (p.within h lt low before)
+        | inr from ↦ subst (λ (n : ℕ). IsOpened 1 1 n (get_or c h 0)) (p.outside h (inr from)) (q.within h there from high)
+      ];
+  outside = λ h out. elim out [
+    | inl below ↦ q.outside h (inl (omega arith)) ∙ p.outside h (inl below)
+    | inr past ↦ q.outside h (inr past) ∙ p.outside h (inr (omega arith))
+  ];
+}
+
+-- hours from one of those that were opened on, and as far at least
+pub opened_onto : (f g n t : ℕ) (a b c : List ℕ) → f ≤ g → g ≤ n → n ≤ t → AreOpened f n 1 2 a b → AreOpened g t 1 1 b c → AreOpened f t 1 3 a c
+opened_onto f g n t a b c fg gn nt p q = record {
   size = q.size ∙ p.size;
   within = λ h lt low high.
       let there : h < length b = (let k = p.size in omega arith) in
       let x = get_or a h 0 in
       let y = get_or b h 0 in
       let z = get_or c h 0 in
-      opened_wider (l + 0) (u + w) l (u + w) x z (omega arith) (omega arith) (opened_on l u 0 w x y z (p.within h lt low high) (opened_most g n v w h b c there q));
+      elim (cases_lt h n) [
+        | inl in_it ↦ opened_wider (1 + 0) (2 + 1) 1 3 x z (omega arith) (omega arith) (opened_on 1 2 0 1 x y z (p.within h lt low in_it) (opened_most g t 1 1 h b c there q))
+        | inr past ↦ opened_wider (0 + 1) (0 + 1) 1 3 x z (omega arith) (omega arith) (opened_on 0 0 1 1 x y z (opened_not x y (p.outside h (inr past))) (q.within h there (omega arith) high))
+      ];
   outside = λ h out. elim out [
     | inl below ↦ q.outside h (inl (omega arith)) ∙ p.outside h (inl below)
-    | inr past ↦ q.outside h (inr (omega arith)) ∙ p.outside h (inr past)
+    | inr past ↦ q.outside h (inr past) ∙ p.outside h (inr (omega arith))
   ];
 }
 

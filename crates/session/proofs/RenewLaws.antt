@@ -2,7 +2,7 @@
 use Rattle.std.proofs.Common.{◌≡◌, ◌∙◌, inl, inr, ℕ, zero, suc, ◌+◌, ◌*◌, ◌-◌, ◌<◌, ◌≤◌, ◌≢◌, pos, Bool, not, ◌&&◌, is_some, List, [], ◌∷◌, ◌++◌, length, length-append, length-set, get_or, get_or-set_other, option_map, Option, None, refl, sym, ap, subst, arith}
 use Rattle.std.specs.List.{All}
 use Rattle.std.proofs.lemmas.Bool.{cases_lt}
-use Rattle.std.proofs.lemmas.List.{get_or_append_left}
+use Rattle.std.proofs.lemmas.List.{get_or-append_right, get_or_append_left}
 use Rattle.std.proofs.lemmas.List.Elements.{All-append}
 use Rattle.std.proofs.Math.Seq.{get_or-append_seam}
 use Rattle.sig_base.specs.HourRows.{Shown}
@@ -15,7 +15,6 @@ use Rattle.gap_map.proofs.Cutting.{cut_same}
 use Rattle.board.specs.Hours.{AreClampedPasts, AreHourAheads, IsHourStop}
 use Rattle.board.specs.Logs.{end_tenth, first_tenth}
 use Rattle.board.specs.Places.{AreAheadsOf, AreSameFor}
-use Rattle.board.specs.Stops.{AreBefore}
 use Rattle.ring_config.specs.Settings.{Settings}
 use Rattle.signal_log.specs.Log.{log_of}
 use Rattle.signal_log.specs.Over.{IsCutOf}
@@ -25,7 +24,8 @@ use Rattle.hour_work.specs.Numbers.{AreNewSums, FitHours, Numbers, Summed, patch
 use Rattle.hour_work.specs.Points.{Carried, ComesBack, GoesOver, IsFutureAt}
 use Rattle.session.specs.Links.{Ahead, Apart, AreKept, AreKeptBut, BacksAt, Counts, CountsAt, LeadsAt}
 use Rattle.session.specs.Renewed.{AreNewCarries, AreNewFutures, AreNewParts, AreSameUpTo, HaveShapes, IsRenewed}
-use Rattle.session.proofs.KeptLaws.{carry_kept, future_kept}
+use Rattle.session.proofs.KeptLaws.{future_kept}
+use Rattle.session.proofs.StatesLaws.{carries_to}
 use Rattle.hour_work.proofs.PatchLaws.{length-patched, patched-at, patched-below, patched-past}
 
 -- ---- the numbers
@@ -55,6 +55,34 @@ parts_more c s carries futures from hour ps items before after p are b a is fit 
                 subst (λ (w : Numbers). Counts c k (rows_at s k) s.blanks (get_or carries k d) (get_or futures (k + 1) x) w) (sym v) (subst (λ (j : ℕ). Counts c j (rows_at s j) s.blanks (get_or carries j d) (get_or futures (j + 1) x) p) here one)
           ];
       small = All-append (FitHours 1) ps (p ∷ []) are.small (one_small p fit);
+    })
+
+-- the same between lists that have the same at the points before these hours
+pub parts_same : (c : Settings) (s : Store) (xs xs2 : List Carried) (futures : List Ahead) (from to : ℕ) (ps : List Numbers) → ((k : ℕ) (d : Carried) → k < to → get_or xs2 k d ≡ get_or xs k d) → AreNewParts c s xs futures from to ps → AreNewParts c s xs2 futures from to ps
+parts_same c s xs xs2 futures from to ps same are =
+    let size = are.size in
+    record {
+      size = size;
+      counts = λ i k d x f lt at. subst (λ (v : Carried). Counts c k (rows_at s k) s.blanks v (get_or futures (k + 1) x) (get_or ps i f)) (sym (same k d (omega arith))) (are.counts i k d x f lt at);
+      small = are.small;
+    }
+
+-- the numbers of the hours up to `at`, and of those from there on
+pub parts_join : (c : Settings) (s : Store) (carries : List Carried) (futures : List Ahead) (from at to : ℕ) (ps qs items : List Numbers) → items ≡ ps ++ qs → AreNewParts c s carries futures from at ps → AreNewParts c s carries futures at to qs → AreNewParts c s carries futures from to items
+parts_join c s carries futures from at to ps qs items e are more =
+    let size = are.size in
+    let size2 = more.size in
+    rw e (record {
+      size = rw length-append (omega arith);
+      counts = λ i k d x f lt here.
+          let l : i < length ps + length qs = rw length-append at lt in
+          elim (cases_lt i (length ps)) [
+            | inl below ↦ subst (λ (v : Numbers). Counts c k (rows_at s k) s.blanks (get_or carries k d) (get_or futures (k + 1) x) v) (sym (get_or_append_left ps qs f i below)) (are.counts i k d x f below here)
+            | inr past ↦
+                let v : get_or (ps ++ qs) i f ≡ get_or qs (i - length ps) f = get_or-append_right ps qs (length ps) i f refl past in
+                subst (λ (w : Numbers). Counts c k (rows_at s k) s.blanks (get_or carries k d) (get_or futures (k + 1) x) w) (sym v) (more.counts (i - length ps) k d x f (omega arith) (omega arith))
+          ];
+      small = All-append (FitHours 1) ps qs are.small more.small;
     })
 
 -- ---- all that is new
@@ -146,15 +174,13 @@ renewed c s first last carries new_carries futures from start new_futures parts 
     }
 
 -- at the points before the first hour that is changed everything has the shape of the configuration's channels
-pub shapes_new : (c : Settings) (s : Store) (first last : ℕ) (carries new_carries : List Carried) (futures : List Ahead) (from : ℕ) (new_futures : List Ahead) (parts : List Numbers) → IsStore s → AreKeptBut c s first last carries futures parts → AreNewCarries c s first last carries new_carries → AreNewFutures c s first last futures from new_futures → HaveShapes carries futures from new_futures first
-shapes_new c s first last carries new_carries futures from new_futures parts is but x y k d e lt =
+pub shapes_new : (c : Settings) (s : Store) (first last : ℕ) (carries : List Carried) (futures : List Ahead) (from : ℕ) (new_futures : List Ahead) (parts : List Numbers) → IsStore s → AreKeptBut c s first last carries futures parts → AreNewFutures c s first last futures from new_futures → HaveShapes carries futures from new_futures first
+shapes_new c s first last carries futures from new_futures parts is but y k d e lt =
     let order = but.order in
     let within = but.within in
-    let size = but.forth.size in
-    let old = patched-below carries (first + 1) new_carries (k + 1) d (omega arith) (omega arith) in
-    let carry = carry_kept c s (patched carries (first + 1) new_carries) is x.forth (k + 1) d (omega arith) in
+    let carry = carries_to c s first last carries is order within but.forth (k + 1) d (omega arith) in
     let future = future_kept c s (patched futures from new_futures) is y.back (k + 1) e (omega arith) in
-    (c.specs, subst (λ (v : Carried). AreBefore c.specs v.pasts) old carry.pasts.shape, but.shapes (k + 1) e (omega arith), future.shape)
+    (c.specs, carry.pasts.shape, but.shapes (k + 1) e (omega arith), future.shape)
 
 -- ---- what still fits once the store is changed
 

@@ -1,10 +1,13 @@
 -- What is kept of a store: at each hour point, and of each hour.
-use Rattle.std.specs.Prelude.{◌≡◌, ◌+◌, ◌≤◌, ◌<◌, ◌⊎◌, ℕ, ℤ, List, Option, length, slice_index_or}
+use Rattle.std.specs.Prelude.{◌≡◌, ◌+◌, ◌≤◌, ◌<◌, ◌⊎◌, ℕ, ℤ, List, [], Option, length, slice_index_or}
 use Rattle.sig_base.specs.declared.values.Row.{Row}
 use Rattle.span_set.specs.declared.set.Span.{Span}
 use Rattle.hour_store.specs.Store.{Store, rows_at}
-use Rattle.board.specs.Places.{AreAheadsOf}
+use Rattle.board.specs.Logs.{first_tenth}
+use Rattle.board.specs.Places.{AllEarly, AreAheadsOf}
+use Rattle.board.specs.Stops.{AreBefore}
 use Rattle.ring_config.specs.Settings.{Settings}
+use Rattle.signal_log.specs.Over.{ArePastsOver}
 use Rattle.signal_log.specs.Points.{HasHour}
 use Rattle.hour_work.specs.Numbers.{Numbers}
 use Rattle.hour_work.specs.Points.{Carried, ComesBack, GoesOver, IsCarryAt, IsFutureAt}
@@ -13,6 +16,16 @@ use Rattle.hour_work.specs.Reports.{IsHourBetween, IsHourPart}
 -- what is kept at an hour point of the hours after it
 abbrev pub Ahead : Type 0
 Ahead = List (List (Option ℤ))
+
+-- the states of each channel at an hour point
+abbrev pub States : Type 0
+States = List (List (List Span))
+
+-- by what this store has of the hour, the states at the point before it lead to those at the point after it
+pub record StatesLead (c : Settings) (s : Store) (hour : ℕ) (before after : States) : Type 0 where
+  pub over : ArePastsOver c.specs hour (rows_at s hour) s.blanks before after
+  pub shape : AreBefore c.specs after
+  pub early : AllEarly (first_tenth (hour + 1)) after
 
 -- in every store that has the hour so: where this is what it says up to the point before the hour, that is what it says up to the point after it; and by what is told of the hour its states lead there
 pub record Leads (c : Settings) (hour : ℕ) (rows : Option (List Row)) (blanks : List Span) (before after : Carried) : Type 0 where
@@ -31,6 +44,9 @@ Counts c hour rows blanks before after p = (r : Store) → IsHourBetween c r hou
 -- what is kept at the points about an hour fits the hour as this store has it
 abbrev pub LeadsAt : Settings → Store → List Carried → ℕ → Type 0
 LeadsAt c s carries k = (d : Carried) → Leads c k (rows_at s k) s.blanks (slice_index_or carries k d) (slice_index_or carries (k + 1) d)
+
+abbrev pub StatesLeadAt : Settings → Store → List States → ℕ → Type 0
+StatesLeadAt c s states k = StatesLead c s k (slice_index_or states k []) (slice_index_or states (k + 1) [])
 
 abbrev pub BacksAt : Settings → Store → List Ahead → ℕ → Type 0
 BacksAt c s futures k = (d : Ahead) → Backs c k (rows_at s k) s.blanks (slice_index_or futures (k + 1) d) (slice_index_or futures k d)

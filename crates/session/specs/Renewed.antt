@@ -1,14 +1,30 @@
 -- What an edit puts in the place of what is kept.
-use Rattle.std.specs.Prelude.{◌≡◌, ◌+◌, ◌≤◌, ◌<◌, ℕ, List, length, slice_index_or, All}
+use Rattle.std.specs.Prelude.{◌≡◌, ◌+◌, ◌≤◌, ◌<◌, ℕ, List, [], length, map, slice_index_or, All}
 use Rattle.channel_tables.specs.declared.spec.Spec.{Spec}
 use Rattle.hour_store.specs.Store.{Store, rows_at}
-use Rattle.board.specs.Places.{AreAheadsOf, AreSameFor}
+use Rattle.board.specs.Places.{AreAheadsOf, AreSameFor, AreSamePasts}
 use Rattle.board.specs.Stops.{AreBefore}
 use Rattle.ring_config.specs.Settings.{Settings}
 use Rattle.hour_work.specs.Moved.{SaySame}
 use Rattle.hour_work.specs.Numbers.{AreNewSums, FitHours, Numbers, Summed, patched}
-use Rattle.hour_work.specs.Points.{Carried}
-use Rattle.session.specs.Links.{Ahead, AreCarries, AreFutures, AreKept, Counts}
+use Rattle.hour_work.specs.Points.{Carried, IsCarryAt}
+use Rattle.session.specs.Links.{Ahead, AreCarries, AreFutures, AreKept, Counts, States, StatesLeadAt}
+
+-- the states that are kept at each point, but new ones at the points after the hour `first`
+abbrev pub states_with : List Carried → ℕ → List States → List States
+states_with carries first fresh = patched (map (λ x. x.pasts) carries) (first + 1) fresh
+
+-- the states at the points after the hour `first`, up to the first one after the hour `last` at which they are those that are kept, or up to the window's end
+pub record AreNewPasts (c : Settings) (s : Store) (first last : ℕ) (carries : List Carried) (fresh : List States) : Type 0 where
+  pub some : last < first + length fresh
+  pub within : first + length fresh ≤ length s.hours
+  pub leads : (k : ℕ) → k < length s.hours → StatesLeadAt c s (states_with carries first fresh) k
+  pub same : (k : ℕ) (d : Carried) → first + length fresh ≤ k → k < length s.hours → slice_index_or (states_with carries first fresh) k [] ≡ (slice_index_or carries k d).pasts
+  pub differ : (k : ℕ) (d : Carried) → last < k → k < first + length fresh → AreSamePasts (slice_index_or (states_with carries first fresh) k []) (slice_index_or carries k d).pasts → ⊥
+
+-- what is kept at the points up to the point `n` is what the store says there
+abbrev pub AreCarriesTo : Settings → Store → ℕ → List Carried → Type 0
+AreCarriesTo c s n carries = (k : ℕ) (d : Carried) → k ≤ n → IsCarryAt c s k (slice_index_or carries k d)
 
 -- what is kept at the points after the hour `first`, up to the first one after the hour `last` at which nothing changes, or up to the window's end
 pub record AreNewCarries (c : Settings) (s : Store) (first last : ℕ) (carries fresh : List Carried) : Type 0 where

@@ -1,19 +1,21 @@
 // What is kept of a store, and what an edit puts in its place.
-ghost use Rattle.std.specs.Prelude.{◌≡◌, ◌+◌, ◌<◌, ◌≤◌, length, All, IfOk, IfErr, OnOk};
+ghost use Rattle.std.specs.Prelude.{◌≡◌, ◌+◌, ◌++◌, ◌<◌, ◌≤◌, drop, length, slice_index_or, All, IfOk, IfErr, IsTrue, OnOk, ◌↔◌};
 ghost use Rattle.hour_store.specs.Store.{IsStore};
 ghost use Rattle.signal_log.specs.Log.{HasHistory, log_of};
 ghost use Rattle.ring_config.specs.Sound.{IsSound};
 ghost use Rattle.rule_audit.specs.Rules.{rules_for};
+ghost use Rattle.hour_work.specs.Moved.{SaySame};
 ghost use Rattle.hour_work.specs.Numbers.{AreNewSums, FitHours, patched};
 ghost use Rattle.hour_work.specs.Points.{NamesRow};
-ghost use Rattle.session.specs.Links.{AreCarries, AreCarriesBut, AreFutures, AreFuturesBut, AreKeptBut};
+ghost use Rattle.session.specs.Links.{AreCarriesBut, AreFutures, AreFuturesBut, AreKeptBut};
 ghost use Rattle.session.specs.Opens.{AreOpened, OpensToRow};
-ghost use Rattle.session.specs.Renewed.{AreNewCarries, AreNewFutures, AreNewParts, AreSameUpTo, HaveShapes, IsRenewed};
+ghost use Rattle.session.specs.Renewed.{AreCarriesTo, AreNewCarries, AreNewFutures, AreNewParts, AreNewPasts, AreSameUpTo, HaveShapes, IsRenewed};
 ghost use Rattle.sig_base.specs.Reads.{Grow};
 
 use crate::backward::go_back;
 use crate::forward::go_forward;
-use crate::steps::part_between;
+use crate::steps::{Step, part_between, work_between};
+use board::Pasts;
 use hour_store::HourStore;
 use hour_work::{Between, Carry, ForwardError, Future, Partial, Report, Sums, pick, put_in};
 use ring_config::Config;
@@ -68,35 +70,45 @@ pub fn moved(points: &Points) -> Applied
     }
 }
 
+// What is new at hour points of the states alone: those of each channel at the points after the
+// first hour that an edit touches, and the futures of the points from `from` on.
+#[derive(Drop)]
+struct Ways {
+    touched: Touched,
+    states: Vec<Pasts>,
+    from: Hour,
+    futures: Vec<Future>,
+}
+
 // The first hour whose numbers may change: from the first one after which other states can be
 // completed, where one of these can come up there.
-fn start_of(worked: &Worked, points: &Points) -> Hour
-    requires order { points.now.from ≤ points.now.first }
-    requires carry_room { points.now.first < length worked.now.carries.items }
-    requires future_room { points.now.from + length points.now.futures.items
+fn start_of(worked: &Worked, ways: &Ways) -> Hour
+    requires order { ways.now.from ≤ ways.now.touched.first }
+    requires carry_room { ways.now.touched.first < length worked.now.carries.items }
+    requires future_room { ways.now.from + length ways.now.futures.items
         ≤ length worked.now.futures.items }
-    requires last { points.now.first < length worked.now.futures.items }
-    requires shape { HaveShapes worked.now.carries.items worked.now.futures.items points.now.from
-        points.now.futures.items points.now.first }
-    ensures low { points.now.from ≤ result }
-    ensures high { result ≤ points.now.first }
-    ensures same { AreSameUpTo worked.now.carries.items worked.now.futures.items points.now.from
-        points.now.futures.items result }
+    requires last { ways.now.touched.first < length worked.now.futures.items }
+    requires shape { HaveShapes worked.now.carries.items worked.now.futures.items ways.now.from
+        ways.now.futures.items ways.now.touched.first }
+    ensures low { ways.now.from ≤ result }
+    ensures high { result ≤ ways.now.touched.first }
+    ensures same { AreSameUpTo worked.now.carries.items worked.now.futures.items ways.now.from
+        ways.now.futures.items result }
 {
-    for hour in points.from..points.first {
+    for hour in ways.from..ways.touched.first {
         let place = hour as usize + 1;
         let kept = &worked.futures[place];
         let next = pick(
             worked.futures.as_slice(),
-            points.from as usize,
-            points.futures.as_slice(),
+            ways.from as usize,
+            ways.futures.as_slice(),
             place,
         );
         if !kept.same_for(&worked.carries[place], next) {
             return hour;
         }
     }
-    points.first
+    ways.touched.first
 }
 
 // The numbers of the hours from `start` on.
@@ -106,59 +118,52 @@ struct NewParts {
     parts: Vec<Partial>,
 }
 
-// The numbers of the hours from the first one whose numbers may change up to the last point at which
-// something is new.
+// The numbers of the hours before the first one that is touched, from the first one on whose
+// numbers may change.
 fn new_parts<L>(
     alloc: Global,
     config: &Config,
     rules: &[Rule],
     store: &HourStore<L>,
     worked: &Worked,
-    points: &Points,
+    ways: &Ways,
     reads: &mut Reads<L>,
 ) -> Result<NewParts, NoMemory>
     requires rules { rules.now ≡ rules_for config.now }
-    requires sound { IsSound config.now }
     requires store { IsStore store.now }
-    requires order { points.now.from ≤ points.now.first }
-    requires within { points.now.first + length points.now.carries.items ≤ length store.now.hours }
-    requires carry_room { points.now.first + 1 + length points.now.carries.items
-        ≤ length worked.now.carries.items }
-    requires future_room { points.now.from + length points.now.futures.items
+    requires order { ways.now.from ≤ ways.now.touched.first }
+    requires within { ways.now.touched.first < length store.now.hours }
+    requires carry_room { ways.now.touched.first < length worked.now.carries.items }
+    requires future_room { ways.now.from + length ways.now.futures.items
         ≤ length worked.now.futures.items }
-    requires last { points.now.first < length worked.now.futures.items }
-    requires shape { HaveShapes worked.now.carries.items worked.now.futures.items points.now.from
-        points.now.futures.items points.now.first }
-    requires forth { AreCarries config.now store.now (patched worked.now.carries.items
-        (points.now.first + 1) points.now.carries.items) }
+    requires last { ways.now.touched.first < length worked.now.futures.items }
+    requires shape { HaveShapes worked.now.carries.items worked.now.futures.items ways.now.from
+        ways.now.futures.items ways.now.touched.first }
+    requires forth { AreCarriesTo config.now store.now ways.now.touched.first
+        worked.now.carries.items }
     requires back { AreFutures config.now store.now (patched worked.now.futures.items
-        points.now.from points.now.futures.items) }
-    ensures low { IfOk result (λ v. points.now.from ≤ v.start) }
-    ensures high { IfOk result (λ v. v.start ≤ points.now.first) }
+        ways.now.from ways.now.futures.items) }
+    requires history { HasHistory (log_of config.now.specs store.now) }
+    ensures low { IfOk result (λ v. ways.now.from ≤ v.start) }
+    ensures high { IfOk result (λ v. v.start ≤ ways.now.touched.first) }
     ensures same { IfOk result (λ v. AreSameUpTo worked.now.carries.items worked.now.futures.items
-        points.now.from points.now.futures.items v.start) }
-    ensures parts { IfOk result (λ v. AreNewParts config.now store.now
-        (patched worked.now.carries.items (points.now.first + 1) points.now.carries.items)
-        (patched worked.now.futures.items points.now.from points.now.futures.items) v.start
-        (points.now.first + length points.now.carries.items) v.parts.items) }
-    ensures opens { IfOk result (λ v. AreOpened v.start
-        (points.now.first + length points.now.carries.items) 1 1 reads.old reads.new) }
+        ways.now.from ways.now.futures.items v.start) }
+    ensures parts { IfOk result (λ v. AreNewParts config.now store.now worked.now.carries.items
+        (patched worked.now.futures.items ways.now.from ways.now.futures.items) v.start
+        ways.now.touched.first v.parts.items) }
+    ensures opens { IfOk result (λ v. AreOpened v.start ways.now.touched.first 1 1 reads.old
+        reads.new) }
     ensures grow { Grow reads.old reads.new }
 {
-    let start = start_of(worked, points);
+    let start = start_of(worked, ways);
     let mut parts = Vec::new(alloc);
-    for hour in start..points.first + points.carries.len() as u32 {
+    for hour in start..ways.touched.first {
         let place = hour as usize;
-        let before = pick(
-            worked.carries.as_slice(),
-            points.first as usize + 1,
-            points.carries.as_slice(),
-            place,
-        );
+        let before = &worked.carries[place];
         let after = pick(
             worked.futures.as_slice(),
-            points.from as usize,
-            points.futures.as_slice(),
+            ways.from as usize,
+            ways.futures.as_slice(),
             place + 1,
         );
         let between = Between { before, after };
@@ -168,39 +173,146 @@ fn new_parts<L>(
     Ok(NewParts { start, parts })
 }
 
-// What is new at hour points, where what is kept fits the store but for the hours from `first` to
-// `last`.
-fn points_of<L>(
+// The first of these states, which is taken out, or where there are none those that are kept.
+fn next_states(states: &mut Vec<Pasts>, kept: &Carry) -> Result<Pasts, NoMemory>
+    ensures value { IfOk result (λ p. p ≡ slice_index_or states.old.items 0 kept.now.pasts) }
+    ensures rest { states.new.items ≡ drop 1 states.old.items }
+{
+    if states.is_empty() {
+        return kept.pasts().copy();
+    }
+    Ok(states.remove(0))
+}
+
+// Whether no new states are left, and nothing changes at the point.
+fn is_settled(left: &[Pasts], next: &Carry, kept: &Carry) -> bool
+    ensures value { IsTrue result ↔ ((length left.now ≡ 0) × (next.now ≡ kept.now)) }
+    ensures says { IsTrue result ↔ ((length left.now ≡ 0) × SaySame next.now kept.now) }
+{
+    left.is_empty() && next.same(kept)
+}
+
+// What is new at hour points, and the numbers of the hours from the first one that is touched up to
+// the last point at which something is new.
+#[derive(Drop)]
+struct NewWork {
+    points: Points,
+    parts: Vec<Partial>,
+}
+
+// All that is new of the hours from the first one that is touched on, up to the first one after the
+// last at which nothing changes, or up to the window's end.
+fn new_work<L>(
+    alloc: Global,
+    config: &Config,
+    rules: &[Rule],
+    store: &HourStore<L>,
+    worked: &Worked,
+    ways: Ways,
+    reads: &mut Reads<L>,
+) -> Result<NewWork, NoMemory>
+    requires rules { rules.now ≡ rules_for config.now }
+    requires kept { AreKeptBut config.now store.now ways.touched.first ways.touched.last
+        worked.now.carries.items worked.now.futures.items worked.now.report }
+    requires states { AreNewPasts config.now store.now ways.touched.first ways.touched.last
+        worked.now.carries.items ways.states.items }
+    requires futures { AreNewFutures config.now store.now ways.touched.first ways.touched.last
+        worked.now.futures.items ways.from ways.futures.items }
+    requires history { HasHistory (log_of config.now.specs store.now) }
+    ensures first { IfOk result (λ w. w.points.first ≡ ways.touched.first) }
+    ensures carries { IfOk result (λ w. AreNewCarries config.now store.now ways.touched.first
+        ways.touched.last worked.now.carries.items w.points.carries.items) }
+    ensures from { IfOk result (λ w. w.points.from ≡ ways.from) }
+    ensures futures { IfOk result (λ w. w.points.futures.items ≡ ways.futures.items) }
+    ensures parts { IfOk result (λ w. AreNewParts config.now store.now (patched
+        worked.now.carries.items (ways.touched.first + 1) w.points.carries.items) (patched
+        worked.now.futures.items ways.from ways.futures.items) ways.touched.first
+        (ways.touched.first + length w.points.carries.items) w.parts.items) }
+    ensures all { IfOk result (λ w. length ways.states.items ≤ length w.points.carries.items) }
+    ensures opens { IfOk result (λ w. AreOpened ways.touched.first (ways.touched.first
+        + length w.points.carries.items) 1 1 reads.old reads.new) }
+    ensures grow { Grow reads.old reads.new }
+{
+    let Ways {
+        touched,
+        mut states,
+        from,
+        futures,
+    } = ways;
+    let first = touched.first;
+    let kept = worked.carries.as_slice();
+    let ahead = worked.futures.as_slice();
+    let mut carries = Vec::new(alloc);
+    let mut parts = Vec::new(alloc);
+    for hour in first..store.hours() {
+        let place = hour as usize;
+        let before = pick(kept, first as usize + 1, carries.as_slice(), place);
+        let after = pick(ahead, from as usize, futures.as_slice(), place + 1);
+        let between = Between { before, after };
+        let there = &kept[place + 1];
+        let pasts = next_states(&mut states, there)?;
+        let step = Step { hour, pasts };
+        let work = work_between(alloc, config, rules, store, step, &between, reads)?;
+        let done = is_settled(states.as_slice(), &work.carry, there);
+        carries.push(work.carry)?;
+        parts.push(work.part)?;
+        if done {
+            break;
+        }
+    }
+    let points = Points {
+        first,
+        carries,
+        from,
+        futures,
+    };
+    Ok(NewWork { points, parts })
+}
+
+// The first numbers, and the others after them.
+fn joined(first: Vec<Partial>, mut others: Vec<Partial>) -> Result<Vec<Partial>, NoMemory>
+    ensures { IfOk result (λ v. v.items ≡ first.items ++ others.items) }
+{
+    let mut parts = first;
+    parts.append(&mut others)?;
+    Ok(parts)
+}
+
+// What is new at hour points of the states alone, where what is kept fits the store but for the
+// hours that are touched.
+fn ways_of<L>(
     alloc: Global,
     config: &Config,
     store: &HourStore<L>,
     worked: &Worked,
-    first: Hour,
-    last: Hour,
+    touched: Touched,
     reads: &mut Reads<L>,
-) -> Result<Points, ForwardError>
-    requires order { first ≤ last }
-    requires within { last < length store.now.hours }
-    requires forth { AreCarriesBut config.now store.now first last worked.now.carries.items }
-    requires back { AreFuturesBut config.now store.now first last worked.now.futures.items }
+) -> Result<Ways, ForwardError>
+    requires order { touched.first ≤ touched.last }
+    requires within { touched.last < length store.now.hours }
+    requires forth { AreCarriesBut config.now store.now touched.first touched.last
+        worked.now.carries.items }
+    requires back { AreFuturesBut config.now store.now touched.first touched.last
+        worked.now.futures.items }
     ensures store { IsStore store.now }
-    ensures first { IfOk result (λ p. p.first ≡ first) }
-    ensures carries { IfOk result (λ p. AreNewCarries config.now store.now first last
-        worked.now.carries.items p.carries.items) }
-    ensures futures { IfOk result (λ p. AreNewFutures config.now store.now first last
-        worked.now.futures.items p.from p.futures.items) }
+    ensures touched { IfOk result (λ w. w.touched ≡ touched) }
+    ensures states { IfOk result (λ w. AreNewPasts config.now store.now touched.first
+        touched.last worked.now.carries.items w.states.items) }
+    ensures futures { IfOk result (λ w. AreNewFutures config.now store.now touched.first
+        touched.last worked.now.futures.items w.from w.futures.items) }
     ensures stop { IfErr result (NamesRow (log_of config.now.specs store.now)) }
-    ensures opens { IfOk result (λ p. AreOpened p.from (p.first + length p.carries.items) 1 2
+    ensures opens { IfOk result (λ w. AreOpened w.from (touched.first + length w.states.items) 1 2
         reads.old reads.new) }
-    ensures opens_to_row { IfErr result (OpensToRow first reads.old reads.new) }
+    ensures opens_to_row { IfErr result (OpensToRow touched.first reads.old reads.new) }
     ensures grow { Grow reads.old reads.new }
 {
-    let carries = go_forward(alloc, config, store, first, last, &worked.carries, reads)?;
+    let Touched { first, last } = touched;
+    let states = go_forward(alloc, config, store, first, last, &worked.carries, reads)?;
     let futures = go_back(alloc, config, store, first, last, &worked.futures, reads)?;
     let from = last + 1 - futures.len() as u32;
-    Ok(Points {
-        first,
-        carries,
+    Ok(Ways {
+        touched,
+        states,
         from,
         futures,
     })
@@ -237,16 +349,15 @@ pub fn renew<L>(
     ensures opens_to_row { IfErr result (OpensToRow touched.first reads.old reads.new) }
     ensures grow { Grow reads.old reads.new }
 {
-    let Touched { first, last } = touched;
-    let points = points_of(alloc, config, store, worked, first, last, reads)?;
-    let new = new_parts(alloc, config, rules, store, worked, &points, reads)?;
-    let sums = worked
-        .report
-        .sums_with(alloc, new.start as usize, &new.parts)?;
+    let ways = ways_of(alloc, config, store, worked, touched, reads)?;
+    let new = new_parts(alloc, config, rules, store, worked, &ways, reads)?;
+    let work = new_work(alloc, config, rules, store, worked, ways, reads)?;
+    let parts = joined(new.parts, work.parts)?;
+    let sums = worked.report.sums_with(alloc, new.start as usize, &parts)?;
     Ok(Fresh {
-        points,
+        points: work.points,
         start: new.start,
-        parts: new.parts,
+        parts,
         sums,
     })
 }

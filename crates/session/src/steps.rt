@@ -4,66 +4,73 @@ ghost use Rattle.hour_store.specs.Store.{rows_at};
 ghost use Rattle.signal_log.specs.Log.{HasHistory, log_of};
 ghost use Rattle.rule_audit.specs.Rules.{rules_for};
 ghost use Rattle.hour_work.specs.Numbers.{FitHours};
-ghost use Rattle.hour_work.specs.Points.{ComesBack, GoesOver, IsCarryAt, IsFutureAt, NamesRow};
-ghost use Rattle.session.specs.Links.{Backs, Counts, Leads};
+ghost use Rattle.signal_log.specs.Points.{ArePastsAt};
+ghost use Rattle.hour_work.specs.Points.{ComesBack, IsCarryAt, IsFutureAt, NamesRow};
+ghost use Rattle.session.specs.Links.{Backs, Counts, Leads, StatesLead};
 ghost use Rattle.session.specs.Opens.{AreOpened, NamesRowOf};
 
+use board::Pasts;
 use hour_store::HourStore;
 use hour_work::{
-    Between, Carry, ForwardError, Future, Partial, backward_again, backward_over, forward_again,
-    forward_over, partial_over,
+    Between, ForwardError, Future, Partial, Worked, backward_again, backward_over, forward_error,
+    partial_over, work_over,
 };
 use ring_config::Config;
 use rule_audit::Rule;
 use sig_base::{Hour, NoMemory, Reads};
-use signal_log::{About, Place};
+use signal_log::{About, Place, pasts_over, pasts_over_again};
 use std::alloc::Global;
 
-// What is kept at the point after the hour.
-pub fn carry_over<L>(
+// The states of each channel at the point after the hour.
+pub fn states_over<L>(
     alloc: Global,
     config: &Config,
     store: &HourStore<L>,
     hour: Hour,
-    before: &Carry,
+    before: &Pasts,
     reads: &mut Reads<L>,
-) -> Result<Carry, ForwardError>
+) -> Result<Pasts, ForwardError>
     requires in_store { hour < length store.now.hours }
-    requires before { IsCarryAt config.now store.now hour before.now }
-    ensures leads { IfOk result (Leads config.now hour (rows_at store.now hour) store.now.blanks
-        before.now) }
+    requires before { ArePastsAt (log_of config.now.specs store.now) hour before.now }
+    ensures leads { IfOk result (StatesLead config.now store.now hour before.now) }
+    ensures pasts { IfOk result (ArePastsAt (log_of config.now.specs store.now) (hour + 1)) }
     ensures stop { IfErr result (NamesRow (log_of config.now.specs store.now)) }
     ensures row { IfErr result (NamesRowOf hour) }
     ensures once { AreOpened hour (hour + 1) 1 1 reads.old reads.new }
 {
     let rows = store.open_hour(hour, reads);
     let place = Place::new(alloc, hour, rows, store.blanked())?;
-    forward_over(alloc, config, &place, before)
+    match pasts_over(alloc, config.specs(), &place, before) {
+        Ok(pasts) => Ok(pasts),
+        Err(error) => Err(forward_error(error)),
+    }
 }
 
 // The same of an hour that is as it was told before, from other states at the point before it.
-pub fn carry_again<L>(
+pub fn states_again<L>(
     alloc: Global,
     config: &Config,
     store: &HourStore<L>,
     hour: Hour,
-    before: &Carry,
-    was: &About<'_, Carry>,
+    before: &Pasts,
+    was: &About<'_, Pasts>,
     reads: &mut Reads<L>,
-) -> Result<Carry, ForwardError>
+) -> Result<Pasts, ForwardError>
     requires in_store { hour < length store.now.hours }
-    requires before { IsCarryAt config.now store.now hour before.now }
-    requires was { GoesOver config.now hour (rows_at store.now hour) store.now.blanks
-        was.now.before.now was.now.after.now }
-    ensures leads { IfOk result (Leads config.now hour (rows_at store.now hour) store.now.blanks
-        before.now) }
+    requires before { ArePastsAt (log_of config.now.specs store.now) hour before.now }
+    requires was { StatesLead config.now store.now hour was.now.before.now was.now.after.now }
+    ensures leads { IfOk result (StatesLead config.now store.now hour before.now) }
+    ensures pasts { IfOk result (ArePastsAt (log_of config.now.specs store.now) (hour + 1)) }
     ensures stop { IfErr result (NamesRow (log_of config.now.specs store.now)) }
     ensures row { IfErr result (NamesRowOf hour) }
     ensures once { AreOpened hour (hour + 1) 1 1 reads.old reads.new }
 {
     let rows = store.open_hour(hour, reads);
     let place = Place::new(alloc, hour, rows, store.blanked())?;
-    forward_again(alloc, config, &place, before, was)
+    match pasts_over_again(alloc, config.specs(), &place, before, was) {
+        Ok(pasts) => Ok(pasts),
+        Err(error) => Err(forward_error(error)),
+    }
 }
 
 // What is kept going back at the point before the hour.
@@ -132,4 +139,42 @@ pub fn part_between<L>(
     let rows = store.open_hour(hour, reads);
     let place = Place::new(alloc, hour, rows, store.blanked())?;
     partial_over(alloc, config, rules, &place, between)
+}
+
+// An hour, and the states of each channel at the point after it.
+#[derive(Drop)]
+pub struct Step {
+    pub hour: Hour,
+    pub pasts: Pasts,
+}
+
+// What is kept at the point after the hour, and its numbers.
+pub fn work_between<L>(
+    alloc: Global,
+    config: &Config,
+    rules: &[Rule],
+    store: &HourStore<L>,
+    step: Step,
+    between: &Between<'_>,
+    reads: &mut Reads<L>,
+) -> Result<Worked, NoMemory>
+    requires rules { rules.now ≡ rules_for config.now }
+    requires in_store { step.hour < length store.now.hours }
+    requires states { StatesLead config.now store.now step.hour between.now.before.now.pasts
+        step.pasts }
+    requires before { IsCarryAt config.now store.now step.hour between.now.before.now }
+    requires after { IsFutureAt config.now store.now (step.hour + 1) between.now.after.now }
+    requires history { HasHistory (log_of config.now.specs store.now) }
+    ensures pasts { IfOk result (λ w. w.carry.pasts ≡ step.pasts) }
+    ensures leads { IfOk result (λ w. Leads config.now step.hour (rows_at store.now step.hour)
+        store.now.blanks between.now.before.now w.carry) }
+    ensures counts { IfOk result (λ w. Counts config.now step.hour (rows_at store.now step.hour)
+        store.now.blanks between.now.before.now between.now.after.now w.part) }
+    ensures small { IfOk result (λ w. FitHours 1 w.part) }
+    ensures once { AreOpened step.hour (step.hour + 1) 1 1 reads.old reads.new }
+{
+    let Step { hour, pasts } = step;
+    let rows = store.open_hour(hour, reads);
+    let place = Place::new(alloc, hour, rows, store.blanked())?;
+    work_over(alloc, config, rules, &place, between, pasts)
 }

@@ -1,12 +1,12 @@
 use Rattle.std.proofs.Common.{◌≡◌, ◌+◌, length}
 use Rattle.session.specs.Opens.{AreOpened}
-use Rattle.session.proofs.ForwardLaws.{IsGoing, SayOther}
+use Rattle.session.proofs.StatesLaws.{AreOthers, AreWalked}
 use Rattle.session.proofs.forward.go_forward.Given as goal
 
 abbrev pub invariant-loop-hour : goal.invariant-loop-hour
 invariant-loop-hour g l = record {
-  going : IsGoing l.config l.store l.first l.kept l.fresh.items l.hour;
+  walked : AreWalked l.config l.store l.first l.kept l.fresh.items l.hour;
   size : l.first + length l.fresh.items ≡ l.hour;
-  other : SayOther l.first l.last l.kept l.fresh.items (l.hour + 1);
+  others : AreOthers l.first l.last l.kept l.fresh.items (l.hour + 1);
   opens : AreOpened l.first l.hour 1 1 l.fn.reads l.reads;
 }

@@ -1,4 +1,3 @@
-use Rattle.std.proofs.Common.{◌+◌}
 use Rattle.hour_work.specs.Numbers.{patched}
 use Rattle.session.specs.Opens.{AreOpened}
 use Rattle.session.specs.Renewed.{AreNewParts}
@@ -6,6 +5,6 @@ use Rattle.session.proofs.renew.new_parts.Given as goal
 
 abbrev pub invariant-loop-hour : goal.invariant-loop-hour
 invariant-loop-hour g l = record {
-  parts : AreNewParts l.config l.store (patched l.worked.carries.items (l.points.first + 1) l.points.carries.items) (patched l.worked.futures.items l.points.from l.points.futures.items) l.start l.hour l.parts.items;
+  parts : AreNewParts l.config l.store l.worked.carries.items (patched l.worked.futures.items l.ways.from l.ways.futures.items) l.start l.hour l.parts.items;
   opens : AreOpened l.start l.hour 1 1 l.fn.reads l.reads;
 }

@@ -2,3 +2,8 @@ pub mod Adding
 pub mod Totals
 pub mod Splits
 pub mod Arrivals
+pub mod OpenGreen
+pub mod GreenNumbers
+pub mod Rules
+pub mod States
+pub mod GreenSums

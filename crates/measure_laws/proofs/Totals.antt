@@ -49,33 +49,40 @@ next_total all n d lt =
     let next : suc n ≡ n + 1 = omega arith in
     ap (λ k. total_of (take k all)) next ∙ (ap total_of (take_more all n d lt) ∙ total_push (take n all) (get_or all n d))
 
+-- what is so of the first hour's numbers, and of the sums with one hour more, is so of the sums over all hours
+module _ (Total : ℕ → Numbers → Type 0) (all : List Numbers) (first : (d : Numbers) → 0 < length all → Total 1 (numbers_sum (total_of []) (get_or all 0 d)))
+    (more : (n : ℕ) (d t : Numbers) → n < length all → Total n t → Total (suc n) (numbers_sum t (get_or all n d))) where
+  sums_upto : (n : ℕ) → n < length all → Total (suc n) (total_of (take (suc n) all))
+  sums_upto zero lt = let d = total_of [] in subst (λ t. Total 1 t) (sym (next_total all 0 d lt)) (first d lt)
+  sums_upto (suc n) lt =
+      let d = total_of [] in
+      let hour = suc n in
+      subst (λ t. Total (suc hour) t) (sym (next_total all hour d lt)) (more hour d (total_of (take hour all)) lt (sums_upto n (omega arith)))
+
+  sums_by : (n : ℕ) → length all ≡ n → 0 < n → Total n (total_of (take n all))
+  sums_by zero e some = absurd (omega arith)
+  sums_by (suc n) e some = sums_upto n (omega arith)
+
+  pub all_sums : 0 < length all → Total (length all) (total_of all)
+  all_sums some =
+      let whole : take (length all) all ≡ all = take_all (length all) all (omega arith) in
+      subst (λ ns. Total (length all) (total_of ns)) whole (sums_by (length all) refl some)
+
 -- what the first hour's numbers are, and the sums with one hour more, the sums over the first n hours are
 module _ {S : Type 0} (put : S → S → S) (of : Numbers → List S) (none : of (total_of []) ≡ []) (sums : (a b : Numbers) → of (numbers_sum a b) ≡ merged put (of a) (of b)) (Part Total : ℕ → Approach → S → Type 0) (xs : List Approach) (all : List Numbers)
     (parts : (n : ℕ) (d : Numbers) → n < length all → Each (Part n) xs (of (get_or all n d))) (first : (a : Approach) (p : S) → Part 0 a p → Total 1 a p)
     (more : (n : ℕ) → n < length all → (a : Approach) (t p : S) → Total n a t → Part n a p → Total (suc n) a (put t p)) where
-  added_total : (n : ℕ) (d : Numbers) → n < length all → of (total_of (take (suc n) all)) ≡ merged put (of (total_of (take n all))) (of (get_or all n d))
-  added_total n d lt = ap of (next_total all n d lt) ∙ sums (total_of (take n all)) (get_or all n d)
-
-  totals : (n : ℕ) → n < length all → Each (Total (suc n)) xs (of (total_of (take (suc n) all)))
-  totals zero lt =
-      let d = total_of [] in
-      let e : of (total_of (take 1 all)) ≡ of (get_or all 0 d) = added_total 0 d lt ∙ ap (λ ts. merged put ts (of (get_or all 0 d))) none in
+  first_sum : (d : Numbers) → 0 < length all → Each (Total 1) xs (of (numbers_sum (total_of []) (get_or all 0 d)))
+  first_sum d lt =
+      let e : of (numbers_sum (total_of []) (get_or all 0 d)) ≡ of (get_or all 0 d) = sums (total_of []) (get_or all 0 d) ∙ ap (λ ts. merged put ts (of (get_or all 0 d))) none in
       subst (λ ts. Each (Total 1) xs ts) (sym e) (each_as (Part 0) (Total 1) xs (of (get_or all 0 d)) first (parts 0 d lt))
-  totals (suc n) lt =
-      let d = total_of [] in
-      let hour = suc n in
-      let before = totals n (omega arith) in
-      subst (λ ts. Each (Total (suc hour)) xs ts) (sym (added_total hour d lt)) (each_put put (Total hour) (Part hour) (Total (suc hour)) xs (of (total_of (take hour all))) (of (get_or all hour d)) (more hour lt) before (parts hour d lt))
 
-  upto : (n : ℕ) → length all ≡ n → 0 < n → Each (Total n) xs (of (total_of (take n all)))
-  upto zero e some = absurd (omega arith)
-  upto (suc n) e some = totals n (omega arith)
+  more_sum : (n : ℕ) (d t : Numbers) → n < length all → Each (Total n) xs (of t) → Each (Total (suc n)) xs (of (numbers_sum t (get_or all n d)))
+  more_sum n d t lt so = subst (λ ts. Each (Total (suc n)) xs ts) (sym (sums t (get_or all n d))) (each_put put (Total n) (Part n) (Total (suc n)) xs (of t) (of (get_or all n d)) (more n lt) so (parts n d lt))
 
   -- the sums over all hours
   pub all_total : 0 < length all → Each (Total (length all)) xs (of (total_of all))
-  all_total some =
-      let whole : take (length all) all ≡ all = take_all (length all) all (omega arith) in
-      subst (λ ns. Each (Total (length all)) xs (of (total_of ns))) whole (upto (length all) refl some)
+  all_total some = all_sums (λ n t. Each (Total n) xs (of t)) all first_sum more_sum some
 
 -- ---- the rows up to an hour's end are no more than all
 

@@ -1,8 +1,8 @@
 -- The totals over the hours of a report are the numbers of the whole log.
-use Rattle.std.specs.Prelude.{ℕ, ◌≡◌, ◌++◌, not, List, [], Option, Some, None, filter, length}
+use Rattle.std.specs.Prelude.{ℕ, ◌≡◌, ◌++◌, ◌<◌, not, List, [], Option, Some, None, filter, length}
 use Rattle.sig_base.specs.declared.values.Row.{Row}
 use Rattle.hour_store.specs.Store.{IsStore, Store, is_known, known_rows}
-use Rattle.signal_log.specs.Log.{Log, log_of, window_end}
+use Rattle.signal_log.specs.Log.{HasHistory, Log, log_of, window_end}
 use Rattle.ring_config.specs.Settings.{Settings}
 use Rattle.ring_config.specs.declared.items.Approach.{Approach}
 use Rattle.split_windows.specs.Windows.{due, left}
@@ -21,9 +21,13 @@ use Rattle.arrival_measures.specs.Faults.{faults_from}
 use Rattle.arrival_measures.specs.Travel.{arrivals_at}
 use Rattle.arrival_measures.specs.Judged.{AreJudged, is_green}
 use Rattle.arrival_measures.specs.Hours.{HasActuations, no_arrivals}
+use Rattle.rule_audit.specs.declared.lines.AuditLine.{AuditLine}
+use Rattle.rule_audit.specs.Rules.{rules_for}
+use Rattle.hour_work.specs.Counts.{counts_of}
 use Rattle.hour_work.specs.Numbers.{Numbers, total_of}
-use Rattle.hour_work.specs.Measures.{MayBeIn}
+use Rattle.hour_work.specs.Measures.{MayBeIn, over_hours}
 use Rattle.hour_work.specs.Reports.{IsReport}
+use Rattle.hour_work.specs.Verdicts.{AreAuditLines}
 use Rattle.measure_laws.specs.Sums.{AreCountable}
 
 -- ---- services at stop bars
@@ -65,3 +69,13 @@ pub record AreTotalsOf (c : Settings) (s : Store) (a : Approach) (sum : ArrivalS
 -- the totals of the approaches, in file order, are those of the whole store
 abbrev pub ArrivalTotals : Type 0
 ArrivalTotals = (c : Settings) (s : Store) (all : List Numbers) → IsStore s → length s.hours ≡ c.window.hours → AreCountable (known_rows s) → IsReport c s all → Each (AreTotalsOf c s) c.approaches (total_of all).arrivals
+
+-- ---- rules
+
+-- these are the audit lines of each hour of the store
+abbrev pub AreHoursLines : Settings → Store → (ℕ → List AuditLine) → Type 0
+AreHoursLines c s lines = (hour : ℕ) → hour < length s.hours → AreAuditLines c s hour (lines hour)
+
+-- the totals of the rules, by their numbers, are the counts of the audit lines of all hours, one hour after another
+abbrev pub RuleTotals : Type 0
+RuleTotals = (c : Settings) (s : Store) (all : List Numbers) (lines : ℕ → List AuditLine) → IsStore s → HasHistory (log_of c.specs s) → IsReport c s all → AreHoursLines c s lines → (total_of all).rules ≡ counts_of (length (rules_for c)) (over_hours lines (length s.hours))

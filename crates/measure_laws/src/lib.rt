@@ -1,5 +1,6 @@
 //! Laws of the sums that measures are: the verdicts of services, and those of arrivals, add up, and
-//! their totals over the hours of a report are those of the whole log.
+//! their totals over the hours of a report are those of the whole log. And laws of the green of
+//! cycles, which the rows alone tell.
 //!
 //! Each law is the contract of a function that does nothing. `docs/DEFINITIONS.md` has the
 //! definitions.
@@ -8,6 +9,7 @@
 mod laws;
 
 pub use laws::{
-    arrival_totals_are_of_the_log, arrivals_add_up, split_totals_are_of_the_log, splits_add_up,
-    sums_keep_adding_up,
+    arrival_totals_are_of_the_log, arrivals_add_up, green_is_of_all_histories,
+    open_cycles_show_green, rule_totals_are_of_the_log, split_totals_are_of_the_log, splits_add_up,
+    state_totals_are_of_the_log, sums_keep_adding_up,
 };

@@ -14,7 +14,7 @@ use Rattle.reach.specs.Runs.{State}
 use Rattle.board.specs.Logs.{end_tenth, first_tenth, no_spec}
 use Rattle.hour_store.specs.Store.{Store, is_known}
 use Rattle.hour_sums.specs.Numbers.{capped, one_if}
-use Rattle.hour_sweep.specs.Numbers.{given}
+use Rattle.hour_sweep.specs.Numbers.{given, outs_from}
 use Rattle.service_cut.specs.declared.items.Service.{Service}
 use Rattle.service_cut.specs.Cut.{services_from}
 use Rattle.service_cut.specs.Parts.{has_phase}
@@ -83,7 +83,7 @@ verdicts_add vs lt =
     let e = uncapped (how_often Fault vs) (omega (arith, all)) in
     rw (a, b, c, d, e) all
 
-each_long : {A B : Type 0} (R : A → B → Type 0) (xs : List A) (ys : List B) → Each R xs ys → length ys ≡ length xs
+pub each_long : {A B : Type 0} (R : A → B → Type 0) (xs : List A) (ys : List B) → Each R xs ys → length ys ≡ length xs
 each_long R [] [] h = refl
 each_long R [] (y ∷ ys) h = absurd h
 each_long R (x ∷ xs) [] h = absurd h
@@ -92,19 +92,19 @@ each_long R (x ∷ xs) (y ∷ ys) h = ap suc (each_long R xs ys h.1)
 pub filter_few : {X : Type 0} (f : X → Bool) (xs : List X) → length (filter f xs) ≤ length xs
 filter_few f xs = let both = length-filter_both f (λ x. not (f x)) (λ x. refl) xs in omega (arith, both)
 
-cons_few : {X : Type 0} (o : Option X) (xs : List X) → length (cons_option o xs) ≤ suc (length xs)
+pub cons_few : {X : Type 0} (o : Option X) (xs : List X) → length (cons_option o xs) ≤ suc (length xs)
 cons_few None xs = omega arith
 cons_few (Some x) xs = omega arith
 
-services_few : (known : ℕ → Bool) (phases : List PhaseItem) (before rows : List Row) → length (services_from known phases before rows) ≤ length rows
-services_few known phases before [] = omega arith
-services_few known phases before (r ∷ rs) =
-    let here = cons_few (given (service_at known) (has_phase phases) before r rs) (services_from known phases (before ++ r ∷ []) rs) in
-    let rest = services_few known phases (before ++ r ∷ []) rs in
+pub outs_few : {O : Type 0} (out_at : ℕ → List Row → Row → List Row → Option O) (has : ℕ → Bool) (before rows : List Row) → length (outs_from out_at has before rows) ≤ length rows
+outs_few out_at has before [] = omega arith
+outs_few out_at has before (r ∷ rs) =
+    let here = cons_few (given out_at has before r rs) (outs_from out_at has (before ++ r ∷ []) rs) in
+    let rest = outs_few out_at has (before ++ r ∷ []) rs in
     omega (arith, here, rest)
 
 -- a service counts once in an hour
-two_few : (a b : ℕ) (ss : List Service) → length (ending a b ss) + length (left b ss) ≤ length ss
+pub two_few : (a b : ℕ) (ss : List Service) → length (ending a b ss) + length (left b ss) ≤ length ss
 two_few a b [] = omega arith
 two_few a b (s ∷ ss) =
     let rest = two_few a b ss in
@@ -119,16 +119,16 @@ two_few a b (s ∷ ss) =
       ]
     ]
 
-open_few : (hours hour : ℕ) (ss : List Service) → length (open_in hours hour ss) ≤ length (left (end_tenth hour) ss)
+pub open_few : (hours hour : ℕ) (ss : List Service) → length (open_in hours hour ss) ≤ length (left (end_tenth hour) ss)
 open_few hours hour ss = elim (cases_Bool (nat_le hours (hour + 1))) [
   | inl t ↦ rw t (omega arith)
   | inr f ↦ rw f (omega arith)
 ]
 
-all_few : (known : ℕ → Bool) (phases : List PhaseItem) (p : ℕ) (upto : List Row) → length (services_upto known phases p upto) ≤ length upto
+pub all_few : (known : ℕ → Bool) (phases : List PhaseItem) (p : ℕ) (upto : List Row) → length (services_upto known phases p upto) ≤ length upto
 all_few known phases p upto =
     let a = filter_few (λ (s : Service). eqb s.phase p) (services_from known phases [] upto) in
-    let b = services_few known phases [] upto in
+    let b = outs_few (service_at known) (has_phase phases) [] upto in
     omega (arith, a, b)
 
 pub splits_add_up : SplitsAddUp

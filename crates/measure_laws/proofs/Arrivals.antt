@@ -100,7 +100,7 @@ numbers_both c s a xs ys fs gs t p few few_faults h k =
 ons_both : (test : List Row → Row → Bool) (d : ℕ) (before rows : List Row) → ons_of d (passing_from test [] (before ++ rows)) ≡ ons_of d (passing_from test [] before) ++ ons_of d (passing_from test before rows)
 ons_both test d before rows = ap (λ zs. ons_of d zs) (passing-append test [] before rows) ∙ filter-append (is_on d) (passing_from test [] before) (passing_from test before rows)
 
-ons_few : (test : List Row → Row → Bool) (d : ℕ) (before rows : List Row) → length (ons_of d (passing_from test before rows)) ≤ length rows
+pub ons_few : (test : List Row → Row → Bool) (d : ℕ) (before rows : List Row) → length (ons_of d (passing_from test before rows)) ≤ length rows
 ons_few test d before rows = let a = filter_few (is_on d) (passing_from test before rows) in let b = passing_few test before rows in omega (arith, a, b)
 
 -- ---- the arrivals that count before a point

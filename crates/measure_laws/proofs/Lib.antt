@@ -7,3 +7,4 @@ pub mod GreenNumbers
 pub mod Rules
 pub mod States
 pub mod GreenSums
+pub mod Plain

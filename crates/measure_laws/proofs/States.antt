@@ -23,7 +23,7 @@ use Rattle.measure_laws.proofs.Totals.{all_sums}
 
 -- ---- number by number
 
-each_as : {A : Type 0} (has : ℕ → Bool) (Is As : ℕ → A → Type 0) (n : ℕ) (xs : List A) → ((p : ℕ) (x : A) → Is p x → As p x) → EachOf has Is n xs → EachOf has As n xs
+pub each_as : {A : Type 0} (has : ℕ → Bool) (Is As : ℕ → A → Type 0) (n : ℕ) (xs : List A) → ((p : ℕ) (x : A) → Is p x → As p x) → EachOf has Is n xs → EachOf has As n xs
 unfolding EachOf
 each_as has Is As zero xs f h = h
 each_as has Is As (suc n) xs f (inl (e, (ys, y, rest, is, join))) = inl (e, (ys, y, each_as has Is As n ys f rest, f n y is, join))

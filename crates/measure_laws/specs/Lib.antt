@@ -2,3 +2,4 @@ pub mod Sums
 pub mod Totals
 pub mod Green
 pub mod States
+pub mod Plain

@@ -2,6 +2,7 @@
 ghost use Rattle.std.specs.Prelude.{true, false};
 ghost use Rattle.arrival_measures.specs.Judged.{AllPass, NonePass, is_green};
 ghost use Rattle.measure_laws.specs.Green.{GreenNumbers, HourGreen, OpenCyclesShow, TotalGreen};
+ghost use Rattle.measure_laws.specs.Plain.{SumsArePlain};
 ghost use Rattle.measure_laws.specs.States.{StateTotals};
 ghost use Rattle.measure_laws.specs.Sums.{ArrivalsAddUp, SplitsAddUp, SumsKeepAddingUp};
 ghost use Rattle.measure_laws.specs.Totals.{ArrivalTotals, RuleTotals, SplitTotals};
@@ -48,6 +49,15 @@ pub fn state_totals_are_of_the_log()
 /// the audit lines of all its hours, one hour after another.
 pub fn rule_totals_are_of_the_log()
     ensures { RuleTotals }
+{}
+
+/// Law: no sum of a report stands still at the last value of a u64. Of a store that has all hours
+/// of its window each count and each sum of the measures, in an hour and in the totals, is that of
+/// what is counted itself: of services and cycles of phases, delays of pedestrian signals, entries
+/// and exits of preempts, rows of the coordination, tenths in states, verdicts at stop bars, and
+/// arrivals, actuations and whole cycles of approaches.
+pub fn sums_are_plain()
+    ensures { SumsArePlain }
 {}
 
 /// Law: of a cycle that has begun before an hour point and isn't over there, the rows before the

@@ -1,0 +1,11 @@
+pub mod Chance
+pub mod AuditExists
+pub mod Counted
+pub mod OthersExist
+pub mod ArrivalsExist
+pub mod SplitsExist
+pub mod MeasuresExist
+pub mod ConfigRead
+pub mod FileRows
+pub mod EditsExist
+pub mod Transcripts

@@ -21,4 +21,4 @@ FrontsAreOfTranscripts =
     (words : List (List ℕ)) (files : Files) (k : ℕ) (front : List ℕ) → asks_pairs (asked_of words) ≡ false
     → IsBeginning k words files front
     → NotNone ((bytes : List ℕ) × (ended : Ended) × (rest : List ℕ) × IsTranscript words files bytes ended
-        × (bytes ≡ front ++ rest))
+    × (bytes ≡ front ++ rest))

@@ -94,15 +94,16 @@ fn edits_one_after_another(rt: HostRuntime) -> Result<(), Fail> {
 // Edits of a window of three hours without channels, the hours that they move, and how often each
 // hour was opened up to then. The carry at an hour point says only whether the tenth before it is
 // known, so an hour moves with the one before it where that tenth was known and is no longer, or
-// the other way round. An edited hour is opened three times, the one after it that moves twice.
+// the other way round. An edited hour is opened three times, one that moves after it without other
+// states once.
 const MOVES: [(Step, u32, u32, [u64; 3]); 7] = [
-    (Step::Load(0), 0, 2, [3, 2, 0]),
-    (Step::Load(1), 1, 3, [3, 5, 2]),
-    (Step::Load(2), 2, 3, [3, 5, 5]),
-    (Step::Replace(1), 1, 2, [3, 8, 5]),
-    (Step::Blank(36_005, 36_006), 1, 2, [3, 11, 5]),
-    (Step::Withdraw(0), 0, 2, [6, 13, 5]),
-    (Step::Blank(0, 5), 0, 1, [9, 13, 5]),
+    (Step::Load(0), 0, 2, [3, 1, 0]),
+    (Step::Load(1), 1, 3, [3, 4, 1]),
+    (Step::Load(2), 2, 3, [3, 4, 4]),
+    (Step::Replace(1), 1, 2, [3, 7, 4]),
+    (Step::Blank(36_005, 36_006), 1, 2, [3, 10, 4]),
+    (Step::Withdraw(0), 0, 2, [6, 11, 4]),
+    (Step::Blank(0, 5), 0, 1, [9, 11, 4]),
 ];
 
 fn counts(reads: &Reads<Mark>) -> [u64; 3] {

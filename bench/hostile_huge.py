@@ -61,8 +61,8 @@ def held_rows(bench, sizes=(10, 25, 50)):
         script(bench, loads + ["load 50 one", "replace 0 p0", "measures"])
         found.append(measured(bench, "%d hours of 400,000 rows" % size))
         lines = bench.out.decode().splitlines()
-        wanted = "refused too many held rows" if full else "ok rows 1 repeats 0 moved 0 51"
-        wanted = ["%d %s" % (size + 1, wanted), "%d ok rows 400000 repeats 0 moved 0 51" % (size + 2)]
+        wanted = "refused too many held rows" if full else "ok rows 1 repeats 0 moved 50 51"
+        wanted = ["%d %s" % (size + 1, wanted), "%d ok rows 400000 repeats 0 moved 0 1" % (size + 2)]
         fine = lines[size:size + 2] == wanted
         fine = fine and lines[size + 3].startswith("held %d rows %d " % (size + (not full), size * 400000 + (not full)))
         bench.check("huge, %d hours of 400,000 rows" % size, fine and bench.status == full and not bench.err)

@@ -1,13 +1,13 @@
 -- What the readers of the code stand for.
 use Rattle.std.specs.Prelude.{map, string_bytes}
 use Rattle.toml.specs.View.{table_view}
-use Rattle.ring_config.specs.declared.reading.Entry.{Entry}
-use Rattle.ring_config.specs.declared.document.Head.{Head}
-use Rattle.ring_config.specs.declared.document.LayoutTables.{LayoutTables}
-use Rattle.ring_config.specs.declared.document.DetailTables.{DetailTables}
-use Rattle.ring_config.specs.declared.layout.Layout as code_layout
-use Rattle.ring_config.specs.declared.details.Details as code_details
-use Rattle.ring_config.specs.declared.parts.Parts as code_parts
+use Rattle.ring_config.specs.declared.format.reading.Entry.{Entry}
+use Rattle.ring_config.specs.declared.format.document.Head.{Head}
+use Rattle.ring_config.specs.declared.format.document.LayoutTables.{LayoutTables}
+use Rattle.ring_config.specs.declared.format.document.DetailTables.{DetailTables}
+use Rattle.ring_config.specs.declared.format.layout.Layout as code_layout
+use Rattle.ring_config.specs.declared.format.details.Details as code_details
+use Rattle.ring_config.specs.declared.format.parts.Parts as code_parts
 use Rattle.ring_config.specs.Reading.{EntryData}
 use Rattle.ring_config.specs.Settings.{Layout, Details, Parts}
 use Rattle.ring_config.specs.Tables.{Top, LayoutArrays, DetailArrays}

@@ -4,8 +4,8 @@ ghost use Rattle.ring_config.specs.Values.{has_number};
 ghost use Rattle.ring_config.specs.Seen.{layout_seen};
 ghost use Rattle.ring_config.specs.Settings.{all_channels, coordination_channel, signal_channels, numbered, detectors, some_number, floor_of, floors_of, specs_from};
 
+use crate::format::layout::Layout;
 use crate::items::{Approach, FloorItem, OverlapItem};
-use crate::layout::Layout;
 use channel_tables::Spec;
 use event_codes::{Channel, Kind};
 use sig_base::PhaseItem;

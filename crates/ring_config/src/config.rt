@@ -9,10 +9,9 @@ ghost use Rattle.ring_config.specs.Seen.{parts_seen};
 ghost use Rattle.ring_config.specs.Walk.{NoneRepeats};
 
 use crate::channels::{all_channels, specs};
-use crate::items::{Approach, IntervalItem, OverlapItem, Pair};
+use crate::format::parts::Parts;
+use crate::items::{Approach, IntervalItem, OverlapItem, Pair, has_pair};
 use crate::named::by_name;
-use crate::parts::Parts;
-use crate::references::has_pair;
 use channel_tables::Spec;
 use event_codes::{Channel, Kind};
 use indexmap::IndexMap;

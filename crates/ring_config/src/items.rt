@@ -1,5 +1,6 @@
 // What the entries of the tables are.
 ghost use Rattle.std.specs.Prelude.{◌≡◌, ◌≤◌, length};
+ghost use Rattle.ring_config.specs.Values.{has_pair, is_pair};
 
 use colour_machine::Mask;
 use event_codes::Kind;
@@ -12,6 +13,20 @@ use std::marker::Model;
 pub struct Pair {
     pub a: u8,
     pub b: u8,
+}
+
+// Whether the pair is of these two phases, in either order.
+pub(crate) fn is_pair(pair: &Pair, a: u8, b: u8) -> bool
+    ensures { result ≡ is_pair pair.now a b }
+{
+    (pair.a == a && pair.b == b) || (pair.a == b && pair.b == a)
+}
+
+// Whether one of the pairs is of these two.
+pub(crate) fn has_pair(pairs: &[Pair], a: u8, b: u8) -> bool
+    ensures { result ≡ has_pair pairs.now a b }
+{
+    pairs.iter().any(|pair| is_pair(pair, a, b))
 }
 
 /// An overlap with its parent phases.

@@ -7,32 +7,19 @@
 //! in their order, and repetitions last. Each table is described once, as its keys and what a good
 //! value of each is; one walk reads them all.
 //!
-//! - `error`: why a text is refused, and where; `items`: what the entries of the tables are.
-//! - `reading`, `values`, `references`: an entry's keys, and what the values at them stand for.
-//! - `phases`, `pairs`, `timing`, `approaches`: the tables; `walk`: the walk over any of them.
-//! - `document`, `layout`, `details`, `parts`: the tables in their order.
-//! - `channels`, `named`, `config`: the tracked channels with their floors, the approaches by name,
-//!   and the configuration with its questions; `read` is the call that makes one.
+//! It has two halves. `format` reads the file, table by table. `config` is what was read, with its
+//! questions: its tracked channels with their floors (`channels`), and its approaches by name
+//! (`named`). Both speak of `items`, the entries of the tables, and a refusal is an `error` with its
+//! place. `read` is the call that joins them.
 #![tactic(auto)]
 
-mod approaches;
 mod channels;
 mod config;
-mod details;
-mod document;
 mod error;
+mod format;
 mod items;
-mod layout;
 mod named;
-mod pairs;
-mod parts;
-mod phases;
 mod read;
-mod reading;
-mod references;
-mod timing;
-mod values;
-mod walk;
 
 pub use config::Config;
 pub use error::{ConfigError, KeyAt, KeyName, TableName};

@@ -6,8 +6,8 @@ ghost use Rattle.ring_config.specs.Settings.{config_at, config_of, document_of};
 
 use crate::config::Config;
 use crate::error::{ConfigError, TableName};
-use crate::parts::read_parts;
-use crate::reading::Entry;
+use crate::format::parts::read_parts;
+use crate::format::reading::Entry;
 use std::alloc::Global;
 use toml::Table;
 

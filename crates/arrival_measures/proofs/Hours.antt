@@ -12,6 +12,7 @@ use Rattle.hour_sweep.specs.Hours.{AreOrdered, IsHour, point}
 use Rattle.hour_sweep.proofs.Orders.{below_end, ordered-append, rise_ordered}
 use Rattle.reach.specs.Runs.{State}
 use Rattle.service_cut.specs.Cut.{CutLists, IsCut}
+use Rattle.board.specs.Logs.{HourLog}
 use Rattle.ring_config.specs.Settings.{Settings, spec_place}
 use Rattle.ring_config.specs.declared.items.Approach.{Approach}
 use Rattle.cycle_arrivals.specs.Arrivals.{is_on, ons_of}
@@ -21,10 +22,13 @@ use Rattle.arrival_measures.specs.declared.faults.Flag.{Flag}
 use Rattle.arrival_measures.specs.declared.judged.Judged.{Judged}
 use Rattle.arrival_measures.specs.declared.cycles.CycleSum.{CycleSum}
 use Rattle.arrival_measures.specs.declared.sources.Sources.{Sources}
+use Rattle.arrival_measures.specs.declared.ahead.ApproachHour.{ApproachHour}
+use Rattle.arrival_measures.specs.declared.sums.ArrivalSum.{ArrivalSum}
 use Rattle.arrival_measures.specs.Crossing.{CarryParts, IsCarry, crossing_of, flags_of, has_detector}
 use Rattle.arrival_measures.specs.Faults.{arrivals_from, faults_from, is_arrival, passing_from}
 use Rattle.arrival_measures.specs.Hours.{HasArrivals, HasActuations, HasJudged, IsUnheld, due_in, is_last, is_seen}
 use Rattle.arrival_measures.specs.Judged.{AllPass, CountOf, NonePass, OnlySomePass, is_green, is_red, phase_channel}
+use Rattle.arrival_measures.specs.Results.{IsSeenSum, IsSumBy, IsUnseenSum}
 use Rattle.arrival_measures.specs.Travel.{arrivals_at, from_tenth}
 use Rattle.arrival_measures.specs.Steps.{AreGiven, AreJudgedRows, AreSources, arriving_with, due_of, no_judged, of_approaches, rows_with, sum_of}
 use Rattle.arrival_measures.proofs.Arriving.{ons_kept}
@@ -218,3 +222,14 @@ bar_low known hour c before rows (Some d) or = All-filter (is_on d) (λ x. point
 
 pub has_some : (c : Settings) (o : Option ℕ) (d : ℕ) → o ≡ Some d → IfSome o (λ n. has_detector c n ≡ true) → has_detector c d ≡ true
 has_some c o d e h = subst (λ (q : Option ℕ). IfSome q (λ n. has_detector c n ≡ true)) e h
+
+-- by the view, and without one
+
+pub seen_by : (c : Settings) (view : HourLog) (s : Sources) (a : Approach) (h : ApproachHour) (sum : ArrivalSum) → IsSeenSum c view s a h sum → IsSumBy c (Some view) s a h sum
+seen_by c view s a h sum is known before rows hour None are by of = absurd by
+seen_by c view s a h sum is known before rows hour (Some log) are by of = is known before rows hour log are by of
+
+pub unseen_by : (c : Settings) (s : Sources) (a : Approach) (h : ApproachHour) (sum : ArrivalSum) → IsUnseenSum c s a h sum → IsSumBy c None s a h sum
+unseen_by c s a h sum is known before [] hour None are by of = is known before hour are by of
+unseen_by c s a h sum is known before [] hour (Some log) are by of = absurd by
+unseen_by c s a h sum is known before (x ∷ rows) hour log are by of = absurd by

@@ -1,10 +1,11 @@
 -- What the calls of an hour give, whatever is known and whatever rows came before.
-use Rattle.std.specs.Prelude.{ℕ, ◌≡◌, ◌+◌, ◌++◌, Bool, List, [], map}
+use Rattle.std.specs.Prelude.{ℕ, ◌≡◌, ◌+◌, ◌++◌, Bool, List, [], Option, Some, None, map}
 use Rattle.sig_base.specs.declared.values.Row.{Row}
 use Rattle.gap_map.specs.declared.stretch.Stretch.{Stretch}
 use Rattle.hour_sweep.specs.Rows.{known_rows}
 use Rattle.hour_sweep.specs.Hours.{AreOrdered, IsHour, point}
 use Rattle.service_cut.specs.Cut.{CutLists, IsCut}
+use Rattle.reach.specs.Runs.{State}
 use Rattle.board.specs.Logs.{HourLog}
 use Rattle.board.specs.Verdicts.{MayPass}
 use Rattle.ring_config.specs.Settings.{Settings}
@@ -18,6 +19,19 @@ use Rattle.arrival_measures.specs.Crossing.{CarryParts, IsCarry, crossing_of}
 use Rattle.arrival_measures.specs.Hours.{AreAllJudged, HasJudged, HaveCycles, IsUnheld}
 use Rattle.arrival_measures.specs.Steps.{AreDetections, AreGiven, AreSources, IsHourOf, IsOwnOf}
 use Rattle.arrival_measures.specs.Views.{IsSeen}
+
+-- ---- what an hour is judged by
+
+-- the view is one of this hour; without a view the hour has no rows, and no tenth of it is known
+abbrev pub IsJudgedBy : Settings → Option HourLog → (ℕ → Bool) → List Row → List Stretch → ℕ → Option HourLog → Type 0
+IsJudgedBy c (Some view) known rows ss hour (Some log) = IsSeen c view rows ss log
+IsJudgedBy c None known [] ss hour None = IsUnheld known hour
+IsJudgedBy c _ known _ ss hour _ = ⊥
+
+-- the states that the channel with a place may have at the end of a tenth, in the hour that is seen; where none is, nothing is judged
+abbrev pub may_by : Option HourLog → ℕ → ℕ → State → Type 0
+may_by (Some log) = λ i t v. MayPass log t i v
+may_by None = λ _ _ _. ⊥
 
 -- ---- an approach in an hour
 
@@ -38,6 +52,12 @@ abbrev pub IsUnseenSum : Settings → Sources → Approach → ApproachHour → 
 IsUnseenSum c s a h sum =
     (known : ℕ → Bool) (before : List Row) (hour : ℕ) → AreSources known c before [] hour s → IsUnheld known hour → IsHourOf known c before [] hour a h → HasJudged (λ _ _ _. ⊥) known c before [] hour a sum
 
+-- its numbers either way: by the view if there is one
+abbrev pub IsSumBy : Settings → Option HourLog → Sources → Approach → ApproachHour → ArrivalSum → Type 0
+IsSumBy c view s a h sum =
+    (known : ℕ → Bool) (before rows : List Row) (hour : ℕ) (log : Option HourLog) → AreSources known c before rows hour s → IsJudgedBy c view known rows s.stretches.now hour log
+    → IsHourOf known c before (known_rows known rows) hour a h → HasJudged (may_by log) known c before (known_rows known rows) hour a sum
+
 -- ---- all approaches, from the hour's rows in chains, what crosses the point before it, and its cuts
 
 -- the hour's rows in chains
@@ -46,14 +66,11 @@ AreChained c found rows ss s =
     (known : ℕ → Bool) (before : List Row) (hour : ℕ) → IsHour known hour rows ss → AreOrdered 0 (point hour) before → AreDetections known c before (known_rows known rows) hour found
     → AreSources known c before rows hour s
 
-abbrev pub AreSeenSums : Settings → HourLog → Sources → List Crossing → CutLists → List ArrivalSum → Type 0
-AreSeenSums c view s crossings cuts sums =
-    (known : ℕ → Bool) (before rows : List Row) (hour : ℕ) (log : HourLog) → AreGiven known c before rows hour s crossings cuts → IsSeen c view rows s.stretches.now log
-    → AreAllJudged (λ i t v. MayPass log t i v) known c before (known_rows known rows) hour sums
-
-abbrev pub AreUnseenSums : Settings → Sources → List Crossing → CutLists → List ArrivalSum → Type 0
-AreUnseenSums c s crossings cuts sums =
-    (known : ℕ → Bool) (before : List Row) (hour : ℕ) → AreGiven known c before [] hour s crossings cuts → IsUnheld known hour → AreAllJudged (λ _ _ _. ⊥) known c before [] hour sums
+-- their numbers, by the view if there is one
+abbrev pub AreSumsBy : Settings → Option HourLog → Sources → List Crossing → CutLists → List ArrivalSum → Type 0
+AreSumsBy c view s crossings cuts sums =
+    (known : ℕ → Bool) (before rows : List Row) (hour : ℕ) (log : Option HourLog) → AreGiven known c before rows hour s crossings cuts → IsJudgedBy c view known rows s.stretches.now hour log
+    → AreAllJudged (may_by log) known c before (known_rows known rows) hour sums
 
 abbrev pub HaveGivenCycles : Settings → Sources → List Crossing → CutLists → List ArrivalSum → Type 0
 HaveGivenCycles c s crossings cuts sums =
@@ -77,6 +94,12 @@ abbrev pub AreUnheldSums : Settings → List Stretch → CarryParts → CutLists
 AreUnheldSums c ss carry cuts sums =
     (known : ℕ → Bool) (before : List Row) (hour : ℕ) → IsHour known hour [] ss → IsUnheld known hour → IsCarry known c before hour carry → IsCut known c.phases before hour [] cuts
     → AreAllJudged (λ _ _ _. ⊥) known c before [] hour sums
+
+-- those of either hour: by the view if there is one
+abbrev pub AreHourSumsBy : Settings → Option HourLog → List Row → List Stretch → CarryParts → CutLists → List ArrivalSum → Type 0
+AreHourSumsBy c view rows ss carry cuts sums =
+    (known : ℕ → Bool) (before : List Row) (hour : ℕ) (log : Option HourLog) → IsHour known hour rows ss → IsCarry known c before hour carry → IsCut known c.phases before hour rows cuts → IsJudgedBy c view known rows ss hour log
+    → AreAllJudged (may_by log) known c before (known_rows known rows) hour sums
 
 -- their whole cycles are those that end in the hour
 abbrev pub HaveHourCycles : Settings → List Row → List Stretch → CarryParts → CutLists → List ArrivalSum → Type 0

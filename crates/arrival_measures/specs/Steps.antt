@@ -17,7 +17,7 @@ use Rattle.hour_sweep.specs.Passes.{front, back}
 use Rattle.service_cut.specs.declared.items.Cycle.{Cycle}
 use Rattle.service_cut.specs.declared.items.OpenCycle.{OpenCycle}
 use Rattle.service_cut.specs.Cut.{CutLists, IsCut}
-use Rattle.ring_config.specs.Settings.{Settings, is_tracked_as}
+use Rattle.ring_config.specs.Settings.{Settings, is_tracked_as, spec_place}
 use Rattle.ring_config.specs.Values.{has_phase}
 use Rattle.ring_config.specs.declared.items.Approach.{Approach}
 use Rattle.cycle_arrivals.specs.declared.open.Open.{Open}
@@ -35,7 +35,7 @@ use Rattle.arrival_measures.specs.declared.sums.ArrivalSum.{ArrivalSum}
 use Rattle.arrival_measures.specs.Faults.{arrivals_from, begins_fault, faults_from, faulty, is_own}
 use Rattle.arrival_measures.specs.Travel.{arrivals_at, from_tenth}
 use Rattle.arrival_measures.specs.Crossing.{crossing_of, flags_of, has_detector, open_since}
-use Rattle.arrival_measures.specs.Judged.{AllPass, NonePass, OnlySomePass, CountOf}
+use Rattle.arrival_measures.specs.Judged.{AllPass, NonePass, OnlySomePass, CountOf, phase_channel}
 use Rattle.arrival_measures.specs.Cycles.{CycleNumbers}
 use Rattle.arrival_measures.specs.Hours.{cycle_numbers, is_last, is_seen}
 use Rattle.arrival_measures.specs.Views.{IsSeen}
@@ -80,6 +80,11 @@ pub record IsOwnOf (c : Settings) (a : Approach) : Type 0 where
   pub advance : IfSome a.advance (λ d. has_detector c d ≡ true)
   pub stop_bar : IfSome a.stop_bar (λ d. has_detector c d ≡ true)
   pub travel : a.travel ≤ 300
+
+-- and its phase has this place among the specs
+pub record IsOwnAt (c : Settings) (a : Approach) (place : ℕ) : Type 0 where
+  pub own : IsOwnOf c a
+  pub is_place : spec_place c.specs (phase_channel a.phase) ≡ Some place
 
 -- from these the numbers of an hour with these rows are, where these are the known rows before it
 pub record AreSources (known : ℕ → Bool) (c : Settings) (before rows : List Row) (hour : ℕ) (s : Sources) : Type 0 where

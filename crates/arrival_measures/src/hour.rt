@@ -1,11 +1,11 @@
 // The numbers of an hour.
-ghost use Rattle.std.specs.Prelude.{◌≡◌, ◌+◌, ℕ, List, length, slice_index_or, IfOk, OnOk, OnErr, []};
-ghost use Rattle.sig_base.specs.declared.values.Row.{Row};
+ghost use Rattle.std.specs.Prelude.{◌≡◌, ◌+◌, ◌<◌, ℕ, length, option_copied, slice_index_or, IfOk, IfSome, OnOk, OnErr, []};
 ghost use Rattle.hour_sums.specs.Numbers.{capped, merged};
 ghost use Rattle.hour_sweep.specs.Hours.{point};
+ghost use Rattle.ring_config.specs.Settings.{Settings};
 ghost use Rattle.arrival_measures.specs.Hours.{added, cycle_part, is_last};
-ghost use Rattle.arrival_measures.specs.Steps.{IsOwnOf, numbers_in, rows_with, sum_of};
-ghost use Rattle.arrival_measures.specs.Results.{AreChained, AreHourSums, AreNextCrossings, AreSeenSums, AreUnheldSums, AreUnseenSums, HaveGivenCycles, HaveHourCycles, IsCarriedOn, IsCarriedOver, IsSeenSum, IsUnseenSum};
+ghost use Rattle.arrival_measures.specs.Steps.{IsOwnAt, IsOwnOf, numbers_in, rows_with, sum_of};
+ghost use Rattle.arrival_measures.specs.Results.{AreChained, AreHourSums, AreHourSumsBy, AreNextCrossings, AreSumsBy, AreUnheldSums, HaveGivenCycles, HaveHourCycles, IsCarriedOn, IsCarriedOver, IsSeenSum, IsSumBy, IsUnseenSum};
 
 use crate::ahead::{ApproachHour, approach_hour, due_of};
 use crate::approach::{approach_of, phase_spec};
@@ -105,22 +105,20 @@ fn sum_of(greens: Judged, fault: u64, reds: Judged, red_fault: u64, cycles: Cycl
     }
 }
 
-// The numbers of an approach.
+// The numbers of an approach whose phase has this place among the channels, by a view.
 fn seen_sum(
     alloc: Global,
-    config: &Config,
     view: &HourView,
+    spec: u16,
     approach: &Approach,
     sources: &Sources<'_>,
     given: &ApproachHour,
 ) -> Result<ArrivalSum, NoMemory>
-    requires view { length view.now.specs ≡ length config.now.specs }
-    requires own { IsOwnOf config.now approach.now }
-    ensures judged { IfOk result
-        (IsSeenSum config.now view.now sources.now approach.now given.now) }
+    requires { spec < length view.now.specs }
+    ensures judged { IfOk result (λ s. (c : Settings) → IsOwnAt c approach.now spec
+        → IsSeenSum c view.now sources.now approach.now given.now s) }
     ensures cycles { IfOk result (λ s. cycle_part s ≡ numbers_in given.now.cycles) }
 {
-    let spec = phase_spec(config, approach.phase);
     let end = sources.first.saturating_add(36_000);
     let due = due_of(&given.arriving, end, sources.last);
     let at_bar = rows_of(alloc, &sources.arrivals, approach.stop_bar)?;
@@ -137,21 +135,38 @@ fn seen_sum(
     ))
 }
 
-// The numbers of an approach in an hour without rows of which no tenth is known.
-fn unseen_sum(
-    config: &Config,
-    approach: &Approach,
-    sources: &Sources<'_>,
-    given: &ApproachHour,
-) -> ArrivalSum
-    requires own { IsOwnOf config.now approach.now }
-    ensures judged { IsUnseenSum config.now sources.now approach.now given.now result }
+// Those in an hour without rows of which no tenth is known: what the arrivals show isn't seen, and
+// there is no actuation.
+fn unseen_sum(approach: &Approach, sources: &Sources<'_>, given: &ApproachHour) -> ArrivalSum
+    ensures judged { (c : Settings) (place : ℕ) → IsOwnAt c approach.now place
+        → IsUnseenSum c sources.now approach.now given.now result }
     ensures cycles { cycle_part result ≡ numbers_in given.now.cycles }
 {
-    let _spec = phase_spec(config, approach.phase);
     let end = sources.first.saturating_add(36_000);
     let greens = unseen_rows(due_of(&given.arriving, end, sources.last));
     sum_of(greens, 0, nothing(), 0, given.cycles)
+}
+
+// The numbers of an approach, by the view if there is one.
+fn approach_sum(
+    alloc: Global,
+    config: &Config,
+    view: Option<&HourView>,
+    approach: &Approach,
+    sources: &Sources<'_>,
+    given: &ApproachHour,
+) -> Result<ArrivalSum, NoMemory>
+    requires view { IfSome view (λ v. length v.now.specs ≡ length config.now.specs) }
+    requires own { IsOwnOf config.now approach.now }
+    ensures judged { IfOk result (IsSumBy config.now (option_copied view.entry) sources.now
+        approach.now given.now) }
+    ensures cycles { IfOk result (λ s. cycle_part s ≡ numbers_in given.now.cycles) }
+{
+    let spec = phase_spec(config, approach.phase);
+    match view {
+        Some(view) => seen_sum(alloc, view, spec, approach, sources, given),
+        None => Ok(unseen_sum(approach, sources, given)),
+    }
 }
 
 // What an hour gives.
@@ -176,17 +191,17 @@ fn crossing_at<'a>(crossings: &'a [Crossing], place: u32, none: &'a Crossing) ->
 }
 
 // The numbers of each approach, by its own rows alone.
-fn seen_numbers(
+fn hour_numbers(
     alloc: Global,
     config: &Config,
     crossings: &[Crossing],
     cuts: &Cuts,
-    view: &HourView,
+    view: Option<&HourView>,
     sources: &Sources<'_>,
 ) -> Result<HourNumbers, NoMemory>
-    requires view { length view.now.specs ≡ length config.now.specs }
-    ensures judged { IfOk result (λ n.
-        AreSeenSums config.now view.now sources.now crossings.now cuts.now n.sums.items) }
+    requires view { IfSome view (λ v. length v.now.specs ≡ length config.now.specs) }
+    ensures judged { IfOk result (λ n. AreSumsBy config.now (option_copied view.entry) sources.now
+        crossings.now cuts.now n.sums.items) }
     ensures cycles { IfOk result (λ n.
         HaveGivenCycles config.now sources.now crossings.now cuts.now n.sums.items) }
     ensures crossings { IfOk result (λ n.
@@ -199,38 +214,7 @@ fn seen_numbers(
         let approach = approach_of(config, place);
         let crossing = crossing_at(crossings, place, &none);
         let given = approach_hour(alloc, approach, crossing, cuts, sources)?;
-        sums.push(seen_sum(alloc, config, view, approach, sources, &given)?)?;
-        after.push(given.crossing)?;
-    }
-    Ok(HourNumbers {
-        sums,
-        crossings: after,
-    })
-}
-
-// The same without a view: what the arrivals show isn't seen, and no actuation is judged.
-fn unseen_numbers(
-    alloc: Global,
-    config: &Config,
-    crossings: &[Crossing],
-    cuts: &Cuts,
-    sources: &Sources<'_>,
-) -> Result<HourNumbers, NoMemory>
-    ensures judged { IfOk result (λ n.
-        AreUnseenSums config.now sources.now crossings.now cuts.now n.sums.items) }
-    ensures cycles { IfOk result (λ n.
-        HaveGivenCycles config.now sources.now crossings.now cuts.now n.sums.items) }
-    ensures crossings { IfOk result (λ n.
-        AreNextCrossings config.now sources.now crossings.now cuts.now n.crossings.items) }
-{
-    let none = Crossing::none(alloc);
-    let mut sums = Vec::new(alloc);
-    let mut after = Vec::new(alloc);
-    for place in 0..config.approach_count() {
-        let approach = approach_of(config, place);
-        let crossing = crossing_at(crossings, place, &none);
-        let given = approach_hour(alloc, approach, crossing, cuts, sources)?;
-        sums.push(unseen_sum(config, approach, sources, &given))?;
+        sums.push(approach_sum(alloc, config, view, approach, sources, &given)?)?;
         after.push(given.crossing)?;
     }
     Ok(HourNumbers {
@@ -268,6 +252,36 @@ fn sources_of<'a>(
     })
 }
 
+// The numbers of each approach in an hour, by the view if there is one, and in `carry` what crosses
+// the point after it in place of what crosses the point before it.
+fn over_hour(
+    alloc: Global,
+    config: &Config,
+    carry: &mut ArrivalCarry,
+    cuts: &Cuts,
+    view: Option<&HourView>,
+    rows: &[Row],
+    stretches: &[Stretch],
+) -> Result<Vec<ArrivalSum>, NoMemory>
+    requires view { IfSome view (λ v. length v.now.specs ≡ length config.now.specs) }
+    ensures judged { IfOk result (λ v. AreHourSumsBy config.now (option_copied view.entry) rows.now
+        stretches.now carry.old cuts.now v.items) }
+    ensures cycles { IfOk result (λ v.
+        HaveHourCycles config.now rows.now stretches.now carry.old cuts.now v.items) }
+    ensures carry { IfOk result (λ _.
+        IsCarriedOn config.now rows.now stretches.now cuts.now carry.old carry.new) }
+    ensures err { OnErr result (carry.new ≡ carry.old) }
+{
+    let found = detect(alloc, &carry.flags, rows, stretches)?;
+    let numbers = {
+        let sources = sources_of(alloc, config, &found, rows, stretches)?;
+        hour_numbers(alloc, config, &carry.crossings, cuts, view, &sources)?
+    };
+    carry.crossings = numbers.crossings;
+    carry.flags = found.flags;
+    Ok(numbers.sums)
+}
+
 /// What crosses the point after an hour, in `carry`, in place of what crosses the point before it,
 /// without the hour's numbers. The cuts are those of the hour.
 pub fn arrivals_carried(
@@ -282,13 +296,7 @@ pub fn arrivals_carried(
         (IsCarriedOn config.now rows.now stretches.now cuts.now carry.old carry.new) }
     ensures err { OnErr result (carry.new ≡ carry.old) }
 {
-    let found = detect(alloc, &carry.flags, rows, stretches)?;
-    let numbers = {
-        let sources = sources_of(alloc, config, &found, rows, stretches)?;
-        unseen_numbers(alloc, config, &carry.crossings, cuts, &sources)?
-    };
-    carry.crossings = numbers.crossings;
-    carry.flags = found.flags;
+    over_hour(alloc, config, carry, cuts, None, rows, stretches)?;
     Ok(())
 }
 
@@ -313,16 +321,8 @@ pub fn arrivals_hour(
         IsCarriedOn config.now rows.now stretches.now cuts.now carry.old carry.new) }
     ensures err { OnErr result (carry.new ≡ carry.old) }
 {
-    let found = detect(alloc, &carry.flags, rows, stretches)?;
-    let numbers = {
-        let sources = sources_of(alloc, config, &found, rows, stretches)?;
-        seen_numbers(alloc, config, &carry.crossings, cuts, view, &sources)?
-    };
-    carry.crossings = numbers.crossings;
-    carry.flags = found.flags;
-    Ok(ArrivalSums {
-        approaches: numbers.sums,
-    })
+    let approaches = over_hour(alloc, config, carry, cuts, Some(view), rows, stretches)?;
+    Ok(ArrivalSums { approaches })
 }
 
 /// The same for an hour without rows of which no tenth is known: no view is needed, since of the
@@ -340,14 +340,6 @@ pub fn arrivals_unheld(
         IsCarriedOver config.now stretches.now cuts.now carry.old carry.new) }
     ensures err { OnErr result (carry.new ≡ carry.old) }
 {
-    let found = detect(alloc, &carry.flags, &[], stretches)?;
-    let numbers = {
-        let sources = sources_of(alloc, config, &found, &[], stretches)?;
-        unseen_numbers(alloc, config, &carry.crossings, cuts, &sources)?
-    };
-    carry.crossings = numbers.crossings;
-    carry.flags = found.flags;
-    Ok(ArrivalSums {
-        approaches: numbers.sums,
-    })
+    let approaches = over_hour(alloc, config, carry, cuts, None, &[], stretches)?;
+    Ok(ArrivalSums { approaches })
 }

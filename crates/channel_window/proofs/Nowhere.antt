@@ -1,17 +1,17 @@
 -- Moves that leave no state.
 use Rattle.std.proofs.Common.{◌≡◌, refl, sym, subst, inl, inr, ◌↔◌, ℕ, suc, zero, ◌+◌, ◌<◌, ◌≤◌, pos, negsuc, ◌≤ℤ◌, ◌<ℤ◌, List, [], ◌∷◌, ◌++◌, length, take, get_or, arith}
-use Rattle.std.specs.Prelude.{IfOk, MatchOption, Option, Some, None, Result, Ok, Err}
+use Rattle.std.specs.Prelude.{Bool, IsTrue, IfOk, MatchOption, Option, Some, None, is_some, Result, Ok, Err}
 use Rattle.std.proofs.lemmas.Int.{ints}
 use Rattle.span_set.specs.declared.set.Span.{Span}
 use Rattle.colour_machine.specs.Rules.{IsMachine, Rules}
 use Rattle.reach.specs.Runs.{State, state}
 use Rattle.reach.specs.Past.{AfterGap, Holds}
 use Rattle.reach.proofs.States.{fills_none}
-use Rattle.lane.specs.declared.moves.Move.{Move}
-use Rattle.lane.specs.Walks.{AfterMoves, EnteredBefore, InOrder, StopsAt, IsMove, Walk, limit_after}
-use Rattle.lane.specs.Places.{limit_of}
-use Rattle.lane.specs.declared.moves.Move.TheVariants.{Gap, Letter}
-use Rattle.lane.proofs.Moving.{gap_keeps, one_fits, taken_early, walk_early, walk_join, walk_one}
+use Rattle.channel_path.specs.declared.moves.Move.{Move}
+use Rattle.channel_path.specs.Walks.{AfterMoves, EnteredBefore, InOrder, StopsAt, IsMove, Walk, limit_after}
+use Rattle.channel_path.specs.Places.{limit_of}
+use Rattle.channel_path.specs.declared.moves.Move.TheVariants.{Gap, Letter}
+use Rattle.channel_path.proofs.Moving.{gap_keeps, one_fits, taken_early, walk_early, walk_join, walk_one}
 use Rattle.std.proofs.lemmas.List.{take_more}
 use Rattle.std.proofs.lemmas.Bool.{cases_lt}
 use Rattle.reach.proofs.Arriving.{fills_later}
@@ -70,8 +70,18 @@ some_keeps m sets kept xs K ys are (u, (v, h, w)) none = let (a, q) = (are v).0 
 take_whole : (m : Rules) (ys : List Move) (n : ℕ) (v u : State) → Walk m ys v u → (w : State) × Walk m (take n ys) v w
 take_whole m ys n v u w = walk_first m ys n v u w
 
-pub end_all : (m : Rules) (sets : List (List Span)) (xs : List Move) (K : State → Type 0) (ys : List Move) (n : ℕ) → IsEnd m sets xs K ys n → NoneKeeps m sets xs K ys
+end_all : (m : Rules) (sets : List (List Span)) (xs : List Move) (K : State → Type 0) (ys : List Move) (n : ℕ) → IsEnd m sets xs K ys n → NoneKeeps m sets xs K ys
 end_all m sets xs K ys n e v u a k w = let (z, r) = take_whole m ys n v u w in e.none v z a k r
+
+-- an end is found exactly where all of the moves leave none
+pub end_says : (m : Rules) (sets : List (List Span)) (xs : List Move) (K : State → Type 0) (ys : List Move) (o : Option ℕ) → MatchOption o (NoneKeeps m sets xs K ys → ⊥) (λ n. IsEnd m sets xs K ys n) → IsTrue (is_some o) ↔ NoneKeeps m sets xs K ys
+end_says m sets xs K ys None some = ((λ yes. absurd (cc)), λ none. absurd (some none))
+end_says m sets xs K ys (Some n) end = ((λ yes. end_all m sets xs K ys n end), λ none. refl)
+
+-- an answer to one question is one to each that means the same
+pub same_answer : {E A B : Type 0} → (r : Result Bool E) → A ↔ B → IfOk r (λ b. IsTrue b ↔ A) → IfOk r (λ b. IsTrue b ↔ B)
+same_answer (Ok b) law h = ((λ yes. law.0 (h.0 yes)), λ z. h.1 (law.1 z))
+same_answer (Err e) law h = tt
 
 -- order of moves before and after the place
 pub order_first : (m : Rules) (low : ℕ) (xs ys : List Move) → InOrder m low (xs ++ ys) → InOrder m low xs

@@ -7,9 +7,9 @@ use Rattle.reach.specs.Runs.{Fills, State}
 use Rattle.reach.specs.Past.{Holds}
 use Rattle.reach.specs.Tests.{InBound}
 use Rattle.reach.specs.declared.seen.AgeBound.{AgeBound}
-use Rattle.lane.specs.declared.moves.Move.{Move}
-use Rattle.lane.specs.declared.moves.Move.TheVariants.{Letter, Gap}
-use Rattle.lane.specs.Walks.{AfterMoves, InOrder, Walk}
+use Rattle.channel_path.specs.declared.moves.Move.{Move}
+use Rattle.channel_path.specs.declared.moves.Move.TheVariants.{Letter, Gap}
+use Rattle.channel_path.specs.Walks.{AfterMoves, InOrder, Walk}
 use Rattle.channel_window.specs.declared.keep.Keep.{Keep}
 use Rattle.channel_window.specs.declared.keep.Keep.TheVariants.{Interval, Colours}
 

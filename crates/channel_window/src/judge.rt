@@ -1,13 +1,13 @@
 // Whether some walk keeps a rule at a place between moves.
-ghost use Rattle.std.specs.Prelude.{◌≡◌, ◌↔◌, ◌++◌, ℕ, ◌<◌, ◌≤◌, ◌^◌, ℤ, pos, ◌<ℤ◌, length, IsTrue, IfOk, OnOk, MatchOption};
+ghost use Rattle.std.specs.Prelude.{◌≡◌, ◌↔◌, ◌++◌, ℕ, ◌<◌, ◌≤◌, pos, length, IsTrue, IfOk, OnOk, MatchOption};
 ghost use Rattle.reach.specs.Runs.{State};
 ghost use Rattle.reach.specs.Past.{Holds};
-ghost use Rattle.lane.specs.Walks.{AfterMoves, EnteredBefore, InOrder};
+ghost use Rattle.channel_path.specs.Walks.{AfterMoves, EnteredBefore, InOrder};
 ghost use Rattle.channel_window.specs.Moves.{AreKept, FitsKeep, IsEnd, IsEnding, IsFreeAt, KeepsBy, NoneKeeps, NoneKeepsFrom};
 
 use crate::keep::Keep;
+use channel_path::{Move, walk_past};
 use colour_machine::Machine;
-use lane::{Move, walk_past};
 use reach::{Past, past_gap, past_is_some, past_keep, past_only};
 use sig_base::NoMemory;
 use std::alloc::Global;
@@ -137,13 +137,11 @@ pub fn is_broken_from<M: Machine>(
         (KeepsBy keep (pos at)) after.now) }
 {
     let past = free_at(alloc, machine, from)?;
-    match moves_to_end(alloc, machine, &past, to, keep, at, after)? {
-        Some(_) => Ok(true),
-        None => Ok(false),
-    }
+    is_broken_after(alloc, machine, &past, to, keep, at, after)
 }
 
 /// Whether no walk from these states has the state that it is to have at the place.
+#[tactic(auto, using(crate::proofs::Nowhere::end_says))]
 pub fn is_broken_after<M: Machine>(
     alloc: Global,
     machine: &M,
@@ -161,8 +159,5 @@ pub fn is_broken_after<M: Machine>(
     ensures { IfOk result (λ b. IsTrue b ↔ NoneKeeps (M.rules machine.now) before.now to.now
         (KeepsBy keep (pos at)) after.now) }
 {
-    match moves_to_end(alloc, machine, before, to, keep, at, after)? {
-        Some(_) => Ok(true),
-        None => Ok(false),
-    }
+    Ok(moves_to_end(alloc, machine, before, to, keep, at, after)?.is_some())
 }

@@ -1,12 +1,12 @@
 -- The steps between the searches.
-use Rattle.std.proofs.Common.{◌≡◌, refl, ap, sym, ◌∙◌, subst, ◌⊎◌, inl, inr, ℕ, ◌+◌, ◌*◌, ◌<◌, ◌≤◌, true, List, [], length, take, get_or, arith}
+use Rattle.std.proofs.Common.{◌≡◌, refl, ap, sym, ◌∙◌, subst, ◌⊎◌, inl, inr, ℕ, ◌+◌, ◌<◌, ◌≤◌, true, List, [], length, take, get_or, arith}
 use Rattle.sig_base.specs.declared.values.Row.{Row}
 use Rattle.gap_map.specs.declared.stretch.Stretch.{Stretch}
 use Rattle.rule_audit.specs.declared.lines.Place.{Place}
 use Rattle.rule_audit.specs.declared.lines.Place.TheVariants.{BeforeRow, EndOfTenth}
 use Rattle.gap_map.specs.Stretches.{known_at}
 use Rattle.channel_tables.specs.declared.spec.Spec.{Spec}
-use Rattle.hour_store.specs.Store.{Store, is_known}
+use Rattle.hour_store.specs.Store.{Store}
 use Rattle.board.specs.History.{events_at}
 use Rattle.board.specs.Logs.{first_tenth, no_row}
 use Rattle.board.specs.Moves.{RowsIn, count_before}
@@ -83,39 +83,6 @@ cut_more s old new f g t k m x n p v one two le (lt, at) =
     let b = two.place.first in
     let log = [] in
     (lt, elim at [ inl known ↦ inl ((two.are.tells log).same_known v (omega arith) lt ∙ (sym ((one.are.tells log).same_known v (omega arith) lt) ∙ known)) | inr last ↦ inr last ])
-
-pub placed_row : (s : Store) (told : HoursTold) (f t k x n : ℕ) → ((specs : List Spec) → TellsOf (log_of specs s) told.rows.items told.stretches.items f t) → length told.rows.items ≤ 400000 * k → is_known s x ≡ true → n < length told.rows.items → (get_or told.rows.items n no_row).at ≡ x → f ≤ x → x < t → ArePlaced s told f t k x n
-placed_row s told f t k x n tells few known lt at low high =
-    let any = tells [] in
-    let here : known_at told.stretches.items (get_or told.rows.items n no_row).at ≡ true = rw at (any.same_known x low high ∙ known) in
-    record {
-      are = record { tells = tells; few = few };
-      place = subst (λ (y : ℕ). IsPlace f t told.rows.items told.stretches.items y n) at (place_before f t n told.rows.items told.stretches.items any.follow any.rows_in lt here);
-    }
-
-pub placed_end : (s : Store) (told : HoursTold) (f t k x : ℕ) → ((specs : List Spec) → TellsOf (log_of specs s) told.rows.items told.stretches.items f t) → length told.rows.items ≤ 400000 * k → is_known s x ≡ true → f ≤ x → x < t → ArePlaced s told f t k x (count_before (x + 1) told.rows.items)
-placed_end s told f t k x tells few known low high =
-    let any = tells [] in
-    let (k1, k2, k3, k4) = cut_rows f (x + 1) t told.rows.items (omega arith) (omega arith) any.rows_in in
-    record {
-      are = record { tells = tells; few = few };
-      place = record {
-        stretches = any.follow;
-        rows_in = any.rows_in;
-        first = low;
-        last = high;
-        is_known = any.same_known x low high ∙ known;
-        count = count_max (x + 1) told.rows.items;
-        before = k1;
-        after = rows_low (x + 1) x t _ (omega arith) k2;
-      };
-    }
-
-pub rank_end : (told : HoursTold) (s : Store) (f t x : ℕ) → ((specs : List Spec) → TellsOf (log_of specs s) told.rows.items told.stretches.items f t) → f ≤ x → x < t → rank told x (count_before (x + 1) told.rows.items) ≡ length (events_at told.rows.items x)
-rank_end told s f t x tells low high =
-    let any = tells [] in
-    let (k1, k2, k3, k4) = cut_rows f (x + 1) t told.rows.items (omega arith) (omega arith) any.rows_in in
-    ap (λ es. length es) (sym (k3 x (omega arith)))
 
 -- a place of a line in what is told
 pub place_is : (log : Log) (rows : List Row) (ss : List Stretch) (f t x : ℕ) (place : Place) → TellsOf log rows ss f t → log.known x ≡ true → f ≤ x → x < t → IsPlaceIn rows x place → IsPlace f t rows ss x (place_in rows x place)

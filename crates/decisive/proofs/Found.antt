@@ -6,8 +6,8 @@ use Rattle.channel_tables.specs.declared.spec.Spec.{Spec}
 use Rattle.colour_machine.specs.Rules.{Rules}
 use Rattle.span_set.specs.declared.set.Span.{Span}
 use Rattle.reach.specs.Runs.{State}
-use Rattle.lane.specs.Walks.{Walk}
-use Rattle.lane.specs.declared.moves.Move.{Move}
+use Rattle.channel_path.specs.Walks.{Walk}
+use Rattle.channel_path.specs.declared.moves.Move.{Move}
 use Rattle.board.specs.History.{events_at}
 use Rattle.board.specs.Moves.{own}
 use Rattle.board.specs.Places.{IsPlace, since, upto}

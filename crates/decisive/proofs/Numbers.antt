@@ -5,8 +5,8 @@ use Rattle.colour_machine.specs.Rules.{Rules}
 use Rattle.reach.specs.Runs.{State}
 use Rattle.gap_map.specs.declared.stretch.Stretch.{Stretch}
 use Rattle.gap_map.specs.Stretches.{FollowOn, known_at}
-use Rattle.lane.specs.declared.moves.Move.{Move}
-use Rattle.lane.specs.Walks.{Walk}
+use Rattle.channel_path.specs.declared.moves.Move.{Move}
+use Rattle.channel_path.specs.Walks.{Walk}
 use Rattle.board.specs.History.{Track, events_at}
 use Rattle.board.specs.Moves.{RowsIn, own}
 use Rattle.board.proofs.Bridge.{own_walk}

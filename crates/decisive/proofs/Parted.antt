@@ -14,7 +14,7 @@ use Rattle.reach.specs.Past.{Holds}
 use Rattle.reach.proofs.States.{fills_none}
 use Rattle.gap_map.specs.declared.stretch.Stretch.{Stretch}
 use Rattle.gap_map.specs.Stretches.{known_at}
-use Rattle.lane.specs.Walks.{Walk}
+use Rattle.channel_path.specs.Walks.{Walk}
 use Rattle.ring_config.specs.declared.items.IntervalItem.{IntervalItem}
 use Rattle.board.specs.declared.clause.Term.{Term}
 use Rattle.board.specs.Channels.{AreSpecs}

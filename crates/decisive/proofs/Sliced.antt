@@ -5,7 +5,7 @@ use Rattle.std.proofs.lemmas.List.{length-take-le, take_all, take-append-drop}
 use Rattle.sig_base.specs.declared.values.Row.{Row}
 use Rattle.gap_map.specs.declared.stretch.Stretch.{Stretch}
 use Rattle.gap_map.specs.Stretches.{FollowOn, known_at}
-use Rattle.lane.specs.declared.moves.Move.{Move}
+use Rattle.channel_path.specs.declared.moves.Move.{Move}
 use Rattle.board.specs.History.{Track}
 use Rattle.board.specs.Moves.{RowsIn, count_before, letter_moves, own, stretch_moves, with_letter}
 use Rattle.board.specs.Places.{IsPlace, since, upto}

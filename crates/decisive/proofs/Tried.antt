@@ -1,16 +1,14 @@
 -- A try over moves that are cut is the judgement of the rows and the stretches that are left.
-use Rattle.std.proofs.Common.{◌≡◌, ap, sym, ◌∙◌, subst, inl, inr, ◌↔◌, ℕ, ◌+◌, ◌<◌, ◌≤◌, pos, Bool, IsTrue, List, [], ◌++◌, length, take, drop, get_or, arith}
-use Rattle.std.specs.Prelude.{IfOk, Result, Ok, Err}
+use Rattle.std.proofs.Common.{◌≡◌, ap, sym, ◌∙◌, subst, inl, inr, ◌↔◌, ℕ, ◌+◌, ◌<◌, ◌≤◌, pos, Bool, List, [], ◌++◌, length, take, drop, get_or, arith}
 use Rattle.std.proofs.lemmas.List.{get_or_default}
-use Rattle.sig_base.specs.declared.memory.NoMemory.{NoMemory}
 use Rattle.sig_base.specs.declared.values.Row.{Row}
 use Rattle.colour_machine.specs.Rules.{Rules}
 use Rattle.reach.specs.Runs.{State}
 use Rattle.span_set.specs.declared.set.Span.{Span}
 use Rattle.gap_map.specs.declared.stretch.Stretch.{Stretch}
 use Rattle.channel_tables.specs.declared.spec.Spec.{Spec}
-use Rattle.lane.specs.declared.moves.Move.{Move}
-use Rattle.lane.specs.Walks.{InOrder, Walk}
+use Rattle.channel_path.specs.declared.moves.Move.{Move}
+use Rattle.channel_path.specs.Walks.{InOrder, Walk}
 use Rattle.gap_map.specs.Stretches.{FollowOn}
 use Rattle.board.specs.Courses.{AreCourses}
 use Rattle.board.specs.Logs.{no_spec}
@@ -102,7 +100,3 @@ module _ (specs : List Spec) (p : Part) (f t x n i m : ℕ) (rows : List Row) (s
   tried ms first rest is takes =
       let (e1, e2) = takes to on (subst (λ (zs : List Move). IsCutBy (stands_before m x) zs to on) (sym is) cut_here) in
       rw (e1, e2) (order_here, breaks_here)
-
-pub same_answer : {A B : Type 0} → (r : Result Bool NoMemory) → A ↔ B → IfOk r (λ b. IsTrue b ↔ A) → IfOk r (λ b. IsTrue b ↔ B)
-same_answer (Ok b) law h = ((λ y. law.0 (h.0 y)), λ z. h.1 (law.1 z))
-same_answer (Err e) law h = tt

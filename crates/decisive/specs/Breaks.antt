@@ -3,7 +3,7 @@ use Rattle.std.specs.Prelude.{◌≡◌, ℕ, ◌<◌, pos, List, [], length, ta
 use Rattle.sig_base.specs.declared.values.Row.{Row}
 use Rattle.gap_map.specs.declared.stretch.Stretch.{Stretch}
 use Rattle.channel_tables.specs.declared.spec.Spec.{Spec}
-use Rattle.lane.specs.declared.moves.Move.{Move}
+use Rattle.channel_path.specs.declared.moves.Move.{Move}
 use Rattle.channel_window.specs.Moves.{FitsKeep, KeepsBy, NoneKeeps, NoneKeepsFrom}
 use Rattle.board.specs.Channels.{AreSpecs, track}
 use Rattle.board.specs.History.{Track}

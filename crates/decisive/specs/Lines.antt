@@ -1,7 +1,7 @@
 -- The window of a line of an audit.
 use Rattle.std.specs.Prelude.{◌≡◌, ℕ, ◌+◌, ◌/◌, ◌<◌, List, length}
 use Rattle.sig_base.specs.declared.values.Row.{Row}
-use Rattle.hour_store.specs.Store.{Store}
+use Rattle.hour_store.specs.Store.{IsStore, Store}
 use Rattle.channel_tables.specs.declared.spec.Spec.{Spec}
 use Rattle.board.specs.Courses.{AreCourses}
 use Rattle.board.specs.Logs.{first_tenth}
@@ -35,6 +35,7 @@ IsWindowIn c s rules line u v = IsDecisive (log_of c.specs s) (rows_of_line s li
 
 -- what is told of an hour of the store, cut into the moves of each channel, and the states at the point before it
 pub record AreHourMoves (specs : List Spec) (s : Store) (hour : ℕ) (m : HourMoves) : Type 0 where
+  pub is_store : IsStore s
   pub within : hour < length s.hours
   pub pasts : ArePastsAt (log_of specs s) hour m.before.now
   pub tells : (some : List Spec) → TellsOf (log_of some s) m.rows.now m.stretches.items (first_tenth hour) (first_tenth (hour + 1))

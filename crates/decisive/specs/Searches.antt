@@ -3,12 +3,11 @@ use Rattle.std.specs.Prelude.{◌≡◌, ◌⊎◌, ℕ, ◌+◌, ◌*◌, ◌<�
 use Rattle.sig_base.specs.declared.values.Row.{Row}
 use Rattle.gap_map.specs.declared.stretch.Stretch.{Stretch}
 use Rattle.channel_tables.specs.declared.spec.Spec.{Spec}
-use Rattle.hour_store.specs.Store.{Store, rows_at}
+use Rattle.hour_store.specs.Store.{Store}
 use Rattle.board.specs.History.{events_at}
 use Rattle.board.specs.Logs.{first_tenth}
 use Rattle.board.specs.Places.{IsPlace}
 use Rattle.signal_log.specs.Log.{log_of}
-use Rattle.signal_log.specs.Points.{rows_or_none}
 use Rattle.rule_audit.specs.declared.lines.Place.{Place}
 use Rattle.rule_audit.specs.declared.lines.Place.TheVariants.{BeforeRow, EndOfTenth}
 use Rattle.decisive.specs.declared.hours.HoursTold.{HoursTold}
@@ -17,7 +16,6 @@ use Rattle.decisive.specs.declared.judge.Start.{Start}
 use Rattle.decisive.specs.declared.parts.Part.{Part}
 use Rattle.decisive.specs.Candidates.{BeginsBy, EndsBy, IsFirstEnd, IsLastBegin, NoneBegins, NoneEnds}
 use Rattle.decisive.specs.Laws.{TellsOf}
-use Rattle.signal_log.specs.Rows.{hour_rows}
 
 -- the end is tenth x itself, or else that of the first row after the place up to whose tenth it breaks
 abbrev pub IsEndAt : Start → List Spec → List Part → ℕ → List Row → List Stretch → ℕ → ℕ → Type 0

@@ -114,6 +114,10 @@ pub record IsNearest (aim : Aim) (q : Question) (told : Told) (i : ℕ) : Type 0
   pub does : DoesAt aim q told i
   pub nearest : NoneDo aim q told i
 
+-- the tenth is that of the nearest candidate that does
+abbrev pub IsNearestTenth : Aim → Question → Told → ℕ → Type 0
+IsNearestTenth aim q told y = (i : ℕ) × IsNearest aim q told i × (tenth_at aim told i ≡ y)
+
 -- of the list of rows this one does, and none before it
 abbrev pub IsFirstOf : Aim → Question → Told → Trail → ℕ → Type 0
 IsFirstOf aim q told trail k = (k < length trail.found.items) × DoesAt aim q told (found_at trail k) × ((j : ℕ) → j < k → DoesAt aim q told (found_at trail j) → ⊥)

@@ -1,10 +1,9 @@
 -- How little of a log still breaks an obligation: the decisive window.
-use Rattle.std.specs.Prelude.{◌≡◌, ◌⊎◌, ℕ, ◌+◌, ◌-◌, ◌<◌, ◌≤◌, ◌&&◌, not, Bool, true, nat_lt, IsTrue, List, length, take, filter, slice_index_or}
+use Rattle.std.specs.Prelude.{◌≡◌, ◌⊎◌, ℕ, ◌+◌, ◌-◌, ◌<◌, ◌≤◌, ◌&&◌, not, Bool, true, nat_lt, IsTrue, List, length, filter, slice_index_or}
 use Rattle.sig_base.specs.declared.values.Row.{Row}
 use Rattle.sig_base.specs.declared.values.Verdict.{Verdict}
 use Rattle.sig_base.specs.declared.values.Verdict.TheVariants.{Broken}
 use Rattle.channel_tables.specs.declared.spec.Spec.{Spec}
-use Rattle.board.specs.History.{events_at}
 use Rattle.board.specs.Logs.{no_row}
 use Rattle.signal_log.specs.Log.{Log, window_end}
 use Rattle.signal_log.specs.States.{MayBeAfter, MayBeAtEnd}

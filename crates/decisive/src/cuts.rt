@@ -1,9 +1,9 @@
 // A channel's moves cut at a tenth or at a place, by halving.
-ghost use Rattle.std.specs.Prelude.{◌≡◌, ◌+◌, List, IsTrue};
-ghost use Rattle.lane.specs.declared.moves.Move.{Move};
+ghost use Rattle.std.specs.Prelude.{◌≡◌, ◌+◌, List};
+ghost use Rattle.channel_path.specs.declared.moves.Move.{Move};
 ghost use Rattle.decisive.specs.Cuts.{IsCutBy, begins_before, stands_before};
 
-use lane::Move;
+use channel_path::Move;
 
 // Whether it is a letter before the tenth, or a gap that begins before it.
 fn begins_before(one: Move, tenth: u64) -> bool

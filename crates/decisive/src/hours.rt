@@ -2,6 +2,8 @@
 ghost use Rattle.std.specs.Prelude.{◌≡◌, ◌++◌, ◌+◌, ◌<◌, ◌≤◌, ◌^◌, ℕ, List, length, option_copied, IfOk, OnOk};
 ghost use Rattle.channel_tables.specs.declared.spec.Spec.{Spec};
 ghost use Rattle.hour_store.specs.Store.{rows_at};
+ghost use Rattle.board.specs.Channels.{AreSpecs};
+ghost use Rattle.board.specs.Courses.{AreCourses};
 ghost use Rattle.board.specs.Logs.{first_tenth};
 ghost use Rattle.signal_log.specs.Log.{log_of};
 ghost use Rattle.signal_log.specs.Points.{ArePastsAt, rows_or_none};
@@ -12,6 +14,7 @@ ghost use Rattle.decisive.specs.Lines.{AreHourMoves};
 
 use crate::judge::Told;
 use board::{Course, Pasts, courses_of};
+use channel_tables::Spec;
 use gap_map::{Stretch, stretches};
 use hour_store::HourStore;
 use ring_config::Config;
@@ -30,6 +33,33 @@ pub(crate) struct HoursTold {
 pub(crate) struct Placed {
     pub(crate) told: HoursTold,
     pub(crate) place: usize,
+}
+
+impl Placed {
+    /// Each channel's moves of what is told.
+    pub(crate) fn courses(&self, alloc: Global, specs: &[Spec]) -> Result<Vec<Course>, NoMemory>
+        requires specs { AreSpecs specs.now }
+        requires few { length self.now.told.rows.items < 2 ^ 32 }
+        ensures { IfOk result (λ v. AreCourses specs.now self.now.told.rows.items
+            self.now.told.stretches.items v.items) }
+    {
+        courses_of(alloc, specs, &self.told.rows, &self.told.stretches)
+    }
+
+    /// What is told, with these moves of it.
+    pub(crate) fn told_with<'a>(&'a self, courses: &'a [Course]) -> Told<'a>
+        ensures rows { result.rows.now ≡ self.now.told.rows.items }
+        ensures stretches { result.stretches.now ≡ self.now.told.stretches.items }
+        ensures courses { result.courses.now ≡ courses.now }
+        ensures place { result.place ≡ self.now.place }
+    {
+        Told {
+            rows: self.told.rows.as_slice(),
+            stretches: self.told.stretches.as_slice(),
+            courses,
+            place: self.place,
+        }
+    }
 }
 
 // The rows, or none.
@@ -61,7 +91,6 @@ pub(crate) fn hour_told<L>(
     ensures few { IfOk result (λ t. length t.rows.items ≤ 400000) }
     ensures grow { Grow reads.old reads.new }
 {
-    let _hours = store.hours();
     let rows = store.open_hour(hour, reads);
     let cut = stretches(alloc, hour, rows.is_some(), store.blanked())?;
     let own = copied(alloc, rows)?;
@@ -96,7 +125,6 @@ impl<'a> HourMoves<'a> {
         ensures moves { IfOk result (AreHourMoves config.now.specs store.now hour) }
         ensures grow { Grow reads.old reads.new }
     {
-        let _hours = store.hours();
         let opened = store.open_hour(hour, reads);
         let cut = stretches(alloc, hour, opened.is_some(), store.blanked())?;
         let rows = shown(opened);

@@ -1,6 +1,6 @@
 // Whether an obligation is broken over some tenths alone.
 ghost use Rattle.std.specs.Prelude.{◌↔◌, ◌++◌, ℕ, ◌≤◌, IsTrue, IfOk};
-ghost use Rattle.lane.specs.Walks.{InOrder};
+ghost use Rattle.channel_path.specs.Walks.{InOrder};
 ghost use Rattle.board.specs.Channels.{AreSpecs};
 ghost use Rattle.decisive.specs.Breaks.{Breaks, FitsPart, FitsStart, track_of};
 ghost use Rattle.decisive.specs.Cuts.{IsCutAfter, IsCutBefore};
@@ -9,10 +9,10 @@ ghost use Rattle.decisive.specs.Tries.{Begins, Ends, IsToldAt, PartBegins, PartE
 use crate::cuts::{about_place, moves_from, moves_to};
 use crate::parts::Part;
 use board::{Course, Pasts};
+use channel_path::Move;
 use channel_tables::{Spec, machine_of};
 use channel_window::{is_broken_after, is_broken_from};
 use gap_map::Stretch;
-use lane::Move;
 use sig_base::{NoMemory, Row};
 use std::alloc::Global;
 

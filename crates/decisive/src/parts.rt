@@ -1,5 +1,5 @@
 // An obligation, channel by channel.
-ghost use Rattle.std.specs.Prelude.{◌≡◌, ◌++◌, [], ◌∷◌, IfOk, OnOk, map};
+ghost use Rattle.std.specs.Prelude.{◌≡◌, IfOk, map};
 ghost use Rattle.board.specs.declared.clause.Term.{Term};
 ghost use Rattle.decisive.specs.Parts.{parts_of, term_part};
 

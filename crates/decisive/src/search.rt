@@ -5,7 +5,7 @@ ghost use Rattle.gap_map.specs.Stretches.{FollowOn};
 ghost use Rattle.board.specs.Logs.{no_row};
 ghost use Rattle.decisive.specs.Breaks.{FitsParts, FitsStart};
 ghost use Rattle.decisive.specs.Cuts.{IsCutAfter};
-ghost use Rattle.decisive.specs.Tries.{BeginsGrow, DoesAt, EndsGrow, IsBeginRow, IsCandidateRow, IsEndRow, IsFirstOf, IsNearest, IsOwnAt, IsSought, IsToldAt, IsTrail, NoBeginRow, NoEndRow, NoneDo, found_at, row_at, row_count};
+ghost use Rattle.decisive.specs.Tries.{BeginsGrow, DoesAt, EndsGrow, IsBeginRow, IsCandidateRow, IsEndRow, IsFirstOf, IsNearest, IsNearestTenth, IsOwnAt, IsSought, IsToldAt, IsTrail, NoBeginRow, NoEndRow, NoneDo, found_at, row_at, row_count};
 
 use crate::judge::{Question, Start, Told, begins_by, ends_by};
 use crate::rows::{is_known, is_row_of_parts};
@@ -45,9 +45,8 @@ fn row_from(told: &Told<'_>, aim: &Aim<'_>, i: usize) -> Row
     requires within { i < row_count aim.now told.now }
     ensures { result ≡ slice_index_or told.now.rows.now (row_at aim.now told.now i) no_row }
 {
-    let _count = told.rows.len();
     match aim {
-        Aim::End(_start) => told.rows[told.place + i],
+        Aim::End(_start) => told.rows[told.place..][i],
         Aim::Begin(_last) => told.rows[told.place - 1 - i],
     }
 }
@@ -189,6 +188,23 @@ fn nearest(
     try_last(alloc, question, told, aim, &trail)
 }
 
+// Its tenth.
+fn nearest_tenth(
+    alloc: Global,
+    question: &Question<'_>,
+    told: &Told<'_>,
+    aim: &Aim<'_>,
+) -> Result<Option<u32>, NoMemory>
+    requires sought { IsSought aim.now question.now told.now }
+    ensures { IfOk result (λ r. MatchOption r (NoneDo aim.now question.now told.now
+        (row_count aim.now told.now)) (IsNearestTenth aim.now question.now told.now)) }
+{
+    match nearest(alloc, question, told, aim)? {
+        Some(i) => Ok(Some(row_from(told, aim, i).at)),
+        None => Ok(None),
+    }
+}
+
 /// The tenth of the first candidate among the rows after the place up to which the tenths break it.
 pub(crate) fn first_end(
     alloc: Global,
@@ -202,11 +218,7 @@ pub(crate) fn first_end(
     ensures { IfOk result (λ r. MatchOption r (NoEndRow start.now question.now told.now)
         (IsEndRow start.now question.now told.now)) }
 {
-    let aim = Aim::End(start);
-    match nearest(alloc, question, told, &aim)? {
-        Some(i) => Ok(Some(row_from(told, &aim, i).at)),
-        None => Ok(None),
-    }
+    nearest_tenth(alloc, question, told, &Aim::End(start))
 }
 
 /// The tenth of the last candidate among the rows before the place from which on the tenths up to
@@ -223,9 +235,5 @@ pub(crate) fn last_begin(
     ensures { IfOk result (λ r. MatchOption r (NoBeginRow question.now told.now last)
         (IsBeginRow question.now told.now last)) }
 {
-    let aim = Aim::Begin(last);
-    match nearest(alloc, question, told, &aim)? {
-        Some(i) => Ok(Some(row_from(told, &aim, i).at)),
-        None => Ok(None),
-    }
+    nearest_tenth(alloc, question, told, &Aim::Begin(last))
 }

@@ -7,8 +7,7 @@ ghost use Rattle.signal_log.specs.Points.{ArePastsAt};
 ghost use Rattle.rule_audit.specs.Rules.{rules_for};
 ghost use Rattle.board.specs.Moves.{RowsIn};
 ghost use Rattle.decisive.specs.declared.judge.Start.TheVariants.{Kept};
-ghost use Rattle.decisive.specs.Breaks.{FitsParts, FitsStart};
-ghost use Rattle.decisive.specs.Candidates.{FromLog};
+ghost use Rattle.decisive.specs.Breaks.{FitsParts};
 ghost use Rattle.decisive.specs.Searches.{AreFound, ArePlaced, rank, rank_in};
 ghost use Rattle.signal_log.specs.Rows.{hour_rows};
 ghost use Rattle.sig_base.specs.Reads.{Grow};
@@ -26,6 +25,17 @@ use ring_config::Config;
 use rule_audit::{AuditLine, Place, Rule};
 use sig_base::{Hour, NoMemory, Reads, Row};
 use std::alloc::Global;
+
+// After how many of the hour's rows the place of a line is.
+fn place_in(rows: &[Row], at: u32, place: Place) -> usize
+    requires { IsPlaceIn rows.now at place }
+    ensures { (f t : ℕ) → RowsIn f t rows.now → result ≡ place_in rows.now at place }
+{
+    match place {
+        Place::BeforeRow(row) => row as usize,
+        Place::EndOfTenth => rows_before(rows, at as u64 + 1),
+    }
+}
 
 // What is told of the hour, with the place.
 fn placed_in<L>(
@@ -48,48 +58,11 @@ fn placed_in<L>(
     ensures grow { Grow reads.old reads.new }
 {
     let told = hour_told(alloc, store, hour, reads)?;
-    match place {
-        Place::BeforeRow(row) => Ok(Placed {
-            told,
-            place: row as usize,
-        }),
-        Place::EndOfTenth => {
-            let count = rows_before(&told.rows, at as u64 + 1);
-            Ok(Placed { told, place: count })
-        }
-    }
+    let place = place_in(&told.rows, at, place);
+    Ok(Placed { told, place })
 }
 
-// The begin and the end, the end first looked for.
-fn window_of<L>(
-    alloc: Global,
-    question: &Question<'_>,
-    start: &Start<'_>,
-    store: &HourStore<L>,
-    hour: Hour,
-    first: Placed,
-    reads: &mut Reads<L>,
-) -> Result<(u32, u32), NoMemory>
-    requires parts { FitsParts question.now.specs.now question.now.parts.now }
-    requires within { hour < length store.now.hours }
-    requires start { FitsStart start.now question.now.specs.now (first_tenth hour) }
-    requires history { HasHistory (log_of question.now.specs.now store.now) }
-    requires from { FromLog (log_of question.now.specs.now store.now) start.now (first_tenth hour)
-        0 }
-    requires place { ArePlaced store.now first.told (first_tenth hour) (first_tenth (hour + 1))
-        (hour + 1) question.now.at first.place }
-    ensures found { IfOk result (λ w. AreFound start.now store.now question.now.specs.now
-        question.now.parts.now hour question.now.at (rank first.told question.now.at first.place)
-        w.0 w.1) }
-    ensures grow { Grow reads.old reads.new }
-{
-    let _hours = store.hours();
-    let (end, placed) = search_end(alloc, question, start, store, hour, first, reads)?;
-    let begin = search_begin(alloc, question, store, hour, placed, end, reads)?;
-    Ok((begin, end))
-}
-
-// The window, looked for hour by hour.
+// The window, looked for hour by hour: its end, and then its begin.
 fn search_window<L>(
     alloc: Global,
     question: &Question<'_>,
@@ -111,29 +84,12 @@ fn search_window<L>(
         (rank_in (hour_rows store.now (question.now.at / 36000)) question.now.at place) w.0 w.1) }
     ensures grow { Grow reads.old reads.new }
 {
-    let _hours = store.hours();
     let hour = question.at / 36_000;
+    let start = Start::Kept(before);
     let first = placed_in(alloc, store, hour, question.at, place, reads)?;
-    window_of(
-        alloc,
-        question,
-        &Start::Kept(before),
-        store,
-        hour,
-        first,
-        reads,
-    )
-}
-
-// After how many of the hour's rows the place of a line is.
-fn place_in(rows: &[Row], at: u32, place: Place) -> usize
-    requires { IsPlaceIn rows.now at place }
-    ensures { (f t : ℕ) → RowsIn f t rows.now → result ≡ place_in rows.now at place }
-{
-    match place {
-        Place::BeforeRow(row) => row as usize,
-        Place::EndOfTenth => rows_before(rows, at as u64 + 1),
-    }
+    let (end, placed) = search_end(alloc, question, &start, store, hour, first, reads)?;
+    let begin = search_begin(alloc, question, store, hour, placed, end, reads)?;
+    Ok((begin, end))
 }
 
 // The begin, where the line's own tenth is the end and the begin is in its hour.
@@ -177,7 +133,6 @@ pub fn window_in<L>(
     ensures window { IfOk result (λ w. IsWindowIn config.now store.now rules.now line.now w.0 w.1) }
     ensures grow { Grow reads.old reads.new }
 {
-    let _hours = store.hours();
     let specs = config.specs();
     let parts = parts_of(alloc, &rules[line.rule as usize - 1])?;
     let question = Question {
@@ -210,7 +165,6 @@ pub fn decisive_window<L>(
     ensures window { IfOk result (λ w. IsWindowIn config.now store.now rules.now line.now w.0 w.1) }
     ensures grow { Grow reads.old reads.new }
 {
-    let _hours = store.hours();
     let moves = HourMoves::new(alloc, config, store, before, line.at / 36_000, reads)?;
     window_in(alloc, config, rules, store, &moves, line, reads)
 }

@@ -1,5 +1,6 @@
 // The searches for a window's ends and begin, hour by hour.
-ghost use Rattle.std.specs.Prelude.{◌≡◌, ℕ, ◌+◌, ◌<◌, ◌≤◌, ◌^◌, length, IfOk, MatchOption};
+ghost use Rattle.std.specs.Prelude.{ℕ, ◌+◌, ◌<◌, ◌≤◌, ◌^◌, length, IfOk, MatchOption};
+ghost use Rattle.hour_store.specs.Store.{IsStore};
 ghost use Rattle.board.specs.Logs.{first_tenth};
 ghost use Rattle.board.specs.Places.{IsPlace};
 ghost use Rattle.signal_log.specs.Log.{HasHistory, log_of};
@@ -13,7 +14,6 @@ ghost use Rattle.decisive.specs.Tries.{Begins, BeginsGrow, EndsGrow, IsBeginIn, 
 use crate::hours::{Placed, add_hour, hour_before};
 use crate::judge::{Question, Start, Told, begins_by, ends_by};
 use crate::search::{first_end, last_begin};
-use board::courses_of;
 use hour_store::HourStore;
 use sig_base::{Hour, NoMemory, Reads};
 use std::alloc::Global;
@@ -97,15 +97,8 @@ fn end_in(
     ensures { IfOk result (λ r. MatchOption r (NoEndIn start.now question.now placed.now last)
         (IsEndIn start.now question.now placed.now)) }
 {
-    let rows = placed.told.rows.as_slice();
-    let stretches = placed.told.stretches.as_slice();
-    let courses = courses_of(alloc, question.specs, rows, stretches)?;
-    let told = Told {
-        rows,
-        stretches,
-        courses: courses.as_slice(),
-        place: placed.place,
-    };
+    let courses = placed.courses(alloc, question.specs)?;
+    let told = placed.told_with(&courses);
     end_within(alloc, question, start, &told, last)
 }
 
@@ -127,15 +120,8 @@ fn begin_in(
     ensures { IfOk result (λ r. MatchOption r (NoBeginIn question.now placed.now last first)
         (IsBeginIn question.now placed.now last)) }
 {
-    let rows = placed.told.rows.as_slice();
-    let stretches = placed.told.stretches.as_slice();
-    let courses = courses_of(alloc, question.specs, rows, stretches)?;
-    let told = Told {
-        rows,
-        stretches,
-        courses: courses.as_slice(),
-        place: placed.place,
-    };
+    let courses = placed.courses(alloc, question.specs)?;
+    let told = placed.told_with(&courses);
     begin_within(alloc, question, &told, first, last)
 }
 
@@ -160,6 +146,7 @@ pub(crate) fn search_end<L>(
     ensures found { IfOk result (λ r. IsEndFound start.now store.now question.now.specs.now
         question.now.parts.now hour question.now.at (rank first.told question.now.at first.place)
         r.0 r.1) }
+    ensures store { IsStore store.now }
     ensures grow { Grow reads.old reads.new }
 {
     let mut placed = first;
@@ -190,6 +177,7 @@ pub(crate) fn search_begin<L>(
     reads: &mut Reads<L>,
 ) -> Result<u32, NoMemory>
     requires parts { FitsParts question.now.specs.now question.now.parts.now }
+    requires store { IsStore store.now }
     requires within { hour < length store.now.hours }
     requires history { HasHistory (log_of question.now.specs.now store.now) }
     requires late { question.now.at ≤ end }
@@ -200,7 +188,6 @@ pub(crate) fn search_begin<L>(
         question.now.parts.now question.now.at (rank first.told question.now.at first.place) end) }
     ensures grow { Grow reads.old reads.new }
 {
-    let _hours = store.hours();
     let mut placed = first;
     for back in 0..hour {
         let from = hour - back;

@@ -6,8 +6,8 @@ use Rattle.std.proofs.lemmas.List.{append-nil}
 use Rattle.colour_machine.specs.Rules.{Rules}
 use Rattle.sig_base.specs.declared.values.Row.{Row}
 use Rattle.reach.specs.Runs.{State}
-use Rattle.lane.specs.declared.moves.Move.{Move}
-use Rattle.lane.specs.Walks.{Walk}
+use Rattle.channel_path.specs.declared.moves.Move.{Move}
+use Rattle.channel_path.specs.Walks.{Walk}
 use Rattle.board.specs.History.{Agree, Agreeing, Event, Track, event_of, events_at, letters}
 use Rattle.board.specs.Moves.{RowsIn, letter_moves, with_letter}
 use Rattle.board.proofs.Bridge.{event_not_here, lt_tells, none_at, rows_walk}

@@ -12,7 +12,6 @@ use Rattle.reach.specs.Tests.{InBound}
 use Rattle.reach.specs.declared.seen.AgeBound.{AgeBound}
 use Rattle.hour_store.specs.Store.{Store}
 use Rattle.board.specs.declared.clause.Term.{Term}
-use Rattle.board.specs.Channels.{AreSpecs}
 use Rattle.board.specs.History.{events_at}
 use Rattle.board.specs.Logs.{no_spec}
 use Rattle.board.specs.Verdicts.{AreApart, AreWithin, HasSpec, Keeps, NotOf}
@@ -31,7 +30,7 @@ use Rattle.filling_pair.specs.declared.asks.Ask.{Ask}
 use Rattle.filling_pair.specs.declared.strands.Pair.{Pair}
 use Rattle.filling_pair.specs.declared.strands.Strand.{Strand}
 use Rattle.filling_pair.specs.Asks.{AreHolding, FitAsks, HasAsk, IsAmong, IsClauseOf, IsOpenClause, IsTermOf, LacksReply, MayStand, NoneHolds, NoneStands, Replies, ReplyAll, Shows, ShowsBoth, failing, test_of}
-use Rattle.filling_pair.specs.Kept.{HoldsIn, IsPlaced, KeepsAt, KeepsBy, StandsAt, StandsAtLine, line_rows}
+use Rattle.filling_pair.specs.Kept.{HoldsIn, KeepsAt, KeepsBy, StandsAt, StandsAtLine, line_rows}
 use Rattle.filling_pair.specs.Strands.{IsAbout}
 use Rattle.filling_pair.proofs.Showing.{KeepsHere, are_strands, have_few, kept_never, kept_with, stands_once}
 
@@ -149,7 +148,7 @@ met_has n c a at v ((spec, bound, met, own, other), _) = (
 )
 
 -- ---- the clause at the end of the line's tenth
-module _ (specs : List Spec) (s : Store) (line : AuditLine) (terms : List Term) (are : AreSpecs specs) (within : AreWithin (length specs) terms) (apart : AreApart terms) (placed : IsPlaced s line) (some : IsOpenClause specs s line terms) where
+module _ (specs : List Spec) (s : Store) (line : AuditLine) (terms : List Term) (given : IsOpenClause specs s line terms) where
   abbrev Of : Log
   Of = log_of specs s
 
@@ -157,25 +156,25 @@ module _ (specs : List Spec) (s : Store) (line : AuditLine) (terms : List Term) 
   Rows = line_rows s line
 
   may_stand : (i : ℕ) (v : State) → MayBeAtEndOf Of i line.at v → MayStand Of Rows i line.at line.place v
-  may_stand i v may = subst (λ (p : Place). MayStand Of Rows i line.at p v) (sym some.0) may
+  may_stand i v may = subst (λ (p : Place). MayStand Of Rows i line.at p v) (sym given.at_end) may
 
   holds_there : (rule : Rule) (z : Strand) → IsClauseOf rule terms → KeepsHere specs s line rule z ↔ ((v : State) × StandsAtLine specs s line z v × HoldsIn terms z.spec v.colour)
   holds_there rule z clause = (
     (λ kept.
-        let (v, stands, keeps) = subst (λ (p : Place). KeepsAt Of Rows line.at p rule z) some.0 kept in
-        (v, subst (λ (p : Place). StandsAt Of Rows line.at p z v) (sym some.0) stands, (clause_by rule terms specs Rows z.spec v clause).1 keeps)),
+        let (v, stands, keeps) = subst (λ (p : Place). KeepsAt Of Rows line.at p rule z) given.at_end kept in
+        (v, subst (λ (p : Place). StandsAt Of Rows line.at p z v) (sym given.at_end) stands, (clause_by rule terms specs Rows z.spec v clause).1 keeps)),
     λ (v, stands, holds).
-        let stands2 = subst (λ (p : Place). StandsAt Of Rows line.at p z v) some.0 stands in
-        subst (λ (p : Place). KeepsAt Of Rows line.at p rule z) (sym some.0) (v, stands2, (clause_by rule terms specs Rows z.spec v clause).0 holds),
+        let stands2 = subst (λ (p : Place). StandsAt Of Rows line.at p z v) given.at_end stands in
+        subst (λ (p : Place). KeepsAt Of Rows line.at p rule z) (sym given.at_end) (v, stands2, (clause_by rule terms specs Rows z.spec v clause).0 holds),
   )
 
   -- ---- no term holds
   pub breaks_lacks : LacksReply specs s line (map failing terms) → ⊥
   breaks_lacks (a, among, none) =
       let (c, is, e) = failing_term terms a among in
-      let (v, (h, agrees, ends), broken) = some.1.1 in
+      let (v, (h, agrees, ends), broken) = given.verdict.1 in
       let none2 = subst (λ (b : Ask). NoneStands specs s line b) e none in
-      none2 (v c.spec) (may_stand c.spec (v c.spec) (h, agrees, ends c.spec (term_within (length specs) terms c within is))) (λ meets. broken (term_keeps terms c v is meets.0))
+      none2 (v c.spec) (may_stand c.spec (v c.spec) (h, agrees, ends c.spec (term_within (length specs) terms c given.within is))) (λ meets. broken (term_keeps terms c v is meets.0))
 
   broken_there : (rule : Rule) (z : Strand) (a : Ask) → IsClauseOf rule terms → IsAmong a (map failing terms) → Replies specs s line a z → KeepsHere specs s line rule z → ⊥
   broken_there rule z a clause among reply kept =
@@ -185,12 +184,12 @@ module _ (specs : List Spec) (s : Store) (line : AuditLine) (terms : List Term) 
       let (u, there, holds) = (holds_there rule z clause).0 kept in
       let one : u ≡ v = stands_once Of Rows line.at line.place z u v there stands in
       let (d, other, spec, has) = holds_term terms z.spec u.colour holds in
-      let same : d ≡ c = one_term terms d c apart other is (spec ∙ mine.spec) in
+      let same : d ≡ c = one_term terms d c given.apart other is (spec ∙ mine.spec) in
       none (subst (λ (y : Term). Has y.colours v.colour) same (subst (λ (x : State). Has d.colours x.colour) one has), tt)
 
   pub breaks_shows : (ss : List Strand) → ReplyAll specs s line (map failing terms) ss → (rule : Rule) → IsClauseOf rule terms → Shows specs s line rule false ss
   breaks_shows ss r rule clause = record {
-    strands = are_strands specs s line (map failing terms) rule ss (failing_fit specs terms within) (λ i. let here = failing_has terms i in let there = clause_about rule terms i clause in ((λ h. there.0 (here.0 h)), λ h. here.1 (there.1 h))) r;
+    strands = are_strands specs s line (map failing terms) rule ss (failing_fit specs terms given.within) (λ i. let here = failing_has terms i in let there = clause_about rule terms i clause in ((λ h. there.0 (here.0 h)), λ h. here.1 (there.1 h))) r;
     said = kept_never specs s line (map failing terms) rule ss r.each (λ z a among reply kept. broken_there rule z a clause among reply kept);
     few = have_few specs s line (map failing terms) ss r.each;
   }
@@ -198,10 +197,10 @@ module _ (specs : List Spec) (s : Store) (line : AuditLine) (terms : List Term) 
   -- ---- one term holds
   some_colour : (i : ℕ) → i < length specs → (v : State) × MayBeAtEndOf Of i line.at v × (v.colour < 16)
   some_colour i lt =
-      let (v, (h, agrees, ends), keeps) = some.1.0 in
+      let (v, (h, agrees, ends), keeps) = given.verdict.0 in
       let may : MayBeAtEndOf Of i line.at (v i) = (h, agrees, ends i lt) in
-      let ((u, before, run), rest) = one_end Of i line.at (v i) lt placed.within may in
-      let machine = spec_machine (get_or specs i no_spec) (are.fit i no_spec lt) in
+      let ((u, before, run), rest) = one_end Of i line.at (v i) lt given.placed.within may in
+      let machine = spec_machine (get_or specs i no_spec) (given.channels.fit i no_spec lt) in
       let colour = (agreeing_colour (track_at Of i) Of.known (events_at Of.rows) 0 (line.at + 1) u (v i) machine run).0 before.0 in
       let few = machine.few_colours in
       (v i, may, omega arith)
@@ -213,11 +212,11 @@ module _ (specs : List Spec) (s : Store) (line : AuditLine) (terms : List Term) 
       elim (cases_eq c.spec one.spec) [
         | inl same ↦
             let colours : a.colours ≡ c.colours = fits.0.3 same in
-            let term : c ≡ one = one_term terms c one apart is_term is same in
+            let term : c ≡ one = one_term terms c one given.apart is_term is same in
             let has2 : Has a.colours v.colour = subst (λ (m : ℕ). Has m v.colour) (sym colours) (subst (λ (y : Term). Has y.colours v.colour) (sym term) has) in
             none v (may_stand a.spec v (subst (λ (i : ℕ). MayBeAtEndOf Of i line.at v) (sym (spec ∙ same)) may)) ((met_has one.spec c a line.at v fits).1 has2)
         | inr other ↦
-            let lt : a.spec < length specs = subst (λ (i : ℕ). i < length specs) (sym spec) (term_within (length specs) terms c within is_term) in
+            let lt : a.spec < length specs = subst (λ (i : ℕ). i < length specs) (sym spec) (term_within (length specs) terms c given.within is_term) in
             let (w, may2, small) = some_colour a.spec lt in
             none w (may_stand a.spec w may2) ((met_has one.spec c a line.at w fits).1 (fits.0.4 other w.colour small))
       ]
@@ -237,8 +236,8 @@ module _ (specs : List Spec) (s : Store) (line : AuditLine) (terms : List Term) 
       let here = λ (i : ℕ). holding_has one.spec terms asks i holding in
       let has : HasAsk one.spec asks = (here one.spec).1 (term_spec terms one is) in
       record {
-        strands = are_strands specs s line asks rule ss (holding_fit specs one.spec terms asks within holding) (λ i. let there = clause_about rule terms i clause in ((λ h. there.0 ((here i).0 h)), λ h. (here i).1 (there.1 h))) r;
-        said = kept_with specs s line asks rule one.spec ss r.each ((r.channels one.spec).1 (has, term_within (length specs) terms one within is)) (λ z a at among reply. kept_there rule one asks z a clause holding at among reply);
+        strands = are_strands specs s line asks rule ss (holding_fit specs one.spec terms asks given.within holding) (λ i. let there = clause_about rule terms i clause in ((λ h. there.0 ((here i).0 h)), λ h. (here i).1 (there.1 h))) r;
+        said = kept_with specs s line asks rule one.spec ss r.each ((r.channels one.spec).1 (has, term_within (length specs) terms one given.within is)) (λ z a at among reply. kept_there rule one asks z a clause holding at among reply);
         few = have_few specs s line asks ss r.each;
       }
 
@@ -257,11 +256,11 @@ module _ (specs : List Spec) (s : Store) (line : AuditLine) (terms : List Term) 
 
   pub some_holds : ((k : ℕ) (d : Term) → k < length terms → NoneHolds specs s line (get_or terms k d)) → ⊥
   some_holds none =
-      let (v, (h, agrees, ends), keeps) = some.1.0 in
+      let (v, (h, agrees, ends), keeps) = given.verdict.0 in
       let (c, is, has) = keeps_term terms v keeps in
       let (k, lt, at) = term_place terms c c is in
       let mine = subst (λ (y : Term). NoneHolds specs s line y) at (none k c lt) in
-      mine (v c.spec) (h, agrees, ends c.spec (term_within (length specs) terms c within is)) has
+      mine (v c.spec) (h, agrees, ends c.spec (term_within (length specs) terms c given.within is)) has
 
 -- the pair of the clause's terms is one of the rule
 pub both_told : {E : Type 0} → (specs : List Spec) (s : Store) (line : AuditLine) (terms : List Term) (rule : Rule) → IsClauseOf rule terms → (r : Result Pair E) → IfOk r (λ p. (x : Rule) → IsClauseOf x terms → ShowsBoth specs s line x p) → IfOk r (ShowsBoth specs s line rule)

@@ -1,5 +1,5 @@
 -- Strands that keep an interval rule, and strands that break it.
-use Rattle.std.proofs.Common.{◌≡◌, refl, sym, subst, ◌⊎◌, inl, inr, ◌↔◌, ℕ, ◌<◌, ℤ, pos, ◌+ℤ◌, Bool, true, false, List, [], ◌∷◌, length, get_or, arith}
+use Rattle.std.proofs.Common.{◌≡◌, refl, sym, subst, ◌⊎◌, inl, inr, ◌↔◌, ℕ, ℤ, pos, ◌+ℤ◌, Bool, true, false, List, [], ◌∷◌, get_or, arith}
 use Rattle.std.specs.Prelude.{not}
 use Rattle.std.proofs.lemmas.Int.{ints}
 use Rattle.span_set.proofs.Sets.{int_cases}
@@ -26,8 +26,8 @@ use Rattle.rule_audit.specs.Judged.{IsRuleVerdict, KeepsInterval}
 use Rattle.strand_search.specs.Runs.{TellsWithinHour}
 use Rattle.filling_pair.specs.declared.asks.Ask.{Ask}
 use Rattle.filling_pair.specs.declared.strands.Strand.{Strand}
-use Rattle.filling_pair.specs.Asks.{HasAsk, IsAmong, IsOpen, LacksReply, MayStand, NoneStands, Replies, ReplyAll, Shows, states_over}
-use Rattle.filling_pair.specs.Kept.{IsAsSaid, IsPlaceOf, IsPlaced, KeepsAt, StandsAt, line_rows}
+use Rattle.filling_pair.specs.Asks.{HasAsk, IsAmong, IsOpenRule, LacksReply, MayStand, NoneStands, Replies, ReplyAll, Shows, states_over}
+use Rattle.filling_pair.specs.Kept.{IsAsSaid, IsPlaceOf, KeepsAt, StandsAt, line_rows}
 use Rattle.signal_log.specs.Rows.{rows_before}
 use Rattle.filling_pair.proofs.Showing.{KeepHere, are_strands, have_few, kept_never, kept_with, stands_once}
 
@@ -76,7 +76,7 @@ module _ (specs : List Spec) (log : Log) (same : log.specs ≡ specs) (rows : Li
       let one : u ≡ v = stands_once log rows t (BeforeRow n) z u v there stands in
       breaks_met n v w placed broken meets (subst (λ (x : State). KeepsInterval (get_or specs item.spec no_spec) (get_or rows n no_row) item x) one (rw same at kept))
 
-module _ (specs : List Spec) (s : Store) (line : AuditLine) (item : IntervalItem) (colours : ℕ) (opposite : AgeBound) (only : (x : ℕ) → Has colours x ↔ (x ≡ item.colour)) (other : (t e : ℤ) → InBound opposite t e ↔ (InBound item.bound t e → ⊥)) (tells : TellsWithinHour opposite) (within : item.spec < length specs) (placed : IsPlaced s line) (some : IsOpen specs s line (Interval item)) where
+module _ (specs : List Spec) (s : Store) (line : AuditLine) (item : IntervalItem) (colours : ℕ) (opposite : AgeBound) (only : (x : ℕ) → Has colours x ↔ (x ≡ item.colour)) (other : (t e : ℤ) → InBound opposite t e ↔ (InBound item.bound t e → ⊥)) (tells : TellsWithinHour opposite) (given : IsOpenRule specs s line (Interval item)) where
   abbrev the_ask : Bool → Ask
   the_ask met = record { spec = item.spec; colours = colours; bound = opposite; met = met }
 
@@ -85,7 +85,7 @@ module _ (specs : List Spec) (s : Store) (line : AuditLine) (item : IntervalItem
 
   pub interval_lacks : (met : Bool) → LacksReply specs s line (the_ask met ∷ []) → ⊥
   interval_lacks met (a, among, none) = elim among [
-    | inl e ↦ never_lacks specs (log_of specs s) refl Rows line.at item colours opposite only other line.place met placed.place some (subst (λ (x : Ask). NoneStands specs s line x) e none)
+    | inl e ↦ never_lacks specs (log_of specs s) refl Rows line.at item colours opposite only other line.place met given.placed.place given.verdict (subst (λ (x : Ask). NoneStands specs s line x) e none)
     | inr absent ↦ absent
   ]
 
@@ -99,15 +99,15 @@ module _ (specs : List Spec) (s : Store) (line : AuditLine) (item : IntervalItem
   said_there true ss r = kept_never specs s line (the_ask true ∷ []) (Interval item) ss r.each (λ z a among reply kept.
       let one = subst (λ (x : Ask). Replies specs s line x z) (among_one true a among) reply in
       let (v, stands, meets) = one.answer in
-      breaks_there specs (log_of specs s) refl Rows line.at item colours opposite only other line.place z v placed.place some stands meets kept)
-  said_there false ss r = kept_with specs s line (the_ask false ∷ []) (Interval item) item.spec ss r.each ((r.channels item.spec).1 (inl refl, within)) (λ z a is among reply.
+      breaks_there specs (log_of specs s) refl Rows line.at item colours opposite only other line.place z v given.placed.place given.verdict stands meets kept)
+  said_there false ss r = kept_with specs s line (the_ask false ∷ []) (Interval item) item.spec ss r.each ((r.channels item.spec).1 (inl refl, given.fits.within)) (λ z a is among reply.
       let one = subst (λ (x : Ask). Replies specs s line x z) (among_one false a among) reply in
       let (v, stands, none) = one.answer in
-      keeps_there specs (log_of specs s) refl Rows line.at item colours opposite only other line.place z v placed.place some (sym is) stands none)
+      keeps_there specs (log_of specs s) refl Rows line.at item colours opposite only other line.place z v given.placed.place given.verdict (sym is) stands none)
 
   pub interval_shows : (met : Bool) (ss : List Strand) → ReplyAll specs s line (the_ask met ∷ []) ss → Shows specs s line (Interval item) (not met) ss
   interval_shows met ss r = record {
-    strands = are_strands specs s line (the_ask met ∷ []) (Interval item) ss ((within, tells), tt) (one_ask met) r;
+    strands = are_strands specs s line (the_ask met ∷ []) (Interval item) ss ((given.fits.within, tells), tt) (one_ask met) r;
     said = said_there met ss r;
     few = have_few specs s line (the_ask met ∷ []) ss r.each;
   }

@@ -9,8 +9,9 @@ use Rattle.hour_store.specs.Store.{Store, is_known}
 use Rattle.colour_machine.specs.Mask.{Has}
 use Rattle.reach.specs.declared.seen.AgeBound.TheVariants.{Any}
 use Rattle.board.specs.declared.clause.Term.{Term}
+use Rattle.board.specs.Channels.{AreSpecs}
 use Rattle.board.specs.Logs.{no_row}
-use Rattle.board.specs.Verdicts.{IsVerdict, Keeps}
+use Rattle.board.specs.Verdicts.{AreApart, AreWithin, IsVerdict, Keeps}
 use Rattle.gap_ways.specs.Choices.{Answers}
 use Rattle.signal_log.specs.Log.{Log, log_of}
 use Rattle.signal_log.specs.States.{MayBeAfter, MayBeAtEnd, MayBeAtEndOf}
@@ -20,13 +21,14 @@ use Rattle.rule_audit.specs.declared.lines.Place.TheVariants.{BeforeRow, EndOfTe
 use Rattle.rule_audit.specs.declared.rules.Rule.{Rule}
 use Rattle.rule_audit.specs.Judged.{IsRuleVerdict, States}
 use Rattle.rule_audit.specs.Obligations.{is_clause, terms_of}
+use Rattle.rule_audit.specs.Pass.{FitsRule}
 use Rattle.strand_search.specs.Events.{AreFew}
 use Rattle.strand_search.specs.Runs.{TellsWithinHour}
 use Rattle.filling_pair.specs.declared.asks.Ask.{Ask}
 use Rattle.filling_pair.specs.declared.strands.Pair.{Pair}
 use Rattle.filling_pair.specs.declared.strands.Strand.{Strand}
 use Rattle.filling_pair.specs.Strands.{AreStrands, HasStrand, IsStrand, rows_of}
-use Rattle.filling_pair.specs.Kept.{IsAsSaid, KeepLine, StandsAtLine, line_rows, rule_of}
+use Rattle.filling_pair.specs.Kept.{IsAsSaid, IsPlaced, KeepLine, StandsAtLine, line_rows, rule_of}
 use Rattle.signal_log.specs.Rows.{rows_before}
 
 -- ---- a line that is undecided
@@ -41,6 +43,14 @@ states_over log rows = record {
 -- some history that agrees with the store keeps the rule at the line's place, and some doesn't
 abbrev pub IsOpen : List Spec → Store → AuditLine → Rule → Type 0
 IsOpen specs s line rule = IsRuleVerdict (states_over (log_of specs s) (line_rows s line)) specs (line_rows s line) line.at line.place rule Undecided
+
+-- the same, where the place is of a known tenth and the rule is of channels of these few specs
+pub record IsOpenRule (specs : List Spec) (s : Store) (line : AuditLine) (rule : Rule) : Type 0 where
+  pub channels : AreSpecs specs
+  pub few : length specs ≤ 225
+  pub fits : FitsRule specs rule
+  pub placed : IsPlaced s line
+  pub verdict : IsOpen specs s line rule
 
 -- the line is undecided
 abbrev pub IsUndecided : List Spec → Store → List Rule → AuditLine → Type 0
@@ -143,9 +153,15 @@ IsPair specs s rules line pair = ShowsBoth specs s line (rule_of rules line) pai
 abbrev pub IsClauseOf : Rule → List Term → Type 0
 IsClauseOf rule terms = (is_clause rule ≡ true) × (terms_of rule ≡ terms)
 
--- some history keeps the clause at the end of the line's tenth, and some doesn't
-abbrev pub IsOpenClause : List Spec → Store → AuditLine → List Term → Type 0
-IsOpenClause specs s line terms = (line.place ≡ EndOfTenth) × IsVerdict Undecided (MayBeAtEnd (log_of specs s) line.at) (Keeps terms)
+-- the line is at the end of a known tenth, where some history keeps the clause of these terms of different channels of these few specs, and some doesn't
+pub record IsOpenClause (specs : List Spec) (s : Store) (line : AuditLine) (terms : List Term) : Type 0 where
+  pub channels : AreSpecs specs
+  pub few : length specs ≤ 225
+  pub within : AreWithin (length specs) terms
+  pub apart : AreApart terms
+  pub placed : IsPlaced s line
+  pub at_end : line.place ≡ EndOfTenth
+  pub verdict : IsVerdict Undecided (MayBeAtEnd (log_of specs s) line.at) (Keeps terms)
 
 -- each channel is to be outside its term's colours
 abbrev pub failing : Term → Ask

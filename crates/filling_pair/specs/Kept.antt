@@ -4,12 +4,11 @@ use Rattle.sig_base.specs.declared.values.Row.{Row}
 use Rattle.channel_tables.specs.declared.spec.Spec.{Spec}
 use Rattle.colour_machine.specs.Mask.{Has}
 use Rattle.reach.specs.Runs.{State, Steps}
-use Rattle.hour_store.specs.Store.{Store, is_known, rows_at}
+use Rattle.hour_store.specs.Store.{Store, is_known}
 use Rattle.board.specs.declared.clause.Term.{Term}
-use Rattle.board.specs.History.{events_at, letters}
+use Rattle.board.specs.History.{letters}
 use Rattle.board.specs.Logs.{no_row, no_spec}
 use Rattle.signal_log.specs.Log.{Log, log_of, track_at}
-use Rattle.signal_log.specs.Points.{rows_or_none}
 use Rattle.rule_audit.specs.declared.lines.AuditLine.{AuditLine}
 use Rattle.rule_audit.specs.declared.lines.Place.{Place}
 use Rattle.rule_audit.specs.declared.lines.Place.TheVariants.{BeforeRow, EndOfTenth}

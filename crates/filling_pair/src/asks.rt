@@ -83,7 +83,6 @@ fn reply<L>(
         (Replies specs.now store.now line.now ask)) }
     ensures grow { Grow reads.old reads.new }
 {
-    let _hours = store.hours();
     let asked = Asked {
         at: line.at,
         before: row_of(line.place),

@@ -1,5 +1,5 @@
 // Whether there is one strand for each channel of a rule.
-ghost use Rattle.std.specs.Prelude.{◌↔◌, ℕ, ◌<◌, IsTrue, length};
+ghost use Rattle.std.specs.Prelude.{◌↔◌, ℕ, ◌<◌, IsTrue};
 ghost use Rattle.board.specs.Verdicts.{HasSpec};
 ghost use Rattle.filling_pair.specs.Strands.{Ascend, HasStrand, IsAbout};
 

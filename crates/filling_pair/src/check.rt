@@ -123,7 +123,6 @@ pub fn check_strands<L>(
         ↔ AreShown config.now.specs store.now rules.now line.now strands.now kept }
 {
     let specs = config.specs();
-    let _hours = store.hours();
     let rule = &rules[line.rule as usize - 1];
     let list = strands.list();
     if !are_channels(rule, list) {

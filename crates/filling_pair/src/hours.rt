@@ -1,8 +1,7 @@
 // A channel's walk over the whole window, hour by hour.
-ghost use Rattle.std.specs.Prelude.{◌≡◌, ◌↔◌, ◌/◌, ◌<◌, ◌≤◌, IsTrue, Some, length, option_copied};
+ghost use Rattle.std.specs.Prelude.{◌≡◌, ◌↔◌, ◌+◌, ◌/◌, ◌<◌, ◌≤◌, ◌^◌, IsTrue, Some, length};
 ghost use Rattle.channel_tables.specs.Any.{any_rules};
-ghost use Rattle.board.specs.Moves.{count_before};
-ghost use Rattle.signal_log.specs.Points.{rows_or_none};
+ghost use Rattle.hour_store.specs.Store.{IsStore};
 ghost use Rattle.filling_pair.specs.Kept.{IsPlaceOf, IsPlaced};
 ghost use Rattle.signal_log.specs.Rows.{hour_rows};
 ghost use Rattle.sig_base.specs.Reads.{Grow};
@@ -11,19 +10,10 @@ ghost use Rattle.filling_pair.specs.Walking.{IsFit, IsFollowed, IsNoted, LeadsOn
 use crate::step::{Follower, Stand};
 use crate::strands::Strand;
 use crate::walk::{Cursor, pass_fills, pass_rows};
+use board::count_before;
 use hour_store::HourStore;
 use rule_audit::{AuditLine, Place};
 use sig_base::{Hour, Reads, Row};
-
-// The rows that are held, none where none are.
-fn held_rows<'a>(rows: Option<&'a [Row]>) -> &'a [Row]
-    ensures { result.now ≡ rows_or_none (option_copied rows.entry) }
-{
-    match rows {
-        Some(rows) => rows,
-        None => &[],
-    }
-}
 
 /// The rows of an hour, which is opened; none where it isn't held.
 #[tactic(auto, using(crate::proofs::Growing::grow_raised_to))]
@@ -36,7 +26,7 @@ pub(crate) fn rows_of_hour<'a, L>(
     ensures rows { result.now ≡ hour_rows store.now hour }
     ensures grow { Grow reads.old reads.new }
 {
-    held_rows(store.open_hour(hour, reads))
+    store.open_hour(hour, reads).unwrap_or(&[])
 }
 
 // Goes over the rows of an hour, which is opened.
@@ -82,28 +72,17 @@ pub(crate) fn pass_hours<'a, L>(
     at
 }
 
-// The number of first rows before the tenth.
-fn rows_until(rows: &[Row], tenth: u64) -> usize
-    ensures count { result ≡ count_before tenth rows.now }
-    ensures within { result ≤ length rows.now }
-{
-    for (i, row) in rows.iter().enumerate() {
-        if row.at as u64 >= tenth {
-            return i;
-        }
-    }
-    rows.len()
-}
-
 // How many of the hour's rows are before the place.
+#[tactic(auto, using(board::proofs::Adding::count_le))]
 fn count_to(rows: &[Row], at: u32, place: Place) -> usize
-    requires { IsPlaceOf rows.now at place }
+    requires place { IsPlaceOf rows.now at place }
+    requires soon { at + 1 < 2 ^ 32 }
     ensures count { result ≡ count_to rows.now at place }
     ensures within { result ≤ length rows.now }
 {
     match place {
         Place::BeforeRow(row) => row as usize,
-        Place::EndOfTenth => rows_until(rows, at as u64 + 1),
+        Place::EndOfTenth => count_before(rows, at + 1),
     }
 }
 
@@ -132,9 +111,9 @@ fn pass_place<'a, L>(
         cursor.now result.cursor }
     ensures grow { Grow reads.old reads.new }
 {
+    let blanked = store.blanked();
     let rows = rows_of_hour(store, line.at / 36_000, reads);
     let (first, later) = rows.split_at(count_to(rows, line.at, line.place));
-    let blanked = store.blanked();
     let before = pass_rows(follower, cursor, first, blanked);
     let place = pass_fills(follower, &before, line.at);
     Noted {
@@ -176,6 +155,7 @@ pub(crate) fn follow<L>(
 ) -> Followed
     requires colour { strand.now.colour < (any_rules follower.now.machine).colours }
     requires line { IsPlaced store.now line.now }
+    ensures store { IsStore store.now }
     ensures fits { IsFit follower.now result.there }
     ensures there { IsFollowed follower.now store.now line.now strand.now result.there }
     ensures legal { IsTrue result.is_legal ↔ LeadsOn follower.now store.now strand.now }

@@ -1,17 +1,14 @@
 // The call that finds a pair.
-ghost use Rattle.std.specs.Prelude.{◌≡◌, ◌≢◌, ◌↔◌, ◌<◌, ◌≤◌, ℕ, ℤ, length, map, true, false, not, IfOk, MatchOption};
+ghost use Rattle.std.specs.Prelude.{◌≡◌, ◌≢◌, ◌↔◌, ◌<◌, ℕ, ℤ, map, true, false, not, IfOk, MatchOption};
 ghost use Rattle.reach.specs.Tests.{InBound};
 ghost use Rattle.ring_config.specs.Sound.{IsBound};
-ghost use Rattle.board.specs.Channels.{AreSpecs};
-ghost use Rattle.board.specs.Verdicts.{AreApart, AreWithin};
 ghost use Rattle.colour_machine.specs.Mask.{Has};
 ghost use Rattle.rule_audit.specs.declared.rules.Rule.{Rule};
 ghost use Rattle.rule_audit.specs.declared.rules.Rule.TheVariants.{Interval};
 ghost use Rattle.rule_audit.specs.Rules.{rules_for};
-ghost use Rattle.rule_audit.specs.Pass.{FitsItem, FitsRule};
 ghost use Rattle.strand_search.specs.Runs.{TellsWithinHour};
-ghost use Rattle.filling_pair.specs.Asks.{AreHolding, IsClauseOf, IsOpen, IsOpenClause, IsPair, IsTermOf, IsUndecided, NoneHolds, Shows, ShowsBoth, failing};
-ghost use Rattle.filling_pair.specs.Kept.{IsLineOf, IsPlaced};
+ghost use Rattle.filling_pair.specs.Asks.{AreHolding, IsClauseOf, IsOpenClause, IsOpenRule, IsPair, IsTermOf, IsUndecided, NoneHolds, Shows, ShowsBoth, failing};
+ghost use Rattle.filling_pair.specs.Kept.{IsLineOf};
 ghost use Rattle.sig_base.specs.Reads.{Grow};
 
 use crate::asks::{Ask, replies};
@@ -51,11 +48,7 @@ fn interval_strands<L>(
     breaks: bool,
     reads: &mut Reads<L>,
 ) -> Result<Strands, NoMemory>
-    requires specs { AreSpecs specs.now }
-    requires few { length specs.now ≤ 225 }
-    requires item { FitsItem specs.now item.now }
-    requires line { IsPlaced store.now line.now }
-    requires open { IsOpen specs.now store.now line.now (Interval item.now) }
+    requires { IsOpenRule specs.now store.now line.now (Interval item.now) }
     ensures shows { IfOk result (Shows specs.now store.now line.now (Interval item.now)
         (not breaks)) }
     ensures grow { Grow reads.old reads.new }
@@ -81,11 +74,7 @@ fn interval_pair<L>(
     item: &IntervalItem,
     reads: &mut Reads<L>,
 ) -> Result<Pair, NoMemory>
-    requires specs { AreSpecs specs.now }
-    requires few { length specs.now ≤ 225 }
-    requires item { FitsItem specs.now item.now }
-    requires line { IsPlaced store.now line.now }
-    requires open { IsOpen specs.now store.now line.now (Interval item.now) }
+    requires { IsOpenRule specs.now store.now line.now (Interval item.now) }
     ensures both { IfOk result (ShowsBoth specs.now store.now line.now (Interval item.now)) }
     ensures grow { Grow reads.old reads.new }
 {
@@ -147,12 +136,7 @@ fn clause_breaks<L>(
     terms: &[Term],
     reads: &mut Reads<L>,
 ) -> Result<Strands, NoMemory>
-    requires specs { AreSpecs specs.now }
-    requires few { length specs.now ≤ 225 }
-    requires within { AreWithin (length specs.now) terms.now }
-    requires apart { AreApart terms.now }
-    requires line { IsPlaced store.now line.now }
-    requires open { IsOpenClause specs.now store.now line.now terms.now }
+    requires { IsOpenClause specs.now store.now line.now terms.now }
     ensures shows { IfOk result (λ ss. (rule : Rule) → IsClauseOf rule terms.now
         → Shows specs.now store.now line.now rule false ss) }
     ensures grow { Grow reads.old reads.new }
@@ -175,13 +159,8 @@ fn strands_holding<L>(
     one: Term,
     reads: &mut Reads<L>,
 ) -> Result<Option<Strands>, NoMemory>
-    requires specs { AreSpecs specs.now }
-    requires few { length specs.now ≤ 225 }
-    requires within { AreWithin (length specs.now) terms.now }
-    requires apart { AreApart terms.now }
+    requires clause { IsOpenClause specs.now store.now line.now terms.now }
     requires one { IsTermOf one terms.now }
-    requires line { IsPlaced store.now line.now }
-    requires open { IsOpenClause specs.now store.now line.now terms.now }
     ensures shows { IfOk result (λ r. MatchOption r (NoneHolds specs.now store.now line.now one)
         (λ ss. (rule : Rule) → IsClauseOf rule terms.now
         → Shows specs.now store.now line.now rule true ss)) }
@@ -201,12 +180,7 @@ fn clause_keeps<L>(
     terms: &[Term],
     reads: &mut Reads<L>,
 ) -> Result<Strands, NoMemory>
-    requires specs { AreSpecs specs.now }
-    requires few { length specs.now ≤ 225 }
-    requires within { AreWithin (length specs.now) terms.now }
-    requires apart { AreApart terms.now }
-    requires line { IsPlaced store.now line.now }
-    requires open { IsOpenClause specs.now store.now line.now terms.now }
+    requires { IsOpenClause specs.now store.now line.now terms.now }
     ensures shows { IfOk result (λ ss. (rule : Rule) → IsClauseOf rule terms.now
         → Shows specs.now store.now line.now rule true ss) }
     ensures grow { Grow reads.old reads.new }
@@ -229,12 +203,7 @@ fn clause_pair<L>(
     terms: &[Term],
     reads: &mut Reads<L>,
 ) -> Result<Pair, NoMemory>
-    requires specs { AreSpecs specs.now }
-    requires few { length specs.now ≤ 225 }
-    requires within { AreWithin (length specs.now) terms.now }
-    requires apart { AreApart terms.now }
-    requires line { IsPlaced store.now line.now }
-    requires open { IsOpenClause specs.now store.now line.now terms.now }
+    requires { IsOpenClause specs.now store.now line.now terms.now }
     ensures both { IfOk result (λ p. (rule : Rule) → IsClauseOf rule terms.now
         → ShowsBoth specs.now store.now line.now rule p) }
     ensures grow { Grow reads.old reads.new }
@@ -253,11 +222,7 @@ fn pair_of<L>(
     rule: &Rule,
     reads: &mut Reads<L>,
 ) -> Result<Pair, NoMemory>
-    requires specs { AreSpecs specs.now }
-    requires few { length specs.now ≤ 225 }
-    requires rule { FitsRule specs.now rule.now }
-    requires line { IsPlaced store.now line.now }
-    requires open { IsOpen specs.now store.now line.now rule.now }
+    requires { IsOpenRule specs.now store.now line.now rule.now }
     ensures both { IfOk result (ShowsBoth specs.now store.now line.now rule.now) }
     ensures grow { Grow reads.old reads.new }
 {

@@ -111,7 +111,6 @@ pub(crate) fn stand_of<L>(
         is_strand: false,
         there: None,
     };
-    let _hours = store.hours();
     if strand.spec as usize >= specs.len() {
         return none;
     }

@@ -3,8 +3,9 @@ ghost use Rattle.std.specs.Prelude.{◌≡◌, ◌<◌, ◌+◌, true, false, is
 ghost use Rattle.sig_base.specs.HourRows.{AreRowsOf};
 ghost use Rattle.hour_store.specs.Store.{Store};
 ghost use Rattle.board.specs.Stops.{AreBefore};
+ghost use Rattle.ring_config.specs.Sound.{IsSound};
 ghost use Rattle.signal_log.specs.Log.{HasHistory, log_of};
-ghost use Rattle.signal_log.specs.Opened.{HasPlace};
+ghost use Rattle.signal_log.specs.Opened.{HasPlace, IsOpened};
 ghost use Rattle.rule_audit.specs.Rules.{rules_for};
 ghost use Rattle.hour_work.specs.Numbers.{FitHours};
 ghost use Rattle.hour_work.specs.Points.{AreUnderWayAt, IsCarryAt};
@@ -180,6 +181,8 @@ pub(crate) fn held_hour(
     ensures way { IfOk result (λ h. (s : Store) → HasPlace s place.now
         → IsCarryAt config.now s place.now.hour between.now.before.now
         → AreUnderWayAt config.now s (place.now.hour + 1) h.way) }
+    ensures sound { IfOk result (λ _. IsSound config.now) }
+    ensures opened { IfOk result (λ _. IsOpened place.now) }
 {
     let before = between.before;
     let parts = place.stretches();

@@ -9,8 +9,9 @@ ghost use Rattle.board.specs.Logs.{first_tenth};
 ghost use Rattle.board.specs.Places.{AllEarly, AreAheadsOf};
 ghost use Rattle.board.specs.Stops.{AreBefore};
 ghost use Rattle.ring_config.specs.Settings.{Settings};
+ghost use Rattle.ring_config.specs.Sound.{IsSound};
 ghost use Rattle.signal_log.specs.Log.{Log, log_of};
-ghost use Rattle.signal_log.specs.Opened.{HasPlace};
+ghost use Rattle.signal_log.specs.Opened.{HasPlace, IsOpened};
 ghost use Rattle.signal_log.specs.Points.{ArePastsAt, HasHour, NamesContradiction};
 ghost use Rattle.signal_log.specs.Over.{AreAheadsOver, ArePastsOver, NamesStopOver};
 ghost use Rattle.hour_work.specs.declared.steps.ForwardError.TheVariants.{Memory};
@@ -116,11 +117,15 @@ pub(crate) fn carried(
     before: &Carry,
     pasts: Pasts,
 ) -> Result<Carry, NoMemory>
-    requires shape { AreBefore config.now.specs before.now.pasts }
+    requires before { AreBefore config.now.specs before.now.pasts }
+    requires over { ArePastsOver config.now.specs place.now.hour place.now.rows place.now.blanks
+        before.now.pasts pasts }
+    requires shape { AreBefore config.now.specs pasts }
+    requires early { AllEarly (first_tenth (place.now.hour + 1)) pasts }
+    ensures fit { IfOk result (FitPoint config.now (place.now.hour + 1)) }
     ensures pasts { IfOk result (λ c. c.pasts ≡ pasts) }
     ensures carry { IfOk result (λ c. (s : Store) → HasPlace s place.now
         → IsCarryAt config.now s place.now.hour before.now
-        → ArePastsAt (log_of config.now.specs s) (place.now.hour + 1) pasts
         → IsCarryAt config.now s (place.now.hour + 1) c) }
 {
     let way = under_way(alloc, config, place, before)?;
@@ -160,9 +165,6 @@ fn states_over(
     requires fit { FitPoint config.now place.now.hour before.now }
     ensures shape { IfOk result (λ p. AreBefore config.now.specs p
         × AllEarly (first_tenth (place.now.hour + 1)) p) }
-    ensures pasts { IfOk result (λ p. (s : Store) → HasPlace s place.now
-        → IsCarryAt config.now s place.now.hour before.now
-        → ArePastsAt (log_of config.now.specs s) (place.now.hour + 1) p) }
     ensures stop { IfErr result (λ e. (s : Store) → HasPlace s place.now
         → IsCarryAt config.now s place.now.hour before.now
         → NamesRow (log_of config.now.specs s) e) }
@@ -194,9 +196,11 @@ fn under_way(
     before: &Carry,
 ) -> Result<UnderWay, NoMemory>
     requires shape { AreBefore config.now.specs before.now.pasts }
-    ensures { IfOk result (λ u. (s : Store) → HasPlace s place.now
+    ensures way { IfOk result (λ u. (s : Store) → HasPlace s place.now
         → IsCarryAt config.now s place.now.hour before.now
         → AreUnderWayAt config.now s (place.now.hour + 1) u) }
+    ensures sound { IfOk result (λ _. IsSound config.now) }
+    ensures opened { IfOk result (λ _. IsOpened place.now) }
 {
     let rows = place.rows();
     let parts = place.stretches();

@@ -5,10 +5,8 @@ ghost use Rattle.board.specs.Logs.{first_tenth};
 ghost use Rattle.board.specs.Places.{AllEarly};
 ghost use Rattle.board.specs.Stops.{AreBefore};
 ghost use Rattle.rule_audit.specs.Rules.{rules_for};
-ghost use Rattle.signal_log.specs.Log.{log_of};
 ghost use Rattle.signal_log.specs.Opened.{HasPlace};
 ghost use Rattle.signal_log.specs.Over.{ArePastsOver};
-ghost use Rattle.signal_log.specs.Points.{ArePastsAt};
 ghost use Rattle.hour_work.specs.Numbers.{FitHours};
 ghost use Rattle.hour_work.specs.Points.{FitPoint, IsCarryAt};
 ghost use Rattle.hour_work.specs.Reports.{IsBetweenAt, IsHourPart};
@@ -58,7 +56,6 @@ pub fn work_over(
     ensures small { IfOk result (λ w. FitHours 1 w.part) }
 {
     let before = between.before;
-    lead(config, place, before, &pasts);
     if place.is_held() {
         let HeldHour { part, way } = held_hour(alloc, config, rules, place, between)?;
         let carry = kept(place, pasts, way);
@@ -67,18 +64,4 @@ pub fn work_over(
     let part = unheld_part(alloc, config, rules.len(), place, before)?;
     let carry = carried(alloc, config, place, before, pasts)?;
     Ok(Worked { carry, part })
-}
-
-// Does nothing: states to which an hour leads are those at the point after it.
-fn lead(config: &Config, place: &Place<'_>, before: &Carry, pasts: &Pasts)
-    requires over { ArePastsOver config.now.specs place.now.hour place.now.rows place.now.blanks
-        before.now.pasts pasts.now }
-    requires shape { AreBefore config.now.specs pasts.now }
-    requires early { AllEarly (first_tenth (place.now.hour + 1)) pasts.now }
-    ensures { (s : Store) → HasPlace s place.now
-        → IsCarryAt config.now s place.now.hour before.now
-        → ArePastsAt (log_of config.now.specs s) (place.now.hour + 1) pasts.now }
-{
-    let _specs = config.specs();
-    let _parts = place.stretches();
 }

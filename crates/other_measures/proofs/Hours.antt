@@ -4,7 +4,7 @@ use Rattle.std.proofs.lemmas.List.Elements.{All-nil, All-append, All-weaker, All
 use Rattle.sig_base.specs.declared.values.Row.{Row}
 use Rattle.gap_map.specs.declared.stretch.Stretch.{Stretch}
 use Rattle.gap_map.specs.Stretches.{FollowOn}
-use Rattle.hour_sums.specs.Numbers.{AreSums}
+use Rattle.hour_sums.specs.Numbers.{AreSums, capped}
 use Rattle.hour_sweep.specs.Rows.{known_rows}
 use Rattle.hour_sweep.specs.Hours.{AreOrdered, IsHour, point}
 use Rattle.hour_sweep.specs.Passes.{swept}
@@ -22,31 +22,33 @@ use Rattle.other_measures.specs.declared.preempts.PreemptPart.{PreemptPart}
 use Rattle.other_measures.specs.declared.sums.PedSum.{PedSum}
 use Rattle.other_measures.specs.declared.sums.PreemptSum.{PreemptSum}
 use Rattle.other_measures.specs.declared.sums.CoordSum.{CoordSum}
+use Rattle.other_measures.specs.declared.states.Seen.{Seen}
 use Rattle.other_measures.specs.Peds.{ped_of, delay_at}
 use Rattle.other_measures.specs.Preempts.{preempt_of, event_at}
 use Rattle.other_measures.specs.Steps.{ped_after, ped_cleared, delay_by, preempt_after, preempt_cleared, event_by}
-use Rattle.other_measures.specs.Crossing.{Crossing, IsCarry, peds_of, preempts_of}
+use Rattle.other_measures.specs.Crossing.{Crossing, IsCarry, peds_of, places, preempts_of}
 use Rattle.other_measures.specs.Sums.{ped_sum_of, preempt_sum_of, no_ped_sum, no_preempt_sum}
 use Rattle.other_measures.specs.Hours.{delays_from, events_from, HasDelays, HasEvents, with_detector, with_states, AreNumbers, HasRows, no_coordination}
-use Rattle.other_measures.specs.States.{EachOf, IsSeen}
+use Rattle.other_measures.specs.States.{EachOf, IsSeen, IsSeenOf}
 use Rattle.other_measures.proofs.PedLaws.{ped_tracks}
 use Rattle.other_measures.proofs.PreemptLaws.{preempt_tracks}
+use Rattle.other_measures.proofs.Starts.{number_low}
 
 next_point : (k : ℕ) → point k + 36000 ≡ point (k + 1)
 next_point k = omega arith
 
-pub peds_tracked : (known : ℕ → Bool) (c : Settings) (before : List Row) (hour : ℕ) (rows : List Row) (ss : List Stretch) (carry : Crossing) (start : List (Option PedPart)) (end : Tracking PedPart Delay) → ((p : ℕ) → has_number c.peds p ≡ true → p < 17) → carry.peds ≡ start → end ≡ swept (tracking_after ped_after delay_by) (tracking_cleared ped_cleared) ss rows (record { parts = start; outs = [] }) → IsHour known hour rows ss → IsCarry known c before hour carry → IsTracked known (ped_of known) (delay_at known) (has_number c.peds) 17 before rows (point hour + 36000) end.outs end.parts
-peds_tracked known c before hour rows ss carry start end room same e h is =
+pub peds_tracked : (known : ℕ → Bool) (c : Settings) (before : List Row) (hour : ℕ) (rows : List Row) (ss : List Stretch) (carry : Crossing) (start : List (Option PedPart)) (end : Tracking PedPart Delay) → carry.peds ≡ start → end ≡ swept (tracking_after ped_after delay_by) (tracking_cleared ped_cleared) ss rows (record { parts = start; outs = [] }) → IsHour known hour rows ss → IsCarry known c before hour carry → IsTracked known (ped_of known) (delay_at known) (has_number c.peds) (places c.peds) before rows (point hour + 36000) end.outs end.parts
+peds_tracked known c before hour rows ss carry start end same e h is =
     let or = rise_ordered (point hour) (point hour + 36000) rows (omega arith) h.are_rows.rise in
-    hour_tracked known (ped_of known) ped_after ped_cleared (delay_at known) delay_by (ped_tracks known) (has_number c.peds) 17 room before (point hour) (point hour + 36000) rows ss start end e h.are_stretches or is.earlier (sym same ∙ is.peds_are)
+    hour_tracked known (ped_of known) ped_after ped_cleared (delay_at known) delay_by (ped_tracks known) (has_number c.peds) (places c.peds) (number_low c.peds) before (point hour) (point hour + 36000) rows ss start end e h.are_stretches or is.earlier (sym same ∙ is.peds_are)
 
-pub preempts_tracked : (known : ℕ → Bool) (c : Settings) (before : List Row) (hour : ℕ) (rows : List Row) (ss : List Stretch) (carry : Crossing) (start : List (Option PreemptPart)) (end : Tracking PreemptPart PreemptEvent) → ((p : ℕ) → has_number c.preempts p ≡ true → p < 17) → carry.preempts ≡ start → end ≡ swept (tracking_after preempt_after event_by) (tracking_cleared preempt_cleared) ss rows (record { parts = start; outs = [] }) → IsHour known hour rows ss → IsCarry known c before hour carry → IsTracked known (preempt_of known) (event_at known) (has_number c.preempts) 17 before rows (point hour + 36000) end.outs end.parts
-preempts_tracked known c before hour rows ss carry start end room same e h is =
+pub preempts_tracked : (known : ℕ → Bool) (c : Settings) (before : List Row) (hour : ℕ) (rows : List Row) (ss : List Stretch) (carry : Crossing) (start : List (Option PreemptPart)) (end : Tracking PreemptPart PreemptEvent) → carry.preempts ≡ start → end ≡ swept (tracking_after preempt_after event_by) (tracking_cleared preempt_cleared) ss rows (record { parts = start; outs = [] }) → IsHour known hour rows ss → IsCarry known c before hour carry → IsTracked known (preempt_of known) (event_at known) (has_number c.preempts) (places c.preempts) before rows (point hour + 36000) end.outs end.parts
+preempts_tracked known c before hour rows ss carry start end same e h is =
     let or = rise_ordered (point hour) (point hour + 36000) rows (omega arith) h.are_rows.rise in
-    hour_tracked known (preempt_of known) preempt_after preempt_cleared (event_at known) event_by (preempt_tracks known) (has_number c.preempts) 17 room before (point hour) (point hour + 36000) rows ss start end e h.are_stretches or is.earlier (sym same ∙ is.preempts_are)
+    hour_tracked known (preempt_of known) preempt_after preempt_cleared (event_at known) event_by (preempt_tracks known) (has_number c.preempts) (places c.preempts) (number_low c.preempts) before (point hour) (point hour + 36000) rows ss start end e h.are_stretches or is.earlier (sym same ∙ is.preempts_are)
 
 pub carry_is : (known : ℕ → Bool) (c : Settings) (before : List Row) (hour : ℕ) (rows : List Row) (ss : List Stretch) (carry : Crossing) (ps : List (Option PedPart)) (ds : List Delay) (qs : List (Option PreemptPart)) (es : List PreemptEvent) → IsHour known hour rows ss → IsCarry known c before hour carry
-    → IsTracked known (ped_of known) (delay_at known) (has_number c.peds) 17 before rows (point hour + 36000) ds ps → IsTracked known (preempt_of known) (event_at known) (has_number c.preempts) 17 before rows (point hour + 36000) es qs
+    → IsTracked known (ped_of known) (delay_at known) (has_number c.peds) (places c.peds) before rows (point hour + 36000) ds ps → IsTracked known (preempt_of known) (event_at known) (has_number c.preempts) (places c.preempts) before rows (point hour + 36000) es qs
     → IsCarry known c (before ++ known_rows known rows) (hour + 1) (record { peds = ps; preempts = qs })
 carry_is known c before hour rows ss carry ps ds qs es h is a b =
     let seen = known_rows known rows in
@@ -62,7 +64,7 @@ carry_is known c before hour rows ss carry ps ds qs es h is a b =
 -- from what the code has
 
 pub carry_by : (known : ℕ → Bool) (c : Settings) (before : List Row) (hour : ℕ) (rows : List Row) (ss : List Stretch) (carry : Crossing) (ps qp : List (Option PedPart)) (ds : List Delay) (qs rq : List (Option PreemptPart)) (es : List PreemptEvent) → IsHour known hour rows ss → IsCarry known c before hour carry → qp ≡ ps → rq ≡ qs
-    → IsTracked known (ped_of known) (delay_at known) (has_number c.peds) 17 before rows (point hour + 36000) ds ps → IsTracked known (preempt_of known) (event_at known) (has_number c.preempts) 17 before rows (point hour + 36000) es qs
+    → IsTracked known (ped_of known) (delay_at known) (has_number c.peds) (places c.peds) before rows (point hour + 36000) ds ps → IsTracked known (preempt_of known) (event_at known) (has_number c.preempts) (places c.preempts) before rows (point hour + 36000) es qs
     → IsCarry known c (before ++ known_rows known rows) (hour + 1) (record { peds = qp; preempts = rq })
 carry_by known c before hour rows ss carry ps qp ds qs rq es h is e f a b = rw (e, f) (carry_is known c before hour rows ss carry ps ds qs es h is a b)
 
@@ -86,12 +88,25 @@ numbers_are known c before rows ds es peds preempts coordination ed ee p q r off
   off = off;
 }
 
+-- of no row
+
+no_rows : 0 ≡ capped 0
+unfolding capped
+no_rows = omega arith
+
+pub has_no_rows : (s : CoordSum) → s ≡ no_coordination → HasRows [] s
+has_no_rows s e = subst (λ (z : CoordSum). HasRows [] z) (sym e) (record { patterns = no_rows; cycle_changes = no_rows; yields = no_rows; begins = no_rows })
+
 -- the first tenth of the hour
 
 pub first_is : (c : Settings) (view : HourLog) (rows : List Row) (ss : List Stretch) (log : HourLog) (from : ℕ) → IsSeen c view rows ss log → ((a b : ℕ) → FollowOn a b ss → a < b → from ≡ a) → from ≡ first_tenth log.hour
 first_is c view rows ss log from is first =
     let follow = subst (λ (zs : List Stretch). FollowOn (first_tenth log.hour) (end_tenth log.hour) zs) is.same_stretches is.is_view.is_log.is_hour.follow in
     first (first_tenth log.hour) (end_tenth log.hour) follow (omega arith)
+
+-- what is seen of the hour
+pub hour_seen : (c : Settings) (s : Seen) (rows : List Row) (ss : List Stretch) (log : HourLog) → IsSeen c s.view.now rows ss log → s.from ≡ first_tenth log.hour → IsSeenOf c s log (first_tenth log.hour)
+hour_seen c s rows ss log is from = record { is_view = is.is_view; same_specs = is.same_specs; from = from; is_first = refl }
 
 -- the laws of several hours
 

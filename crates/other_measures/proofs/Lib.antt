@@ -8,5 +8,4 @@ pub mod Rows
 pub mod Starts
 pub mod Seeing
 pub mod Hours
-pub mod Nothing
 pub mod Stores

@@ -1,5 +1,5 @@
 -- What crosses a point between two hours.
-use Rattle.std.specs.Prelude.{ℕ, ◌≡◌, ◌<◌, Bool, List, Option, Some, None, All, if◌then◌else◌}
+use Rattle.std.specs.Prelude.{ℕ, ◌≡◌, ◌<◌, ◌+◌, max, Bool, List, [], ◌∷◌, Option, Some, None, All, if◌then◌else◌}
 use Rattle.sig_base.specs.declared.values.Row.{Row}
 use Rattle.hour_sweep.specs.Hours.{point}
 use Rattle.hour_sweep.specs.Numbers.{table}
@@ -15,12 +15,17 @@ pub record Crossing : Type 0 where
   pub peds : List (Option PedPart)
   pub preempts : List (Option PreemptPart)
 
--- the parts of all pedestrian signals, and of all preempts, each at the place of its number, which is at most 16
+-- how many places a table has in which each of these numbers stands at its own: up to the greatest
+abbrev pub places : List ℕ → ℕ
+places [] = 0
+places (n ∷ ns) = max (n + 1) (places ns)
+
+-- the parts of all pedestrian signals, and of all preempts, each at the place of its number
 abbrev pub peds_of : (ℕ → Bool) → ℕ → Settings → List Row → List (Option PedPart)
-peds_of known t c before = table (has_number c.peds) 17 (ped_of known t before)
+peds_of known t c before = table (has_number c.peds) (places c.peds) (ped_of known t before)
 
 abbrev pub preempts_of : (ℕ → Bool) → ℕ → Settings → List Row → List (Option PreemptPart)
-preempts_of known t c before = table (has_number c.preempts) 17 (preempt_of known t before)
+preempts_of known t c before = table (has_number c.preempts) (places c.preempts) (preempt_of known t before)
 
 -- this crosses point k, where these are the known rows before it
 pub record IsCarry (known : ℕ → Bool) (c : Settings) (before : List Row) (k : ℕ) (carry : Crossing) : Type 0 where

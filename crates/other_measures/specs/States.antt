@@ -1,15 +1,16 @@
 -- How long channels were in each state, by a view of the hour.
-use Rattle.std.specs.Prelude.{ℕ, zero, suc, ◌≡◌, ◌<◌, ◌⊎◌, Bool, true, false, List, [], ◌∷◌, ◌++◌, Some, length, slice_index_or}
+use Rattle.std.specs.Prelude.{ℕ, zero, suc, ◌≡◌, ◌<◌, ◌⊎◌, Bool, true, false, List, [], ◌∷◌, ◌++◌, Option, Some, None, length, slice_index_or}
 use Rattle.sig_base.specs.declared.values.Row.{Row}
 use Rattle.event_codes.specs.declared.channels.Channel.{Channel}
 use Rattle.event_codes.specs.declared.channels.Kind.TheVariants.{PedDetector, PreemptInput, PreemptService, Coordination}
 use Rattle.gap_map.specs.declared.stretch.Stretch.{Stretch}
-use Rattle.board.specs.Logs.{HourLog}
+use Rattle.board.specs.Logs.{HourLog, first_tenth}
 use Rattle.board.specs.Places.{IsViewOf}
 use Rattle.ring_config.specs.Settings.{Settings, spec_place}
 use Rattle.state_tenths.specs.declared.asked.Asked.{Asked}
 use Rattle.state_tenths.specs.declared.asked.Asked.TheVariants.{Colour, NoneOf}
-use Rattle.state_tenths.specs.States.{IsCount}
+use Rattle.state_tenths.specs.States.{IsCount, MeetsAt}
+use Rattle.other_measures.specs.declared.states.Seen.{Seen}
 use Rattle.other_measures.specs.declared.sums.PedSum.{PedSum}
 use Rattle.other_measures.specs.declared.sums.PreemptSum.{PreemptSum}
 use Rattle.other_measures.specs.declared.sums.CoordSum.{CoordSum}
@@ -20,6 +21,24 @@ pub record IsSeen (c : Settings) (view : HourLog) (rows : List Row) (ss : List S
   pub same_specs : log.specs ≡ c.specs
   pub same_rows : log.rows ≡ rows
   pub same_stretches : log.stretches ≡ ss
+
+-- what is seen is of this hour, which has this first tenth and the channels of the configuration
+pub record IsSeenOf (c : Settings) (s : Seen) (log : HourLog) (first : ℕ) : Type 0 where
+  pub is_view : IsViewOf log s.view.now
+  pub same_specs : log.specs ≡ c.specs
+  pub from : s.from ≡ first
+  pub is_first : first ≡ first_tenth log.hour
+
+-- the same, or nothing is seen, of an hour with any first tenth
+abbrev pub IsWhatIsSeen : Settings → Option Seen → Option HourLog → ℕ → Type 0
+IsWhatIsSeen c (Some s) (Some log) first = IsSeenOf c s log first
+IsWhatIsSeen c None None first = Unit {0}
+IsWhatIsSeen c _ _ first = ⊥
+
+-- what is asked of the channel with a place is met at a tenth of what is seen; where nothing is seen, nothing is met
+abbrev pub MetBy : Option HourLog → ℕ → Asked → ℕ → Type 0
+MetBy (Some log) = MeetsAt log
+MetBy None = λ _ _ _. ⊥
 
 -- the channel is tracked, and of the tenths of an hour from `from` on it meets what is asked at k; At says of a channel's place, of what is asked and of a tenth whether it is met there
 abbrev pub HasTenths : (ℕ → Asked → ℕ → Type 0) → ℕ → Settings → Channel → Asked → ℕ → Type 0

@@ -1,8 +1,8 @@
 // What crosses a point between two hours.
-ghost use Rattle.std.specs.Prelude.{◌≡◌, ◌↔◌, ℕ, Bool, [], IsTrue, IfOk, map};
+ghost use Rattle.std.specs.Prelude.{◌≡◌, ◌↔◌, ◌≤◌, ℕ, Bool, [], IsTrue, IfOk, map};
 ghost use Rattle.std.specs.List.{range_with_len};
 ghost use Rattle.ring_config.specs.Values.{has_number};
-ghost use Rattle.other_measures.specs.Crossing.{IsCarry, no_ped, no_preempt};
+ghost use Rattle.other_measures.specs.Crossing.{IsCarry, no_ped, no_preempt, places};
 
 use crate::peds::PedPart;
 use crate::preempts::PreemptPart;
@@ -38,6 +38,18 @@ pub(crate) fn has_number(numbers: &[u8], number: u8) -> bool
     numbers.iter().any(|one| *one == number)
 }
 
+// How many places a table needs in which each of these numbers stands at its own.
+fn places(numbers: &[u8]) -> u16
+    ensures value { result ≡ places numbers.now }
+    ensures few { result ≤ 256 }
+{
+    let mut places = 0;
+    for number in numbers {
+        places = places.max(u16::from(*number) + 1);
+    }
+    places
+}
+
 fn empty_ped(peds: &[u8], number: u8) -> Option<PedPart>
     ensures { result ≡ no_ped peds.now number }
 {
@@ -63,21 +75,23 @@ fn empty_preempt(preempts: &[u8], number: u8) -> Option<PreemptPart>
 }
 
 fn empty_peds(alloc: Global, peds: &[u8]) -> Result<Vec<Option<PedPart>>, NoMemory>
-    ensures { IfOk result (λ v. v.items ≡ map (no_ped peds.now) (range_with_len 0 17)) }
+    ensures { IfOk result (λ v. v.items ≡ map (no_ped peds.now)
+        (range_with_len 0 (places peds.now))) }
 {
     let mut parts = Vec::new(alloc);
-    for number in 0..17u8 {
-        parts.push(empty_ped(peds, number))?;
+    for number in 0..places(peds) {
+        parts.push(empty_ped(peds, number as u8))?;
     }
     Ok(parts)
 }
 
 fn empty_preempts(alloc: Global, preempts: &[u8]) -> Result<Vec<Option<PreemptPart>>, NoMemory>
-    ensures { IfOk result (λ v. v.items ≡ map (no_preempt preempts.now) (range_with_len 0 17)) }
+    ensures { IfOk result (λ v. v.items ≡ map (no_preempt preempts.now)
+        (range_with_len 0 (places preempts.now))) }
 {
     let mut parts = Vec::new(alloc);
-    for number in 0..17u8 {
-        parts.push(empty_preempt(preempts, number))?;
+    for number in 0..places(preempts) {
+        parts.push(empty_preempt(preempts, number as u8))?;
     }
     Ok(parts)
 }

@@ -1,24 +1,23 @@
 // The numbers of an hour.
-ghost use Rattle.std.specs.Prelude.{◌≡◌, ◌+◌, ◌<◌, ◌++◌, ℕ, Bool, true, List, length, slice_index_or, IfOk, OnOk, OnErr, []};
+ghost use Rattle.std.specs.Prelude.{◌≡◌, ◌+◌, ◌++◌, ℕ, Bool, true, List, Option, length, option_copied, IfOk, IfSome, OnOk, OnErr, []};
 ghost use Rattle.sig_base.specs.declared.values.Row.{Row};
-ghost use Rattle.gap_map.specs.declared.stretch.Stretch.{Stretch};
 ghost use Rattle.hour_sweep.specs.Rows.{known_rows};
 ghost use Rattle.hour_sweep.specs.Hours.{IsHour};
 ghost use Rattle.board.specs.Logs.{HourLog, first_tenth};
+ghost use Rattle.ring_config.specs.Settings.{Settings};
 ghost use Rattle.ring_config.specs.Values.{has_number};
 ghost use Rattle.other_measures.specs.Crossing.{IsCarry};
 ghost use Rattle.other_measures.specs.Hours.{AreNumbers, AreStates, HasDelays, HasEvents, delays_from, events_from, no_numbers, others_added, with_detector, with_states};
-ghost use Rattle.other_measures.specs.States.{EachOf, HasDetector, HasStates, IsSeen};
+ghost use Rattle.other_measures.specs.States.{EachOf, HasDetector, HasStates, IsSeen, IsWhatIsSeen, MetBy};
 ghost use Rattle.state_tenths.specs.States.{MeetsAt};
 
 use crate::carry::{OtherCarry, has_number};
-use crate::coordination_sums::{coordination_of, no_coordination};
-use crate::none::{no_peds, no_preempts, no_states};
+use crate::coordination_sums::{coordination_of, coordination_unseen, no_coordination};
 use crate::ped_sums::ped_table;
 use crate::peds::Delay;
 use crate::preempt_sums::preempt_table;
 use crate::preempts::PreemptEvent;
-use crate::states::{first_of, numbers_are_low, tenths};
+use crate::states::{Seen, first_of, tenths};
 use crate::sums::{CoordSum, PedSum, PreemptSum};
 use board::HourView;
 use event_codes::{Channel, Kind};
@@ -70,12 +69,12 @@ impl OtherSums {
         ensures states { IfOk result (λ sums. (from : ℕ)
             → AreStates (λ _ _ _. ⊥) from config.now sums) }
     {
-        let peds = no_peds(alloc, config)?;
-        let preempts = no_preempts(alloc, config)?;
+        let peds = ped_sums(alloc, config, None, &[])?;
+        let preempts = preempt_sums(alloc, config, None, &[])?;
         Ok(OtherSums {
             peds,
             preempts,
-            coordination: no_states(config),
+            coordination: coordination_unseen(config),
         })
     }
 
@@ -113,22 +112,22 @@ impl OtherSums {
 }
 
 // The numbers of a pedestrian signal, from those of its delays.
-fn ped_sum(config: &Config, view: &HourView, from: u32, ped: u8, delays: &PedSum) -> PedSum
-    requires view { length view.now.specs ≡ length config.now.specs }
+fn ped_sum(config: &Config, seen: Option<&Seen<'_>>, ped: u8, delays: &PedSum) -> PedSum
+    requires view { IfSome seen (λ s. length s.now.view.now.specs ≡ length config.now.specs) }
     requires ped { has_number config.now.peds ped ≡ true }
     ensures delays { result ≡ with_detector delays.now result.detector_on
         result.detector_undecided }
-    ensures detector { (log : HourLog) (rows : List Row) (ss : List Stretch)
-        → IsSeen config.now view.now rows ss log → from ≡ first_tenth log.hour
-        → HasDetector (MeetsAt log) (first_tenth log.hour) config.now ped result }
+    ensures detector { (log : Option HourLog) (first : ℕ)
+        → IsWhatIsSeen config.now (option_copied seen.entry) log first
+        → HasDetector (MetBy log) first config.now ped result }
 {
     let detector = Channel {
         kind: Kind::PedDetector,
         number: ped,
     };
     PedSum {
-        detector_on: tenths(config, view, detector, Asked::Colour(1), from),
-        detector_undecided: tenths(config, view, detector, Asked::NoneOf(2), from),
+        detector_on: tenths(config, seen, detector, Asked::Colour(1)),
+        detector_undecided: tenths(config, seen, detector, Asked::NoneOf(2)),
         ..*delays
     }
 }
@@ -136,17 +135,16 @@ fn ped_sum(config: &Config, view: &HourView, from: u32, ped: u8, delays: &PedSum
 // The numbers of a preempt, from those of its entries and exits.
 fn preempt_sum(
     config: &Config,
-    view: &HourView,
-    from: u32,
+    seen: Option<&Seen<'_>>,
     preempt: u8,
     events: &PreemptSum,
 ) -> PreemptSum
-    requires view { length view.now.specs ≡ length config.now.specs }
+    requires view { IfSome seen (λ s. length s.now.view.now.specs ≡ length config.now.specs) }
     requires preempt { has_number config.now.preempts preempt ≡ true }
     ensures events { result ≡ with_states events.now result }
-    ensures states { (log : HourLog) (rows : List Row) (ss : List Stretch)
-        → IsSeen config.now view.now rows ss log → from ≡ first_tenth log.hour
-        → HasStates (MeetsAt log) (first_tenth log.hour) config.now preempt result }
+    ensures states { (log : Option HourLog) (first : ℕ)
+        → IsWhatIsSeen config.now (option_copied seen.entry) log first
+        → HasStates (MetBy log) first config.now preempt result }
 {
     let input = Channel {
         kind: Kind::PreemptInput,
@@ -157,13 +155,13 @@ fn preempt_sum(
         number: preempt,
     };
     PreemptSum {
-        input_on: tenths(config, view, input, Asked::Colour(1), from),
-        input_undecided: tenths(config, view, input, Asked::NoneOf(2), from),
-        rest: tenths(config, view, service, Asked::Colour(0), from),
-        entry: tenths(config, view, service, Asked::Colour(1), from),
-        track: tenths(config, view, service, Asked::Colour(2), from),
-        dwell: tenths(config, view, service, Asked::Colour(3), from),
-        undecided: tenths(config, view, service, Asked::NoneOf(4), from),
+        input_on: tenths(config, seen, input, Asked::Colour(1)),
+        input_undecided: tenths(config, seen, input, Asked::NoneOf(2)),
+        rest: tenths(config, seen, service, Asked::Colour(0)),
+        entry: tenths(config, seen, service, Asked::Colour(1)),
+        track: tenths(config, seen, service, Asked::Colour(2)),
+        dwell: tenths(config, seen, service, Asked::Colour(3)),
+        undecided: tenths(config, seen, service, Asked::NoneOf(4)),
         ..*events
     }
 }
@@ -171,23 +169,22 @@ fn preempt_sum(
 fn ped_sums(
     alloc: Global,
     config: &Config,
-    view: &HourView,
-    from: u32,
+    seen: Option<&Seen<'_>>,
     delays: &[Delay],
 ) -> Result<Vec<PedSum>, NoMemory>
-    requires view { length view.now.specs ≡ length config.now.specs }
+    requires view { IfSome seen (λ s. length s.now.view.now.specs ≡ length config.now.specs) }
     ensures delays { IfOk result (λ v. EachOf (has_number config.now.peds) (HasDelays delays.now) 17
         v.items) }
-    ensures detector { IfOk result (λ v. (log : HourLog) (rows : List Row) (ss : List Stretch)
-        → IsSeen config.now view.now rows ss log → from ≡ first_tenth log.hour
-        → EachOf (has_number config.now.peds) (HasDetector (MeetsAt log) (first_tenth log.hour)
-        config.now) 17 v.items) }
+    ensures detector { IfOk result (λ v. (log : Option HourLog) (first : ℕ)
+        → IsWhatIsSeen config.now (option_copied seen.entry) log first
+        → EachOf (has_number config.now.peds) (HasDetector (MetBy log) first config.now) 17
+        v.items) }
 {
     let table = ped_table(delays);
     let mut sums = Vec::new(alloc);
     for ped in 0..17u8 {
         if has_number(config.peds(), ped) {
-            sums.push(ped_sum(config, view, from, ped, &table[usize::from(ped)]))?;
+            sums.push(ped_sum(config, seen, ped, &table[usize::from(ped)]))?;
         }
     }
     Ok(sums)
@@ -196,23 +193,22 @@ fn ped_sums(
 fn preempt_sums(
     alloc: Global,
     config: &Config,
-    view: &HourView,
-    from: u32,
+    seen: Option<&Seen<'_>>,
     events: &[PreemptEvent],
 ) -> Result<Vec<PreemptSum>, NoMemory>
-    requires view { length view.now.specs ≡ length config.now.specs }
+    requires view { IfSome seen (λ s. length s.now.view.now.specs ≡ length config.now.specs) }
     ensures events { IfOk result (λ v. EachOf (has_number config.now.preempts)
         (HasEvents events.now) 17 v.items) }
-    ensures states { IfOk result (λ v. (log : HourLog) (rows : List Row) (ss : List Stretch)
-        → IsSeen config.now view.now rows ss log → from ≡ first_tenth log.hour
-        → EachOf (has_number config.now.preempts) (HasStates (MeetsAt log) (first_tenth log.hour)
-        config.now) 17 v.items) }
+    ensures states { IfOk result (λ v. (log : Option HourLog) (first : ℕ)
+        → IsWhatIsSeen config.now (option_copied seen.entry) log first
+        → EachOf (has_number config.now.preempts) (HasStates (MetBy log) first config.now) 17
+        v.items) }
 {
     let table = preempt_table(events);
     let mut sums = Vec::new(alloc);
     for preempt in 0..17u8 {
         if has_number(config.preempts(), preempt) {
-            sums.push(preempt_sum(config, view, from, preempt, &table[usize::from(preempt)]))?;
+            sums.push(preempt_sum(config, seen, preempt, &table[usize::from(preempt)]))?;
         }
     }
     Ok(sums)
@@ -226,26 +222,28 @@ struct Tracked {
     events: Vec<PreemptEvent>,
 }
 
+// By whatever configuration the carry was kept.
 fn track_others(
     alloc: Global,
-    config: &Config,
     carry: &OtherCarry,
     rows: &[Row],
     stretches: &[Stretch],
 ) -> Result<Tracked, NoMemory>
-    ensures carry { IfOk result (λ t. (known : ℕ → Bool) (before : List Row) (hour : ℕ)
-        → IsHour known hour rows.now stretches.now → IsCarry known config.now before hour carry.now
-        → IsCarry known config.now (before ++ known_rows known rows.now) (hour + 1) t.carry) }
-    ensures delays { IfOk result (λ t. (known : ℕ → Bool) (before : List Row) (hour : ℕ)
-        → IsHour known hour rows.now stretches.now → IsCarry known config.now before hour carry.now
-        → t.delays.items ≡ delays_from known config.now before (known_rows known rows.now)) }
-    ensures events { IfOk result (λ t. (known : ℕ → Bool) (before : List Row) (hour : ℕ)
-        → IsHour known hour rows.now stretches.now → IsCarry known config.now before hour carry.now
-        → t.events.items ≡ events_from known config.now before (known_rows known rows.now)) }
+    ensures carry { IfOk result (λ t. (known : ℕ → Bool) (c : Settings) (before : List Row)
+        (hour : ℕ) → IsHour known hour rows.now stretches.now
+        → IsCarry known c before hour carry.now
+        → IsCarry known c (before ++ known_rows known rows.now) (hour + 1) t.carry) }
+    ensures delays { IfOk result (λ t. (known : ℕ → Bool) (c : Settings) (before : List Row)
+        (hour : ℕ) → IsHour known hour rows.now stretches.now
+        → IsCarry known c before hour carry.now
+        → t.delays.items ≡ delays_from known c before (known_rows known rows.now)) }
+    ensures events { IfOk result (λ t. (known : ℕ → Bool) (c : Settings) (before : List Row)
+        (hour : ℕ) → IsHour known hour rows.now stretches.now
+        → IsCarry known c before hour carry.now
+        → t.events.items ≡ events_from known c before (known_rows known rows.now)) }
 {
     let (peds, delays) = track_hour(alloc, &carry.peds, rows, stretches)?.into_parts();
     let (preempts, events) = track_hour(alloc, &carry.preempts, rows, stretches)?.into_parts();
-    numbers_are_low(config);
     Ok(Tracked {
         carry: OtherCarry {
             peds,
@@ -271,7 +269,7 @@ pub fn others_carried(
         → IsCarry known config.now (before ++ known_rows known rows.now) (hour + 1) carry.new) }
     ensures err { OnErr result (carry.new ≡ carry.old) }
 {
-    let tracked = track_others(alloc, config, carry, rows, stretches)?;
+    let tracked = track_others(alloc, carry, rows, stretches)?;
     let Tracked { carry: next, .. } = tracked;
     *carry = next;
     Ok(())
@@ -299,16 +297,19 @@ pub fn others_hour(
         → IsCarry known config.now (before ++ known_rows known rows.now) (hour + 1) carry.new) }
     ensures err { OnErr result (carry.new ≡ carry.old) }
 {
-    let tracked = track_others(alloc, config, carry, rows, stretches)?;
+    let tracked = track_others(alloc, carry, rows, stretches)?;
     let Tracked {
         carry: next,
         delays,
         events,
     } = tracked;
-    let from = first_of(stretches);
-    let peds = ped_sums(alloc, config, view, from, &delays)?;
-    let preempts = preempt_sums(alloc, config, view, from, &events)?;
-    let coordination = coordination_of(config, view, from, rows, stretches)?;
+    let seen = Seen {
+        view,
+        from: first_of(stretches),
+    };
+    let peds = ped_sums(alloc, config, Some(&seen), &delays)?;
+    let preempts = preempt_sums(alloc, config, Some(&seen), &events)?;
+    let coordination = coordination_of(config, &seen, rows, stretches)?;
     *carry = next;
     Ok(OtherSums {
         peds,

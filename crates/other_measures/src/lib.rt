@@ -12,7 +12,6 @@ mod coordination_sums;
 mod hour;
 mod last_rows;
 mod laws;
-mod none;
 mod ped_sums;
 mod peds;
 mod preempt_sums;

@@ -1,19 +1,24 @@
 // The tenths of states of one channel.
-ghost use Rattle.std.specs.Prelude.{◌≡◌, ◌<◌, ◌+◌, ℕ, true, length, List};
-ghost use Rattle.sig_base.specs.declared.values.Row.{Row};
-ghost use Rattle.gap_map.specs.declared.stretch.Stretch.{Stretch};
+ghost use Rattle.std.specs.Prelude.{◌≡◌, ◌<◌, ℕ, true, length, Option, option_copied, IfSome};
 ghost use Rattle.gap_map.specs.Stretches.{FollowOn};
-ghost use Rattle.board.specs.Logs.{HourLog, first_tenth};
-ghost use Rattle.ring_config.specs.Settings.{is_tracked};
-ghost use Rattle.ring_config.specs.Values.{has_number};
-ghost use Rattle.state_tenths.specs.States.{IsAsked, MeetsAt};
-ghost use Rattle.other_measures.specs.States.{HasTenths, IsSeen};
+ghost use Rattle.board.specs.Logs.{HourLog};
+ghost use Rattle.ring_config.specs.Settings.{Settings, is_tracked};
+ghost use Rattle.state_tenths.specs.States.{IsAsked, IsCount};
+ghost use Rattle.other_measures.specs.States.{HasTenths, IsWhatIsSeen, MetBy};
 
 use board::HourView;
 use event_codes::Channel;
 use gap_map::Stretch;
 use ring_config::Config;
 use state_tenths::{Asked, tenths_of};
+
+/// What is seen of an hour.
+#[derive(Drop)]
+pub(crate) struct Seen<'a> {
+    pub(crate) view: &'a HourView,
+    /// The hour's first tenth.
+    pub(crate) from: u32,
+}
 
 /// The first tenth of the hour with these stretches.
 pub(crate) fn first_of(stretches: &[Stretch]) -> u32
@@ -25,33 +30,37 @@ pub(crate) fn first_of(stretches: &[Stretch]) -> u32
     }
 }
 
-/// No pedestrian signal and no preempt has a number above 16.
-pub(crate) fn numbers_are_low(config: &Config)
-    ensures peds { (p : ℕ) → has_number config.now.peds p ≡ true → p < 17 }
-    ensures preempts { (p : ℕ) → has_number config.now.preempts p ≡ true → p < 17 }
+// The known tenths of the hour at whose end the channel with this place among the specs meets what
+// is asked, none where nothing is seen.
+fn tenths_at(seen: Option<&Seen<'_>>, spec: u16, asked: Asked) -> u64
+    requires within { IfSome seen (λ s. spec < length s.now.view.now.specs) }
+    requires asked { IsAsked asked }
+    ensures { (c : Settings) (log : Option HourLog) (first : ℕ)
+        → IsWhatIsSeen c (option_copied seen.entry) log first
+        → IsCount (MetBy log spec asked) first 36000 result }
 {
-    let _phases = config.phases();
-    let _peds = config.peds();
-    let _preempts = config.preempts();
+    match seen {
+        Some(seen) => u64::from(tenths_of(seen.view, spec, asked, seen.from)),
+        None => 0,
+    }
 }
 
-/// The known tenths of the hour at whose end the tracked channel meets what is asked.
+/// Those of a tracked channel.
 pub(crate) fn tenths(
     config: &Config,
-    view: &HourView,
+    seen: Option<&Seen<'_>>,
     channel: Channel,
     asked: Asked,
-    from: u32,
 ) -> u64
-    requires view { length view.now.specs ≡ length config.now.specs }
+    requires view { IfSome seen (λ s. length s.now.view.now.specs ≡ length config.now.specs) }
     requires tracked { is_tracked config.now channel ≡ true }
     requires asked { IsAsked asked }
-    ensures { (log : HourLog) (rows : List Row) (ss : List Stretch)
-        → IsSeen config.now view.now rows ss log → from ≡ first_tenth log.hour
-        → HasTenths (MeetsAt log) (first_tenth log.hour) config.now channel asked result }
+    ensures { (log : Option HourLog) (first : ℕ)
+        → IsWhatIsSeen config.now (option_copied seen.entry) log first
+        → HasTenths (MetBy log) first config.now channel asked result }
 {
     match config.spec_of(channel) {
-        Some(spec) => u64::from(tenths_of(view, spec, asked, from)),
+        Some(spec) => tenths_at(seen, spec, asked),
         None => 0,
     }
 }

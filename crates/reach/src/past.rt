@@ -172,15 +172,7 @@ fn add_one(set: &mut SpanSet, entry: Tenth) -> Result<(), NoMemory>
     ensures { OnOk result (set.new ≡ span entry (entry +ℤ pos 1) ∷ []) }
 {
     set.add(entry, entry + 1)?;
-    read_order(set);
     Ok(())
-}
-
-// Lets a proof know that the ranges are in order. It does nothing.
-fn read_order(set: &SpanSet)
-    ensures { AreRanges set.now }
-{
-    let _ranges = set.ranges();
 }
 
 // The state that the sets hold, where it is one alone.

@@ -66,6 +66,7 @@ impl SpanSet {
         ensures ok { OnOk result ((e : ℤ) → Member self.new e
             ↔ (Member self.old e ⊎ Within (span from to) e)) }
         ensures err { OnErr result (self.new ≡ self.old) }
+        ensures ordered { AreRanges self.new }
     {
         change::add(&mut self.spans, from, to)
     }

@@ -18,8 +18,8 @@ use Rattle.reach.specs.Tests.{InBound}
 use Rattle.reach.specs.declared.seen.AgeBound.{AgeBound}
 use Rattle.reach.specs.declared.seen.AgeBound.TheVariants.{Any, AtLeast, AtMost}
 use Rattle.reach.specs.declared.seen.Test.{Test}
-use Rattle.lane.specs.Places.{Passes}
-use Rattle.lane.specs.Walks.{Walk}
+use Rattle.channel_path.specs.Places.{Passes}
+use Rattle.channel_path.specs.Walks.{Walk}
 use Rattle.hour_store.specs.Store.{IsStore, Store, held_at, is_known, rows_at}
 use Rattle.board.specs.Channels.{AreSpecs, track}
 use Rattle.board.specs.History.{Track, events_at}

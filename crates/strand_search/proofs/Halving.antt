@@ -6,9 +6,9 @@ use Rattle.colour_machine.specs.Rules.{Rules}
 use Rattle.sig_base.specs.declared.values.Row.{Row}
 use Rattle.gap_map.specs.declared.stretch.Stretch.{Stretch}
 use Rattle.gap_map.specs.Stretches.{AreStretches, FollowOn}
-use Rattle.lane.specs.declared.moves.Move.{Move}
-use Rattle.lane.specs.Walks.{InOrder}
-use Rattle.lane.specs.Places.{TakesFrom, limit_of}
+use Rattle.channel_path.specs.declared.moves.Move.{Move}
+use Rattle.channel_path.specs.Walks.{InOrder}
+use Rattle.channel_path.specs.Places.{TakesFrom, limit_of}
 use Rattle.board.specs.History.{Event, Track, events_at}
 use Rattle.board.specs.Moves.{RowsIn, count_before, own}
 use Rattle.board.specs.Places.{since, upto}

@@ -8,7 +8,7 @@ use Rattle.gap_map.specs.Stretches.{known_at}
 use Rattle.gap_map.proofs.Following.{follow, known_at_is}
 use Rattle.channel_tables.specs.declared.spec.Spec.{Spec}
 use Rattle.channel_tables.specs.Spec.{rules_of}
-use Rattle.lane.proofs.Moving.{earlier_low}
+use Rattle.channel_path.proofs.Moving.{earlier_low}
 use Rattle.hour_store.specs.Store.{IsStore, Store, is_known, known_rows, rows_at}
 use Rattle.board.specs.Channels.{track}
 use Rattle.board.specs.History.{Event, events_at}

@@ -5,9 +5,9 @@ use Rattle.span_set.specs.declared.set.Span.{Span}
 use Rattle.channel_tables.specs.declared.spec.Spec.{Spec}
 use Rattle.channel_tables.specs.Spec.{rules_of}
 use Rattle.gap_map.specs.Stretches.{known_at}
-use Rattle.lane.specs.declared.moves.Move.{Move}
-use Rattle.lane.specs.Walks.{EnteredBefore, InOrder}
-use Rattle.lane.specs.Places.{limit_of}
+use Rattle.channel_path.specs.declared.moves.Move.{Move}
+use Rattle.channel_path.specs.Walks.{EnteredBefore, InOrder}
+use Rattle.channel_path.specs.Places.{limit_of}
 use Rattle.board.specs.Channels.{track}
 use Rattle.board.specs.History.{events_at}
 use Rattle.board.proofs.Ordering.{own_order}

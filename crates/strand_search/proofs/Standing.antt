@@ -4,11 +4,11 @@ use Rattle.std.proofs.lemmas.Int.{ints}
 use Rattle.std.proofs.lemmas.List.{reverse-append, reverse-reverse}
 use Rattle.colour_machine.specs.Rules.{Rules}
 use Rattle.reach.specs.Runs.{State}
-use Rattle.lane.specs.declared.moves.Move.{Move}
-use Rattle.lane.specs.declared.moves.Move.TheVariants.{Letter, Gap}
-use Rattle.lane.specs.Walks.{AfterMoves, EnteredBefore, InOrder}
-use Rattle.lane.specs.Places.{limit_of}
-use Rattle.lane.proofs.Moving.{walk_early}
+use Rattle.channel_path.specs.declared.moves.Move.{Move}
+use Rattle.channel_path.specs.declared.moves.Move.TheVariants.{Letter, Gap}
+use Rattle.channel_path.specs.Walks.{AfterMoves, EnteredBefore, InOrder}
+use Rattle.channel_path.specs.Places.{limit_of}
+use Rattle.channel_path.proofs.Moving.{walk_early}
 use Rattle.gap_ways.specs.declared.states.Fill.{Fill}
 use Rattle.gap_ways.specs.declared.states.Entered.{Entered}
 use Rattle.gap_ways.specs.Ways.{NoneOlder, Way, state_of}

@@ -13,7 +13,7 @@ use Rattle.reach.specs.Runs.{State, state}
 use Rattle.reach.specs.Past.{Holds}
 use Rattle.reach.specs.Ahead.{Admits}
 use Rattle.reach.proofs.States.{in_sets}
-use Rattle.lane.specs.Walks.{BeforeMoves}
+use Rattle.channel_path.specs.Walks.{BeforeMoves}
 use Rattle.hour_store.specs.Store.{IsStore, Store, is_known, known_rows, rows_at}
 use Rattle.board.specs.Channels.{AreSpecs, track}
 use Rattle.board.specs.History.{Agreeing, Event, Track, events_at}

@@ -9,7 +9,7 @@ use Rattle.channel_tables.specs.declared.spec.Spec.{Spec}
 use Rattle.channel_tables.specs.Spec.{rules_of}
 use Rattle.hour_store.specs.Store.{Store, is_known, known_rows}
 use Rattle.gap_map.specs.Stretches.{known_at}
-use Rattle.lane.specs.Walks.{EnteredBefore}
+use Rattle.channel_path.specs.Walks.{EnteredBefore}
 use Rattle.board.specs.Channels.{track}
 use Rattle.board.specs.History.{events_at}
 use Rattle.board.specs.Logs.{first_tenth}

@@ -5,9 +5,9 @@ use Rattle.sig_base.specs.HourRows.{AreRowsOf}
 use Rattle.colour_machine.specs.Rules.{Rules}
 use Rattle.gap_map.specs.declared.stretch.Stretch.{Stretch}
 use Rattle.gap_map.specs.Stretches.{Alternate, FollowOn, IsCut}
-use Rattle.lane.specs.declared.moves.Move.{Move}
-use Rattle.lane.specs.Walks.{InOrder}
-use Rattle.lane.specs.Places.{limit_of}
+use Rattle.channel_path.specs.declared.moves.Move.{Move}
+use Rattle.channel_path.specs.Walks.{InOrder}
+use Rattle.channel_path.specs.Places.{limit_of}
 use Rattle.hour_store.specs.Store.{Store, is_known, rows_at}
 use Rattle.channel_tables.specs.declared.spec.Spec.{Spec}
 use Rattle.board.specs.Channels.{track}

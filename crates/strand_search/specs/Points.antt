@@ -2,7 +2,7 @@
 use Rattle.std.specs.Prelude.{◌≡◌, ℕ, ◌+◌, ◌≤◌, ℤ, List, [], ◌∷◌, Option, length, slice_index_or}
 use Rattle.span_set.specs.declared.set.Span.{Span}
 use Rattle.channel_tables.specs.declared.spec.Spec.{Spec}
-use Rattle.hour_store.specs.Store.{Store}
+use Rattle.hour_store.specs.Store.{IsStore, Store}
 use Rattle.strand_search.specs.declared.search.Points.{Points}
 use Rattle.signal_log.specs.Log.{HasHistory, Log, log_of}
 use Rattle.signal_log.specs.Points.{AreAheadsAt, ArePastsAt}
@@ -27,6 +27,8 @@ HasNone d s = HasHistory (log_alone d s) → ⊥
 abbrev pub past_at : List (List (List (List Span))) → ℕ → List (List Span)
 past_at pasts k = slice_index_or (slice_index_or pasts k []) 0 []
 
--- the states at the points up to that before the hour, and those that can be completed at the points from the window's end back to that after it
-abbrev pub ArePointsAround : Spec → Store → ℕ → Points → Type 0
-ArePointsAround d s hour points = ArePastsUpTo d s hour points.pasts.items × ((n : ℕ) × (n + hour + 1 ≡ length s.hours) × AreAheadsBack d s n points.aheads.items)
+-- the states at the points of the store's window up to that before the hour, and those that can be completed at the points from the window's end back to that after it
+pub record ArePointsAround (d : Spec) (s : Store) (hour : ℕ) (points : Points) : Type 0 where
+  pub is_store : IsStore s
+  pub pasts : ArePastsUpTo d s hour points.pasts.items
+  pub aheads : (n : ℕ) × (n + hour + 1 ≡ length s.hours) × AreAheadsBack d s n points.aheads.items

@@ -7,7 +7,7 @@ use Rattle.channel_tables.specs.declared.spec.Spec.{Spec}
 use Rattle.channel_tables.specs.Spec.{rules_of}
 use Rattle.hour_store.specs.Store.{Store, is_known, known_rows, rows_at}
 use Rattle.board.specs.Channels.{track}
-use Rattle.board.specs.History.{Agreeing, Event, events_at, letters}
+use Rattle.board.specs.History.{Agreeing, Event, letters}
 use Rattle.board.specs.Logs.{no_row}
 use Rattle.board.specs.Moves.{RowsIn}
 use Rattle.reach.specs.declared.seen.AgeBound.{AgeBound}

@@ -52,7 +52,6 @@ fn back_over_hour<L>(
         way.rows.items r.rows.items (state_of r.here) (state_of way.here)) }
     ensures grow { Grow reads.old reads.new }
 {
-    let _hours = store.hours();
     let mut way = way;
     let part = hour_part(alloc, store, hour, reads)?;
     let limit = limit_after(hour);

@@ -124,7 +124,6 @@ pub(crate) fn cross<L>(
         (IsCrossed spec.now store.now asked.now before.now)) }
     ensures grow { Grow reads.old reads.new }
 {
-    let _hours = store.hours();
     let hour = asked.at / 36_000;
     let part = hour_part(alloc, store, hour, reads)?;
     let cut = cut_at(alloc, &part, asked.at, asked.before)?;

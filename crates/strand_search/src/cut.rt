@@ -1,12 +1,12 @@
 // An hour cut at a place.
-ghost use Rattle.std.specs.Prelude.{◌≡◌, ◌∷◌, ◌+◌, ◌<◌, ◌≤◌, length, IfOk};
-ghost use Rattle.board.specs.Moves.{count_before};
+ghost use Rattle.std.specs.Prelude.{◌≡◌, ◌∷◌, ◌+◌, ◌<◌, ◌≤◌, ◌^◌, length, IfOk};
 ghost use Rattle.board.specs.Places.{since, upto};
 ghost use Rattle.strand_search.specs.Crossings.{rows_to};
 ghost use Rattle.strand_search.specs.Parts.{IsCutOf};
 ghost use Rattle.strand_search.specs.Runs.{IsPlaceAt};
 
 use crate::part::Part;
+use board::count_before;
 use gap_map::Stretch;
 use sig_base::{NoMemory, Row};
 use std::alloc::Global;
@@ -77,28 +77,17 @@ fn stretches_since(
     Ok(Vec::new(alloc))
 }
 
-// The number of first rows before the tenth.
-fn rows_until(rows: &[Row], tenth: u64) -> usize
-    ensures count { result ≡ count_before tenth rows.now }
-    ensures within { result ≤ length rows.now }
-{
-    for (i, row) in rows.iter().enumerate() {
-        if row.at as u64 >= tenth {
-            return i;
-        }
-    }
-    rows.len()
-}
-
 // How many of the hour's rows are before the place.
+#[tactic(auto, using(board::proofs::Adding::count_le))]
 fn rows_to(rows: &[Row], at: u32, before: Option<u32>) -> usize
-    requires { IsPlaceAt rows.now at before }
+    requires place { IsPlaceAt rows.now at before }
+    requires soon { at + 1 < 2 ^ 32 }
     ensures count { result ≡ rows_to rows.now at before }
     ensures within { result ≤ length rows.now }
 {
     match before {
         Some(row) => row as usize,
-        None => rows_until(rows, at as u64 + 1),
+        None => count_before(rows, at + 1),
     }
 }
 
@@ -109,7 +98,8 @@ pub(crate) fn cut_at<'a>(
     at: u32,
     before: Option<u32>,
 ) -> Result<Cut<'a>, NoMemory>
-    requires { IsPlaceAt hour.now.rows.now at before }
+    requires place { IsPlaceAt hour.now.rows.now at before }
+    requires soon { at + 1 < 2 ^ 32 }
     ensures { IfOk result (IsCutOf hour.now.rows.now hour.now.stretches.items at
         (rows_to hour.now.rows.now at before)) }
 {

@@ -43,7 +43,6 @@ fn on_over_hour<L>(
         way.rows.items r.rows.items (state_of way.here.state) (state_of r.here.state)) }
     ensures grow { Grow reads.old reads.new }
 {
-    let _hours = store.hours();
     let mut way = way;
     let part = hour_part(alloc, store, hour, reads)?;
     let here = on_over(alloc, spec, &part, &way.here, after.at(0), &mut way.rows)?;

@@ -1,8 +1,8 @@
 // Some tenths of a store.
-ghost use Rattle.std.specs.Prelude.{◌≡◌, ◌∷◌, [], ◌<◌, ◌^◌, length, option_copied, IfOk};
+ghost use Rattle.std.specs.Prelude.{◌≡◌, ◌∷◌, [], ◌<◌, ◌^◌, length, IfOk};
 ghost use Rattle.board.specs.Channels.{AreSpecs, track};
 ghost use Rattle.board.specs.Moves.{own};
-ghost use Rattle.signal_log.specs.Points.{rows_or_none};
+ghost use Rattle.hour_store.specs.Store.{IsStore};
 ghost use Rattle.sig_base.specs.Reads.{Grow};
 ghost use Rattle.strand_search.specs.Parts.{IsHourPart};
 
@@ -20,16 +20,6 @@ pub(crate) struct Part<'a> {
     pub(crate) stretches: Vec<Stretch>,
 }
 
-// The rows that are held, none where none are.
-fn held_rows<'a>(rows: Option<&'a [Row]>) -> &'a [Row]
-    ensures { result.now ≡ rows_or_none (option_copied rows.entry) }
-{
-    match rows {
-        Some(rows) => rows,
-        None => &[],
-    }
-}
-
 /// An hour, which is opened.
 #[tactic(auto, using(crate::proofs::Growing::grow_raised_to))]
 pub(crate) fn hour_part<'a, L>(
@@ -39,14 +29,14 @@ pub(crate) fn hour_part<'a, L>(
     reads: &mut Reads<L>,
 ) -> Result<Part<'a>, NoMemory>
     requires { hour < length store.now.hours }
+    ensures store { IsStore store.now }
     ensures part { IfOk result (λ p. IsHourPart store.now hour p.rows.now p.stretches.items) }
     ensures grow { Grow reads.old reads.new }
 {
-    let _hours = store.hours();
     let rows = store.open_hour(hour, reads);
     let cut = stretches(alloc, hour, rows.is_some(), store.blanked())?;
     Ok(Part {
-        rows: held_rows(rows),
+        rows: rows.unwrap_or(&[]),
         stretches: cut,
     })
 }

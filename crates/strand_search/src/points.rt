@@ -1,5 +1,5 @@
 // The states at the hour points of a window.
-ghost use Rattle.std.specs.Prelude.{◌≡◌, ◌∷◌, [], ◌+◌, ◌≤◌, ◌<◌, length, slice_index_or, IfOk, IfErr, MatchOption};
+ghost use Rattle.std.specs.Prelude.{◌∷◌, [], ◌+◌, ◌≤◌, ◌<◌, length, IfOk, MatchOption};
 ghost use Rattle.board.specs.Channels.{AreSpecs};
 ghost use Rattle.signal_log.specs.Points.{AreAheadsAt, ArePastsAt};
 ghost use Rattle.sig_base.specs.Reads.{Grow};
@@ -29,7 +29,6 @@ fn next_pasts<L>(
         (ArePastsAt (log_alone spec.now store.now) (hour + 1))) }
     ensures grow { Grow reads.old reads.new }
 {
-    let _hours = store.hours();
     let specs = std::slice::from_ref(spec);
     let rows = store.open_hour(hour, reads);
     match pasts_after(alloc, specs, hour, before, rows, store.blanked()) {
@@ -101,7 +100,6 @@ fn previous_aheads<L>(
     ensures aheads { IfOk result (AreAheadsAt (log_alone spec.now store.now) hour) }
     ensures grow { Grow reads.old reads.new }
 {
-    let _hours = store.hours();
     let specs = std::slice::from_ref(spec);
     let rows = store.open_hour(hour, reads);
     aheads_before(alloc, specs, hour, after, rows, store.blanked())

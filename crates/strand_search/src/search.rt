@@ -89,7 +89,6 @@ fn cross_between<L>(
         (IsCrossedFrom spec.now store.now asked.now points.now)) }
     ensures grow { Grow reads.old reads.new }
 {
-    let _hours = store.hours();
     let hour = (asked.at / 36_000) as usize;
     let before = &points.pasts[hour];
     let after = &points.aheads[points.aheads.len() - 1];
@@ -128,7 +127,6 @@ fn whole_run<L>(
         → IsFound spec.now store.now asked f) }
     ensures grow { Grow reads.old reads.new }
 {
-    let _hours = store.hours();
     let way = Back {
         here: crossing.before,
         rows: crossing.earlier,

@@ -4,15 +4,15 @@ ghost use Rattle.channel_tables.specs.Spec.{IsSpec, rules_of};
 ghost use Rattle.reach.specs.Runs.{State};
 ghost use Rattle.reach.specs.Past.{Holds};
 ghost use Rattle.reach.specs.Ahead.{Admits};
-ghost use Rattle.lane.specs.Walks.{AfterMoves, BeforeMoves, EnteredBefore, InOrder};
+ghost use Rattle.channel_path.specs.Walks.{AfterMoves, BeforeMoves, EnteredBefore, InOrder};
 ghost use Rattle.gap_ways.specs.Ways.{NoneOlder, state_of};
 ghost use Rattle.channel_ways.specs.Moves.{AddedAlike, AddedMoves, ClampedAfter, IsAlone, IsPassage, IsPassing};
 ghost use Rattle.strand_search.specs.Parts.{GoOn, StandsAlone};
 
+use channel_path::{Move, walk_past};
 use channel_tables::{Spec, machine_of};
 use channel_ways::{Passage, Passing, clamped_source, passage_state, walk_end, walk_source};
 use gap_ways::{Entered, Fill, only_state};
-use lane::{Move, walk_past};
 use reach::{Ahead, Past, Test};
 use sig_base::{NoMemory, Tenth};
 use std::alloc::Global;

@@ -1,33 +1,11 @@
-use Rattle.std.proofs.Common.{◌∙◌, ◌+◌, ◌++◌, ℕ, Bool, List, [], ap, refl, subst, append-nil}
+use Rattle.std.proofs.Common.{◌+◌, List, None, subst, append-nil}
 use Rattle.sig_base.specs.declared.values.Row.{Row}
-use Rattle.hour_sweep.specs.Rows.{known_rows}
-use Rattle.hour_sweep.specs.Hours.{IsHour}
-use Rattle.service_cut.specs.Cut.{IsCut}
-use Rattle.arrival_measures.specs.Crossing.{CarryParts, IsCarry}
-use Rattle.arrival_measures.specs.Steps.{AreDetections, AreGiven}
-use Rattle.arrival_measures.proofs.Hours.{carry_is, given_of}
+use Rattle.arrival_measures.specs.Crossing.{IsCarry}
 use Rattle.arrival_measures.proofs.hour.arrivals_unheld.Goals as goal
-use Rattle.arrival_measures.proofs.hour.arrivals_unheld.Goals.{After-drop-found-3}
-
-detections_of : (c : After-drop-found-3) (known : ℕ → Bool) (before : List Row) (hour : ℕ) → IsHour known hour [] c.args.stretches.now → IsCarry known c.args.config.now before hour c.args.carry.now → AreDetections known c.args.config.now before (known_rows known []) hour c.in_ok-found.found
-detections_of c known before hour h is = c.in_ok-found.ensures known c.args.config.now before hour h is.earlier (c.deref.ensures.value ∙ ap (λ (z : CarryParts). z.flags) c.carry.view_is ∙ is.flags_are)
-
-given : (c : After-drop-found-3) (known : ℕ → Bool) (before : List Row) (hour : ℕ) → IsHour known hour [] c.args.stretches.now → IsCarry known c.args.config.now before hour c.args.carry.now → IsCut known c.args.config.now.phases before hour [] c.args.cuts.now → AreGiven known c.args.config.now before [] hour c.in_ok-sources.sources c.deref-2.result.now c.args.cuts.now
-given c known before hour h is cut =
-    let are = c.in_ok-sources.ensures.sources known before hour h is.ordered (detections_of c known before hour h is) in
-    given_of known c.args.config.now before [] hour c.in_ok-sources.sources c.args.carry.now c.deref-2.result.now c.args.cuts.now are is (c.deref-2.ensures.value ∙ ap (λ (z : CarryParts). z.crossings) c.carry.view_is) cut
-
-carried : (c : After-drop-found-3) (known : ℕ → Bool) (before : List Row) (hour : ℕ) → IsHour known hour [] c.args.stretches.now → IsCarry known c.args.config.now before hour c.args.carry.now → IsCut known c.args.config.now.phases before hour [] c.args.cuts.now → IsCarry known c.args.config.now (before ++ known_rows known []) (hour + 1) (record { crossings = c.in_ok-numbers.numbers.crossings.items; flags = c.in_ok-found.found.flags.items })
-carried c known before hour h is cut =
-    carry_is known c.args.config.now before hour [] c.args.stretches.now c.args.carry.now (record { crossings = c.in_ok-numbers.numbers.crossings.items; flags = c.in_ok-found.found.flags.items }) c.in_ok-found.found.flags.items h is
-    (detections_of c known before hour h is).flags (c.in_ok-numbers.ensures.crossings known before [] hour (given c known before hour h is cut)) refl
 
 pub returns-clause-judged : goal.returns-clause-judged
-returns-clause-judged c = λ known before hour h un is cut. c.in_ok-numbers.ensures.judged known before hour (given c known before hour h is cut) un
-
-pub returns-clause-cycles : goal.returns-clause-cycles
-returns-clause-cycles c = λ known before hour h is cut. c.in_ok-numbers.ensures.cycles known before [] hour (given c known before hour h is cut)
+returns-clause-judged c = λ known before hour h un is cut. c.in_ok-approaches.ensures.judged known before hour None h is cut un
 
 pub returns-clause-carry : goal.returns-clause-carry
 returns-clause-carry c = λ known before hour h is cut.
-    subst (λ (zs : List Row). IsCarry known c.args.config.now zs (hour + 1) (record { crossings = c.in_ok-numbers.numbers.crossings.items; flags = c.in_ok-found.found.flags.items })) (append-nil before) (carried c known before hour h is cut)
+    subst (λ (zs : List Row). IsCarry known c.args.config.now zs (hour + 1) c.over_hour.new.carry) (append-nil before) (c.in_ok-approaches.ensures.carry known before hour h is cut)

@@ -9,18 +9,16 @@ use Rattle.arrival_measures.proofs.Hours.{arriving_ordered, judged_both, late_fr
 use Rattle.arrival_measures.proofs.hour.unseen_sum.Goals as goal
 
 pub returns-clause-judged : goal.returns-clause-judged
-returns-clause-judged c = λ known before hour are un is.
-    let s = c.args.config.now in
+returns-clause-judged c = λ s place at known before hour are un is.
     let a = c.args.approach.now in
     let src = c.args.sources.now in
     let t = point hour in
     let all : List Row = before ++ [] in
-    let place = c.phase_spec-spec.result in
     let none : AreOrdered t (t + 36000) [] = omega arith in
     let few = are.is_hour.are_rows.in_range in
     let end : c.saturating_add-end.result ≡ point (hour + 1) = (let f = are.first in let e = c.saturating_add-end.ensures in omega arith) in
     let arrives = c.deref.ensures.value ∙ is.arriving in
-    let ordered = subst (λ (zs : List Row). AreOrdered t (t + 36300) zs) (sym arrives) (arriving_ordered known t before [] a a.advance are.ordered none c.requires.own.travel) in
+    let ordered = subst (λ (zs : List Row). AreOrdered t (t + 36300) zs) (sym arrives) (arriving_ordered known t before [] a a.advance are.ordered none at.own.travel) in
     let due : c.due_of.result.now ≡ due_of (is_last s hour) (point (hour + 1)) (arriving_with known t all a a.advance) =
     c.due_of.ensures t (t + 36300) ordered
     ∙ ap (λ b. due_of b c.saturating_add-end.result c.deref.result.now) are.last
@@ -28,8 +26,8 @@ returns-clause-judged c = λ known before hour are un is.
     ∙ ap (λ zs. due_of (is_last s hour) (point (hour + 1)) zs) arrives in
     let late = subst (λ (zs : List Row). All (λ (x : Row). t ≤ x.at) zs) (sym due) (late_from known t all a (is_last s hour) (point (hour + 1)) a.advance) in
     rw c.sum_of.ensures (judged_both (λ _ _ _. ⊥) known s a before [] hour place c.unseen_rows-greens.result c.nothing.result 0 0 c.args.given.now.cycles
-    c.due_of.result.now [] [] [] none c.phase_spec-spec.ensures.place
+    c.due_of.result.now [] [] [] none at.is_place
     (c.unseen_rows-greens.ensures is_green (is_seen known hour) (unheld_none known hour c.due_of.result.now un late)) due
-    zero_count (rows_none a.advance) c.requires.own.advance
+    zero_count (rows_none a.advance) at.own.advance
     (none_red known hour place c.nothing.result c.nothing.ensures) (rows_none a.stop_bar)
-    zero_count (rows_none a.stop_bar) c.requires.own.stop_bar)
+    zero_count (rows_none a.stop_bar) at.own.stop_bar)

@@ -1,6 +1,6 @@
 use Rattle.std.proofs.Common.{◌∙◌, ◌+◌, rules}
 use Rattle.std.proofs.lemmas.List.Sorted.{IsPartitionPoint-from_clause}
-use Rattle.lane.specs.declared.moves.Move.{Move}
+use Rattle.channel_path.specs.declared.moves.Move.{Move}
 use Rattle.decisive.specs.Cuts.{begins_before}
 use Rattle.decisive.proofs.Slicing.{cut_front, cut_parted, cut_point}
 use Rattle.decisive.proofs.cuts.moves_to.Goals as goal

@@ -1,12 +1,13 @@
 use Rattle.std.proofs.Common.{arith, refl, ◌≡◌, ◌+◌, ◌-◌, ◌≤◌}
 use Rattle.board.specs.Moves.{count_before}
 use Rattle.board.specs.Places.{since, upto}
+use Rattle.channel_window.proofs.Nowhere.{same_answer}
 use Rattle.decisive.specs.declared.judge.Start.TheVariants.{Free}
 use Rattle.decisive.specs.Breaks.{track_of}
 use Rattle.decisive.specs.Candidates.{rows_from}
 use Rattle.decisive.specs.Laws.{rows_to}
 use Rattle.decisive.proofs.Placing.{count_under, place_since, place_upto}
-use Rattle.decisive.proofs.Tried.{before_upto, course_is, on_from, same_answer, tried, up_to}
+use Rattle.decisive.proofs.Tried.{before_upto, course_is, on_from, tried, up_to}
 use Rattle.decisive.proofs.judge.part_begins.Goals as goal
 
 pub walk_breaks-requires-clause-start : goal.walk_breaks-requires-clause-start

@@ -1,9 +1,10 @@
 use Rattle.std.proofs.Common.{arith, ◌≡◌, ◌+◌}
 use Rattle.board.specs.Places.{upto}
+use Rattle.channel_window.proofs.Nowhere.{same_answer}
 use Rattle.decisive.specs.Breaks.{track_of}
 use Rattle.decisive.specs.Laws.{rows_to}
 use Rattle.decisive.proofs.Placing.{place_upto}
-use Rattle.decisive.proofs.Tried.{course_is, same_answer, tried, up_to}
+use Rattle.decisive.proofs.Tried.{course_is, tried, up_to}
 use Rattle.decisive.proofs.judge.part_ends.Goals as goal
 
 pub walk_breaks-requires-clause-start : goal.walk_breaks-requires-clause-start

@@ -1,25 +1,16 @@
-use Rattle.std.proofs.Common.{sym, subst}
-use Rattle.sig_base.specs.declared.values.Row.{Row}
-use Rattle.decisive.specs.Tries.{IsEndRow}
+use Rattle.std.proofs.Common.{subst, ℕ}
+use Rattle.decisive.specs.Tries.{IsEndRow, NoEndRow}
+use Rattle.decisive.proofs.Judging.{both_map, more_ok}
 use Rattle.decisive.proofs.Nearest.{end_sought, nearest_end, none_end}
 use Rattle.decisive.proofs.search.first_end.Goals as goal
 
-pub nearest-requires : goal.nearest-requires
-nearest-requires c = let (f, t, is, fits, grow) = c.requires.told in record { sought = end_sought c.args.question.now c.args.told.now f t is c.args.start fits grow }
+pub nearest_tenth-requires : goal.nearest_tenth-requires
+nearest_tenth-requires c = let (f, t, is, fits, grow) = c.requires.told in record { sought = end_sought c.args.question.now c.args.told.now f t is c.args.start fits grow }
 
-pub row_from-requires-clause-place : goal.row_from-requires-clause-place
-row_from-requires-clause-place c = let (f, t, is, fits, grow) = c.requires.told in is.place.count
-
-pub row_from-requires-clause-within : goal.row_from-requires-clause-within
-row_from-requires-clause-within c = let near = rw c.in-Some.is at c.in_ok-i.ensures in near.within
-
-pub returns-in-Some : goal.returns-in-Some
-returns-in-Some c =
+pub returns : goal.returns
+returns c =
     let (f, t, is, fits, grow) = c.requires.told in
-    let near = rw c.in-Some.is at c.in_ok-i.ensures in
-    subst (λ (r : Row). IsEndRow c.args.start.now c.args.question.now c.args.told.now r.at) (sym c.row_from.ensures) (nearest_end c.args.question.now c.args.told.now f t is c.args.start c.in-Some.i near)
-
-pub returns-in-None : goal.returns-in-None
-returns-in-None c =
-    let (f, t, is, fits, grow) = c.requires.told in
-    none_end c.args.question.now c.args.told.now f t is c.args.start (rw c.in-None.is at c.in_ok-i.ensures)
+    let q = c.args.question.now in
+    let told = c.args.told.now in
+    let start = c.args.start in
+    more_ok c.nearest_tenth.result _ _ (λ r h. both_map r _ (NoEndRow start.now q told) _ (IsEndRow start.now q told) (none_end q told f t is start) (λ y (i, near, at). subst (λ (w : ℕ). IsEndRow start.now q told w) at (nearest_end q told f t is start i near)) h) c.nearest_tenth.ensures

@@ -27,7 +27,7 @@ nearest_begin-requires-clause-told c =
     let grow = begins_grow (log_of q.specs.now s) q.parts.now f t q.at q.at (place_in m.rows.now q.at c.args.place) m.rows.now m.stretches.items c.requires.parts has tells place (omega arith) high (omega arith) in (
       f,
       t,
-      told_of q c.told-told.result f t m.rows.now m.stretches.items m.courses.items e1 e2 c.told-told.ensures.courses c.requires.parts (rw (e1, e2) are.of_channels) (rw e4 place),
+      told_of q c.told-told.result f t m.rows.now m.stretches.items m.courses.items (place_in m.rows.now q.at c.args.place) e1 e2 c.told-told.ensures.courses e4 c.requires.parts are.of_channels place,
       (high, inl (rw e2 place.is_known)),
       rw (e1, e2, e4) grow,
     )

@@ -1,30 +1,39 @@
-use Rattle.std.proofs.Common.{arith, ap, sym, subst, ◌≡◌, ◌∙◌, ◌+◌, List, [], length}
+use Rattle.std.proofs.Common.{arith, ap, ◌≡◌, ◌∙◌, ◌+◌, List, []}
 use Rattle.sig_base.specs.declared.values.Row.{Row}
-use Rattle.board.specs.History.{events_at}
 use Rattle.board.specs.Logs.{first_tenth}
-use Rattle.board.specs.Moves.{RowsIn, count_before}
-use Rattle.decisive.proofs.Finished.{placed_end, placed_row, rank_end}
+use Rattle.signal_log.specs.Log.{log_of}
+use Rattle.decisive.specs.Lines.{place_in}
+use Rattle.decisive.specs.Searches.{rank_in}
+use Rattle.decisive.specs.Window.{IsPlaceIn}
+use Rattle.decisive.proofs.Finished.{place_is, rank_is}
 use Rattle.decisive.proofs.window.placed_in.Goals as goal
 
-pub returns-in-BeforeRow-clause-placed : goal.returns-in-BeforeRow-clause-placed
-returns-in-BeforeRow-clause-placed g c =
-    let told = c.in_ok-told.told in
-    let rows = c.in_ok-told.ensures.rows in
-    let (lt, at) = rw c.in-BeforeRow.is at c.requires.place in
-    let few = c.in_ok-told.ensures.few in
-    placed_row c.args.store.now told (first_tenth c.args.hour) (first_tenth (c.args.hour + 1)) (c.args.hour + 1) c.args.at c.in-BeforeRow.row c.in_ok-told.ensures.tells (omega arith) c.requires.is_known (rw rows lt) (rw rows at) c.requires.low c.requires.high
+pub place_in-place-requires : goal.place_in-place-requires
+place_in-place-requires g c = rw (c.deref.ensures.value, c.in_ok-told.ensures.rows) c.requires.place
 
-pub returns-in-EndOfTenth-clause-placed : goal.returns-in-EndOfTenth-clause-placed
-returns-in-EndOfTenth-clause-placed g c =
+pub returns-clause-placed : goal.returns-clause-placed
+returns-clause-placed g c =
     let told = c.in_ok-told.told in
+    let s = c.args.store.now in
+    let rows = told.rows.items in
+    let x = c.args.at in
+    let f = first_tenth c.args.hour in
+    let t = first_tenth (c.args.hour + 1) in
+    let tells = c.in_ok-told.ensures.tells in
     let few = c.in_ok-told.ensures.few in
-    let count : c.rows_before-count.result ≡ count_before (c.args.at + 1) told.rows.items = c.rows_before-count.ensures.count (first_tenth c.args.hour) (first_tenth (c.args.hour + 1)) (subst (λ (q : List Row). RowsIn (first_tenth c.args.hour) (first_tenth (c.args.hour + 1)) q) (sym c.deref.ensures.value) (c.in_ok-told.ensures.tells []).rows_in) ∙ ap (λ (q : List Row). count_before (c.args.at + 1) q) c.deref.ensures.value in
-    rw count (placed_end c.args.store.now told (first_tenth c.args.hour) (first_tenth (c.args.hour + 1)) (c.args.hour + 1) c.args.at c.in_ok-told.ensures.tells (omega arith) c.requires.is_known c.requires.low c.requires.high)
+    let here : IsPlaceIn rows x c.args.place = rw c.in_ok-told.ensures.rows c.requires.place in
+    let place : c.place_in-place.result ≡ place_in rows x c.args.place = rw c.deref.ensures.value at (c.place_in-place.ensures f t (rw c.deref.ensures.value (tells []).rows_in)) in
+    record {
+      are = record { tells = tells; few = omega arith };
+      place = rw place (place_is (log_of [] s) rows told.stretches.items f t x c.args.place (tells []) c.requires.is_known c.requires.low c.requires.high here);
+    }
 
-pub returns-in-EndOfTenth-clause-rank : goal.returns-in-EndOfTenth-clause-rank
-returns-in-EndOfTenth-clause-rank g c =
-    let told = c.in_ok-told.told in
-    let rows = c.in_ok-told.ensures.rows in
-    let count : c.rows_before-count.result ≡ count_before (c.args.at + 1) told.rows.items = c.rows_before-count.ensures.count (first_tenth c.args.hour) (first_tenth (c.args.hour + 1)) (subst (λ (q : List Row). RowsIn (first_tenth c.args.hour) (first_tenth (c.args.hour + 1)) q) (sym c.deref.ensures.value) (c.in_ok-told.ensures.tells []).rows_in) ∙ ap (λ (q : List Row). count_before (c.args.at + 1) q) c.deref.ensures.value in
-    let one = rank_end told c.args.store.now (first_tenth c.args.hour) (first_tenth (c.args.hour + 1)) c.args.at c.in_ok-told.ensures.tells c.requires.low c.requires.high in
-    rw (c.in-EndOfTenth.is, count) (one ∙ ap (λ (rs : List Row). length (events_at rs c.args.at)) rows)
+pub returns-clause-rank : goal.returns-clause-rank
+returns-clause-rank g c =
+    let rows = c.in_ok-told.told.rows.items in
+    let x = c.args.at in
+    let f = first_tenth c.args.hour in
+    let t = first_tenth (c.args.hour + 1) in
+    let in_rows = (c.in_ok-told.ensures.tells []).rows_in in
+    let place : c.place_in-place.result ≡ place_in rows x c.args.place = rw c.deref.ensures.value at (c.place_in-place.ensures f t (rw c.deref.ensures.value in_rows)) in
+    rw place (rank_is f t x rows c.args.place in_rows c.requires.low c.requires.high ∙ ap (λ (rs : List Row). rank_in rs x c.args.place) c.in_ok-told.ensures.rows)

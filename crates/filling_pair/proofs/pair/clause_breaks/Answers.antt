@@ -13,10 +13,10 @@ pub unreachable-requires : goal.unreachable-requires
 unreachable-requires g c =
     let same = c.deref.ensures.value ∙ c.in_ok-asks.ensures in
     let lacks = rw c.in-None.is at c.in_ok-strands.ensures.strands in
-    breaks_lacks c.args.specs.now c.args.store.now c.args.line.now c.args.terms.now c.requires.specs c.requires.within c.requires.apart c.requires.line c.requires.open (subst (λ (asks : List Ask). LacksReply c.args.specs.now c.args.store.now c.args.line.now asks) same lacks)
+    breaks_lacks c.args.specs.now c.args.store.now c.args.line.now c.args.terms.now c.requires (subst (λ (asks : List Ask). LacksReply c.args.specs.now c.args.store.now c.args.line.now asks) same lacks)
 
 pub returns-clause-shows : goal.returns-clause-shows
 returns-clause-shows g c =
     let same = c.deref.ensures.value ∙ c.in_ok-asks.ensures in
     let all = rw c.in-Some.is at c.in_ok-strands.ensures.strands in
-    breaks_shows c.args.specs.now c.args.store.now c.args.line.now c.args.terms.now c.requires.specs c.requires.within c.requires.apart c.requires.line c.requires.open c.in-Some.strands (subst (λ (asks : List Ask). ReplyAll c.args.specs.now c.args.store.now c.args.line.now asks c.in-Some.strands) same all)
+    breaks_shows c.args.specs.now c.args.store.now c.args.line.now c.args.terms.now c.requires c.in-Some.strands (subst (λ (asks : List Ask). ReplyAll c.args.specs.now c.args.store.now c.args.line.now asks c.in-Some.strands) same all)

@@ -14,11 +14,11 @@ pub loop-i-preserved : goal.loop-i-preserved
 loop-i-preserved g c =
     let none = rw c.in_default.is at c.in_ok-found.ensures.shows in
     record {
-      none = none_more c.args.specs.now c.args.store.now c.args.line.now c.args.terms.now c.requires.specs c.requires.within c.requires.apart c.requires.line c.requires.open c.loop-i.i c.index-terms-i.result c.index-terms-i.result c.loop-i-test.true c.index-terms-i.is none c.loop-i.invariant.none;
+      none = none_more c.args.specs.now c.args.store.now c.args.line.now c.args.terms.now c.requires c.loop-i.i c.index-terms-i.result c.index-terms-i.result c.loop-i-test.true c.index-terms-i.is none c.loop-i.invariant.none;
       grow = grow_on c.args.reads.now c.loop-i.reads c.strands_holding.new.reads c.loop-i.invariant.grow c.in_ok-found.ensures.grow;
     }
 
 pub unreachable-requires : goal.unreachable-requires
 unreachable-requires g c =
     let end = c.loop-i-test.false in
-    some_holds c.args.specs.now c.args.store.now c.args.line.now c.args.terms.now c.requires.specs c.requires.within c.requires.apart c.requires.line c.requires.open (λ k d lt. c.loop-i.invariant.none k d (omega arith))
+    some_holds c.args.specs.now c.args.store.now c.args.line.now c.args.terms.now c.requires (λ k d lt. c.loop-i.invariant.none k d (omega arith))

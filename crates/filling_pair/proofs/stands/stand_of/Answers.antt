@@ -24,7 +24,7 @@ returns-clause-strand g c =
     let fills = (rw (same, c.list.ensures) at c.are_fills.ensures).0 c.if-not-are_fills.false in
     let start = subst (λ (x : Track). IsBeforeWindow x.rules (start_of strand)) same (c.is_start.ensures.0 c.if-not-is_start.false) in
     let legal = rw same at c.follow-followed.ensures.legal in
-    let run = whole k s c.hours-hours.ensures.store c.args.specs.now strand.fills fills in (
+    let run = whole k s c.follow-followed.ensures.store c.args.specs.now strand.fills fills in (
       λ is. let (u, w) = legal.0 is in record {
         spec = c.if-strand-specs.false;
         start = start;
@@ -41,5 +41,5 @@ returns-clause-there g c = λ is v.
     let same = c.follower_at-follower.ensures in
     let fills = (rw (same, c.list.ensures) at c.are_fills.ensures).0 c.if-not-are_fills.false in
     let there = rw same at (c.follow-followed.ensures.there v) in
-    let at_place = stands s c.hours-hours.ensures.store c.args.specs.now strand c.args.line.now.at c.requires.line.within c.requires.line.is_known c.args.line.now.place fills c.requires.line.place v in
+    let at_place = stands s c.follow-followed.ensures.store c.args.specs.now strand c.args.line.now.at c.requires.line.within c.requires.line.is_known c.args.line.now.place fills c.requires.line.place v in
     ((λ p. there.0 (at_place.1 p)), (λ p. at_place.0 (there.1 p)))

@@ -87,3 +87,8 @@ returns-clause-way c = λ s has is. record {
   others = c.in_ok-others.ensures.carry s has is;
   arrivals = c.in_ok-cut.ensures.opens s has is;
 }
+
+pub returns-clause-sound : goal.returns-clause-sound
+returns-clause-sound c =
+    let (s, is) = c.requires.agrees in
+    (c.in_ok-view.ensures s is).sound

@@ -1,4 +1,15 @@
+use Rattle.signal_log.proofs.Calls.{over_leads}
+use Rattle.rule_audit.proofs.Tracked.{channels_are}
 use Rattle.hour_work.proofs.steps.carried.Goals as goal
 
+pub returns-clause-fit : goal.returns-clause-fit
+returns-clause-fit c =
+    let same = c.kept.ensures.pasts in
+    record { shape = rw same c.requires.shape; early = rw same c.requires.early }
+
 pub returns-clause-carry : goal.returns-clause-carry
-returns-clause-carry c = λ s has is pasts. c.kept.ensures.carry c.args.config.now s has pasts (c.in_ok-way.ensures s has is)
+returns-clause-carry c = λ s has is.
+    let cfg = c.args.config.now in
+    let way = c.in_ok-way.ensures in
+    let pasts = over_leads cfg.specs s c.args.place.now c.args.before.now.pasts c.args.pasts (channels_are cfg way.sound) way.opened c.requires.over c.requires.shape c.requires.early has is.pasts in
+    c.kept.ensures.carry cfg s has pasts (way.way s has is)

@@ -39,9 +39,3 @@ returns-in-Ok-clause-shape c =
     let shape = rw c.specs.ensures.value at c.in-Ok.ensures.shape in
     let at : end_tenth c.args.place.now.hour ≡ first_tenth (c.args.place.now.hour + 1) = omega arith in
     (shape.0, subst (λ (t : ℕ). AllEarly t c.in-Ok.pasts) at shape.1)
-
-pub returns-in-Ok-clause-pasts : goal.returns-in-Ok-clause-pasts
-returns-in-Ok-clause-pasts c = λ s has is.
-    let carry = subst (λ (v : Carried). IsCarryAt c.args.config.now s c.args.place.now.hour v) (sym c.before-2.view_is) is in
-    let pasts = rw c.specs.ensures.value at c.in-Ok.ensures.pasts in
-    pasts s has carry.pasts

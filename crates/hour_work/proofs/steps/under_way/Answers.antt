@@ -6,8 +6,8 @@ use Rattle.hour_work.proofs.MeasureLaws.{opens_over, over_hour}
 use Rattle.hour_work.proofs.SeenLaws.{cut_of}
 use Rattle.hour_work.proofs.steps.under_way.Goals as goal
 
-pub returns : goal.returns
-returns c = λ s has is.
+pub returns-clause-way : goal.returns-clause-way
+returns-clause-way c = λ s has is.
     let cfg = c.args.config.now in
     let o = c.args.place.now in
     let x = c.args.before.now in

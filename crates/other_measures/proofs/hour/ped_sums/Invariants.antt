@@ -1,15 +1,13 @@
-use Rattle.std.proofs.Common.{◌≡◌, List}
-use Rattle.sig_base.specs.declared.values.Row.{Row}
-use Rattle.gap_map.specs.declared.stretch.Stretch.{Stretch}
-use Rattle.board.specs.Logs.{HourLog, first_tenth}
+use Rattle.std.proofs.Common.{ℕ, Option}
+use Rattle.std.specs.Prelude.{option_copied}
+use Rattle.board.specs.Logs.{HourLog}
 use Rattle.ring_config.specs.Values.{has_number}
 use Rattle.other_measures.specs.Hours.{HasDelays}
-use Rattle.other_measures.specs.States.{EachOf, HasDetector, IsSeen}
+use Rattle.other_measures.specs.States.{EachOf, HasDetector, IsWhatIsSeen, MetBy}
 use Rattle.other_measures.proofs.hour.ped_sums.Given as goal
-use Rattle.state_tenths.specs.States.{MeetsAt}
 
 abbrev pub invariant-loop-ped : goal.invariant-loop-ped
 invariant-loop-ped l = record {
   delays : EachOf (has_number l.config.peds) (HasDelays l.delays) l.ped l.sums.items;
-  states : (log : HourLog) (rows : List Row) (ss : List Stretch) → IsSeen l.config l.view rows ss log → l.from ≡ first_tenth log.hour → EachOf (has_number l.config.peds) (HasDetector (MeetsAt log) (first_tenth log.hour) l.config) l.ped l.sums.items;
+  states : (log : Option HourLog) (first : ℕ) → IsWhatIsSeen l.config (option_copied l.seen) log first → EachOf (has_number l.config.peds) (HasDetector (MetBy log) first l.config) l.ped l.sums.items;
 }

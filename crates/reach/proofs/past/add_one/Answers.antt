@@ -9,4 +9,4 @@ returns c =
     let r = c.ranges.entry in
     let f : FitsSigned w64 (c.args.entry +ℤ pos 1) = search (rules, ints) in
     let ok = simp to_z-of_z at c.in_ok-add.ensures.ok in
-    set_is c.add.new.self c.args.entry c.read_order.ensures c.requires.low c.requires.high (λ x. tenth_alone c.args.entry x c.args.set.now c.add.new.self c.requires.empty ok)
+    set_is c.add.new.self c.args.entry c.add.ensures.ordered c.requires.low c.requires.high (λ x. tenth_alone c.args.entry x c.args.set.now c.add.new.self c.requires.empty ok)

@@ -17,7 +17,7 @@ clamped_back_over-requires-clause-part g c =
     let (n, lt, are) = c.requires.pasts in
     let here = past_is c.args.spec.now c.args.store.now n h c.args.pasts.now c.index-pasts-hour.result c.at-before.result.now (omega arith) are c.index-pasts-hour.is c.at-before.ensures in
     let at = are.1 h (omega arith) in
-    (first_tenth h, end_tenth h, hour_part_is c.args.spec.now c.args.store.now h p c.hours-hours.ensures.store c.requires.hour c.in_ok-part.ensures.part, rw here (at.early 0), hour_soon c.args.spec.now c.args.store.now h p c.hours-hours.ensures.store c.requires.hour c.in_ok-part.ensures.part)
+    (first_tenth h, end_tenth h, hour_part_is c.args.spec.now c.args.store.now h p c.in_ok-part.ensures.store c.requires.hour c.in_ok-part.ensures.part, rw here (at.early 0), hour_soon c.args.spec.now c.args.store.now h p c.in_ok-part.ensures.store c.requires.hour c.in_ok-part.ensures.part)
 
 pub clamped_back_over-requires-clause-colours : goal.clamped_back_over-requires-clause-colours
 clamped_back_over-requires-clause-colours g c =
@@ -42,7 +42,7 @@ clamped_back_over-requires-clause-reached g c =
     let (n, lt, are) = c.requires.pasts in
     let here = past_is c.args.spec.now c.args.store.now n h c.args.pasts.now c.index-pasts-hour.result c.at-before.result.now (omega arith) are c.index-pasts-hour.is c.at-before.ensures in
     let fits : FitsSigned w64 c.limit_after-limit.result = search rules in
-    rw (to_z-of_z, here) (hour_reached c.args.spec.now c.args.store.now h p c.hours-hours.ensures.store c.requires.hour c.in_ok-part.ensures.part _ _ c.limit_after-limit.result c.args.way.here c.requires.spec (are.1 h (omega arith)) (are.1 (h + 1) (omega arith)) c.limit_after-limit.ensures c.requires.held)
+    rw (to_z-of_z, here) (hour_reached c.args.spec.now c.args.store.now h p c.in_ok-part.ensures.store c.requires.hour c.in_ok-part.ensures.part _ _ c.limit_after-limit.result c.args.way.here c.requires.spec (are.1 h (omega arith)) (are.1 (h + 1) (omega arith)) c.limit_after-limit.ensures c.requires.held)
 
 pub returns-clause-held : goal.returns-clause-held
 returns-clause-held g c =
@@ -55,9 +55,9 @@ pub returns-clause-way : goal.returns-clause-way
 returns-clause-way g c =
     let h = c.args.hour in
     let p = c.in_ok-part.part in
-    let part = hour_part_is c.args.spec.now c.args.store.now h p c.hours-hours.ensures.store c.requires.hour c.in_ok-part.ensures.part in
+    let part = hour_part_is c.args.spec.now c.args.store.now h p c.in_ok-part.ensures.store c.requires.hour c.in_ok-part.ensures.part in
     let fits : FitsSigned w64 c.limit_after-limit.result = search rules in
     let way = simp to_z-of_z at c.in_ok-here.ensures.way in
     let is = c.limit_after-limit.ensures in
     let point : (c.limit_after-limit.result +ℤ pos 36001) ≡ pos (first_tenth (h + 1)) = omega (arith, ints) in
-    hour_adds_back c.args.spec.now c.args.store.now h p c.hours-hours.ensures.store c.requires.hour c.in_ok-part.ensures.part (c.limit_after-limit.result +ℤ pos 36001) c.args.way.rows.items c.clamped_back_over.new.rows.items (state_of c.in_ok-here.here) (state_of c.args.way.here) point (way (first_tenth h) (end_tenth h) part)
+    hour_adds_back c.args.spec.now c.args.store.now h p c.in_ok-part.ensures.store c.requires.hour c.in_ok-part.ensures.part (c.limit_after-limit.result +ℤ pos 36001) c.args.way.rows.items c.clamped_back_over.new.rows.items (state_of c.in_ok-here.here) (state_of c.args.way.here) point (way (first_tenth h) (end_tenth h) part)

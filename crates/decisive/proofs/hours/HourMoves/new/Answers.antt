@@ -36,6 +36,7 @@ returns-clause-moves g c =
     let some : c.is_some.result ≡ is_some (rows_at s hour) = c.is_some.ensures ∙ (some_same c.open_hour-opened.result (λ x. x.now) ∙ ap (λ (o : Option (List Row)). is_some o) held) in
     let cut = subst (λ (b : Bool). IsCut (known_in b s.blanks) (36000 * hour) (36000 * hour + 36000) c.in_ok-cut.cut.items) some (rw c.blanked.ensures.value at c.in_ok-cut.ensures.cut) in
     record {
+      is_store = c.blanked.ensures.store;
       within = c.requires.within;
       pasts = c.requires.before;
       tells = λ specs. hour_tells specs s hour c.shown-rows.result.now (rows_at s hour) c.in_ok-cut.cut.items c.blanked.ensures.store c.requires.within (search rules) rows (rw rows (rows_of_entry hour (rows_at s hour) of_hour)) cut;

@@ -1,8 +1,8 @@
 ghost use Rattle.std.specs.Prelude.{◌≡◌};
 
 use crate::ring::{GREEN, RED, Ring, YELLOW};
+use channel_path::{Move, Path, walk_past};
 use colour_machine::Mask;
-use lane::{Line, Move, walk_past};
 use reach::{AgeBound, Ahead, Past, Seen, Test, possible};
 use std::test::Fail;
 
@@ -86,8 +86,8 @@ fn sees_the_places_of_three_gaps(rt: HostRuntime) -> Result<(), Fail> {
         ],
     )?;
     let before = Past::start(rt.alloc(), 3)?;
-    let line = Line::new(rt.alloc(), &Ring, &before, moves, &Ahead::end(3, 31))?;
-    assert_eq!(rt; line.moves().len(), 5);
+    let path = Path::new(rt.alloc(), &Ring, &before, moves, &Ahead::end(3, 31))?;
+    assert_eq!(rt; path.moves().len(), 5);
     for (place, colours, bound, at, met) in [
         (1, green(), AgeBound::AtLeast(5), 5u32, seen(true, false)),
         (2, green(), AgeBound::AtLeast(13), 13, seen(true, true)),
@@ -101,10 +101,10 @@ fn sees_the_places_of_three_gaps(rt: HostRuntime) -> Result<(), Fail> {
         (4, red(), AgeBound::AtLeast(10), 29, seen(false, true)),
         (5, green(), AgeBound::AtMost(0), 30, seen(true, false)),
     ] {
-        assert!(rt; place <= line.moves().len());
+        assert!(rt; place <= path.moves().len());
         let at = i64::from(at);
         let test = Test { colours, bound, at };
-        assert_eq!(rt; line.seen(place, &test), met);
+        assert_eq!(rt; path.seen(place, &test), met);
     }
     Ok(())
 }

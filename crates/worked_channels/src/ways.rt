@@ -1,11 +1,11 @@
 ghost use Rattle.std.specs.Prelude.{◌≡◌, pos};
-ghost use Rattle.lane.specs.declared.moves.Move.TheVariants.{Letter};
+ghost use Rattle.channel_path.specs.declared.moves.Move.TheVariants.{Letter};
 
 use crate::ring::{GREEN, RED, Ring, YELLOW};
+use channel_path::Move;
 use channel_ways::{Passage, passage_source};
 use colour_machine::Mask;
 use gap_ways::{Entered, Fill};
-use lane::Move;
 use reach::{AgeBound, Ahead, Past, Test};
 use std::test::Fail;
 

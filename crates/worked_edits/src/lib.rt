@@ -1,5 +1,5 @@
-//! Worked examples of edits of a session, of runs and fillings of its holes, and of printed lines:
-//! small logs whose answers were found by hand. They call only what the crates below put out.
+//! Worked examples of edits of a session and of fillings of its holes: small logs whose answers
+//! were found by hand. They call only what the crates below put out.
 #![tactic(auto)]
 
 #[cfg(test)]
@@ -8,7 +8,3 @@ mod edits;
 mod fillings;
 #[cfg(test)]
 mod held;
-#[cfg(test)]
-mod strands;
-#[cfg(test)]
-mod texts;

@@ -4,7 +4,7 @@ mod entries;
 use documents::DOCUMENTS;
 use entries::ENTRIES;
 use event_codes::{Channel, Kind};
-use ring_config::{Config, ConfigError, KeyAt, read_config};
+use ring_config::{Approach, Config, ConfigError, KeyAt, read_config};
 use std::alloc::Global;
 use std::test::Fail;
 
@@ -74,13 +74,19 @@ fn empty_entries(alloc: Global, table: &str, count: u32) -> Result<String, Fail>
 }
 
 #[test]
-fn refusals(rt: HostRuntime) -> Result<(), Fail> {
+fn documents_refused(rt: HostRuntime) -> Result<(), Fail> {
     let alloc = rt.alloc();
     for case in DOCUMENTS.split("\n==\n") {
         let (text, wanted) = case.split_once("\n=> ").ok_or("no answer")?;
         let found = answer(alloc, text)?;
         assert_eq!(rt; found.as_str(), wanted, "{text}");
     }
+    Ok(())
+}
+
+#[test]
+fn entries_refused(rt: HostRuntime) -> Result<(), Fail> {
+    let alloc = rt.alloc();
     for case in ENTRIES.split("\n==\n") {
         let (entries, wanted) = case.split_once("\n=> ").ok_or("no answer")?;
         let mut text = String::from_str(alloc, BASE)?;
@@ -88,17 +94,49 @@ fn refusals(rt: HostRuntime) -> Result<(), Fail> {
         let found = answer(alloc, text.as_str())?;
         assert_eq!(rt; found.as_str(), wanted, "{entries}");
     }
+    Ok(())
+}
+
+#[test]
+fn too_many_entries(rt: HostRuntime) -> Result<(), Fail> {
+    let alloc = rt.alloc();
     for (table, name, limit) in LIMITS {
         let text = empty_entries(alloc, table, limit + 1)?;
         let found = answer(alloc, text.as_str())?;
         let wanted = format!(in alloc; "too many {} {} Other", name, limit)?;
         assert_eq!(rt; found.as_str(), wanted.as_str());
     }
-    assert_eq!(rt;
-        read_config(alloc, &[0xFF]).err(),
-        Some(ConfigError::NotToml)
-    );
     Ok(())
+}
+
+#[test]
+fn bytes_that_are_no_text(rt: HostRuntime) {
+    let found = read_config(rt.alloc(), &[0xFF]).err();
+    assert_eq!(rt; found, Some(ConfigError::NotToml));
+}
+
+// A phase, a pedestrian signal, an overlap and a preempt of this number.
+fn numbered(alloc: Global, n: u32) -> Result<String, Fail> {
+    let phase = format!(in alloc; "[[phase]]\nnumber = {}\nring = 1\nside = 1\n", n)?;
+    let overlap = format!(in alloc; "[[overlap]]\nnumber = {}\nparents = [{}]\n", n, n)?;
+    let mut text = phase;
+    text.push_str(overlap.as_str())?;
+    for table in ["ped", "preempt"] {
+        let entry = format!(in alloc; "[[{}]]\nnumber = {}\n", table, n)?;
+        text.push_str(entry.as_str())?;
+    }
+    Ok(text)
+}
+
+// An approach with two detectors.
+fn numbered_approach(alloc: Global, n: u32) -> Result<String, Fail> {
+    let text = format!(in alloc;
+        "[[approach]]\nname = \"A-{}\"\nphase = 1\nadvance = {}\nstop_bar = {}\n",
+        n,
+        n,
+        n.saturating_add(64)
+    )?;
+    Ok(text)
 }
 
 // A document with as many channels as there can be.
@@ -108,20 +146,10 @@ fn widest(alloc: Global) -> Result<String, Fail> {
         "signal = \"7\"\nstart = \"2024-03-04T06\"\nhours = 1\ncoordination = true\n",
     )?;
     for n in 1..17u32 {
-        let entries = format!(in alloc;
-            "[[phase]]\nnumber = {}\nring = 1\nside = 1\n[[ped]]\nnumber = {}\n[[overlap]]\nnumber = {}\nparents = [{}]\n[[preempt]]\nnumber = {}\n",
-            n, n, n, n, n
-        )?;
-        text.push_str(entries.as_str())?;
+        text.push_str(numbered(alloc, n)?.as_str())?;
     }
     for n in 1..65u32 {
-        let entry = format!(in alloc;
-            "[[approach]]\nname = \"A-{}\"\nphase = 1\nadvance = {}\nstop_bar = {}\n",
-            n,
-            n,
-            n + 64
-        )?;
-        text.push_str(entry.as_str())?;
+        text.push_str(numbered_approach(alloc, n)?.as_str())?;
     }
     Ok(text)
 }
@@ -171,6 +199,19 @@ travel = 35
 advance = 5
 "#;
 
+fn described_approach(alloc: Global, approach: &Approach) -> Result<String, Fail> {
+    let text = format!(in alloc;
+        "{:?} {} {:?} {:?} {} {:?}\n",
+        approach.name.bytes(),
+        approach.phase,
+        approach.advance,
+        approach.stop_bar,
+        approach.travel,
+        approach.high
+    )?;
+    Ok(text)
+}
+
 // What a configuration says of its approaches, and the place of one of its channels.
 fn described_approaches(alloc: Global, config: &Config) -> Result<String, Fail> {
     let service = Channel {
@@ -185,35 +226,36 @@ fn described_approaches(alloc: Global, config: &Config) -> Result<String, Fail> 
         config.spec_of(service)
     )?;
     if let Some(approach) = config.approach_at(0) {
-        let line = format!(in alloc;
-            "{:?} {} {:?} {:?} {} {:?}\n",
-            approach.name.bytes(),
-            approach.phase,
-            approach.advance,
-            approach.stop_bar,
-            approach.travel,
-            approach.high
-        )?;
+        let line = described_approach(alloc, approach)?;
         text.push_str(line.as_str())?;
     }
     Ok(text)
 }
 
-// What a configuration says, call by call.
-fn described(alloc: Global, config: &Config) -> Result<String, Fail> {
-    let mut text = format!(in alloc;
+// What it says of the whole.
+fn described_head(alloc: Global, config: &Config) -> Result<String, Fail> {
+    let text = format!(in alloc;
         "{} {} {}\n",
         config.window().hours(),
         config.signal(),
         config.coordination()
     )?;
-    let phases = format!(in alloc;
+    Ok(text)
+}
+
+// Phases, pedestrian signals and preempts.
+fn described_phases(alloc: Global, config: &Config) -> Result<String, Fail> {
+    let text = format!(in alloc;
         "{:?}\n{:?} {:?}\n",
         config.phases(),
         config.peds(),
         config.preempts()
     )?;
-    text.push_str(phases.as_str())?;
+    Ok(text)
+}
+
+fn described_overlaps(alloc: Global, config: &Config) -> Result<String, Fail> {
+    let mut text = String::new(alloc);
     for overlap in config.overlaps() {
         let parents = overlap.parents;
         let line = format!(in alloc;
@@ -225,8 +267,11 @@ fn described(alloc: Global, config: &Config) -> Result<String, Fail> {
         )?;
         text.push_str(line.as_str())?;
     }
-    let intervals = format!(in alloc; "{:?}\n", config.intervals())?;
-    text.push_str(intervals.as_str())?;
+    Ok(text)
+}
+
+fn described_specs(alloc: Global, config: &Config) -> Result<String, Fail> {
+    let mut text = format!(in alloc; "{:?}\n", config.intervals())?;
     for spec in config.specs() {
         let line = format!(in alloc;
             "{:?} {} {:?}\n",
@@ -234,8 +279,16 @@ fn described(alloc: Global, config: &Config) -> Result<String, Fail> {
         )?;
         text.push_str(line.as_str())?;
     }
-    let approaches = described_approaches(alloc, config)?;
-    text.push_str(approaches.as_str())?;
+    Ok(text)
+}
+
+// What a configuration says, call by call.
+fn described(alloc: Global, config: &Config) -> Result<String, Fail> {
+    let mut text = described_head(alloc, config)?;
+    text.push_str(described_phases(alloc, config)?.as_str())?;
+    text.push_str(described_overlaps(alloc, config)?.as_str())?;
+    text.push_str(described_specs(alloc, config)?.as_str())?;
+    text.push_str(described_approaches(alloc, config)?.as_str())?;
     Ok(text)
 }
 

@@ -69,7 +69,7 @@ fn a_writer_that_fills_up(rt: HostRuntime) {
 }
 
 #[test]
-fn in_memory(rt: HostRuntime) -> Result<(), NoMemory> {
+fn files_in_memory(rt: HostRuntime) -> Result<(), NoMemory> {
     let mut shelf = MemShelf::new(rt.alloc());
     shelf.add("f", b"old")?;
     shelf.add("g", b"")?;
@@ -87,9 +87,14 @@ fn in_memory(rt: HostRuntime) -> Result<(), NoMemory> {
         Err(FetchError::Missing)
     );
     assert_eq!(rt; into.as_slice(), b"new".as_slice());
+    Ok(())
+}
+
+#[test]
+fn a_sink_in_memory(rt: HostRuntime) -> Result<(), NoMemory> {
     let mut sink = MemSink::new(rt.alloc(), 6)?;
     sink.fail_put(2);
-    assert_eq!(rt; sink.put(&into), Ok(()));
+    assert_eq!(rt; sink.put(b"new"), Ok(()));
     assert_eq!(rt; sink.put(b"1"), Err(PutFailed));
     assert_eq!(rt; sink.put(b"1234"), Err(PutFailed));
     assert_eq!(rt; sink.put(b"123"), Ok(()));

@@ -1,6 +1,7 @@
 // Packed hours as they stand in archives, byte for byte, and what is refused.
 use hour_pack::{PackError, has_repeat, pack, unpack};
 use sig_base::{HourRows, Reads, Row, Window};
+use std::alloc::Global;
 use std::test::Fail;
 
 #[derive(Drop)]
@@ -18,16 +19,22 @@ fn row(at: u32, code: u8, param: u16) -> Row {
 const BYTES: &[u8] =
     b"\0SGP\x0172024-03-04T07\0\0\0\x04\0\x01\x02\x80\x01R\x7F\x80\x80\x01\xFF\xFF\x7F\0\0\xFF\xFF\x03";
 
-#[test]
-fn rows_there_and_back(rt: HostRuntime) -> Result<(), Fail> {
-    let window = Window::new(DAY, 6, 2).ok_or("window")?;
-    let rows = vec![in rt.alloc();
+// The hour of these rows.
+fn hour_of_four(alloc: Global) -> Result<HourRows<Mark>, Fail> {
+    let rows = vec![in alloc;
         row(36_000, 1, 2),
         row(36_128, 82, 127),
         row(52_512, 255, 16_383),
         row(52_512, 0, 65_535),
     ]?;
-    let hour: HourRows<Mark> = HourRows::new(1, rows, 3).ok_or("rows")?;
+    let hour = HourRows::new(1, rows, 3).ok_or("rows")?;
+    Ok(hour)
+}
+
+#[test]
+fn rows_are_packed(rt: HostRuntime) -> Result<(), Fail> {
+    let window = Window::new(DAY, 6, 2).ok_or("window")?;
+    let hour = hour_of_four(rt.alloc())?;
     let mut reads = Reads::new(Mark);
     if hour.hour() >= window.hours() || has_repeat(&hour, &mut reads) {
         return Err(Fail::from("rows"));
@@ -35,7 +42,18 @@ fn rows_there_and_back(rt: HostRuntime) -> Result<(), Fail> {
     let bytes = pack(rt.alloc(), "7", &window, &hour, &mut reads)?;
     assert_eq!(rt; bytes.as_slice(), BYTES);
     assert_eq!(rt; reads.count(1), 2);
-    let back: HourRows<Mark> = unpack(rt.alloc(), &bytes, "7", 1, &window)?;
+    Ok(())
+}
+
+#[test]
+fn rows_are_unpacked(rt: HostRuntime) -> Result<(), Fail> {
+    let window = Window::new(DAY, 6, 2).ok_or("window")?;
+    if !window.has_hour(1) {
+        return Err(Fail::from("window"));
+    }
+    let hour = hour_of_four(rt.alloc())?;
+    let mut reads = Reads::new(Mark);
+    let back: HourRows<Mark> = unpack(rt.alloc(), BYTES, "7", 1, &window)?;
     assert_eq!(rt; back.show(&mut reads), hour.show(&mut reads));
     assert_eq!(rt; back.repeats(), 0);
     Ok(())

@@ -3,7 +3,7 @@ use Rattle.std.proofs.Common.{◌≡◌, ◌≢◌, refl, ap, sym, ◌∙◌, in
 use Rattle.std.proofs.lemmas.Bool.{cases_eq}
 use Rattle.std.proofs.lemmas.Grind.{common_steps}
 use Rattle.std.proofs.lemmas.List.{length_push, get_or_default}
-use Rattle.lane.specs.declared.moves.Move.{Move}
+use Rattle.channel_path.specs.declared.moves.Move.{Move}
 use Rattle.sig_base.specs.declared.values.Row.{Row}
 use Rattle.gap_map.specs.declared.stretch.Stretch.{Stretch}
 use Rattle.channel_tables.specs.declared.spec.Spec.{Spec}

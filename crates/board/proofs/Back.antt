@@ -4,11 +4,11 @@ use Rattle.std.proofs.lemmas.List.{take-append-drop}
 use Rattle.colour_machine.specs.Rules.{Rules}
 use Rattle.reach.specs.Runs.{State}
 use Rattle.reach.specs.Ahead.{Admits}
-use Rattle.lane.specs.declared.moves.Move.{Move}
-use Rattle.lane.specs.Walks.{InOrder, BeforeMoves}
-use Rattle.lane.specs.Places.{EntersBefore, limit_of}
-use Rattle.lane.proofs.Legs.{rest_join}
-use Rattle.lane.proofs.Moving.{ahead_over, earlier_low, enters_on, order_drop, order_take}
+use Rattle.channel_path.specs.declared.moves.Move.{Move}
+use Rattle.channel_path.specs.Walks.{InOrder, BeforeMoves}
+use Rattle.channel_path.specs.Places.{EntersBefore, limit_of}
+use Rattle.channel_path.proofs.Legs.{rest_join}
+use Rattle.channel_path.proofs.Moving.{ahead_over, earlier_low, enters_on, order_drop, order_take}
 
 -- the states before the moves, entered early enough for the first of them, from which they lead to one that was admitted
 abbrev pub IsBack : Rules → List (Option ℤ) → List Move → List (Option ℤ) → Type 0

@@ -3,9 +3,9 @@ use Rattle.std.proofs.lemmas.Bool.{cases_Bool}
 use Rattle.std.proofs.lemmas.List.{append-nil, append_assoc, take-append-le, drop-append-le, take_all, drop_all, take-append-drop}
 use Rattle.reach.specs.Runs.{State, Steps}
 use Rattle.reach.proofs.Later.{then_iff}
-use Rattle.lane.specs.declared.moves.Move.{Move}
-use Rattle.lane.specs.declared.moves.Move.TheVariants.{Letter}
-use Rattle.lane.specs.Walks.{Walk}
+use Rattle.channel_path.specs.declared.moves.Move.{Move}
+use Rattle.channel_path.specs.declared.moves.Move.TheVariants.{Letter}
+use Rattle.channel_path.specs.Walks.{Walk}
 use Rattle.sig_base.specs.declared.values.Row.{Row}
 use Rattle.gap_map.specs.declared.stretch.Stretch.{Stretch}
 use Rattle.board.proofs.Bridge.{lt_tells, cut_rows, known_here, known_there, own_walk, agreeing_join, agreeing_first, agreeing_none, agreeing_same, none_at, event_not_here}

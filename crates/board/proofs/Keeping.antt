@@ -7,8 +7,8 @@ use Rattle.span_set.specs.declared.set.Span.{Span}
 use Rattle.colour_machine.specs.Rules.{Rules}
 use Rattle.reach.specs.Runs.{State, state}
 use Rattle.reach.specs.Past.{Holds, AreClamped}
-use Rattle.lane.specs.declared.moves.Move.{Move}
-use Rattle.lane.specs.Walks.{AfterMoves}
+use Rattle.channel_path.specs.declared.moves.Move.{Move}
+use Rattle.channel_path.specs.Walks.{AfterMoves}
 use Rattle.gap_map.specs.Stretches.{FollowOn}
 use Rattle.reach.specs.Ahead.{Admits}
 use Rattle.sig_base.specs.declared.values.Row.{Row}

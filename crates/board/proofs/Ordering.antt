@@ -1,12 +1,12 @@
 use Rattle.std.proofs.Common.{◌≡◌, refl, inl, inr, ℕ, ◌+◌, ◌<◌, ◌≤◌, List, [], ◌∷◌, ◌++◌, take, drop, arith, Option, Some, None}
 use Rattle.std.proofs.lemmas.Bool.{cases_Bool}
 use Rattle.colour_machine.specs.Rules.{Rules}
-use Rattle.lane.specs.declared.moves.Move.{Move}
-use Rattle.lane.specs.Walks.{limit_after, InOrder}
-use Rattle.lane.specs.Places.{limit_of}
+use Rattle.channel_path.specs.declared.moves.Move.{Move}
+use Rattle.channel_path.specs.Walks.{limit_after, InOrder}
+use Rattle.channel_path.specs.Places.{limit_of}
 use Rattle.sig_base.specs.declared.values.Row.{Row}
 use Rattle.gap_map.specs.declared.stretch.Stretch.{Stretch}
-use Rattle.lane.proofs.Moving.{earlier_low}
+use Rattle.channel_path.proofs.Moving.{earlier_low}
 use Rattle.board.proofs.Tracks.{Lettered}
 use Rattle.board.proofs.Bridge.{cut_rows, late_end}
 use Rattle.gap_map.specs.Stretches.{FollowOn}

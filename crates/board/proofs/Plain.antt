@@ -3,7 +3,7 @@ use Rattle.span_set.specs.declared.set.Span.{Span}
 use Rattle.reach.specs.Runs.{State, state}
 use Rattle.reach.specs.Past.{Holds}
 use Rattle.reach.proofs.Later.{then_iff}
-use Rattle.lane.specs.Walks.{AfterMoves}
+use Rattle.channel_path.specs.Walks.{AfterMoves}
 use Rattle.sig_base.specs.declared.values.Row.{Row}
 use Rattle.gap_map.specs.declared.stretch.Stretch.{Stretch}
 use Rattle.channel_tables.specs.declared.spec.Spec.{Spec}
@@ -12,9 +12,9 @@ use Rattle.span_set.proofs.Sets.{int_cases}
 use Rattle.std.proofs.lemmas.Bool.{cases_eq, cases_lt}
 use Rattle.std.proofs.lemmas.Grind.{common_steps}
 use Rattle.reach.specs.Ahead.{Admits}
-use Rattle.lane.specs.declared.moves.Move.{Move}
-use Rattle.lane.specs.Walks.{BeforeMoves}
-use Rattle.lane.proofs.Moving.{not_after}
+use Rattle.channel_path.specs.declared.moves.Move.{Move}
+use Rattle.channel_path.specs.Walks.{BeforeMoves}
+use Rattle.channel_path.proofs.Moving.{not_after}
 use Rattle.channel_tables.specs.Spec.{rules_of}
 use Rattle.board.proofs.Bridge.{own_walk}
 use Rattle.board.proofs.Ordering.{own_order}
@@ -29,9 +29,9 @@ use Rattle.board.specs.Stops.{AreAfter, AreBefore, GoesOnAt, IsFirst, IsFirstSto
 use Rattle.board.specs.Places.{IsStop}
 use Rattle.board.specs.Logs.{no_spec}
 use Rattle.reach.specs.Past.{AreClamped}
-use Rattle.lane.specs.declared.moves.Move.TheVariants.{Gap}
-use Rattle.lane.specs.Places.{EntersBefore}
-use Rattle.lane.proofs.Moving.{taken_early}
+use Rattle.channel_path.specs.declared.moves.Move.TheVariants.{Gap}
+use Rattle.channel_path.specs.Places.{EntersBefore}
+use Rattle.channel_path.proofs.Moving.{taken_early}
 use Rattle.std.proofs.lemmas.List.{get_or_past}
 use Rattle.board.specs.Places.{AllEarly}
 use Rattle.board.specs.Hours.{AllClamped, AreClampedPasts, AreHourAheads, AreHourPasts, IsAfterHour, IsBeforeHour, IsHourStop}

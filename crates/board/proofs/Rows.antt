@@ -4,10 +4,10 @@ use Rattle.std.proofs.lemmas.List.{take_at, take-append-drop, take_more, drop_mo
 use Rattle.colour_machine.specs.Rules.{Rules}
 use Rattle.span_set.specs.declared.set.Span.{Span}
 use Rattle.reach.specs.Runs.{State, Step, Steps}
-use Rattle.lane.specs.declared.moves.Move.{Move}
-use Rattle.lane.specs.declared.moves.Move.TheVariants.{Letter}
-use Rattle.lane.specs.Walks.{AfterMoves}
-use Rattle.lane.proofs.Moving.{after_end}
+use Rattle.channel_path.specs.declared.moves.Move.{Move}
+use Rattle.channel_path.specs.declared.moves.Move.TheVariants.{Letter}
+use Rattle.channel_path.specs.Walks.{AfterMoves}
+use Rattle.channel_path.proofs.Moving.{after_end}
 use Rattle.sig_base.specs.declared.values.Row.{Row}
 use Rattle.gap_map.specs.declared.stretch.Stretch.{Stretch}
 use Rattle.board.proofs.Bridge.{lt_tells, known_here, known_there}

@@ -8,10 +8,10 @@ use Rattle.reach.specs.Runs.{State}
 use Rattle.reach.specs.declared.seen.Test.{Test}
 use Rattle.reach.specs.declared.seen.Seen.{Seen}
 use Rattle.reach.proofs.Later.{then_iff}
-use Rattle.lane.specs.declared.moves.Move.{Move}
-use Rattle.lane.specs.declared.moves.Move.TheVariants.{Letter, Gap}
-use Rattle.lane.specs.Walks.{InOrder}
-use Rattle.lane.specs.Places.{limit_of, TakesFrom, Passes, SeesPassing}
+use Rattle.channel_path.specs.declared.moves.Move.{Move}
+use Rattle.channel_path.specs.declared.moves.Move.TheVariants.{Letter, Gap}
+use Rattle.channel_path.specs.Walks.{InOrder}
+use Rattle.channel_path.specs.Places.{limit_of, TakesFrom, Passes, SeesPassing}
 use Rattle.sig_base.specs.declared.values.Row.{Row}
 use Rattle.gap_map.specs.declared.stretch.Stretch.{Stretch}
 use Rattle.board.proofs.Bridge.{lt_tells, cut_rows, late_end, known_here, known_there}

@@ -4,10 +4,10 @@ use Rattle.std.proofs.lemmas.Bool.{cases_eq, cases_lt}
 use Rattle.std.proofs.lemmas.List.{take-take, take-append-drop, take_all}
 use Rattle.colour_machine.specs.Rules.{Rules}
 use Rattle.span_set.specs.declared.set.Span.{Span}
-use Rattle.lane.specs.declared.moves.Move.{Move}
-use Rattle.lane.specs.declared.moves.Move.TheVariants.{Letter}
-use Rattle.lane.specs.Walks.{StopsAt}
-use Rattle.lane.proofs.Moving.{walk_join}
+use Rattle.channel_path.specs.declared.moves.Move.{Move}
+use Rattle.channel_path.specs.declared.moves.Move.TheVariants.{Letter}
+use Rattle.channel_path.specs.Walks.{StopsAt}
+use Rattle.channel_path.proofs.Moving.{walk_join}
 use Rattle.board.specs.Stops.{IsEarlier, IsFirst, StopRow, Survives, number}
 
 -- what leads through more moves leads through the first of them

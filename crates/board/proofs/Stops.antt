@@ -2,10 +2,10 @@ use Rattle.std.proofs.Common.{suc, zero, ◌≡◌, refl, ap, sym, ◌∙◌, su
 use Rattle.std.proofs.lemmas.Bool.{cases_lt, cases_Bool}
 use Rattle.std.proofs.lemmas.List.{take_at, take_more, length-take-le, get_or_at, get_or_append_left, get_or-append_right, get_or-take, get_or-drop}
 use Rattle.span_set.specs.declared.set.Span.{Span}
-use Rattle.lane.specs.declared.moves.Move.{Move}
-use Rattle.lane.specs.declared.moves.Move.TheVariants.{Letter, Gap}
-use Rattle.lane.specs.Walks.{StopsAt, IsMove}
-use Rattle.lane.proofs.Moving.{gap_keeps, after_end, one_fits}
+use Rattle.channel_path.specs.declared.moves.Move.{Move}
+use Rattle.channel_path.specs.declared.moves.Move.TheVariants.{Letter, Gap}
+use Rattle.channel_path.specs.Walks.{StopsAt, IsMove}
+use Rattle.channel_path.proofs.Moving.{gap_keeps, after_end, one_fits}
 use Rattle.sig_base.specs.declared.values.Row.{Row}
 use Rattle.gap_map.specs.declared.stretch.Stretch.{Stretch}
 use Rattle.board.proofs.Bridge.{cut_rows, late_end, known_here, known_there}

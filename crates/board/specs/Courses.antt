@@ -1,6 +1,6 @@
 -- The moves of each channel.
 use Rattle.std.specs.Prelude.{◌≡◌, ℕ, zero, suc, ◌<◌, Bool, true, false, if◌then◌else◌, List, [], ◌++◌, length, slice_index_or}
-use Rattle.lane.specs.declared.moves.Move.{Move}
+use Rattle.channel_path.specs.declared.moves.Move.{Move}
 use Rattle.sig_base.specs.declared.values.Row.{Row}
 use Rattle.gap_map.specs.declared.stretch.Stretch.{Stretch}
 use Rattle.channel_tables.specs.declared.spec.Spec.{Spec}

@@ -7,9 +7,9 @@ use Rattle.reach.specs.Ahead.{Admits}
 use Rattle.reach.specs.Tests.{Meets}
 use Rattle.reach.specs.declared.seen.Test.{Test}
 use Rattle.reach.specs.declared.seen.Seen.{Seen}
-use Rattle.lane.specs.declared.moves.Move.{Move}
-use Rattle.lane.specs.declared.moves.Move.TheVariants.{Letter, Gap}
-use Rattle.lane.specs.Places.{LineLog}
+use Rattle.channel_path.specs.declared.moves.Move.{Move}
+use Rattle.channel_path.specs.declared.moves.Move.TheVariants.{Letter, Gap}
+use Rattle.channel_path.specs.Places.{PathLog}
 use Rattle.channel_tables.specs.declared.any.AnyMachine.{AnyMachine}
 use Rattle.channel_tables.specs.Any.{any_rules}
 use Rattle.sig_base.specs.declared.values.Row.{Row}
@@ -85,22 +85,22 @@ pub record IsViewOf (log view : HourLog) : Type 0 where
   pub same : view ≡ log
   pub is_log : IsLog log
 
--- the line is that of one channel of the hour
-pub record IsLineOf (log : HourLog) (i : ℕ) (d : Spec) (line : LineLog AnyMachine) : Type 0 where
-  pub same_rules : any_rules line.machine ≡ rules_at log.specs i d
-  pub same_before : line.before ≡ slice_index_or log.before i []
-  pub same_moves : line.moves ≡ moves_at log.specs log.rows log.stretches i d
-  pub same_after : line.after ≡ slice_index_or log.after i []
+-- the path is that of one channel of the hour
+pub record IsPathOf (log : HourLog) (i : ℕ) (d : Spec) (path : PathLog AnyMachine) : Type 0 where
+  pub same_rules : any_rules path.machine ≡ rules_at log.specs i d
+  pub same_before : path.before ≡ slice_index_or log.before i []
+  pub same_moves : path.moves ≡ moves_at log.specs log.rows log.stretches i d
+  pub same_after : path.after ≡ slice_index_or log.after i []
 
--- the lines of the first n channels
-abbrev pub AreLines : HourLog → ℕ → List (LineLog AnyMachine) → Type 0
-AreLines log n lines = (i : ℕ) (d : Spec) (e : LineLog AnyMachine) → i < n → IsLineOf log i d (slice_index_or lines i e)
+-- the paths of the first n channels
+abbrev pub ArePaths : HourLog → ℕ → List (PathLog AnyMachine) → Type 0
+ArePaths log n paths = (i : ℕ) (d : Spec) (e : PathLog AnyMachine) → i < n → IsPathOf log i d (slice_index_or paths i e)
 
--- a line for each channel of the hour
-pub record IsView (log : HourLog) (lines : List (LineLog AnyMachine)) : Type 0 where
+-- a path for each channel of the hour
+pub record IsView (log : HourLog) (paths : List (PathLog AnyMachine)) : Type 0 where
   pub is_log : IsLog log
-  pub count : length lines ≡ length log.specs
-  pub are_lines : AreLines log (length log.specs) lines
+  pub count : length paths ≡ length log.specs
+  pub are_paths : ArePaths log (length log.specs) paths
 
 -- a channel has equally many colours and the same states in both
 abbrev pub HaveSameStates : List (List Span) → List (List Span) → Type 0

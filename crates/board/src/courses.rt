@@ -2,8 +2,8 @@
 ghost use Rattle.std.specs.Prelude.{◌≡◌, ◌≢◌, ℕ, ◌+◌, ◌<◌, ◌≤◌, ◌^◌, [], ◌∷◌, ◌++◌, Some, None, length, drop, take, slice_index_or, MatchOption, OnOk, IfOk, IsTrue, ◌↔◌};
 ghost use Rattle.event_codes.specs.declared.channels.Channel.{Channel};
 ghost use Rattle.channel_tables.specs.declared.spec.Spec.{Spec};
-ghost use Rattle.lane.specs.declared.moves.Move.{Move};
-ghost use Rattle.lane.specs.declared.moves.Move.TheVariants.{Letter, Gap};
+ghost use Rattle.channel_path.specs.declared.moves.Move.{Move};
+ghost use Rattle.channel_path.specs.declared.moves.Move.TheVariants.{Letter, Gap};
 ghost use Rattle.board.specs.Channels.{letter_in, track, AreSpecs};
 ghost use Rattle.board.specs.Moves.{count_before, with_letter, letter_moves, stretch_moves};
 ghost use Rattle.board.specs.Courses.{AreAdded, AreCourses};
@@ -11,10 +11,10 @@ ghost use Rattle.board.specs.Logs.{no_spec};
 ghost use Rattle.board.specs.SpecPlaces.{IsTable};
 
 use crate::spec_table::SpecTable;
+use channel_path::Move;
 use channel_tables::{Spec, letter_of_kind};
 use event_codes::{Channel, channel_of};
 use gap_map::Stretch;
-use lane::Move;
 use sig_base::{NoMemory, Row};
 use std::alloc::Global;
 use std::marker::Model;
@@ -27,7 +27,7 @@ pub struct Course {
 
 impl Model for Course {
     ghost use Rattle.std.specs.Prelude.{List};
-    ghost use Rattle.lane.specs.declared.moves.Move.{Move};
+    ghost use Rattle.channel_path.specs.declared.moves.Move.{Move};
 
     ghost Value = { List Move };
 

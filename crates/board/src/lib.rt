@@ -16,6 +16,7 @@ mod courses;
 mod marks;
 mod meeting;
 mod pasts;
+mod slice_view;
 mod spec_table;
 mod view;
 

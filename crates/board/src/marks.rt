@@ -2,7 +2,7 @@
 ghost use Rattle.std.specs.Prelude.{◌≡◌, length, IfOk};
 
 use crate::courses::Course;
-use lane::Move;
+use channel_path::Move;
 use sig_base::{NoMemory, Tenth};
 use std::alloc::Global;
 

@@ -4,8 +4,8 @@ ghost use Rattle.std.specs.Prelude.{◌≡◌, ◌↔◌, ℕ, pos, ◌<ℤ◌, 
 ghost use Rattle.channel_tables.specs.Spec.{IsSpec, rules_of};
 ghost use Rattle.reach.specs.Runs.{State};
 ghost use Rattle.reach.specs.Ahead.{Admits};
-ghost use Rattle.lane.specs.Walks.{InOrder, BeforeMoves};
-ghost use Rattle.lane.specs.Places.{EntersBefore};
+ghost use Rattle.channel_path.specs.Walks.{InOrder, BeforeMoves};
+ghost use Rattle.channel_path.specs.Places.{EntersBefore};
 ghost use Rattle.board.specs.Channels.{AreSpecs};
 ghost use Rattle.board.specs.Logs.{IsHour};
 ghost use Rattle.board.specs.Places.{AreAheadsOf};
@@ -13,9 +13,9 @@ ghost use Rattle.board.specs.Hours.{AreAheadsBefore};
 
 use crate::aheads::{Aheads, first_of, lower_before};
 use crate::courses::courses_of;
+use channel_path::{Move, walk_ahead};
 use channel_tables::{Spec, machine_of};
 use gap_map::Stretch;
-use lane::{Move, walk_ahead};
 use reach::Ahead;
 use sig_base::{NoMemory, Row};
 use std::alloc::Global;

@@ -3,7 +3,7 @@ ghost use Rattle.std.specs.Prelude.{◌≡◌, ◌↔◌, ℕ, pos, negsuc, ◌�
 ghost use Rattle.channel_tables.specs.Spec.{IsSpec, rules_of};
 ghost use Rattle.channel_tables.specs.Any.{any_rules};
 ghost use Rattle.channel_tables.specs.declared.spec.Spec.{Spec};
-ghost use Rattle.lane.specs.Walks.{InOrder, EnteredBefore};
+ghost use Rattle.channel_path.specs.Walks.{InOrder, EnteredBefore};
 ghost use Rattle.gap_map.specs.Stretches.{FollowOn, known_at};
 ghost use Rattle.board.specs.Channels.{AreSpecs};
 ghost use Rattle.board.specs.Logs.{end_tenth, first_tenth, hour_log, no_row};
@@ -15,11 +15,11 @@ use crate::aheads::{Aheads, first_of};
 use crate::courses::courses_of;
 use crate::marks::{Marks, marks_of};
 use crate::pasts::Pasts;
+use crate::slice_view::SliceView;
+use channel_path::{Move, Path};
 use channel_tables::{AnyMachine, Spec, machine_of};
 use gap_map::Stretch;
-use lane::{Line, Move};
 use reach::{Ahead, Past, Seen, Test};
-use shown::Shown;
 use sig_base::{Hour, NoMemory, Row, Tenth};
 use std::alloc::Global;
 use std::marker::Model;
@@ -30,13 +30,13 @@ use std::snapshot::Snapshot;
 #[derive(Drop)]
 pub struct HourView {
     hour: Hour,
-    specs: Shown<Spec>,
+    specs: SliceView<Spec>,
     before: Snapshot<Pasts>,
-    rows: Shown<Row>,
-    stretches: Shown<Stretch>,
+    rows: SliceView<Row>,
+    stretches: SliceView<Stretch>,
     after: Snapshot<Aheads>,
-    lines: Vec<Line<AnyMachine>>,
-    // Those of each line's moves.
+    paths: Vec<Path<AnyMachine>>,
+    // Those of each path's moves.
     marks: Vec<Marks>,
 }
 
@@ -51,8 +51,8 @@ impl Model for HourView {
         v.after.value };
 
     ghost invariant = { λ v. IsView (hour_log v.hour v.specs.items v.rows.items v.stretches.items
-        v.before.value v.after.value) v.lines.items
-        × (length v.marks.items ≡ length v.lines.items) };
+        v.before.value v.after.value) v.paths.items
+        × (length v.marks.items ≡ length v.paths.items) };
 }
 
 // The hour of the stretches.
@@ -104,25 +104,25 @@ impl HourView {
     {
         let courses = courses_of(alloc, specs, rows, stretches)?;
         let marks = marks_of(alloc, courses.as_slice(), first_of(stretches))?;
-        let mut lines = Vec::new(alloc);
+        let mut paths = Vec::new(alloc);
         for i in 0..specs.len() {
-            let line = line_of(
+            let path = path_of(
                 alloc,
                 &specs[i],
                 &before.pasts[i],
                 courses[i].moves(),
                 &after.aheads[i],
             )?;
-            lines.push(line)?;
+            paths.push(path)?;
         }
         Ok(HourView {
             hour,
-            specs: Shown::of(specs),
+            specs: SliceView::of(specs),
             before: Snapshot::of(before),
-            rows: Shown::of(rows),
-            stretches: Shown::of(stretches),
+            rows: SliceView::of(rows),
+            stretches: SliceView::of(stretches),
             after: Snapshot::of(after),
-            lines,
+            paths,
             marks,
         })
     }
@@ -132,7 +132,7 @@ impl HourView {
         ensures channels { result ≡ length self.now.specs }
         ensures log { IsLog self.now }
     {
-        self.lines.len()
+        self.paths.len()
     }
 
     /// What happens to the channel with this place among the specs, from 0.
@@ -142,7 +142,7 @@ impl HourView {
             self.now.stretches spec d }
         ensures log { IsLog self.now }
     {
-        self.lines[spec as usize].moves()
+        self.paths[spec as usize].moves()
     }
 
     /// What the runs of the channel with this place among the specs say of the test before the
@@ -156,10 +156,10 @@ impl HourView {
             known_at self.now.stretches at ≡ true → test.now.at ≡ pos at
             → SeesRow self.now index spec test.now result }
     {
-        let line = &self.lines[spec as usize];
+        let path = &self.paths[spec as usize];
         let marks = &self.marks[spec as usize];
-        let place = place_of(line.moves(), marks, test.at, Some(index));
-        line.seen(place, test)
+        let place = place_of(path.moves(), marks, test.at, Some(index));
+        path.seen(place, test)
     }
 
     /// What they say of it at the end of the known tenth, which is the test's.
@@ -168,20 +168,20 @@ impl HourView {
         requires tenth { test.now.at ≡ pos at }
         ensures { known_at self.now.stretches at ≡ true → SeesEnd self.now at spec test.now result }
     {
-        let line = &self.lines[spec as usize];
+        let path = &self.paths[spec as usize];
         let marks = &self.marks[spec as usize];
-        let place = place_of(line.moves(), marks, i64::from(at), None);
-        line.seen(place, test)
+        let place = place_of(path.moves(), marks, i64::from(at), None);
+        path.seen(place, test)
     }
 }
 
-fn line_of(
+fn path_of(
     alloc: Global,
     spec: &Spec,
     before: &Past,
     moves: &[Move],
     after: &Ahead,
-) -> Result<Line<AnyMachine>, NoMemory>
+) -> Result<Path<AnyMachine>, NoMemory>
     requires fits { IsSpec spec.now }
     requires order { (low : ℕ) × EnteredBefore before.now low
         × InOrder (rules_of spec.now) low moves.now }
@@ -192,8 +192,8 @@ fn line_of(
 {
     let machine = machine_of(spec);
     let own = Vec::from_slice(alloc, moves)?;
-    let line = Line::new(alloc, &machine, before, own, after)?;
-    Ok(line)
+    let path = Path::new(alloc, &machine, before, own, after)?;
+    Ok(path)
 }
 
 // The number of moves that come before the place. The search begins between the marks about it,

@@ -7,9 +7,9 @@ use Rattle.gap_ways.specs.declared.states.Fill.{Fill}
 use Rattle.reach.specs.Runs.{State, Step}
 use Rattle.gap_ways.specs.Ways.{Way, state_of}
 use Rattle.gap_ways.proofs.Sources.{way_fills}
-use Rattle.lane.specs.declared.moves.Move.{Move}
-use Rattle.lane.specs.declared.moves.Move.TheVariants.{Letter, Gap}
-use Rattle.lane.specs.Walks.{limit_before, limit_after, IsMove, InOrder, Taken, Walk}
+use Rattle.channel_path.specs.declared.moves.Move.{Move}
+use Rattle.channel_path.specs.declared.moves.Move.TheVariants.{Letter, Gap}
+use Rattle.channel_path.specs.Walks.{limit_before, limit_after, IsMove, InOrder, Taken, Walk}
 use Rattle.channel_ways.specs.Moves.{FilledMove, Filled, Alike, AddedAlike}
 use Rattle.channel_ways.specs.Laws.{FillingsAreWalks, AlikeGoesOn, HoursJoin, Thread}
 use Rattle.gap_ways.specs.declared.states.Entered.{Entered}

@@ -13,11 +13,11 @@ use Rattle.reach.specs.Tests.{IsPossible}
 use Rattle.gap_ways.specs.Choices.{Answers, IsAnswer}
 use Rattle.reach.specs.declared.seen.Test.{Test}
 use Rattle.gap_ways.specs.Ways.{state_of, NoneOlder}
-use Rattle.lane.specs.declared.moves.Move.{Move}
-use Rattle.lane.specs.Walks.{InOrder, AfterMoves, BeforeMoves, EnteredBefore}
-use Rattle.lane.specs.Places.{EntersBefore, Passes, TakesFrom, limit_of}
+use Rattle.channel_path.specs.declared.moves.Move.{Move}
+use Rattle.channel_path.specs.Walks.{InOrder, AfterMoves, BeforeMoves, EnteredBefore}
+use Rattle.channel_path.specs.Places.{EntersBefore, Passes, TakesFrom, limit_of}
 use Rattle.channel_ways.specs.Moves.{IsPassage, NonePasses, PassesAlone, AddedMoves, AddedThrough}
-use Rattle.lane.proofs.Moving.{walk_early}
+use Rattle.channel_path.proofs.Moving.{walk_early}
 use Rattle.channel_ways.proofs.Running.{walk_late}
 
 takes_order : (m : Rules) (low n : ℕ) (xs : List Move) → TakesFrom n xs → InOrder m low xs → InOrder m n xs

@@ -8,13 +8,13 @@ use Rattle.colour_machine.specs.Rules.{Rules}
 use Rattle.reach.specs.Runs.{State, Step, Steps, Run}
 use Rattle.reach.specs.Past.{Holds}
 use Rattle.gap_ways.specs.Ways.{NoneOlder}
-use Rattle.lane.specs.declared.moves.Move.{Move}
-use Rattle.lane.specs.declared.moves.Move.TheVariants.{Letter, Gap}
-use Rattle.lane.specs.Walks.{limit_before, InOrder, Taken, Walk, AfterMoves, EnteredBefore, StopsAt}
-use Rattle.lane.specs.Places.{EntersBefore}
-use Rattle.lane.specs.Kept.{letters, AreRuns, IsPast}
-use Rattle.lane.proofs.Moving.{stops_leg}
-use Rattle.lane.proofs.Keeping.{IsAfter, AreKept, pasts_stand}
+use Rattle.channel_path.specs.declared.moves.Move.{Move}
+use Rattle.channel_path.specs.declared.moves.Move.TheVariants.{Letter, Gap}
+use Rattle.channel_path.specs.Walks.{limit_before, InOrder, Taken, Walk, AfterMoves, EnteredBefore, StopsAt}
+use Rattle.channel_path.specs.Places.{EntersBefore}
+use Rattle.channel_path.specs.Kept.{letters, AreRuns, IsPast}
+use Rattle.channel_path.proofs.Moving.{stops_leg}
+use Rattle.channel_path.proofs.Keeping.{IsAfter, AreKept, pasts_stand}
 use Rattle.channel_ways.specs.Pasts.{AreRunPasts}
 
 letters_one : (x : Move) (xs : List Move) → letters (x ∷ xs) ≡ letters (x ∷ []) + letters xs

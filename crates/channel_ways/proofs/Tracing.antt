@@ -10,14 +10,14 @@ use Rattle.reach.specs.Runs.{State, state}
 use Rattle.reach.specs.Past.{Holds, AfterRow}
 use Rattle.reach.specs.Ahead.{Admits}
 use Rattle.gap_ways.specs.Ways.{state_of, Added, IsSource}
-use Rattle.lane.specs.declared.moves.Move.{Move}
-use Rattle.lane.specs.declared.moves.Move.TheVariants.{Letter, Gap}
-use Rattle.lane.specs.Walks.{limit_before, InOrder, Walk, AfterMoves, BeforeMoves, EnteredBefore, StopsAt}
-use Rattle.lane.specs.Places.{EntersBefore, limit_of}
-use Rattle.lane.specs.Kept.{letters, IsPast}
+use Rattle.channel_path.specs.declared.moves.Move.{Move}
+use Rattle.channel_path.specs.declared.moves.Move.TheVariants.{Letter, Gap}
+use Rattle.channel_path.specs.Walks.{limit_before, InOrder, Walk, AfterMoves, BeforeMoves, EnteredBefore, StopsAt}
+use Rattle.channel_path.specs.Places.{EntersBefore, limit_of}
+use Rattle.channel_path.specs.Kept.{letters, IsPast}
 use Rattle.channel_ways.specs.Pasts.{AreRunPasts}
 use Rattle.channel_ways.specs.Moves.{FilledMove, Filled, ComesFrom, IsMoveSource, AddedMoves, ClampedAfter, IsUnclamped}
-use Rattle.lane.proofs.Moving.{after_end, walk_early, order_take, order_drop, taken_early}
+use Rattle.channel_path.proofs.Moving.{after_end, walk_early, order_take, order_drop, taken_early}
 
 -- one more move in front, whose fills were added after those of the others
 pub filled_more : (m : Rules) (xs : List Move) (j : ℕ) (d : Move) (hs bs : List Fill) (s v u : State) → j < length xs → FilledMove m (get_or xs j d) hs s v → Filled m (drop (j + 1) xs) bs v u → Filled m (drop j xs) (hs ++ bs) s u

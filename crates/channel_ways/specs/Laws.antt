@@ -5,8 +5,8 @@ use Rattle.gap_ways.specs.declared.states.Fill.{Fill}
 use Rattle.gap_ways.specs.declared.states.Entered.{Entered}
 use Rattle.gap_ways.specs.Ways.{state_of}
 use Rattle.reach.specs.Runs.{State}
-use Rattle.lane.specs.declared.moves.Move.{Move}
-use Rattle.lane.specs.Walks.{InOrder, Walk}
+use Rattle.channel_path.specs.declared.moves.Move.{Move}
+use Rattle.channel_path.specs.Walks.{InOrder, Walk}
 use Rattle.channel_ways.specs.Moves.{Alike, AddedAlike, Filled}
 
 -- moves that letters in their gaps lead over, from one state to another, are a walk

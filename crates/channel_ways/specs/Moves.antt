@@ -7,14 +7,14 @@ use Rattle.gap_ways.specs.declared.states.Entered.{Entered}
 use Rattle.reach.specs.Runs.{State, state, Step}
 use Rattle.reach.specs.Past.{Holds}
 use Rattle.gap_ways.specs.Ways.{Way, NoneOlder, state_of}
-use Rattle.lane.specs.declared.moves.Move.{Move}
-use Rattle.lane.specs.declared.moves.Move.TheVariants.{Letter, Gap}
+use Rattle.channel_path.specs.declared.moves.Move.{Move}
+use Rattle.channel_path.specs.declared.moves.Move.TheVariants.{Letter, Gap}
 use Rattle.reach.specs.Ahead.{Admits}
 use Rattle.gap_ways.specs.Choices.{Answers}
 use Rattle.reach.specs.declared.seen.Test.{Test}
 use Rattle.channel_ways.specs.declared.passage.Passing.{Passing}
-use Rattle.lane.specs.Walks.{limit_before, Taken, AfterMoves, EnteredBefore, InOrder}
-use Rattle.lane.specs.Places.{limit_of, Passes, TakesFrom}
+use Rattle.channel_path.specs.Walks.{limit_before, Taken, AfterMoves, EnteredBefore, InOrder}
+use Rattle.channel_path.specs.Places.{limit_of, Passes, TakesFrom}
 
 -- the move with these fills, at most sixteen in a gap and none at a letter, legally leads from state s to state u
 abbrev pub FilledMove : Rules → Move → List Fill → State → State → Type 0

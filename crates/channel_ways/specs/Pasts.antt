@@ -2,8 +2,8 @@
 use Rattle.std.specs.Prelude.{◌≡◌, ℕ, ◌+◌, ◌<◌, ◌≤◌, List, [], length, take, slice_index_or}
 use Rattle.span_set.specs.declared.set.Span.{Span}
 use Rattle.colour_machine.specs.Rules.{Rules}
-use Rattle.lane.specs.declared.moves.Move.{Move}
-use Rattle.lane.specs.Kept.{letters, IsPast}
+use Rattle.channel_path.specs.declared.moves.Move.{Move}
+use Rattle.channel_path.specs.Kept.{letters, IsPast}
 
 -- each run of gaps has the states after it, which among others are those at each of its places; the run's number is how many letters are before it
 abbrev pub AreRunPasts : Rules → List (List Span) → List Move → List (List (List Span)) → Type 0

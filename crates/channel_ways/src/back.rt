@@ -1,14 +1,14 @@
 // The way back over a list of moves.
 ghost use Rattle.std.specs.Prelude.{◌≡◌, ℕ, length, IfOk};
 ghost use Rattle.reach.specs.Past.{Holds};
-ghost use Rattle.lane.specs.Walks.{IsMove, InOrder, AfterMoves, EnteredBefore};
+ghost use Rattle.channel_path.specs.Walks.{IsMove, InOrder, AfterMoves, EnteredBefore};
 ghost use Rattle.gap_ways.specs.Ways.{state_of, NoneOlder};
 ghost use Rattle.channel_ways.specs.Moves.{ComesFrom, IsMoveSource, AddedMoves};
 
 use crate::pasts::{run_before, run_pasts};
+use channel_path::Move;
 use colour_machine::Machine;
 use gap_ways::{Entered, Fill, gap_source, row_source};
-use lane::Move;
 use reach::Past;
 use sig_base::NoMemory;
 use std::alloc::Global;

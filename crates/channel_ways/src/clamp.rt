@@ -1,14 +1,14 @@
 // The way back from a state of a clamped set.
 ghost use Rattle.std.specs.Prelude.{◌≡◌, ℕ, ℤ, pos, negsuc, ◌≤ℤ◌, ◌^◌, length, IfOk};
 ghost use Rattle.reach.specs.Past.{Holds};
-ghost use Rattle.lane.specs.Walks.{InOrder, EnteredBefore};
+ghost use Rattle.channel_path.specs.Walks.{InOrder, EnteredBefore};
 ghost use Rattle.gap_ways.specs.Ways.{state_of, NoneOlder};
 ghost use Rattle.channel_ways.specs.Moves.{ClampedAfter, IsUnclamped, AddedAlike};
 
 use crate::back::walk_source;
+use channel_path::{Move, walk_past};
 use colour_machine::Machine;
 use gap_ways::{Entered, Fill, entry_by};
-use lane::{Move, walk_past};
 use reach::Past;
 use sig_base::{NoMemory, Tenth};
 use std::alloc::Global;

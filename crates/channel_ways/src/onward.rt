@@ -1,14 +1,14 @@
 // On over a list of moves, from one state.
 ghost use Rattle.std.specs.Prelude.{◌≡◌, ℕ, ◌^◌, ◌≤◌, length, IfOk};
 ghost use Rattle.reach.specs.Ahead.{Admits};
-ghost use Rattle.lane.specs.Walks.{InOrder, AfterMoves, BeforeMoves, EnteredBefore};
-ghost use Rattle.lane.specs.Places.{limit_of};
+ghost use Rattle.channel_path.specs.Walks.{InOrder, AfterMoves, BeforeMoves, EnteredBefore};
+ghost use Rattle.channel_path.specs.Places.{limit_of};
 ghost use Rattle.gap_ways.specs.Ways.{state_of, NoneOlder};
 ghost use Rattle.channel_ways.specs.Moves.{IsAlone};
 
+use channel_path::{Move, walk_past};
 use colour_machine::Machine;
 use gap_ways::{Entered, admitted_state};
-use lane::{Move, walk_past};
 use reach::{Ahead, Past};
 use sig_base::{NoMemory, Tenth};
 use std::alloc::Global;

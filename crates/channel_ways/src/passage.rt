@@ -7,9 +7,9 @@ ghost use Rattle.channel_ways.specs.Moves.{IsPassage, IsPassing, IsSourceThrough
 
 use crate::back::walk_source;
 use crate::onward::walk_end;
+use channel_path::{Move, walk_ahead, walk_past};
 use colour_machine::Machine;
 use gap_ways::{Entered, Fill, only_state, possible_state};
-use lane::{Move, walk_ahead, walk_past};
 use reach::{Ahead, Past, Test};
 use sig_base::NoMemory;
 use std::alloc::Global;

@@ -1,12 +1,12 @@
 // The possible states before each letter of a list of moves, and after the last move.
 ghost use Rattle.std.specs.Prelude.{◌≡◌, ℕ, ◌+◌, ◌≤◌, ◌∷◌, [], length, IfOk, OnOk};
 ghost use Rattle.reach.specs.Runs.{State};
-ghost use Rattle.lane.specs.Walks.{EnteredBefore, InOrder, AfterMoves};
-ghost use Rattle.lane.specs.Kept.{letters, kept_before};
+ghost use Rattle.channel_path.specs.Walks.{EnteredBefore, InOrder, AfterMoves};
+ghost use Rattle.channel_path.specs.Kept.{letters, kept_before};
 ghost use Rattle.channel_ways.specs.Pasts.{AreRunPasts};
 
+use channel_path::{Move, walk_past};
 use colour_machine::Machine;
-use lane::{Move, walk_past};
 use reach::Past;
 use sig_base::NoMemory;
 use std::alloc::Global;

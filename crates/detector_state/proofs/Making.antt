@@ -11,7 +11,7 @@ use Rattle.gap_map.specs.declared.stretch.Stretch.{Stretch}
 use Rattle.gap_map.specs.Stretches.{known_at}
 use Rattle.reach.specs.Runs.{State, state}
 use Rattle.reach.specs.Past.{Holds}
-use Rattle.lane.specs.Walks.{EnteredBefore}
+use Rattle.channel_path.specs.Walks.{EnteredBefore}
 use Rattle.channel_tables.specs.declared.spec.Spec.{Spec}
 use Rattle.channel_tables.specs.Spec.{rules_of}
 use Rattle.channel_tables.proofs.Machines.{spec_machine}

@@ -14,7 +14,7 @@ use Rattle.reach.specs.Tests.{Sees}
 use Rattle.reach.specs.declared.seen.Test.{Test}
 use Rattle.reach.specs.declared.seen.Seen.{Seen}
 use Rattle.reach.specs.declared.seen.AgeBound.TheVariants.{Any}
-use Rattle.lane.specs.Walks.{EnteredBefore}
+use Rattle.channel_path.specs.Walks.{EnteredBefore}
 use Rattle.detector_state.specs.Masks.{HasStates, IsImage}
 
 -- colours below k that P has

@@ -4,7 +4,7 @@ ghost use Rattle.colour_machine.specs.Mask.{Has};
 ghost use Rattle.colour_machine.specs.Rules.{Goes};
 ghost use Rattle.reach.specs.Runs.{State};
 ghost use Rattle.reach.specs.Past.{Holds};
-ghost use Rattle.lane.specs.Walks.{EnteredBefore};
+ghost use Rattle.channel_path.specs.Walks.{EnteredBefore};
 ghost use Rattle.board.specs.Channels.{letter_in as track_letter};
 ghost use Rattle.channel_tables.specs.Any.{any_rules};
 ghost use Rattle.channel_tables.specs.Spec.{rules_of};

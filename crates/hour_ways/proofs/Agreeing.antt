@@ -7,8 +7,8 @@ use Rattle.reach.specs.Runs.{State}
 use Rattle.sig_base.specs.declared.values.Row.{Row}
 use Rattle.gap_map.specs.declared.stretch.Stretch.{Stretch}
 use Rattle.gap_map.specs.Stretches.{FollowOn, known_at}
-use Rattle.lane.specs.declared.moves.Move.{Move}
-use Rattle.lane.specs.Walks.{Walk}
+use Rattle.channel_path.specs.declared.moves.Move.{Move}
+use Rattle.channel_path.specs.Walks.{Walk}
 use Rattle.board.specs.History.{Agreeing, Event, Track, event_of, events_at}
 use Rattle.board.specs.Moves.{RowsIn, count_before, letter_moves, own, stretch_moves, with_letter}
 use Rattle.board.proofs.Bridge.{agreeing_join, agreeing_none, agreeing_same, cut_rows, event_not_here, known_here, known_there, late_end, none_at, rows_walk}

@@ -6,8 +6,8 @@ use Rattle.std.proofs.lemmas.Bool.Decides.{eqb_tells}
 use Rattle.colour_machine.specs.Rules.{Rules, IsMachine}
 use Rattle.reach.specs.Runs.{State, Step, Steps, Run}
 use Rattle.reach.proofs.States.{state_same}
-use Rattle.lane.specs.declared.moves.Move.TheVariants.{Gap}
-use Rattle.lane.proofs.Moving.{taken_early}
+use Rattle.channel_path.specs.declared.moves.Move.TheVariants.{Gap}
+use Rattle.channel_path.proofs.Moving.{taken_early}
 use Rattle.board.specs.History.{Agree, Agreeing, Event, Track, letters}
 use Rattle.board.proofs.Bridge.{agreeing_join, agreeing_first, agreeing_none}
 use Rattle.board.proofs.Joining.{letters_join}

@@ -9,8 +9,8 @@ use Rattle.reach.specs.Tests.{Meets as TestMeets}
 use Rattle.reach.specs.declared.seen.Test.{Test}
 use Rattle.reach.specs.declared.seen.AgeBound.TheVariants.{Any}
 use Rattle.gap_map.specs.Stretches.{known_at}
-use Rattle.lane.specs.declared.moves.Move.{Move}
-use Rattle.lane.specs.declared.moves.Move.TheVariants.{Letter}
+use Rattle.channel_path.specs.declared.moves.Move.{Move}
+use Rattle.channel_path.specs.declared.moves.Move.TheVariants.{Letter}
 use Rattle.channel_tables.specs.declared.spec.Spec.{Spec}
 use Rattle.board.specs.Stops.{moves_at}
 use Rattle.board.specs.History.{Event, Track, events_at}

@@ -1,8 +1,8 @@
 -- Ranges of tenths in which a channel doesn't change.
 use Rattle.std.specs.Prelude.{ℕ, ◌≡◌, ◌<◌, ◌≤◌, ◌+◌, Bool, true, false, List, [], ◌∷◌, slice_index_or}
 use Rattle.gap_map.specs.Stretches.{known_at}
-use Rattle.lane.specs.declared.moves.Move.{Move}
-use Rattle.lane.specs.declared.moves.Move.TheVariants.{Letter, Gap}
+use Rattle.channel_path.specs.declared.moves.Move.{Move}
+use Rattle.channel_path.specs.declared.moves.Move.TheVariants.{Letter, Gap}
 use Rattle.board.specs.History.{Track, Event, letters, events_at}
 use Rattle.board.specs.Channels.{track}
 use Rattle.board.specs.Logs.{HourLog, no_spec}

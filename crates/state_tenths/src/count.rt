@@ -6,7 +6,7 @@ ghost use Rattle.state_tenths.specs.Ranges.{Counts, IsQuietIn, begin_of as begin
 
 use crate::asked::{Asked, holds};
 use board::HourView;
-use lane::Move;
+use channel_path::Move;
 
 // The tenth before which the move changes nothing.
 fn begin_of(one: Move) -> u32

@@ -2,7 +2,7 @@ use Rattle.std.proofs.Common.{arith, rules, ap, sym, ◌≡◌, ◌∙◌, ◌+�
 use Rattle.std.proofs.lemmas.List.{get_or_default, length_push}
 use Rattle.channel_tables.specs.declared.spec.Spec.{Spec}
 use Rattle.channel_tables.specs.Spec.{rules_of}
-use Rattle.lane.proofs.Moving.{earlier_low}
+use Rattle.channel_path.proofs.Moving.{earlier_low}
 use Rattle.board.specs.Logs.{no_spec, first_tenth, end_tenth}
 use Rattle.board.proofs.Among.{chosen_none, chosen_one, told, turn_is, turn_within}
 use Rattle.board.proofs.Hours.{moves_order}

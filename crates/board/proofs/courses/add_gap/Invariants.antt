@@ -1,5 +1,5 @@
 use Rattle.std.proofs.Common.{◌≡◌, ℕ, ◌<◌, ◌≤◌, get_or, [], ◌∷◌, ◌++◌}
-use Rattle.lane.specs.declared.moves.Move.TheVariants.{Gap}
+use Rattle.channel_path.specs.declared.moves.Move.TheVariants.{Gap}
 use Rattle.board.proofs.courses.add_gap.Given as goal
 
 abbrev pub invariant-loop-course : goal.invariant-loop-course

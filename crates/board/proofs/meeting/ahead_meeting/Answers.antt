@@ -1,6 +1,6 @@
 use Rattle.std.proofs.Common.{arith, ◌∙◌, ◌-◌}
 use Rattle.channel_tables.specs.Spec.{rules_of}
-use Rattle.lane.proofs.Moving.{order_take}
+use Rattle.channel_path.proofs.Moving.{order_take}
 use Rattle.board.proofs.Back.{back_rest, back_slice, met_before, slice_order}
 use Rattle.board.proofs.meeting.ahead_meeting.Goals as goal
 

@@ -1,9 +1,9 @@
 use Rattle.std.proofs.Common.{arith, refl, ◌≡◌, ◌+◌, ◌-◌, ◌<◌, length, take}
 use Rattle.gap_ways.specs.Ways.{state_of}
-use Rattle.lane.specs.declared.moves.Move.TheVariants.{Letter}
-use Rattle.lane.specs.Kept.{letters}
-use Rattle.lane.proofs.Moving.{one_fits}
-use Rattle.lane.proofs.Keeping.{count_more}
+use Rattle.channel_path.specs.declared.moves.Move.TheVariants.{Letter}
+use Rattle.channel_path.specs.Kept.{letters}
+use Rattle.channel_path.proofs.Moving.{one_fits}
+use Rattle.channel_path.proofs.Keeping.{count_more}
 use Rattle.channel_ways.proofs.Running.{place_older}
 use Rattle.channel_ways.proofs.Tracing.{came_from, at_place, added_moves, run_place, at_start}
 use Rattle.channel_ways.proofs.back.walk_source.Goals as goal

@@ -1,6 +1,6 @@
 use Rattle.std.proofs.Common.{◌≡◌, ℕ, ◌+◌, length, take, drop}
-use Rattle.lane.specs.Kept.{letters}
-use Rattle.lane.specs.Walks.{AfterMoves}
+use Rattle.channel_path.specs.Kept.{letters}
+use Rattle.channel_path.specs.Walks.{AfterMoves}
 use Rattle.gap_ways.specs.Ways.{state_of}
 use Rattle.channel_ways.specs.Moves.{AddedMoves}
 use Rattle.channel_ways.proofs.back.walk_source.Given as goal

@@ -1,11 +1,11 @@
 use Rattle.std.proofs.Common.{arith, refl, ap, ◌≡◌, ◌∙◌, ◌+◌, List, length, get_or, take}
 use Rattle.std.proofs.lemmas.List.{take_all}
-use Rattle.lane.specs.declared.moves.Move.{Move}
-use Rattle.lane.specs.declared.moves.Move.TheVariants.{Letter}
-use Rattle.lane.specs.Kept.{letters, kept_before}
-use Rattle.lane.proofs.Legs.{one_move}
-use Rattle.lane.proofs.Moving.{leg_order, after_leg}
-use Rattle.lane.proofs.Keeping.{kept_leg}
+use Rattle.channel_path.specs.declared.moves.Move.{Move}
+use Rattle.channel_path.specs.declared.moves.Move.TheVariants.{Letter}
+use Rattle.channel_path.specs.Kept.{letters, kept_before}
+use Rattle.channel_path.proofs.Legs.{one_move}
+use Rattle.channel_path.proofs.Moving.{leg_order, after_leg}
+use Rattle.channel_path.proofs.Keeping.{kept_leg}
 use Rattle.channel_ways.proofs.Running.{are_run_pasts, some_place, no_stop_one}
 use Rattle.channel_ways.proofs.pasts.run_pasts.Goals as goal
 

@@ -1,5 +1,5 @@
 use Rattle.std.proofs.Common.{take}
-use Rattle.lane.proofs.Keeping.{IsAfter, AreKept}
+use Rattle.channel_path.proofs.Keeping.{IsAfter, AreKept}
 use Rattle.channel_ways.proofs.pasts.run_pasts.Given as goal
 
 abbrev pub invariant-loop-place : goal.invariant-loop-place

@@ -1,0 +1,193 @@
+// The states after moves.
+ghost use Rattle.std.specs.Prelude.{◌≡◌, ℕ, pos, ◌<◌, ◌≤◌, ◌+◌, ◌^◌, ◌↔◌, ◌∷◌, length, take, IsTrue, IfOk, OnOk, MatchOption, MatchBool, slice_index_or, []};
+ghost use Rattle.reach.specs.Runs.{State};
+ghost use Rattle.reach.specs.Past.{Holds, AfterGap};
+ghost use Rattle.channel_path.specs.Walks.{limit_before, IsMove, InOrder, AfterMove, AfterMoves, StopsAt, EnteredBefore};
+ghost use Rattle.channel_path.specs.Kept.{letters, AreRuns, kept_before, HasPast, past_of, ArePasts};
+ghost use Rattle.channel_path.specs.Legs.{IsLeg};
+
+use crate::leg::{END, leg_end, put_holes};
+use crate::moves::Move;
+use colour_machine::Machine;
+use reach::{Past, past_gap, past_row, past_run};
+use sig_base::NoMemory;
+use span_set::Span;
+use std::alloc::Global;
+
+/// The states after the moves, from some state before them. It answers the place of the first move
+/// after which no state is left, where there is one; then it has gone no further.
+pub fn walk_past<M: Machine>(
+    alloc: Global,
+    machine: &M,
+    past: &mut Past,
+    moves: &[Move],
+) -> Result<Option<usize>, NoMemory>
+    requires order { (low : ℕ) × EnteredBefore past.old low
+        × InOrder (M.rules machine.now) low moves.now }
+    requires colours { length past.old ≡ (M.rules machine.now).colours }
+    requires some { (s : State) × Holds past.old s }
+    ensures after { IfOk result (λ r. MatchOption r (((u : State) → Holds past.new u
+        ↔ AfterMoves (M.rules machine.now) past.old moves.now u)
+        × ((u : State) × Holds past.new u)) (λ j. StopsAt (M.rules machine.now) past.old moves.now
+        j)) }
+    ensures colours { length past.new ≡ length past.old }
+{
+    let mut holes = Vec::new(alloc);
+    let mut place = 0;
+    while place < moves.len() {
+        let end = leg_end(moves, place);
+        if !leg_past(machine, past, &mut holes, &moves[place..end])? {
+            return Ok(Some(place));
+        }
+        place = end;
+    }
+    Ok(None)
+}
+
+// The moves of one leg. Answers whether a state is left, where there was one. The buffer takes the
+// holes of two gaps or more.
+fn leg_past<M: Machine>(
+    machine: &M,
+    past: &mut Past,
+    holes: &mut Vec<Span>,
+    leg: &[Move],
+) -> Result<bool, NoMemory>
+    requires some { 0 < length leg.now }
+    requires leg { IsLeg leg.now }
+    requires order { (low : ℕ) × EnteredBefore past.old low
+        × InOrder (M.rules machine.now) low leg.now }
+    requires colours { length past.old ≡ (M.rules machine.now).colours }
+    ensures after { OnOk result ((u : State) → Holds past.new u
+        ↔ AfterMoves (M.rules machine.now) past.old leg.now u) }
+    ensures some { ((s : State) × Holds past.old s)
+        → IfOk result (λ b. MatchBool b ((u : State) × Holds past.new u)
+        (StopsAt (M.rules machine.now) past.old leg.now 0)) }
+    ensures colours { length past.new ≡ length past.old }
+{
+    if leg.len() == 1 {
+        return move_past(machine, past, leg[0]);
+    }
+    put_holes(holes, leg)?;
+    past_run(machine, past, holes.as_slice(), 0, END)?;
+    Ok(true)
+}
+
+// One move. Answers whether a state is left, where there was one.
+fn move_past<M: Machine>(machine: &M, past: &mut Past, one: Move) -> Result<bool, NoMemory>
+    requires fits { IsMove (M.rules machine.now) one }
+    requires place { EnteredBefore past.old (limit_before one) }
+    requires colours { length past.old ≡ (M.rules machine.now).colours }
+    ensures after { OnOk result ((u : State) → Holds past.new u
+        ↔ AfterMove (M.rules machine.now) past.old one u) }
+    ensures some { ((s : State) × Holds past.old s) → IfOk result (λ b. IsTrue b
+        ↔ ((u : State) × Holds past.new u)) }
+    ensures colours { length past.new ≡ length past.old }
+{
+    match one {
+        Move::Letter {
+            at,
+            letter,
+            row: _row,
+        } => past_row(machine, past, i64::from(at), letter),
+        Move::Gap { from, to } => {
+            gap_past(machine, past, from, to)?;
+            Ok(true)
+        }
+    }
+}
+
+fn gap_past<M: Machine>(machine: &M, past: &mut Past, from: u32, to: u32) -> Result<(), NoMemory>
+    requires some { from < to }
+    requires place { EnteredBefore past.old from }
+    requires colours { length past.old ≡ (M.rules machine.now).colours }
+    ensures after { OnOk result ((u : State) → Holds past.new u
+        ↔ AfterGap (M.rules machine.now) past.old (pos from) (pos to) u) }
+    ensures colours { length past.new ≡ length past.old }
+{
+    past_gap(machine, past, i64::from(from), i64::from(to))
+}
+
+// The Pasts of the runs of gaps: each is that before the next letter, or after the last move.
+#[derive(Drop)]
+pub struct RunPasts {
+    pub pasts: Vec<Past>,
+    // For each place, before a move or after the last, the number of its run.
+    pub runs: Vec<usize>,
+}
+
+// The Past of the place's run.
+pub fn past_at(pasts: &RunPasts, place: usize) -> &Past
+    requires place { place < length pasts.now.runs.items }
+    requires run { HasPast pasts.now place }
+    ensures { result.now ≡ past_of pasts.now place }
+{
+    &pasts.pasts[pasts.runs[place]]
+}
+
+// One Past for each run of gaps, and the run of each place.
+pub fn pasts_of<M: Machine>(
+    alloc: Global,
+    machine: &M,
+    before: &Past,
+    moves: &[Move],
+) -> Result<RunPasts, NoMemory>
+    requires order { (low : ℕ) × EnteredBefore before.now low
+        × InOrder (M.rules machine.now) low moves.now }
+    requires colours { length before.now ≡ (M.rules machine.now).colours }
+    ensures runs { IfOk result (λ v. AreRuns moves.now v.runs.items) }
+    ensures count { IfOk result (λ v. length v.pasts.items ≡ letters moves.now + 1) }
+    ensures pasts { IfOk result (ArePasts (M.rules machine.now) before.now moves.now) }
+{
+    let runs = runs_of(alloc, moves)?;
+    let mut pasts = Vec::with_capacity(alloc, runs[moves.len()].saturating_add(1))?;
+    let mut past = before.copy()?;
+    let mut holes = Vec::new(alloc);
+    let mut place = 0;
+    while place < moves.len() {
+        let end = leg_end(moves, place);
+        end_run(&mut pasts, &past, moves[place])?;
+        let _some = leg_past(machine, &mut past, &mut holes, &moves[place..end])?;
+        place = end;
+    }
+    pasts.push(past)?;
+    Ok(RunPasts { pasts, runs })
+}
+
+// The number of each place's run: how many letters are before the place.
+fn runs_of(alloc: Global, moves: &[Move]) -> Result<Vec<usize>, NoMemory>
+    ensures { IfOk result (λ v. AreRuns moves.now v.items) }
+{
+    let mut runs = Vec::with_capacity(alloc, moves.len() + 1)?;
+    let mut count = 0;
+    for i in 0..moves.len() {
+        runs.push(count)?;
+        count = count_on(count, moves[i]);
+    }
+    runs.push(count)?;
+    Ok(runs)
+}
+
+// So many letters, and one more where the move is one.
+fn count_on(count: usize, next: Move) -> usize
+    requires { count < 2 ^ 63 }
+    ensures { result ≡ count + letters (next ∷ []) }
+{
+    match next {
+        Move::Letter { .. } => count + 1,
+        Move::Gap { .. } => count,
+    }
+}
+
+// A letter ends the run before it, whose Past is kept. A gap goes on with it.
+fn end_run(pasts: &mut Vec<Past>, past: &Past, next: Move) -> Result<(), NoMemory>
+    ensures { OnOk result (pasts.new.items ≡ kept_before next pasts.old.items past.now) }
+{
+    match next {
+        Move::Letter { .. } => {
+            let kept = past.copy()?;
+            pasts.push(kept)?;
+            Ok(())
+        }
+        Move::Gap { .. } => Ok(()),
+    }
+}

@@ -1,0 +1,98 @@
+// The states at each place between one channel's moves.
+ghost use Rattle.std.specs.Prelude.{◌≡◌, ℕ, ◌^◌, negsuc, pos, ◌+◌, ◌≤◌, ◌≤ℤ◌, length, take, drop, IfOk};
+ghost use Rattle.channel_path.specs.Walks.{InOrder, EnteredBefore};
+ghost use Rattle.channel_path.specs.Places.{SeesPlace};
+
+use crate::ahead::{PlaceAheads, aheads_of};
+use crate::moves::Move;
+use crate::past::{RunPasts, pasts_of};
+use colour_machine::Machine;
+use reach::{Ahead, Past, Seen, Test, possible};
+use sig_base::NoMemory;
+use std::alloc::Global;
+use std::marker::Model;
+use std::snapshot::Snapshot;
+
+/// A channel's states at each place between its moves: those to which what came before leads, and
+/// from which what comes after can be met.
+#[derive(Drop)]
+pub struct Path<M: Machine> {
+    machine: Snapshot<M>,
+    before: Snapshot<Past>,
+    after: Snapshot<Ahead>,
+    moves: Vec<Move>,
+    // One for each run of gaps between letters, and the run of each place.
+    pasts: RunPasts,
+    // One for each place where more than one state was possible, and the number of each place's.
+    aheads: PlaceAheads,
+}
+
+impl<M: Machine> Model for Path<M> {
+    ghost use Rattle.channel_path.specs.Places.{PathLog, KeepsPlaces};
+
+    ghost Value = { PathLog M };
+
+    ghost view = { λ l. record {
+      machine = l.machine.value;
+      before = l.before.value;
+      moves = l.moves.items;
+      after = l.after.value;
+    } };
+
+    ghost invariant = { λ l. KeepsPlaces (M.rules l.machine.value) l.before.value l.after.value
+        l.moves.items l.pasts.pasts.items l.pasts.runs.items l.aheads.aheads.items
+        l.aheads.numbers.items };
+}
+
+impl<M: Machine> Path<M> {
+    /// The path of the moves, from the states before them to those that are admitted after them.
+    pub fn new(
+        alloc: Global,
+        machine: &M,
+        before: &Past,
+        moves: Vec<Move>,
+        after: &Ahead,
+    ) -> Result<Path<M>, NoMemory>
+        requires order { (low : ℕ) × EnteredBefore before.now low
+            × InOrder (M.rules machine.now) low moves.items }
+        requires colours { length before.now ≡ (M.rules machine.now).colours }
+        requires ahead { length after.now ≡ (M.rules machine.now).colours }
+        ensures { IfOk result (λ l. l ≡ record {
+          machine = machine.now;
+          before = before.now;
+          moves = moves.items;
+          after = after.now;
+        }) }
+    {
+        let pasts = pasts_of(alloc, machine, before, moves.as_slice())?;
+        let aheads = aheads_of(alloc, machine, after, moves.as_slice(), &pasts)?;
+        Ok(Path {
+            machine: Snapshot::of(machine),
+            before: Snapshot::of(before),
+            after: Snapshot::of(after),
+            moves,
+            pasts,
+            aheads,
+        })
+    }
+
+    pub fn moves(&self) -> &[Move]
+        ensures { result.now ≡ self.now.moves }
+    {
+        self.moves.as_slice()
+    }
+
+    /// What the runs that pass the place before the move with this number, from 0, say of the test.
+    /// The number of all moves is the place after the last.
+    pub fn seen(&self, place: usize, test: &Test) -> Seen
+        requires place { place ≤ length self.now.moves }
+        requires low { negsuc (2 ^ 39) ≤ℤ test.now.at }
+        requires high { test.now.at ≤ℤ pos (2 ^ 39) }
+        ensures { SeesPlace (M.rules self.now.machine) self.now.before self.now.after
+            self.now.moves place test.now result }
+    {
+        let run = self.pasts.runs[place];
+        let number = self.aheads.numbers[self.moves.len() - place];
+        possible(&self.pasts.pasts[run], &self.aheads.aheads[number], test)
+    }
+}

@@ -1,7 +1,0 @@
-use Rattle.std.proofs.Common.{pos, take, ◌^◌}
-use Rattle.span_set.specs.Changes.{AllEnd}
-use Rattle.lane.specs.Runs.{AreGapsOf}
-use Rattle.lane.proofs.leg.put_holes.Given as goal
-
-abbrev pub invariant-loop-one : goal.invariant-loop-one
-invariant-loop-one l = AreGapsOf l.holes.items (take l.one-index l.gaps) × AllEnd (pos (2 ^ 32)) l.holes.items

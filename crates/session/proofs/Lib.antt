@@ -18,3 +18,4 @@ pub mod DiagramLaws
 pub mod WindowLaws
 pub mod PairLaws
 pub mod RangeEditLaws
+pub mod HourEditLaws

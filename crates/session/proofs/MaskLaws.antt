@@ -1,18 +1,15 @@
--- What is kept, once other tenths of a range are blanked.
-use Rattle.std.proofs.Common.{◌≡◌, inl, inr, ℕ, ◌+◌, ◌*◌, ◌<◌, ◌≤◌, ℤ, pos, ◌-ℤ◌, ◌≤ℤ◌, ◌<ℤ◌, Bool, true, false, List, length, refl, sym, arith}
+-- A store, once other tenths of a range are blanked.
+use Rattle.std.proofs.Common.{◌≡◌, inl, inr, ℕ, ◌+◌, ◌*◌, ◌<◌, ◌≤◌, ℤ, pos, ◌-ℤ◌, ◌≤ℤ◌, ◌<ℤ◌, Bool, true, false, List, refl, sym, arith, rules, w64}
 use Rattle.std.proofs.lemmas.Int.{ints}
+use Rattle.std.specs.Prelude.{FitsSigned}
 use Rattle.span_set.specs.declared.set.Span.{Span}
 use Rattle.span_set.specs.Spans.{Within, is_member}
 use Rattle.span_set.specs.Changes.{span}
 use Rattle.span_set.proofs.Sets.{member_test}
-use Rattle.hour_store.specs.Store.{IsStore, LieWithin, Store, with_blanks}
-use Rattle.ring_config.specs.Settings.{Settings}
-use Rattle.hour_work.specs.Numbers.{Numbers}
-use Rattle.hour_work.specs.Points.{Carried}
-use Rattle.session.specs.Links.{Ahead, Apart, AreKept, AreKeptBut}
+use Rattle.hour_store.specs.Store.{Store, with_blanks}
 use Rattle.session.specs.Moved.{IsIn}
+use Rattle.session.specs.Puts.{AreSameBut, SameHour}
 use Rattle.session.specs.Ranges.{SameApart, With, Without}
-use Rattle.session.proofs.RenewLaws.{SameHour, kept_but}
 
 pub with_same : (old new : List Span) (f t : ℤ) → With old f t new → SameApart old f t new
 with_same old new f t w e out = (λ m. elim ((w e).0 m) [ inl o ↦ o | inr r ↦ absurd (out r) ], λ o. (w e).1 (inl o))
@@ -37,9 +34,13 @@ same_out : (s : Store) (new : List Span) (f t : ℤ) (k : ℕ) → SameApart s.b
 same_out s new f t k same out = record { rows = refl; blanks = λ x low high. same_test s.blanks new f t x same (out x low high) }
 
 -- an hour before those of the range, or after them
-same_where : (s : Store) (new : List Span) (f t : ℤ) (first last k : ℕ) → SameApart s.blanks f t new → IsIn f first → IsIn (t -ℤ pos 1) last → Apart first last k → SameHour s (with_blanks s new) k
-same_where s new f t first last k same begin end (inl below) = same_out s new f t k same (λ x from to w. let a = begin.0 in let b = w.0 in omega (arith, ints))
-same_where s new f t first last k same begin end (inr above) = same_out s new f t k same (λ x from to w. let a = end.1 in let b = w.1 in omega (arith, ints))
+pub same_but_range : (s : Store) (new : List Span) (f t : ℤ) (first last : ℕ) → SameApart s.blanks f t new → IsIn f first → IsIn (t -ℤ pos 1) last → AreSameBut first last s (with_blanks s new)
+same_but_range s new f t first last same begin end k (inl below) = same_out s new f t k same (λ x from to w. let a = begin.0 in let b = w.0 in omega (arith, ints))
+same_but_range s new f t first last same begin end k (inr above) = same_out s new f t k same (λ x from to w. let a = end.1 in let b = w.1 in omega (arith, ints))
+
+-- the last tenth of a range has room where its ends have
+pub fits_before : (f t : ℤ) → FitsSigned w64 f → FitsSigned w64 t → f <ℤ t → FitsSigned w64 (t -ℤ pos 1)
+fits_before f t from to some = search (rules, ints)
 
 -- the hours of a range are in their order, and in the window
 pub hours_in_order : (f t : ℤ) (first last : ℕ) → f <ℤ t → IsIn f first → IsIn (t -ℤ pos 1) last → first ≤ last
@@ -47,10 +48,3 @@ hours_in_order f t first last some begin end = let a = begin.0 in let b = end.1 
 
 pub hours_within : (t : ℤ) (last n : ℕ) → t ≤ℤ pos (36000 * n) → IsIn (t -ℤ pos 1) last → last < n
 hours_within t last n high end = let a = end.0 in omega (arith, ints)
-
-pub kept_but_blanks : (c : Settings) (s : Store) (new : List Span) (f t : ℤ) (first last : ℕ) (xs : List Carried) (ys : List Ahead) (ps : List Numbers) → SameApart s.blanks f t new → f <ℤ t → t ≤ℤ pos (36000 * length s.hours) → IsIn f first → IsIn (t -ℤ pos 1) last → IsStore s → AreKept c s xs ys ps → AreKeptBut c (with_blanks s new) first last xs ys ps
-kept_but_blanks c s new f t first last xs ys ps same some high begin end =
-    kept_but c s (with_blanks s new) first last xs ys ps (hours_in_order f t first last some begin end) (hours_within t last (length s.hours) high end) refl (λ k out. same_where s new f t first last k same begin end out)
-
-pub blanks_store : (s : Store) (new : List Span) → IsStore s → LieWithin (length s.hours) new → IsStore (with_blanks s new)
-blanks_store s new is within = record { some = is.some; few = is.few; in_place = is.in_place; blanked = within }

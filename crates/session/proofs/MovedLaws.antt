@@ -91,15 +91,9 @@ module _ (c : Settings) (s t : Store) (sound : IsSound c) (is : IsStore s) (is_n
 
 -- ---- an edit that is made
 
--- an edit of one hour
-pub moves_hour : (c : Settings) (s t new : Store) (hour : ℕ) (change : Change) (result : Result Applied EditError) → Touches change hour hour → OnOk result ((new ≡ t) × HasHistory (log_of c.specs t)) → IfOk result (AreMoved c s t hour hour) → IfOk result (Moves c s new change)
-moves_hour c s t new hour change (Ok x) touched done moved = (hour, hour, touched, subst (λ (v : Store). AreMoved c s v hour hour x) (sym done.0) moved)
-moves_hour c s t new hour change (Err e) touched done moved = tt
-
--- the store that an edit makes is the new one
-pub moves_to : (c : Settings) (s t new : Store) (change : Change) (result : Result Applied EditError) → OnOk result ((new ≡ t) × HasHistory (log_of c.specs t)) → IfOk result (Moves c s t change) → IfOk result (Moves c s new change)
-moves_to c s t new change (Ok x) done moved = subst (λ (v : Store). Moves c s v change x) (sym done.0) moved
-moves_to c s t new change (Err e) done moved = tt
+pub moves_by : (c : Settings) (s t new : Store) (first last : ℕ) (change : Change) (result : Result Applied EditError) → Touches change first last → OnOk result ((new ≡ t) × HasHistory (log_of c.specs t)) → IfOk result (AreMoved c s t first last) → IfOk result (Moves c s new change)
+moves_by c s t new first last change (Ok x) touched done moved = (first, last, touched, subst (λ (v : Store). AreMoved c s v first last x) (sym done.0) moved)
+moves_by c s t new first last change (Err e) touched done moved = tt
 
 -- the numbers of the hours that don't move stay
 pub keep_parts : (c : Settings) (s t : Store) (first : ℕ) (xs new_carries : List Carried) (ys : List Ahead) (from : ℕ) (new_futures : List Ahead) (ps : List Numbers) (start : ℕ) (new_parts : List Numbers) (sums : Summed) (moved : Applied) → IsStore s → HasHistory (log_of c.specs s) → AreKept c s xs ys ps → IsStore t → HasHistory (log_of c.specs t)

@@ -1,5 +1,5 @@
 -- How often hours are opened, call after call.
-use Rattle.std.proofs.Common.{◌≡◌, ◌∙◌, inl, inr, ℕ, zero, suc, ◌+◌, ◌-◌, ◌^◌, ◌<◌, ◌≤◌, ◌≢◌, min, List, length, length-set, get_or, get_or-set_same, get_or-set_other, Option, refl, sym, ap, subst, arith, ℤ, Result, Ok, Err}
+use Rattle.std.proofs.Common.{◌≡◌, ◌∙◌, inl, inr, ℕ, zero, suc, ◌+◌, ◌-◌, ◌^◌, ◌<◌, ◌≤◌, ◌≢◌, min, List, length, length-set, get_or, get_or-set_same, get_or-set_other, Option, refl, sym, ap, subst, arith, Ok, Err}
 use Rattle.std.proofs.lemmas.Bool.{cases_lt}
 use Rattle.std.proofs.lemmas.List.{get_or_past}
 use Rattle.sig_base.specs.Reads.{Grow, one_more, raised}
@@ -11,7 +11,7 @@ use Rattle.channel_tables.specs.declared.spec.Spec.{Spec}
 use Rattle.hour_work.specs.declared.steps.ForwardError.{ForwardError}
 use Rattle.hour_work.specs.declared.steps.ForwardError.TheVariants.{Contradiction, Memory}
 use Rattle.hour_work.specs.Points.{NamesStop}
-use Rattle.session.specs.Edits.{Change, blank, unblank}
+use Rattle.session.specs.Edits.{Change}
 use Rattle.session.specs.Moved.{Touches}
 use Rattle.session.specs.Opens.{AreOpened, IsOpened, NamesRowOf, OpensBy, OpensToRow, count_after}
 use Rattle.session.specs.Sessions.{refusal_for}
@@ -208,8 +208,3 @@ pub opens_refused : (change : Change) (first last : ℕ) (a b : List ℕ) (e : F
 unfolding OpensBy
 opens_refused change first last a b (Contradiction row) refusal is touched p = rw is (first, last, touched, p)
 opens_refused change first last a b Memory refusal is touched p = rw is tt
-
--- an unblanking touches the same hours as a blanking
-pub opens_unblank : (from to : ℤ) (a b : List ℕ) (result : Result Applied EditError) → OpensBy (blank from to) a b result → OpensBy (unblank from to) a b result
-unfolding OpensBy
-opens_unblank from to a b result p = p

@@ -1,5 +1,5 @@
 -- An edit of a range, whether it blanks the tenths or unblanks them.
-use Rattle.std.proofs.Common.{◌≡◌, ◌*◌, ℕ, ℤ, pos, ◌≤◌, ◌<ℤ◌, ◌≤ℤ◌, false, List, length, IfOk, IfErr, Result, Ok, Err}
+use Rattle.std.proofs.Common.{◌≡◌, ◌*◌, ℕ, ℤ, pos, ◌-ℤ◌, ◌≤◌, ◌<ℤ◌, ◌≤ℤ◌, false, List, length, IfErr, Result, Ok, Err}
 use Rattle.sig_base.specs.declared.values.Applied.{Applied}
 use Rattle.sig_base.specs.declared.values.EditError.{EditError}
 use Rattle.span_set.specs.declared.set.Span.{Span}
@@ -10,15 +10,13 @@ use Rattle.ring_config.specs.Sound.{IsSound}
 use Rattle.signal_log.specs.Log.{HasHistory, log_of}
 use Rattle.session.specs.declared.blanks.RangeEdit.{RangeEdit}
 use Rattle.session.specs.declared.blanks.RangeEdit.TheVariants as range
-use Rattle.session.specs.Edits.{blank, range_change, reaches_out, step_of, unless_many_blanks}
-use Rattle.session.specs.Moved.{Moves}
-use Rattle.session.specs.Opens.{OpensBy}
+use Rattle.session.specs.Edits.{range_change, reaches_out, step_of, unless_many_blanks}
+use Rattle.session.specs.Moved.{IsIn, Touches}
 use Rattle.session.specs.Ranges.{IsEdited, SameApart}
 use Rattle.session.specs.Sessions.{MayRefuse, StopsAt}
 use Rattle.session.proofs.EditLaws.{blank_step, unblank_step}
 use Rattle.session.proofs.LessLaws.{never_blanked}
 use Rattle.session.proofs.MaskLaws.{with_same, without_same}
-use Rattle.session.proofs.OpenLaws.{opens_unblank}
 use Rattle.session.proofs.RangeLaws.{with_within, without_within}
 
 pub range_step : (edit : RangeEdit) (s : Store) (hours : ℕ) (f t : ℤ) (ns : List Span) → hours ≡ length s.hours → hours ≤ 744 → LieWithin (length s.hours) s.blanks → reaches_out hours f t ≡ false → f <ℤ t → AreRanges ns → IsEdited edit s.blanks f t ns
@@ -34,14 +32,10 @@ pub range_same : (edit : RangeEdit) (old new : List Span) (f t : ℤ) → IsEdit
 range_same range.Blank old new f t w = with_same old new f t w
 range_same range.Unblank old new f t w = without_same old new f t w
 
--- both touch the same hours
-pub range_moves_if : (edit : RangeEdit) (c : Settings) (s new : Store) (f t : ℤ) (result : Result Applied EditError) → IfOk result (Moves c s new (blank f t)) → IfOk result (Moves c s new (range_change edit f t))
-range_moves_if range.Blank c s new f t result moved = moved
-range_moves_if range.Unblank c s new f t result moved = moved
-
-pub range_opens : (edit : RangeEdit) (f t : ℤ) (a b : List ℕ) (result : Result Applied EditError) → OpensBy (blank f t) a b result → OpensBy (range_change edit f t) a b result
-range_opens range.Blank f t a b result opens = opens
-range_opens range.Unblank f t a b result opens = opens_unblank f t a b result opens
+-- both touch the hours of the range
+pub range_touches : (edit : RangeEdit) (f t : ℤ) (first last : ℕ) → IsIn f first → IsIn (t -ℤ pos 1) last → Touches (range_change edit f t) first last
+range_touches range.Blank f t first last begin end = (begin, end)
+range_touches range.Unblank f t first last begin end = (begin, end)
 
 -- a blanking contradicts nothing
 pub never_edited : (edit : RangeEdit) (c : Settings) (s : Store) (ns : List Span) (f t : ℤ) (result : Result Applied EditError) → IsSound c → IsStore s → IsStore (with_blanks s ns) → HasHistory (log_of c.specs s) → IsEdited edit s.blanks f t ns → IfErr result (StopsAt c (with_blanks s ns)) → IfErr result (MayRefuse (range_change edit f t))

@@ -1,5 +1,5 @@
 -- The numbers between what is kept, and all that is new in its place.
-use Rattle.std.proofs.Common.{◌≡◌, ◌∙◌, inl, inr, ℕ, zero, suc, ◌+◌, ◌*◌, ◌-◌, ◌<◌, ◌≤◌, ◌≢◌, pos, Bool, not, ◌&&◌, is_some, List, [], ◌∷◌, ◌++◌, length, length-append, length-set, get_or, get_or-set_other, option_map, Option, None, refl, sym, ap, subst, arith}
+use Rattle.std.proofs.Common.{◌≡◌, ◌∙◌, inl, inr, ℕ, zero, suc, ◌+◌, ◌*◌, ◌-◌, ◌<◌, ◌≤◌, ◌≢◌, Bool, not, ◌&&◌, is_some, List, [], ◌∷◌, ◌++◌, length, length-append, length-set, get_or, get_or-set_other, option_map, Option, None, refl, sym, ap, subst, arith}
 use Rattle.std.specs.List.{All}
 use Rattle.std.proofs.lemmas.Bool.{cases_lt}
 use Rattle.std.proofs.lemmas.List.{get_or-append_right, get_or_append_left}
@@ -8,7 +8,6 @@ use Rattle.std.proofs.Math.Seq.{get_or-append_seam}
 use Rattle.sig_base.specs.HourRows.{Shown}
 use Rattle.sig_base.specs.declared.values.Row.{Row}
 use Rattle.hour_store.specs.Store.{IsStore, Store, rows_at, with_hour}
-use Rattle.span_set.specs.Spans.{is_member}
 use Rattle.gap_map.specs.declared.stretch.Stretch.{Stretch}
 use Rattle.gap_map.specs.Stretches.{known_in}
 use Rattle.gap_map.proofs.Cutting.{cut_same}
@@ -22,7 +21,10 @@ use Rattle.signal_log.specs.Points.{HasHour, rows_or_none}
 use Rattle.signal_log.proofs.Suiting.{same_count}
 use Rattle.hour_work.specs.Numbers.{AreNewSums, FitHours, Numbers, Summed, patched}
 use Rattle.hour_work.specs.Points.{Carried, ComesBack, GoesOver, IsFutureAt}
-use Rattle.session.specs.Links.{Ahead, Apart, AreKept, AreKeptBut, BacksAt, Counts, CountsAt, LeadsAt}
+use Rattle.session.specs.Links.{Ahead, AreKept, AreKeptBut, BacksAt, Counts, CountsAt, LeadsAt}
+use Rattle.session.specs.declared.hours.Put.{Put}
+use Rattle.session.specs.declared.hours.Put.TheVariants as code
+use Rattle.session.specs.Puts.{AreSameBut, SameHour, put_into}
 use Rattle.session.specs.Renewed.{AreNewCarries, AreNewFutures, AreNewParts, AreSameUpTo, HaveShapes, IsRenewed}
 use Rattle.session.proofs.KeptLaws.{future_kept}
 use Rattle.session.proofs.StatesLaws.{carries_to}
@@ -184,11 +186,6 @@ shapes_new c s first last carries futures from new_futures parts is but y k d e 
 
 -- ---- what still fits once the store is changed
 
--- the second store has the hour as the first one has it: the same rows, and of its tenths the same are blanked
-pub record SameHour (s t : Store) (k : ℕ) : Type 0 where
-  pub rows : rows_at t k ≡ rows_at s k
-  pub blanks : (x : ℕ) → first_tenth k ≤ x → x < first_tenth (k + 1) → is_member s.blanks (pos x) ≡ is_member t.blanks (pos x)
-
 same_known : (s t : Store) (k : ℕ) → SameHour s t k → (x : ℕ) → first_tenth k ≤ x → x < first_tenth (k + 1) → known_in (is_some (rows_at s k)) s.blanks x ≡ known_in (is_some (rows_at t k)) t.blanks x
 same_known s t k same x low high = rw same.rows (ap (λ (b : Bool). is_some (rows_at s k) && not b) (same.blanks x low high))
 
@@ -238,7 +235,7 @@ counts_stay : (c : Settings) (s t : Store) (k : ℕ) (xs : List Carried) (ys : L
 counts_stay c s t k xs ys ps same p d e f r b = p d e f r (record { has_hour = same_has s t r k same b.has_hour; is_before = b.is_before; is_after = b.is_after; history = b.history })
 
 -- what is kept of a store, of another one that has all hours alike but those from `first` to `last`
-pub kept_but : (c : Settings) (s t : Store) (first last : ℕ) (xs : List Carried) (ys : List Ahead) (ps : List Numbers) → first ≤ last → last < length s.hours → length t.hours ≡ length s.hours → ((k : ℕ) → Apart first last k → SameHour s t k) → IsStore s → AreKept c s xs ys ps → AreKeptBut c t first last xs ys ps
+pub kept_but : (c : Settings) (s t : Store) (first last : ℕ) (xs : List Carried) (ys : List Ahead) (ps : List Numbers) → first ≤ last → last < length s.hours → length t.hours ≡ length s.hours → AreSameBut first last s t → IsStore s → AreKept c s xs ys ps → AreKeptBut c t first last xs ys ps
 kept_but c s t first last xs ys ps order within size same is kept = record {
   order = order;
   within = rw size within;
@@ -257,8 +254,13 @@ kept_but c s t first last xs ys ps order within size same is kept = record {
   counts = λ k lt out. counts_stay c s t k xs ys ps (same k out) (kept.counts k (omega arith));
 }
 
-pub kept_but_hour : (c : Settings) (s : Store) (h : ℕ) (x : Option Shown) (xs : List Carried) (ys : List Ahead) (ps : List Numbers) → h < length s.hours → IsStore s → AreKept c s xs ys ps → AreKeptBut c (with_hour s h x) h h xs ys ps
-kept_but_hour c s h x xs ys ps lt = kept_but c s (with_hour s h x) h h xs ys ps (omega arith) lt (length-set s.hours h x) (λ k out.
+-- one that holds another hour, or blanks other tenths
+pub put_length : {L : Type 0} (s : Store) (put : Put L) → length (put_into s put).hours ≡ length s.hours
+put_length s (code.Hour hour entry) = length-set s.hours hour entry
+put_length s (code.Blanks blanks) = refl
+
+pub same_but_hour : (s : Store) (h : ℕ) (x : Option Shown) → AreSameBut h h s (with_hour s h x)
+same_but_hour s h x k out =
     let other : k ≢ h = elim out [ inl a ↦ λ e. omega arith | inr b ↦ λ e. omega arith ] in
     let rows : rows_at (with_hour s h x) k ≡ rows_at s k = ap (λ (o : Option Shown). option_map (λ v. v.rows) o) (get_or-set_other s.hours h k x None other) in
-    record { rows = rows; blanks = λ x low high. refl })
+    record { rows = rows; blanks = λ x low high. refl }

@@ -1,5 +1,5 @@
 -- Edits of a store, and what each makes of it.
-use Rattle.std.specs.Prelude.{◌*◌, ℕ, ℤ, pos, int_lt, nat_lt, nat_le, Bool, ◌||◌, if◌then◌else◌, is_some, length, Some, None, Result, Ok, Err}
+use Rattle.std.specs.Prelude.{◌*◌, ℕ, ℤ, pos, int_lt, nat_lt, nat_le, Bool, true, false, ◌||◌, if◌then◌else◌, is_some, length, Some, None, Result, Ok, Err}
 use Rattle.sig_base.specs.HourRows.{Shown}
 use Rattle.sig_base.specs.declared.values.EditError.{EditError}
 use Rattle.sig_base.specs.declared.values.EditError.TheVariants.{OutOfWindow, AlreadyHeld, NotHeld, EmptyRange, TooManyRows, TooManyBlanks}
@@ -24,6 +24,16 @@ change_of (code.Replace rows) = replace rows
 change_of (code.Withdraw hour) = withdraw hour
 change_of (code.Blank from to) = blank from to
 change_of (code.Unblank from to) = unblank from to
+
+-- an edit that brings rows of an hour: a replacement or a load
+abbrev pub hour_change : Bool → Shown → Change
+hour_change true = replace
+hour_change false = load
+
+-- a replacement wants that the hour is held, a load that it isn't
+abbrev pub held_error : Bool → EditError
+held_error true = NotHeld
+held_error false = AlreadyHeld
 
 -- the edit of a range
 abbrev pub range_change : RangeEdit → ℤ → ℤ → Change

@@ -3,6 +3,7 @@ pub mod Edits
 pub mod Moved
 pub mod Opens
 pub mod Links
+pub mod Puts
 pub mod Windows
 pub mod Sessions
 pub mod Renewed

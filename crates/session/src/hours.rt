@@ -1,26 +1,30 @@
-// What is held of an hour.
-ghost use Rattle.std.specs.Prelude.{◌≡◌, ◌*◌, ◌<◌, pos, ◌≤ℤ◌, ◌<ℤ◌, length, IfSome};
-ghost use Rattle.hour_store.specs.Store.{held_at, with_hour};
+// What an edit puts into a store.
+ghost use Rattle.std.specs.Prelude.{◌≡◌, ◌*◌, pos, ◌≤ℤ◌, ◌<ℤ◌, length};
 ghost use Rattle.session.specs.Moved.{IsIn};
+ghost use Rattle.session.specs.Puts.{IsPlaced, put_into};
 
 use hour_store::HourStore;
 use sig_base::{Hour, HourRows, Tenth};
+use span_set::SpanSet;
 
-// Holds this of an hour, and answers what was held.
-pub fn exchange<L>(
-    store: &mut HourStore<L>,
-    hour: Hour,
-    entry: Option<HourRows<L>>,
-) -> Option<HourRows<L>>
-    requires in_store { hour < length store.old.hours }
-    requires of_hour { IfSome entry (λ r. r.hour ≡ hour) }
-    ensures store { store.new ≡ with_hour store.old hour entry }
-    ensures before { result ≡ held_at store.old hour }
-    ensures of_hour { IfSome result (λ r. r.hour ≡ hour) }
+// What is held of an hour, or which tenths are blanked.
+#[derive(Drop)]
+pub enum Put<L> {
+    Hour(Hour, Option<HourRows<L>>),
+    Blanks(SpanSet),
+}
+
+// Puts it into the store, and answers what was there.
+pub fn exchange<L>(store: &mut HourStore<L>, put: Put<L>) -> Put<L>
+    requires { IsPlaced (length store.old.hours) put }
+    ensures store { store.new ≡ put_into store.old put }
+    ensures back { put_into store.new result ≡ store.old }
+    ensures placed { IsPlaced (length store.new.hours) result }
 {
-    match entry {
-        Some(rows) => store.put(rows),
-        None => store.take(hour),
+    match put {
+        Put::Hour(hour, Some(rows)) => Put::Hour(hour, store.put(rows)),
+        Put::Hour(hour, None) => Put::Hour(hour, store.take(hour)),
+        Put::Blanks(blanks) => Put::Blanks(store.set_blanks(blanks)),
     }
 }
 

@@ -1,6 +1,5 @@
 // A store with its report, changed by edits.
 ghost use Rattle.std.specs.Prelude.{◌≡◌, ◌+◌, ◌*◌, ◌<◌, ◌≤◌, ◌⊎◌, ◌↔◌, ℤ, pos, ◌<ℤ◌, ◌≤ℤ◌, length, Some, IfOk, IfErr, IfSome, OnOk, OnErr};
-ghost use Rattle.span_set.specs.Spans.{Member};
 ghost use Rattle.sig_base.specs.HourRows.{Shown};
 ghost use Rattle.arrival_measures.specs.Points.{diagrams_of};
 ghost use Rattle.hour_store.specs.Store.{IsStore, LieWithin, Store, is_known, known_rows, nothing_held, rows_held, with_blanks, with_hour};
@@ -10,11 +9,11 @@ ghost use Rattle.signal_log.specs.Log.{HasHistory, log_of};
 ghost use Rattle.rule_audit.specs.Rules.{rules_for};
 ghost use Rattle.hour_work.specs.Points.{NamesRow};
 ghost use Rattle.hour_work.specs.Reports.{IsReport};
-ghost use Rattle.session.specs.Edits.{Change, blank, change_of, load, range_change, replace, step_of, withdraw};
+ghost use Rattle.session.specs.Edits.{Change, blank, change_of, held_error, hour_change, range_change, step_of, withdraw};
 ghost use Rattle.session.specs.Moved.{AreMoved, KeepParts, Moves, Touches};
 ghost use Rattle.session.specs.Opens.{OpensBy};
 ghost use Rattle.session.specs.Pairs.{ArePairsAt};
-ghost use Rattle.session.specs.Ranges.{SameApart};
+ghost use Rattle.session.specs.Puts.{AreSameBut, IsPlaced, put_into};
 ghost use Rattle.session.specs.Sessions.{AreCounted, Kept, MayRefuse, Steps, StopsAt, refusal_for};
 ghost use Rattle.sig_base.specs.Reads.{Grow};
 ghost use Rattle.session.specs.Windows.{AreHourLines};
@@ -23,7 +22,7 @@ use crate::Edit;
 use crate::audit::{lines_of, with_windows};
 use crate::begin::begin;
 use crate::blanks::{RangeEdit, edited, reaches_out};
-use crate::hours::{exchange, hour_at};
+use crate::hours::{Put, exchange, hour_at};
 use crate::pairs::{Asked, pairs_of};
 use crate::points::phase_diagrams;
 use crate::renew::{Touched, Worked, adopt, moved, renew};
@@ -34,7 +33,6 @@ use hour_work::{ForwardError, Report};
 use ring_config::Config;
 use rule_audit::{AuditLine, Rule, rules_of};
 use sig_base::{Applied, EditError, Hour, HourRows, NoMemory, Reads, Tenth};
-use span_set::SpanSet;
 use std::alloc::Global;
 use std::marker::Model;
 
@@ -73,7 +71,7 @@ fn rows_with<L>(store: &HourStore<L>, hour: Hour, count: u32) -> u64
     store.rows_held() + count as u64 - store.len_of(hour) as u64
 }
 
-fn let_go<L>(_rows: Option<HourRows<L>>) {}
+fn let_go<L>(_put: Put<L>) {}
 
 fn edit_error(error: ForwardError) -> EditError
     ensures { result ≡ refusal_for error }
@@ -81,6 +79,17 @@ fn edit_error(error: ForwardError) -> EditError
     match error {
         ForwardError::Contradiction(row) => EditError::Contradiction(row),
         ForwardError::Memory => EditError::Memory,
+    }
+}
+
+// Why an hour isn't replaced, or isn't loaded, by what is held of it.
+fn held_error(replaces: bool) -> EditError
+    ensures { result ≡ held_error replaces }
+{
+    if replaces {
+        EditError::NotHeld
+    } else {
+        EditError::AlreadyHeld
     }
 }
 
@@ -198,42 +207,41 @@ impl<L> Session<L> {
         pairs_of(alloc, config, rules, store, &lines, asked, reads)
     }
 
-    // Holds this of an hour.
-    fn hold(
+    // Puts this into the store, of which only the hours from the first to the last can then be
+    // otherwise, or leaves all as it was.
+    fn make(
         &mut self,
-        hour: Hour,
-        entry: Option<HourRows<L>>,
+        put: Put<L>,
+        first: Hour,
+        last: Hour,
         reads: &mut Reads<L>,
     ) -> Result<Applied, EditError>
-        requires in_store { hour < length self.old.store.hours }
-        requires of_hour { IfSome entry (λ r. r.hour ≡ hour) }
-        ensures done { OnOk result ((self.new.store ≡ with_hour self.old.store hour entry)
-            × HasHistory (log_of self.old.config.specs (with_hour self.old.store hour entry))) }
+        requires placed { IsPlaced (length self.old.store.hours) put }
+        requires order { first ≤ last }
+        requires last { last < length self.old.store.hours }
+        requires same { AreSameBut first last self.old.store (put_into self.old.store put) }
+        ensures done { OnOk result ((self.new.store ≡ put_into self.old.store put)
+            × HasHistory (log_of self.old.config.specs (put_into self.old.store put))) }
         ensures moved { IfOk result (AreMoved self.old.config self.old.store
-            (with_hour self.old.store hour entry) hour hour) }
+            (put_into self.old.store put) first last) }
         ensures stays { IfOk result (KeepParts self.old.config self.old.store
-            (with_hour self.old.store hour entry)) }
+            (put_into self.old.store put)) }
         ensures back { OnErr result (self.new.store ≡ self.old.store) }
-        ensures stop { IfErr result (StopsAt self.old.config
-            (with_hour self.old.store hour entry)) }
-        ensures store { IsStore (with_hour self.old.store hour entry) }
+        ensures stop { IfErr result (StopsAt self.old.config (put_into self.old.store put)) }
+        ensures store { IsStore (put_into self.old.store put) }
         ensures config { self.new.config ≡ self.old.config }
-        ensures opens { (change : Change) → Touches change hour hour
+        ensures opens { (change : Change) → Touches change first last
             → OpensBy change reads.old reads.new result }
         ensures grow { Grow reads.old reads.new }
     {
-        let before = exchange(&mut self.store, hour, entry);
-        let touched = Touched {
-            first: hour,
-            last: hour,
-        };
+        let before = exchange(&mut self.store, put);
         match renew(
             self.alloc,
             &self.config,
             &self.rules,
             &self.store,
             &self.worked,
-            touched,
+            Touched { first, last },
             reads,
         ) {
             Ok(fresh) => {
@@ -243,109 +251,40 @@ impl<L> Session<L> {
                 Ok(hours)
             }
             Err(error) => {
-                let_go(exchange(&mut self.store, hour, before));
+                let_go(exchange(&mut self.store, before));
                 Err(edit_error(error))
             }
         }
     }
 
-    // Blanks these tenths, of which those out of the range are blanked as before.
-    fn mask(
+    // Loads the rows of an hour, or replaces those that are held.
+    #[tactic(auto, using(crate::proofs::EditLaws::steps_done, crate::proofs::GrowLaws::grow_same), unfolding(crate::specs::Edits::step_of, crate::specs::Opens::OpensBy))]
+    fn edit_hour(
         &mut self,
-        blanks: SpanSet,
-        from: Tenth,
-        to: Tenth,
+        rows: HourRows<L>,
+        replaces: bool,
         reads: &mut Reads<L>,
     ) -> Result<Applied, EditError>
-        requires within { LieWithin (length self.old.store.hours) blanks }
-        requires low { pos 0 ≤ℤ from }
-        requires some { from <ℤ to }
-        requires high { to ≤ℤ pos (36000 * length self.old.store.hours) }
-        requires same { SameApart self.old.store.blanks from to blanks }
-        ensures done { OnOk result ((self.new.store ≡ with_blanks self.old.store blanks)
-            × HasHistory (log_of self.old.config.specs (with_blanks self.old.store blanks))) }
-        ensures moved { IfOk result (Moves self.old.config self.old.store
-            (with_blanks self.old.store blanks) (blank from to)) }
-        ensures stays { IfOk result (KeepParts self.old.config self.old.store
-            (with_blanks self.old.store blanks)) }
-        ensures back { OnErr result (self.new.store ≡ self.old.store) }
-        ensures stop { IfErr result (StopsAt self.old.config (with_blanks self.old.store blanks)) }
-        ensures store { IsStore (with_blanks self.old.store blanks) }
-        ensures config { self.new.config ≡ self.old.config }
-        ensures opens { OpensBy (blank from to) reads.old reads.new result }
-        ensures grow { Grow reads.old reads.new }
-    {
-        let before = self.store.set_blanks(blanks);
-        let first = hour_at(from);
-        let last = hour_at(to - 1);
-        let touched = Touched { first, last };
-        match renew(
-            self.alloc,
-            &self.config,
-            &self.rules,
-            &self.store,
-            &self.worked,
-            touched,
-            reads,
-        ) {
-            Ok(fresh) => {
-                let hours = moved(&fresh.points);
-                adopt(&mut self.worked, fresh);
-                Ok(hours)
-            }
-            Err(error) => {
-                self.store.set_blanks(before);
-                Err(edit_error(error))
-            }
-        }
-    }
-
-    #[tactic(auto, using(crate::proofs::EditLaws::steps_done, crate::proofs::GrowLaws::grow_same), unfolding(crate::specs::Edits::step_of, crate::specs::Opens::OpensBy))]
-    fn load(&mut self, rows: HourRows<L>, reads: &mut Reads<L>) -> Result<Applied, EditError>
-        ensures step { Steps self.old.config (step_of self.old.store (load rows)) self.old.store
-            self.new.store result }
+        ensures step { Steps self.old.config (step_of self.old.store (hour_change replaces rows))
+            self.old.store self.new.store result }
         ensures moved { IfOk result (Moves self.old.config self.old.store self.new.store
-            (load rows)) }
+            (hour_change replaces rows)) }
         ensures stays { IfOk result (KeepParts self.old.config self.old.store self.new.store) }
         ensures config { self.new.config ≡ self.old.config }
-        ensures opens { OpensBy (load rows) reads.old reads.new result }
+        ensures opens { OpensBy (hour_change replaces rows) reads.old reads.new result }
         ensures grow { Grow reads.old reads.new }
     {
         let hour = rows.hour();
         if !self.config.window().has_hour(hour) {
             return Err(EditError::OutOfWindow);
         }
-        if self.store.is_held(hour) {
-            return Err(EditError::AlreadyHeld);
+        if self.store.is_held(hour) != replaces {
+            return Err(held_error(replaces));
         }
         if rows_with(&self.store, hour, rows.len()) > MOST_ROWS {
             return Err(EditError::TooManyRows);
         }
-        self.hold(hour, Some(rows), reads)
-    }
-
-    #[tactic(auto, using(crate::proofs::EditLaws::steps_done, crate::proofs::GrowLaws::grow_same), unfolding(crate::specs::Edits::step_of, crate::specs::Opens::OpensBy))]
-    fn replace(&mut self, rows: HourRows<L>, reads: &mut Reads<L>) -> Result<Applied, EditError>
-        ensures step { Steps self.old.config (step_of self.old.store (replace rows)) self.old.store
-            self.new.store result }
-        ensures moved { IfOk result (Moves self.old.config self.old.store self.new.store
-            (replace rows)) }
-        ensures stays { IfOk result (KeepParts self.old.config self.old.store self.new.store) }
-        ensures config { self.new.config ≡ self.old.config }
-        ensures opens { OpensBy (replace rows) reads.old reads.new result }
-        ensures grow { Grow reads.old reads.new }
-    {
-        let hour = rows.hour();
-        if !self.config.window().has_hour(hour) {
-            return Err(EditError::OutOfWindow);
-        }
-        if !self.store.is_held(hour) {
-            return Err(EditError::NotHeld);
-        }
-        if rows_with(&self.store, hour, rows.len()) > MOST_ROWS {
-            return Err(EditError::TooManyRows);
-        }
-        self.hold(hour, Some(rows), reads)
+        self.make(Put::Hour(hour, Some(rows)), hour, hour, reads)
     }
 
     #[tactic(auto, using(crate::proofs::EditLaws::steps_done, crate::proofs::GrowLaws::grow_same), unfolding(crate::specs::Edits::step_of, crate::specs::Opens::OpensBy))]
@@ -366,7 +305,7 @@ impl<L> Session<L> {
         if !self.store.is_held(hour) {
             return Err(EditError::NotHeld);
         }
-        self.hold(hour, None, reads)
+        self.make(Put::Hour(hour, None), hour, hour, reads)
     }
 
     // Blanks the tenths of a range, or no longer.
@@ -401,7 +340,9 @@ impl<L> Session<L> {
         if blanks.ranges().len() > MOST_BLANKS {
             return Err(EditError::TooManyBlanks);
         }
-        self.mask(blanks, from, to, reads)
+        let first = hour_at(from);
+        let last = hour_at(to - 1);
+        self.make(Put::Blanks(blanks), first, last, reads)
     }
 
     /// Makes the edit, or refuses it, with the session as before. The first refusal in the order of
@@ -425,8 +366,8 @@ impl<L> Session<L> {
         ensures grow { Grow reads.old reads.new }
     {
         match edit {
-            Edit::Load(rows) => self.load(rows, reads),
-            Edit::Replace(rows) => self.replace(rows, reads),
+            Edit::Load(rows) => self.edit_hour(rows, false, reads),
+            Edit::Replace(rows) => self.edit_hour(rows, true, reads),
             Edit::Withdraw(hour) => self.withdraw(hour, reads),
             Edit::Blank { from, to } => self.edit_range(RangeEdit::Blank, from, to, reads),
             Edit::Unblank { from, to } => self.edit_range(RangeEdit::Unblank, from, to, reads),

@@ -14,7 +14,7 @@ use Rattle.hour_store.specs.Store.{Store, nothing_held}
 use Rattle.ring_config.specs.Reading.{Fails, Read}
 use Rattle.ring_config.specs.Settings.{Settings, config_of}
 use Rattle.ring_config.specs.declared.error.ConfigError.{ConfigError}
-use Rattle.session.specs.Edits.{Change, step_of}
+use Rattle.session.specs.Edits.{Change, hour_change, step_of}
 use Rattle.session.specs.Edits as change
 use Rattle.session.specs.Moved.{Moves}
 use Rattle.session.specs.Opens.{AreOpened, IsOpened, OpensBy}
@@ -37,7 +37,7 @@ use Rattle.sigaudit.specs.Counting.{AreCounted, ArePlain, AreTallied, OpensAnswe
 use Rattle.sigaudit.specs.Aims.{Aim, for_lines}
 use Rattle.sigaudit.specs.HourFile.{hour_said}
 use Rattle.sigaudit.specs.Run.{World, Takes}
-use Rattle.sigaudit.specs.Script.{edit_said, hour_bytes, hour_change, hour_file, is_edit_memory, wanted_for, IsTurn}
+use Rattle.sigaudit.specs.Script.{edit_said, hour_bytes, hour_file, is_edit_memory, wanted_for, IsTurn}
 use Rattle.sigaudit.specs.Status.{status_of_run}
 use Rattle.sigaudit.specs.Transcript.{ended_by, limited}
 use Rattle.sigaudit.specs.Turns.{Turn}

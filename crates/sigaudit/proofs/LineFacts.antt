@@ -14,7 +14,7 @@ use Rattle.report_text.specs.Measures.{hour_measures, window_measures}
 use Rattle.report_text.specs.declared.refusal.Refusal.{Refusal}
 use Rattle.report_text.specs.declared.refusal.Refusal.TheVariants.{BadLine, FileTooLong, Edit}
 use Rattle.ring_config.specs.Settings.{Settings}
-use Rattle.session.specs.Edits.{Change}
+use Rattle.session.specs.Edits.{Change, hour_change}
 use Rattle.session.specs.Edits as change
 use Rattle.script_lines.specs.Words.{Said}
 use Rattle.script_lines.specs.Words as line
@@ -22,7 +22,7 @@ use Rattle.sigaudit.specs.Turns.{Turn, passes, refuses, writes}
 use Rattle.sigaudit.specs.Audit.{AreVerdicts, IsAudited, IsReportOf}
 use Rattle.sigaudit.specs.Points.{points_of_phase}
 use Rattle.sigaudit.specs.Offsets.{offsets_of}
-use Rattle.sigaudit.specs.Script.{edit_said, hour_bytes, hour_change, hour_file, wanted_for, IsEdited, IsFetched, IsMeasured, IsMeasuredOf, IsRead, IsTurn}
+use Rattle.sigaudit.specs.Script.{edit_said, hour_bytes, hour_file, wanted_for, IsEdited, IsFetched, IsMeasured, IsMeasuredOf, IsRead, IsTurn}
 use Rattle.sigaudit.specs.Run.{World, world, Takes, TakesBy, TakesPut}
 use Rattle.sigaudit.specs.declared.status.Stopped.{Stopped}
 use Rattle.sigaudit.specs.declared.status.Stopped.TheVariants as stopped

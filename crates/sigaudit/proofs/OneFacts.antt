@@ -27,7 +27,7 @@ use Rattle.hour_work.specs.Reports.{IsReport}
 use Rattle.report_text.specs.declared.refusal.Refusal.{Refusal}
 use Rattle.report_text.specs.declared.refusal.Refusal.TheVariants.{Edit}
 use Rattle.report_text.specs.Measures.{window_measures}
-use Rattle.session.specs.Edits.{Change, step_of}
+use Rattle.session.specs.Edits.{Change, hour_change, step_of}
 use Rattle.sigaudit.proofs.MovedFacts.{moved_once}
 use Rattle.session.specs.Edits as change
 use Rattle.command_line.specs.Words.{Asked, for_run, for_pairs, for_count, for_pack, for_demo}
@@ -41,7 +41,7 @@ use Rattle.sigaudit.specs.Turns.{Turn, refuses, writes}
 use Rattle.report_text.specs.Audit.{audit_start, lines_text}
 use Rattle.report_text.specs.Heads.{verdicts_head}
 use Rattle.sigaudit.specs.Audit.{AreFailing, AreVerdicts, IsAudited}
-use Rattle.sigaudit.specs.Script.{accepts, IsEdited, IsMade, IsFetched, IsMeasured, IsMeasuredOf, IsRead, IsTold, IsTurn, Told, followed, hour_bytes, hour_change, numbers_turn, wanted_for}
+use Rattle.sigaudit.specs.Script.{accepts, IsEdited, IsMade, IsFetched, IsMeasured, IsMeasuredOf, IsRead, IsTold, IsTurn, Told, followed, hour_bytes, numbers_turn, wanted_for}
 use Rattle.sigaudit.specs.Transcript.{BeginsWithFirstLines, HaveOneTranscript, IsAnswer, IsConfigOutcome, IsFileOutcome, IsScriptOutcome, Outcome, asks_pairs, first_lines, limited, outcome, told_outcome}
 
 -- where some history agrees an hour has one list of lines

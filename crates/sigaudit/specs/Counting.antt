@@ -10,7 +10,7 @@ use Rattle.hour_store.specs.Store.{Store, nothing_held}
 use Rattle.ring_config.specs.Reading.{Read}
 use Rattle.ring_config.specs.Settings.{Settings, config_of}
 use Rattle.signal_log.specs.Log.{IsContradiction, log_of}
-use Rattle.session.specs.Edits.{Change, step_of}
+use Rattle.session.specs.Edits.{Change, hour_change, step_of}
 use Rattle.session.specs.Edits as change
 use Rattle.session.specs.Moved.{Moves, Touches}
 use Rattle.session.specs.Opens.{IsOpened}
@@ -25,7 +25,7 @@ use Rattle.sigaudit.specs.declared.status.Status.{Status}
 use Rattle.sigaudit.specs.declared.status.Status.TheVariants.{Done, SomeRefused, Usage, BadConfig, Fault, Memory, NoFile}
 use Rattle.sigaudit.specs.Aims.{Aim, for_lines, for_rule}
 use Rattle.sigaudit.specs.HourFile.{hour_said}
-use Rattle.sigaudit.specs.Script.{hour_bytes, hour_change, wanted_for, IsTurn}
+use Rattle.sigaudit.specs.Script.{hour_bytes, wanted_for, IsTurn}
 use Rattle.sigaudit.specs.Transcript.{limited}
 use Rattle.sigaudit.specs.Turns.{Turn}
 

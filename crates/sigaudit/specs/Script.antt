@@ -12,7 +12,7 @@ use Rattle.ring_config.specs.Settings.{Settings}
 use Rattle.hour_store.specs.Store.{Store}
 use Rattle.hour_work.specs.Numbers.{Numbers, total_of}
 use Rattle.signal_log.specs.Log.{HasHistory, IsContradiction, log_of}
-use Rattle.session.specs.Edits.{Change, step_of}
+use Rattle.session.specs.Edits.{Change, hour_change, step_of}
 use Rattle.session.specs.Edits as change
 use Rattle.session.specs.Moved.{Moves}
 use Rattle.script_lines.specs.Words.{Said, said}
@@ -76,11 +76,6 @@ hour_bytes files c hour name = if nat_lt hour c.window.hours then hour_file (fil
 abbrev pub IsFetched : Settings → ℕ → ℕ → (Shown → Change) → Store → Result (List ℕ) Refusal → Turn → Type 0
 IsFetched c n hour make s (Ok bytes) t = IsRead c n make s (hour_said (wanted_for c hour) bytes) t
 IsFetched c n hour make s (Err refusal) t = t ≡ refuses c n refusal s
-
--- a change by the rows of a file: a replacement or a load
-abbrev pub hour_change : Bool → Shown → Change
-hour_change true = change.replace
-hour_change false = change.load
 
 -- what a line that loads or replaces an hour does where these are the bytes of its file, and where there is this at its name or a reason why there is nothing to read
 abbrev pub ReadsLoad : Settings → LoadLine → Store → List ℕ → Turn → Type 0

@@ -3,12 +3,12 @@ ghost use Rattle.std.specs.Prelude.{◌≡◌, ◌<◌, ◌≤◌, ◌^◌, Some
 ghost use Rattle.outside.specs.Shelf.{Files};
 ghost use Rattle.sig_base.specs.HourRows.{Shown};
 ghost use Rattle.hour_store.specs.Store.{Store};
-ghost use Rattle.session.specs.Edits.{change_of};
+ghost use Rattle.session.specs.Edits.{change_of, hour_change};
 ghost use Rattle.sig_base.specs.Reads.{Grow};
 ghost use Rattle.script_lines.specs.Lines.{lines_of};
 ghost use Rattle.script_lines.specs.Words.{said};
 ghost use Rattle.script_lines.specs.Seen.{seen, seen_edit};
-ghost use Rattle.sigaudit.specs.Script.{edit_said, is_edit_memory, hour_change, hour_file, load_bytes, IsEdited, IsMeasured, IsMeasuredOf, IsTurn, ReadsLoad, TakesLoad};
+ghost use Rattle.sigaudit.specs.Script.{edit_said, is_edit_memory, hour_file, load_bytes, IsEdited, IsMeasured, IsMeasuredOf, IsTurn, ReadsLoad, TakesLoad};
 ghost use Rattle.sigaudit.specs.Counting.{AreCounted, ArePlain, BytesTally, EditTally, IsPlain, LineTally, LoadTally, ScriptTally};
 ghost use Rattle.sigaudit.specs.Run.{world, CountsFetch, FetchesHour, NamesNoRow, IsCaused, NeverFall, Takes, TakesBy, TellsAll};
 

@@ -28,7 +28,7 @@ use Rattle.session.specs.Edits.{Change, load, replace, withdraw, blank, unblank,
 use Rattle.session.specs.Ranges.{blanked_with, blanked_without, ranges_of}
 use Rattle.session.specs.Moved.{AreMoved, IsIn, Moves, Touches}
 use Rattle.session.proofs.EditLaws.{inside}
-use Rattle.session.proofs.MaskLaws.{blanks_store, hours_in_order, hours_within}
+use Rattle.session.proofs.MaskLaws.{hours_in_order, hours_within}
 use Rattle.session.proofs.RangeLaws.{ranges_members}
 use Rattle.transcript_laws.specs.Exists.{NotNone}
 use Rattle.transcript_laws.proofs.ConfigRead.{IsReadable}
@@ -236,7 +236,9 @@ put_like : (s t : Store) (r : Shown) → IsStore s → AreRowsOf r.hour r.rows �
 put_like s t r is rows (lt, e) = rw e (put_is_store s r.hour r is lt (record { hour_is = refl; rows_are = rows }), length-set s.hours r.hour (Some r))
 
 blanks_like : (s t : Store) (test : ℕ → Bool) → IsStore s → t ≡ with_blanks s (ranges_of (length s.hours) test) → IsStore t × (length t.hours ≡ length s.hours)
-blanks_like s t test is e = rw e (blanks_store s (ranges_of (length s.hours) test) is (ranges_within (length s.hours) test is.few), refl)
+blanks_like s t test is e =
+    let blanked = ranges_within (length s.hours) test is.few in
+    rw e (record { some = is.some; few = is.few; in_place = is.in_place; blanked = blanked }, refl)
 
 -- an edit that is made makes a store of as many hours
 pub step_keeps : (c : Settings) (s t : Store) (change : Change) → IsStore s → length s.hours ≡ c.window.hours → step_of s change ≡ Ok t → BringsRows change → IsStore t × (length t.hours ≡ length s.hours)

@@ -21,7 +21,7 @@ use Rattle.ring_config.specs.Values.{has_phase}
 use Rattle.rule_audit.specs.declared.lines.AuditLine.{AuditLine}
 use Rattle.rule_audit.specs.Rules.{rules_for}
 use Rattle.hour_work.specs.Numbers.{Numbers, total_of}
-use Rattle.session.specs.Edits.{Change, step_of}
+use Rattle.session.specs.Edits.{Change, hour_change, step_of}
 use Rattle.session.specs.Edits as change
 use Rattle.report_text.specs.declared.refusal.Refusal.{Refusal}
 use Rattle.report_text.specs.declared.refusal.Refusal.TheVariants.{BadLine, Edit}
@@ -44,7 +44,7 @@ use Rattle.sigaudit.specs.declared.status.Ended.TheVariants as ended
 use Rattle.sigaudit.specs.HourFile.{hour_said, of_packed, of_records}
 use Rattle.sigaudit.specs.Offsets.{advance_of, offsets_turn}
 use Rattle.sigaudit.specs.Points.{points_turn}
-use Rattle.sigaudit.specs.Script.{IsEdited, IsFetched, IsMade, IsMeasured, IsMeasuredOf, IsRead, IsTold, IsTurn, Told, accepts, followed, hour_bytes, hour_change, hour_file, nothing_told, numbers_turn, wanted_for}
+use Rattle.sigaudit.specs.Script.{IsEdited, IsFetched, IsMade, IsMeasured, IsMeasuredOf, IsRead, IsTold, IsTurn, Told, accepts, followed, hour_bytes, hour_file, nothing_told, numbers_turn, wanted_for}
 use Rattle.sigaudit.specs.Transcript.{BeginsWithFirstLines, IsAnswer, IsConfigOutcome, IsFileOutcome, IsScriptOutcome, Outcome, asks_pairs, file_outcome, limited, outcome, told_outcome}
 use Rattle.sigaudit.specs.Turns.{Turn, passes, refuses, refuses_file, writes}
 use Rattle.transcript_laws.specs.Exists.{FrontsAreOfTranscripts, NotNone, TranscriptsExist}

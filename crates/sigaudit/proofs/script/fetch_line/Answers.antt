@@ -1,6 +1,7 @@
 use Rattle.std.proofs.Common.{◌≡◌, arith}
+use Rattle.session.specs.Edits.{hour_change}
 use Rattle.sigaudit.specs.Turns.{Turn, refuses}
-use Rattle.sigaudit.specs.Script.{hour_change, hour_file, IsFetched}
+use Rattle.sigaudit.specs.Script.{hour_file, IsFetched}
 use Rattle.sigaudit.proofs.CountFacts.{fetched_counted, missed_counted}
 use Rattle.sigaudit.proofs.TakeFacts.{caused_of_by, never_of_by, takes_of_by}
 use Rattle.sigaudit.proofs.LineFacts.{by_bad, fetch_refused}

@@ -1,10 +1,11 @@
 use Rattle.std.proofs.Common.{◌≡◌, ◌∙◌, refl, arith, ◌<◌, ◌≤◌, ap}
 use Rattle.sig_base.specs.Window.{Span}
 use Rattle.sig_base.specs.declared.values.EditError.TheVariants.{OutOfWindow}
+use Rattle.session.specs.Edits.{hour_change}
 use Rattle.report_text.specs.declared.refusal.Refusal.TheVariants.{Edit}
 use Rattle.ring_config.specs.Settings.{Settings}
 use Rattle.sigaudit.specs.Turns.{Turn, refuses}
-use Rattle.sigaudit.specs.Script.{hour_bytes, hour_change, IsFetched}
+use Rattle.sigaudit.specs.Script.{hour_bytes, IsFetched}
 use Rattle.sigaudit.specs.Run.{world}
 use Rattle.sigaudit.proofs.CountFacts.{inside_counted, outside_counted}
 use Rattle.sigaudit.proofs.TakeFacts.{caused_of_by, never_of_by, takes_of_by}

@@ -2,13 +2,13 @@ use Rattle.std.proofs.Common.{◌≡◌, ◌∙◌, refl, ap, sym, arith, true, 
 use Rattle.script_lines.specs.Words as line
 use Rattle.script_lines.specs.Seen.{seen, seen_edit}
 use Rattle.report_text.specs.declared.refusal.Refusal.TheVariants.{BadLine}
-use Rattle.session.specs.Edits.{change_of}
+use Rattle.session.specs.Edits.{change_of, hour_change}
 use Rattle.sigaudit.specs.Run.{world}
 use Rattle.sigaudit.specs.Turns.{Turn, refuses}
 use Rattle.sigaudit.specs.Audit.{AreVerdicts, IsAudited}
 use Rattle.sigaudit.specs.Points.{points_of_phase}
 use Rattle.sigaudit.specs.Offsets.{offsets_of}
-use Rattle.sigaudit.specs.Script.{edit_said, hour_bytes, hour_change, IsEdited, IsFetched, IsMeasured, IsMeasuredOf}
+use Rattle.sigaudit.specs.Script.{edit_said, hour_bytes, IsEdited, IsFetched, IsMeasured, IsMeasuredOf}
 use Rattle.sigaudit.proofs.CountFacts.{bad_still, hour_still, line_edited, line_loaded, line_replaced, line_still, measures_still, skip_still}
 use Rattle.sigaudit.proofs.TakeFacts.{caused_of_by, never_of_by}
 use Rattle.sigaudit.proofs.LineFacts.{by_bad, line_as, line_by, line_skipped, turn_audit, turn_bad, turn_edit, turn_hour, turn_load, turn_measures, turn_offsets, turn_points, turn_replace, turn_verdicts}

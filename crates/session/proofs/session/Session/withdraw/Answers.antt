@@ -4,7 +4,8 @@ use Rattle.hour_store.specs.Store.{with_hour}
 use Rattle.session.specs.Edits.{step_of, withdraw}
 use Rattle.session.proofs.EditLaws.{steps_done, withdraw_step}
 use Rattle.session.proofs.LessLaws.{never_withdrawn}
-use Rattle.session.proofs.MovedLaws.{keep_to, moves_hour}
+use Rattle.session.proofs.MovedLaws.{keep_to, moves_by}
+use Rattle.session.proofs.RenewLaws.{same_but_hour}
 use Rattle.session.proofs.session.Session.withdraw.Goals as goal
 
 pub returns-clause-step : goal.returns-clause-step
@@ -16,33 +17,36 @@ returns-clause-step g c =
     let hours = c.self.invariant.hours in
     let lt : h < length s.hours = omega arith in
     let step = withdraw_step s h lt (sym c.is_held.ensures ∙ c.if-not-is_held.false) in
-    let done = rw (← c.self.view_is) at c.hold.ensures.done in
-    let back = rw (← c.self.view_is) at c.hold.ensures.back in
-    let stop = rw (← c.self.view_is) at c.hold.ensures.stop in
-    rw (← c.self.view_is) (steps_done c.self.inside.config (step_of s (withdraw h)) s (with_hour s h None) c.hold.new.self.store c.hold.result step done back stop)
+    let done = rw (← c.self.view_is) at c.make.ensures.done in
+    let back = rw (← c.self.view_is) at c.make.ensures.back in
+    let stop = rw (← c.self.view_is) at c.make.ensures.stop in
+    rw (← c.self.view_is) (steps_done c.self.inside.config (step_of s (withdraw h)) s (with_hour s h None) c.make.new.self.store c.make.result step done back stop)
 
 pub returns-clause-never : goal.returns-clause-never
 returns-clause-never g c =
     let s = c.self.inside.store in
-    let stop = rw (← c.self.view_is) at c.hold.ensures.stop in
-    let less = rw (← c.self.view_is) at c.hold.ensures.store in
-    never_withdrawn c.self.inside.config s c.args.hour c.hold.result c.self.invariant.sound c.self.invariant.is_store less c.self.invariant.history stop
+    let stop = rw (← c.self.view_is) at c.make.ensures.stop in
+    let less = rw (← c.self.view_is) at c.make.ensures.store in
+    never_withdrawn c.self.inside.config s c.args.hour c.make.result c.self.invariant.sound c.self.invariant.is_store less c.self.invariant.history stop
 
 pub returns-clause-moved : goal.returns-clause-moved
 returns-clause-moved g c =
     let s = c.self.inside.store in
     let h = c.args.hour in
-    let done = rw (← c.self.view_is) at c.hold.ensures.done in
-    let moved = rw (← c.self.view_is) at c.hold.ensures.moved in
-    rw (← c.self.view_is) (moves_hour c.self.inside.config s (with_hour s h None) c.hold.new.self.store h (withdraw h) c.hold.result (refl, refl) done moved)
+    let done = rw (← c.self.view_is) at c.make.ensures.done in
+    let moved = rw (← c.self.view_is) at c.make.ensures.moved in
+    rw (← c.self.view_is) (moves_by c.self.inside.config s (with_hour s h None) c.make.new.self.store h h (withdraw h) c.make.result (refl, refl) done moved)
 
 pub returns-clause-stays : goal.returns-clause-stays
 returns-clause-stays g c =
     let s = c.self.inside.store in
     let h = c.args.hour in
-    let done = rw (← c.self.view_is) at c.hold.ensures.done in
-    let stays = rw (← c.self.view_is) at c.hold.ensures.stays in
-    rw (← c.self.view_is) (keep_to c.self.inside.config s (with_hour s h None) c.hold.new.self.store c.hold.result done stays)
+    let done = rw (← c.self.view_is) at c.make.ensures.done in
+    let stays = rw (← c.self.view_is) at c.make.ensures.stays in
+    rw (← c.self.view_is) (keep_to c.self.inside.config s (with_hour s h None) c.make.new.self.store c.make.result done stays)
 
 pub returns-clause-opens : goal.returns-clause-opens
-returns-clause-opens g c = c.hold.ensures.opens (withdraw c.args.hour) (refl, refl)
+returns-clause-opens g c = c.make.ensures.opens (withdraw c.args.hour) (refl, refl)
+
+pub make-requires-clause-same : goal.make-requires-clause-same
+make-requires-clause-same g c = rw (← c.self.view_is) (same_but_hour c.self.inside.store c.args.hour None)

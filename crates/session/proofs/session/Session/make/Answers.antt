@@ -1,0 +1,86 @@
+use Rattle.std.proofs.Common.{◌≡◌, ◌∙◌, ◌+◌, ◌<◌, ℕ, ap, arith, length}
+use Rattle.session.specs.Puts.{put_into}
+use Rattle.session.specs.Sessions.{Kept}
+use Rattle.session.proofs.EditLaws.{stops_at}
+use Rattle.session.proofs.MovedLaws.{are_moved, keep_parts}
+use Rattle.session.proofs.OpenLaws.{opens_made, opens_refused}
+use Rattle.session.proofs.RenewLaws.{kept_but, put_length}
+use Rattle.session.proofs.session.Session.make.Goals as goal
+
+pub invariant_of-self : goal.invariant_of-self
+invariant_of-self g c =
+    let size = put_length c.self.inside.store c.args.put in
+    let hours : length c.exchange-before.new.store.hours ≡ c.self.inside.config.window.hours = rw c.exchange-before.ensures.store (size ∙ c.self.invariant.hours) in
+    rw (c.adopt.ensures.carries, c.adopt.ensures.futures, c.adopt.ensures.report) (record {
+      sound = c.self.invariant.sound;
+      is_store = c.in-Ok.ensures.store;
+      hours = hours;
+      rules = c.self.invariant.rules;
+      history = c.in-Ok.ensures.history;
+      kept = c.in-Ok.ensures.fresh.kept;
+    })
+
+pub invariant_of-self-in-Err : goal.invariant_of-self-in-Err
+invariant_of-self-in-Err g c =
+    let back : c.exchange.new.store ≡ c.self.inside.store = c.exchange.ensures.store ∙ c.exchange-before.ensures.back in
+    rw back c.self.invariant
+
+pub returns-in-Err-clause-back : goal.returns-in-Err-clause-back
+returns-in-Err-clause-back g c =
+    let back : c.exchange.new.store ≡ c.self.inside.store = c.exchange.ensures.store ∙ c.exchange-before.ensures.back in
+    back ∙ ap (λ (k : Kept). k.store) c.self.view_is
+
+pub returns-in-Err-clause-stop : goal.returns-in-Err-clause-stop
+returns-in-Err-clause-stop g c =
+    let s = c.self.inside.store in
+    let stop = rw c.exchange-before.ensures.store at c.in-Err.ensures.stop in
+    let is = rw c.exchange-before.ensures.store at c.in-Err.ensures.store in
+    rw (← c.self.view_is) (stops_at c.self.inside.config (put_into s c.args.put) c.in-Err.error c.edit_error.result c.edit_error.ensures c.self.invariant.sound is stop)
+
+pub renew-requires-clause-kept : goal.renew-requires-clause-kept
+renew-requires-clause-kept g c =
+    let s = c.self.inside.store in
+    let lt = rw (← c.self.view_is) at c.requires.last in
+    let same = rw (← c.self.view_is) at c.requires.same in
+    rw c.exchange-before.ensures.store (kept_but c.self.inside.config s (put_into s c.args.put) c.args.first c.args.last c.self.inside.worked.carries.items c.self.inside.worked.futures.items c.self.inside.worked.report c.requires.order lt (put_length s c.args.put) same c.self.invariant.is_store c.self.invariant.kept)
+
+pub moved-hours-requires : goal.moved-hours-requires
+moved-hours-requires g c =
+    let few = c.self.invariant.is_store.few in
+    let size = c.self.invariant.kept.forth.size in
+    let room = c.in-Ok.ensures.fresh.carry_room in
+    omega arith
+
+pub returns-in-Ok-clause-moved : goal.returns-in-Ok-clause-moved
+returns-in-Ok-clause-moved g c =
+    let s = c.self.inside.store in
+    let first = c.args.first in
+    let last = c.args.last in
+    let worked = c.self.inside.worked in
+    let points = c.in-Ok.fresh.points in
+    let lt : last < length s.hours = rw (← c.self.view_is) at c.requires.last in
+    let is = rw c.exchange-before.ensures.store at c.in-Ok.ensures.store in
+    let carries = rw c.exchange-before.ensures.store at c.in-Ok.ensures.carries in
+    let futures = rw c.exchange-before.ensures.store at c.in-Ok.ensures.futures in
+    let to = c.moved-hours.ensures.to ∙ ap (λ (n : ℕ). n + length points.carries.items) c.in-Ok.ensures.first in
+    let moved = are_moved c.self.inside.config s (put_into s c.args.put) c.self.invariant.sound c.self.invariant.is_store is (put_length s c.args.put) first last worked.carries.items worked.futures.items worked.report points.carries.items points.from points.futures.items c.moved-hours.result
+    c.requires.order lt c.self.invariant.kept carries futures c.moved-hours.ensures.from to in
+    rw (← c.self.view_is) moved
+
+pub returns-in-Ok-clause-stays : goal.returns-in-Ok-clause-stays
+returns-in-Ok-clause-stays g c =
+    let s = c.self.inside.store in
+    let worked = c.self.inside.worked in
+    let fresh = c.in-Ok.fresh in
+    let points = fresh.points in
+    let is = rw c.exchange-before.ensures.store at c.in-Ok.ensures.store in
+    let has = rw c.exchange-before.ensures.store at c.in-Ok.ensures.history in
+    let new = rw c.exchange-before.ensures.store at c.in-Ok.ensures.fresh in
+    rw (← c.self.view_is) (keep_parts c.self.inside.config s (put_into s c.args.put) points.first worked.carries.items points.carries.items worked.futures.items points.from points.futures.items worked.report fresh.start fresh.parts.items fresh.sums c.moved-hours.result
+    c.self.invariant.is_store c.self.invariant.history c.self.invariant.kept is has new c.moved-hours.ensures.from c.moved-hours.ensures.to)
+
+pub returns-in-Ok-clause-opens : goal.returns-in-Ok-clause-opens
+returns-in-Ok-clause-opens g c = λ change touched. opens_made change _ _ _ _ _ c.moved-hours.ensures.from c.moved-hours.ensures.to c.in-Ok.ensures.opens
+
+pub returns-in-Err-clause-opens : goal.returns-in-Err-clause-opens
+returns-in-Err-clause-opens g c = λ change touched. opens_refused change c.args.first c.args.last _ _ c.in-Err.error _ c.edit_error.ensures touched c.in-Err.ensures.opens_to_row

@@ -43,14 +43,17 @@ counts_text specs rules counts = counts_from specs counts 0 rules
 
 -- ---- verdicts
 
--- from when to when, where the line has a window
-abbrev pub window_parts : Span → Option (ℕ × ℕ) → List (List ℕ)
-window_parts w None = []
-window_parts w (Some ends) = codes " from " ∷ stamp_at w ends.0 ∷ codes " to " ∷ stamp_at w ends.1 ∷ []
+-- the word, the number of the rule, and when
+abbrev pub due_text : Span → List ℕ → AuditLine → List ℕ
+due_text w word l = joined (word ∷ decimal l.rule ∷ codes " " ∷ stamp_at w l.at ∷ [])
 
--- the word, the number of the rule, when, and the window
+-- from when to when, where the line has a window, and its end
+abbrev pub window_text : Span → Option (ℕ × ℕ) → List ℕ
+window_text w None = line_of []
+window_text w (Some ends) = line_of (codes " from " ∷ stamp_at w ends.0 ∷ codes " to " ∷ stamp_at w ends.1 ∷ [])
+
 abbrev pub verdict_text : Span → List ℕ → AuditLine → List ℕ
-verdict_text w word l = line_of (word ∷ decimal l.rule ∷ codes " " ∷ stamp_at w l.at ∷ window_parts w l.window)
+verdict_text w word l = due_text w word l ++ window_text w l.window
 
 -- the line's tenths are in the window of the configuration
 abbrev pub EndIn : Span → Option (ℕ × ℕ) → Type 0

@@ -1,7 +1,7 @@
 // The lines of an audit.
 ghost use Rattle.std.specs.Prelude.{◌≡◌, ◌<◌, ◌*◌, ◌++◌, ◌∷◌, [], Some, None, slice_index_or};
 ghost use Rattle.outside.specs.Sink.{Puts};
-ghost use Rattle.report_text.specs.Audit.{audit_line_text, IsLineIn, counts_tail, counts_text, is_none_counted, none_counted, rule_head, rule_line, verdict_text};
+ghost use Rattle.report_text.specs.Audit.{audit_line_text, EndIn, IsLineIn, counts_tail, counts_text, due_text, is_none_counted, none_counted, rule_head, rule_line, verdict_text, window_text};
 
 use crate::rules::put_rule_name;
 use hour_work::{Partial, RuleCount};
@@ -97,63 +97,42 @@ pub fn put_audit_counts<K: Sink>(
     Ok(())
 }
 
-// The line of a verdict without a window.
-fn put_plain<K: Sink>(
+// Writes the word of a verdict, its rule and when it is due.
+fn put_due<K: Sink>(
     window: &Window,
     word: &[u8],
     line: &AuditLine,
     sink: &mut K,
 ) -> Result<(), PutFailed>
-    requires at { line.now.at < 36000 * window.now.hours }
-    requires none { line.now.window ≡ None }
-    ensures { Puts (K.taken sink.old) (K.taken sink.new) (verdict_text window.now word.now line.now)
+    requires { line.now.at < 36000 * window.now.hours }
+    ensures { Puts (K.taken sink.old) (K.taken sink.new) (due_text window.now word.now line.now)
         result }
 {
     let stamp = window.stamp(line.at);
     let mut number = Buffer::new();
     put_parts(
         sink,
-        &[
-            word,
-            number.format(line.rule).as_bytes(),
-            b" ",
-            &stamp,
-            b"\n",
-        ],
+        &[word, number.format(line.rule).as_bytes(), b" ", &stamp],
     )
 }
 
-// The line of a verdict with this window.
-fn put_windowed<K: Sink>(
+// Ends the line of a verdict, with the window where there is one.
+fn put_window<K: Sink>(
     window: &Window,
-    word: &[u8],
-    line: &AuditLine,
-    ends: (u32, u32),
+    ends: Option<(u32, u32)>,
     sink: &mut K,
 ) -> Result<(), PutFailed>
-    requires line { IsLineIn window.now line.now }
-    requires ends { line.now.window ≡ Some ends }
-    ensures { Puts (K.taken sink.old) (K.taken sink.new) (verdict_text window.now word.now line.now)
-        result }
+    requires { EndIn window.now ends }
+    ensures { Puts (K.taken sink.old) (K.taken sink.new) (window_text window.now ends) result }
 {
-    let stamp = window.stamp(line.at);
-    let from = window.stamp(ends.0);
-    let to = window.stamp(ends.1);
-    let mut number = Buffer::new();
-    put_parts(
-        sink,
-        &[
-            word,
-            number.format(line.rule).as_bytes(),
-            b" ",
-            &stamp,
-            b" from ",
-            &from,
-            b" to ",
-            &to,
-            b"\n",
-        ],
-    )
+    match ends {
+        None => put_parts(sink, &[b"\n"]),
+        Some((from, to)) => {
+            let from = window.stamp(from);
+            let to = window.stamp(to);
+            put_parts(sink, &[b" from ", &from, b" to ", &to, b"\n"])
+        }
+    }
 }
 
 fn put_verdict<K: Sink>(
@@ -166,10 +145,8 @@ fn put_verdict<K: Sink>(
     ensures { Puts (K.taken sink.old) (K.taken sink.new) (verdict_text window.now word.now line.now)
         result }
 {
-    match line.window {
-        None => put_plain(window, word, line, sink),
-        Some(ends) => put_windowed(window, word, line, ends, sink),
-    }
+    put_due(window, word, line, sink)?;
+    put_window(window, line.window, sink)
 }
 
 /// Writes the line of one verdict: kept, broken or undecided, the rule's number, the tenth, and the

@@ -4,6 +4,7 @@ mod pairs;
 
 use crate::held::Mark;
 use configured::{one_interval, one_phase, three_hours, two_hours};
+use ring_config::Config;
 use rule_audit::{AuditLine, Place};
 use session::{Edit, Session};
 use sig_base::{Applied, EditError, Hour, HourRows, NoMemory, Reads, Row, Tenth, Verdict};
@@ -40,6 +41,12 @@ fn edit_of(alloc: Global, step: Step) -> Result<Edit<Mark>, Fail> {
     }
 }
 
+// A session that holds nothing.
+fn started(alloc: Global, config: Config) -> Result<Session<Mark>, Fail> {
+    let session = Session::new(alloc, config)?;
+    Ok(session)
+}
+
 fn apply(
     session: &mut Session<Mark>,
     edit: Edit<Mark>,
@@ -52,6 +59,18 @@ fn apply(
 fn numbers(session: &Session<Mark>) -> [u64; 3] {
     let total = session.report().total();
     [total.held_hours(), total.held_rows(), total.known_tenths()]
+}
+
+// What an edit answers, and what is held and known after it.
+fn edited(
+    alloc: Global,
+    session: &mut Session<Mark>,
+    step: Step,
+    reads: &mut Reads<Mark>,
+) -> Result<(Result<Applied, EditError>, [u64; 3]), Fail> {
+    let edit = edit_of(alloc, step)?;
+    let answer = apply(session, edit, reads);
+    Ok((answer, numbers(session)))
 }
 
 const ALL: Result<Applied, EditError> = Ok(Applied { from: 0, to: 2 });
@@ -81,12 +100,12 @@ const STEPS: [(Step, Result<Applied, EditError>, [u64; 3]); 10] = [
 #[test]
 fn edits_one_after_another(rt: HostRuntime) -> Result<(), Fail> {
     let alloc = rt.alloc();
-    let mut session = Session::new(alloc, two_hours(alloc)?)?;
+    let mut session = started(alloc, two_hours(alloc)?)?;
     let mut reads = Reads::new(Mark);
     for (step, wanted, after) in STEPS {
-        let edit = edit_of(alloc, step)?;
-        assert_eq!(rt; apply(&mut session, edit, &mut reads), wanted);
-        assert_eq!(rt; numbers(&session), after);
+        let (answer, held) = edited(alloc, &mut session, step, &mut reads)?;
+        assert_eq!(rt; answer, wanted);
+        assert_eq!(rt; held, after);
     }
     Ok(())
 }
@@ -113,14 +132,11 @@ fn counts(reads: &Reads<Mark>) -> [u64; 3] {
 #[test]
 fn moves_no_other_hours(rt: HostRuntime) -> Result<(), Fail> {
     let alloc = rt.alloc();
-    let mut session = Session::new(alloc, three_hours(alloc)?)?;
+    let mut session = started(alloc, three_hours(alloc)?)?;
     let mut reads = Reads::new(Mark);
     for (step, from, to, opened) in MOVES {
-        let edit = edit_of(alloc, step)?;
-        assert_eq!(rt;
-            apply(&mut session, edit, &mut reads),
-            Ok(Applied { from, to })
-        );
+        let (answer, _held) = edited(alloc, &mut session, step, &mut reads)?;
+        assert_eq!(rt; answer, Ok(Applied { from, to }));
         assert_eq!(rt; counts(&reads), opened);
     }
     Ok(())
@@ -147,7 +163,7 @@ const YELLOW: Row = Row {
 #[test]
 fn refuses_what_contradicts(rt: HostRuntime) -> Result<(), Fail> {
     let alloc = rt.alloc();
-    let mut session = Session::new(alloc, one_phase(alloc)?)?;
+    let mut session = started(alloc, one_phase(alloc)?)?;
     let mut reads = Reads::new(Mark);
     let edit = Edit::Load(contradicting(alloc)?);
     assert_eq!(rt;
@@ -196,7 +212,7 @@ const BROKEN: AuditLine = AuditLine {
 
 // A session that holds this green.
 fn with_too_short(alloc: Global, reads: &mut Reads<Mark>) -> Result<Session<Mark>, Fail> {
-    let mut session = Session::new(alloc, one_interval(alloc)?)?;
+    let mut session = started(alloc, one_interval(alloc)?)?;
     let edit = Edit::Load(too_short(alloc)?);
     let _applied = apply(&mut session, edit, reads);
     Ok(session)

@@ -1,8 +1,5 @@
-use crate::given::{Mark, run_words};
-use outside::{MemShelf, MemSink};
-use sig_base::Reads;
-use sigaudit::{Status, run};
-use std::alloc::Global;
+use crate::given::script_ran;
+use sigaudit::Status;
 use std::test::Fail;
 
 // A window of two hours from 2024-03-04T06, phase 2, whose green is to last at least 15 seconds.
@@ -12,26 +9,6 @@ const TIMED: &str =
 // The same window, with phases 2 and 4, which conflict.
 const CROSSING: &str =
     "signal = \"7\"\nstart = \"2024-03-04T06\"\nhours = 2\n[[phase]]\nnumber = 2\nring = 1\nside = 1\n[[phase]]\nnumber = 4\nring = 1\nside = 2\n";
-
-// How the run of a script over the files f and g ends, and whether it prints the text.
-pub fn run_of(
-    alloc: Global,
-    config: &str,
-    script: &str,
-    files: [&str; 2],
-    text: &str,
-) -> Result<(Status, bool), Fail> {
-    let words = run_words(alloc)?;
-    let mut reads = Reads::new(Mark);
-    let mut shelf = MemShelf::new(alloc);
-    shelf.add("c", config.as_bytes())?;
-    shelf.add("s", script.as_bytes())?;
-    shelf.add("f", files[0].as_bytes())?;
-    shelf.add("g", files[1].as_bytes())?;
-    let mut sink = MemSink::new(alloc, 1000)?;
-    let status = run(alloc, &words, &mut shelf, &mut sink, &mut reads);
-    Ok((status, sink.bytes() == text.as_bytes()))
-}
 
 // A script over phase 2, its file f, how the run ends, and what it prints.
 const AUDITED: [(&str, &str, Status, &str); 5] = [
@@ -70,8 +47,9 @@ const AUDITED: [(&str, &str, Status, &str); 5] = [
 #[test]
 fn verdicts_and_contradictions(rt: HostRuntime) -> Result<(), Fail> {
     for (script, file, status, text) in AUDITED {
-        let ran = run_of(rt.alloc(), TIMED, script, [file, ""], text)?;
-        assert_eq!(rt; ran, (status, true), "of {file}");
+        let (end, said) = script_ran(rt.alloc(), TIMED, script, [file, ""])?;
+        assert_eq!(rt; end, status, "of {file}");
+        assert_eq!(rt; said.as_slice(), text.as_bytes(), "of {file}");
     }
     Ok(())
 }
@@ -172,8 +150,9 @@ const HOLES: [(&str, &str, [&str; 2], &str); 9] = [
 #[test]
 fn a_hole_that_may_be_filled_both_ways(rt: HostRuntime) -> Result<(), Fail> {
     for (config, script, files, text) in HOLES {
-        let ran = run_of(rt.alloc(), config, script, files, text)?;
-        assert_eq!(rt; ran, (Status::Done, true), "of {script}{text}");
+        let (end, said) = script_ran(rt.alloc(), config, script, files)?;
+        assert_eq!(rt; end, Status::Done, "of {script}");
+        assert_eq!(rt; said.as_slice(), text.as_bytes(), "of {script}");
     }
     Ok(())
 }

@@ -1,7 +1,6 @@
-use crate::given::Mark;
-use outside::{MemShelf, MemSink};
-use sig_base::Reads;
-use sigaudit::{Status, Words, run};
+use crate::given::ran_over;
+use outside::MemShelf;
+use sigaudit::{Status, Words};
 use std::alloc::Global;
 use std::str;
 use std::test::Fail;
@@ -42,13 +41,9 @@ fn a_demonstration_of_one_hour(rt: HostRuntime) -> Result<(), Fail> {
     words.push("--demo=1")?;
     let mut shelf = MemShelf::new(alloc);
     shelf.fail_call(1)?;
-    let mut sink = MemSink::new(alloc, 4000)?;
-    let mut reads = Reads::new(Mark);
-    assert_eq!(rt;
-        run(alloc, &words, &mut shelf, &mut sink, &mut reads),
-        Status::Done
-    );
-    let text = str::from_utf8(sink.bytes()).map_err(|_| "no text")?;
+    let (end, said) = ran_over(alloc, &words, &mut shelf, 4000)?;
+    assert_eq!(rt; end, Status::Done);
+    let text = str::from_utf8(&said).map_err(|_| "no text")?;
     assert_eq!(rt; without_approach(alloc, text)?.as_slice(), TEXT.as_bytes());
     Ok(())
 }

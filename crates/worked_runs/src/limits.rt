@@ -1,8 +1,8 @@
 use crate::cases::CONFIG;
-use crate::given::{Mark, run_words};
-use outside::{MemShelf, MemSink};
-use sig_base::{NoMemory, Reads};
-use sigaudit::{Status, run};
+use crate::given::{ran, ran_over, run_words};
+use outside::MemShelf;
+use sig_base::NoMemory;
+use sigaudit::Status;
 use std::alloc::Global;
 use std::test::Fail;
 
@@ -47,17 +47,13 @@ fn answers(alloc: Global) -> Result<Vec<u8>, Fail> {
 fn ten_thousand_blanks_and_one_too_many(rt: HostRuntime) -> Result<(), Fail> {
     let alloc = rt.alloc();
     let words = run_words(alloc)?;
-    let mut reads = Reads::new(Mark);
     let mut shelf = MemShelf::new(alloc);
     shelf.add("c", CONFIG.as_bytes())?;
     shelf.add("s", &blanks(alloc)?)?;
     let wanted = answers(alloc)?;
-    let mut sink = MemSink::new(alloc, wanted.len())?;
-    assert_eq!(rt;
-        run(alloc, &words, &mut shelf, &mut sink, &mut reads),
-        Status::SomeRefused
-    );
-    assert_eq!(rt; sink.bytes(), wanted.as_slice());
+    let (end, said) = ran_over(alloc, &words, &mut shelf, wanted.len())?;
+    assert_eq!(rt; end, Status::SomeRefused);
+    assert_eq!(rt; said.as_slice(), wanted.as_slice());
     Ok(())
 }
 
@@ -70,11 +66,20 @@ fn empty_lines(alloc: Global, count: usize) -> Result<Vec<u8>, NoMemory> {
     Ok(text)
 }
 
+// What comes of the load of a file of so many bytes.
+fn loaded(alloc: Global, length: usize) -> Result<(Status, Vec<u8>), Fail> {
+    let words = run_words(alloc)?;
+    let file = empty_lines(alloc, length)?;
+    let files = [
+        ("c", CONFIG.as_bytes()),
+        ("s", b"load 0 f\n".as_slice()),
+        ("f", file.as_slice()),
+    ];
+    ran(alloc, &words, &files)
+}
+
 #[test]
 fn the_longest_hour_file(rt: HostRuntime) -> Result<(), Fail> {
-    let alloc = rt.alloc();
-    let words = run_words(alloc)?;
-    let mut reads = Reads::new(Mark);
     for (length, status, text) in [
         (
             LONGEST + 1,
@@ -83,16 +88,9 @@ fn the_longest_hour_file(rt: HostRuntime) -> Result<(), Fail> {
         ),
         (LONGEST, Status::Done, "1 ok rows 0 repeats 0 moved 0 2\n"),
     ] {
-        let mut shelf = MemShelf::new(alloc);
-        shelf.add("c", CONFIG.as_bytes())?;
-        shelf.add("s", b"load 0 f\n")?;
-        shelf.add("f", &empty_lines(alloc, length)?)?;
-        let mut sink = MemSink::new(alloc, 100)?;
-        assert_eq!(rt;
-            run(alloc, &words, &mut shelf, &mut sink, &mut reads),
-            status
-        );
-        assert_eq!(rt; sink.bytes(), text.as_bytes());
+        let (end, said) = loaded(rt.alloc(), length)?;
+        assert_eq!(rt; end, status);
+        assert_eq!(rt; said.as_slice(), text.as_bytes());
     }
     Ok(())
 }

@@ -1,7 +1,6 @@
-use crate::given::{Mark, run_words};
-use outside::{MemShelf, MemSink};
-use sig_base::Reads;
-use sigaudit::{Status, run};
+use crate::given::{ran_over, run_words};
+use outside::MemShelf;
+use sigaudit::Status;
 use std::alloc::Global;
 use std::str;
 use std::test::Fail;
@@ -47,30 +46,32 @@ fn shelf_of(alloc: Global) -> Result<MemShelf, Fail> {
     Ok(shelf)
 }
 
+// Whether the answers of these edits name hour 350 alone, and how many lines there are.
+fn read_answers(alloc: Global, text: &str) -> Result<(bool, u32), Fail> {
+    let mut number = 0u32;
+    for line in text.lines() {
+        number = number.saturating_add(1);
+        if number > HOURS.saturating_add(1) {
+            let wanted = format!(in alloc; "{number} ok moved 350 351")?;
+            if line != wanted.as_str() {
+                return Ok((false, number));
+            }
+        }
+    }
+    Ok((true, number))
+}
+
 // 700 hours, and 20,000 edits of one of them, which move it alone. With a body that goes over the
 // window at each edit it wouldn't end in a test's time.
 #[test]
 fn many_edits_of_one_hour(rt: HostRuntime) -> Result<(), Fail> {
     let alloc = rt.alloc();
     let words = run_words(alloc)?;
-    let mut reads = Reads::new(Mark);
     let mut shelf = shelf_of(alloc)?;
-    let mut sink = MemSink::new(alloc, 1_000_000)?;
-    assert_eq!(rt;
-        run(alloc, &words, &mut shelf, &mut sink, &mut reads),
-        Status::Done
-    );
-    let text = str::from_utf8(sink.bytes()).map_err(|_| "no text")?;
-    let mut number = 0u32;
-    for line in text.lines() {
-        number = number.saturating_add(1);
-        if number == 1 {
-            assert_eq!(rt; line, "1 audit");
-        } else if number > HOURS.saturating_add(1) {
-            let wanted = format!(in alloc; "{number} ok moved 350 351")?;
-            assert_eq!(rt; line, wanted.as_str());
-        }
-    }
-    assert_eq!(rt; number, 20_701);
+    let (end, said) = ran_over(alloc, &words, &mut shelf, 1_000_000)?;
+    assert_eq!(rt; end, Status::Done);
+    assert!(rt; said.starts_with(b"1 audit\n"));
+    let text = str::from_utf8(&said).map_err(|_| "no text")?;
+    assert_eq!(rt; read_answers(alloc, text)?, (true, 20_701));
     Ok(())
 }

@@ -1,4 +1,4 @@
-use crate::audits::run_of;
+use crate::given::script_ran;
 use sigaudit::Status;
 use std::test::Fail;
 
@@ -69,8 +69,9 @@ const MEASURED: [(&str, &str, [&str; 2], &str); 6] = [
 #[test]
 fn measures_of_phases_pedestrians_preempts_and_coordination(rt: HostRuntime) -> Result<(), Fail> {
     for (config, script, files, text) in MEASURED {
-        let ran = run_of(rt.alloc(), config, script, files, text)?;
-        assert_eq!(rt; ran, (Status::Done, true), "of {script}");
+        let (end, said) = script_ran(rt.alloc(), config, script, files)?;
+        assert_eq!(rt; end, Status::Done, "of {script}");
+        assert_eq!(rt; said.as_slice(), text.as_bytes(), "of {script}");
     }
     Ok(())
 }

@@ -1,7 +1,5 @@
-use crate::given::{Mark, run_words};
-use outside::{MemShelf, MemSink};
-use sig_base::Reads;
-use sigaudit::{Status, run};
+use crate::given::script_ran;
+use sigaudit::Status;
 use std::test::Fail;
 
 // Phase 2 with an approach that has an advance detector, and one that has none.
@@ -20,18 +18,8 @@ const TEXT: &str =
 
 #[test]
 fn shifts_of_an_approach(rt: HostRuntime) -> Result<(), Fail> {
-    let alloc = rt.alloc();
-    let words = run_words(alloc)?;
-    let mut reads = Reads::new(Mark);
-    let mut shelf = MemShelf::new(alloc);
-    shelf.add("c", CONFIG.as_bytes())?;
-    shelf.add("s", SCRIPT.as_bytes())?;
-    shelf.add("f", FILE.as_bytes())?;
-    let mut sink = MemSink::new(alloc, 1000)?;
-    assert_eq!(rt;
-        run(alloc, &words, &mut shelf, &mut sink, &mut reads),
-        Status::SomeRefused
-    );
-    assert_eq!(rt; sink.bytes(), TEXT.as_bytes());
+    let (end, said) = script_ran(rt.alloc(), CONFIG, SCRIPT, [FILE, ""])?;
+    assert_eq!(rt; end, Status::SomeRefused);
+    assert_eq!(rt; said.as_slice(), TEXT.as_bytes());
     Ok(())
 }

@@ -1,8 +1,7 @@
 use crate::cases::CONFIG;
-use crate::given::{Mark, run_words};
-use outside::{MemShelf, MemSink};
-use sig_base::{NoMemory, Reads};
-use sigaudit::{Status, Words, run};
+use crate::given::{ran, run_words};
+use sig_base::NoMemory;
+use sigaudit::{Status, Words};
 use std::alloc::Global;
 use std::test::Fail;
 
@@ -60,16 +59,10 @@ fn pack_words(alloc: Global) -> Result<Words, NoMemory> {
 fn files_are_packed_or_refused(rt: HostRuntime) -> Result<(), Fail> {
     let alloc = rt.alloc();
     let words = pack_words(alloc)?;
-    let mut reads = Reads::new(Mark);
     for (file, status, bytes) in FILES {
-        let mut shelf = MemShelf::new(alloc);
-        shelf.add("f", file)?;
-        let mut sink = MemSink::new(alloc, 100)?;
-        assert_eq!(rt;
-            run(alloc, &words, &mut shelf, &mut sink, &mut reads),
-            status
-        );
-        assert_eq!(rt; sink.bytes(), bytes);
+        let (end, said) = ran(alloc, &words, &[("f", file)])?;
+        assert_eq!(rt; end, status);
+        assert_eq!(rt; said.as_slice(), bytes);
     }
     Ok(())
 }
@@ -78,15 +71,14 @@ fn files_are_packed_or_refused(rt: HostRuntime) -> Result<(), Fail> {
 fn packed_hours_are_loaded_or_refused(rt: HostRuntime) -> Result<(), Fail> {
     let alloc = rt.alloc();
     let words = run_words(alloc)?;
-    let mut reads = Reads::new(Mark);
     for (script, file, text) in LOADS {
-        let mut shelf = MemShelf::new(alloc);
-        shelf.add("c", CONFIG.as_bytes())?;
-        shelf.add("s", script.as_bytes())?;
-        shelf.add("f", file)?;
-        let mut sink = MemSink::new(alloc, 100)?;
-        let _ = run(alloc, &words, &mut shelf, &mut sink, &mut reads);
-        assert_eq!(rt; sink.bytes(), text.as_bytes(), "of {text}");
+        let files = [
+            ("c", CONFIG.as_bytes()),
+            ("s", script.as_bytes()),
+            ("f", file),
+        ];
+        let (_end, said) = ran(alloc, &words, &files)?;
+        assert_eq!(rt; said.as_slice(), text.as_bytes(), "of {text}");
     }
     Ok(())
 }

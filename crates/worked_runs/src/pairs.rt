@@ -1,7 +1,6 @@
-use crate::given::Mark;
-use outside::{MemShelf, MemSink};
-use sig_base::{NoMemory, Reads};
-use sigaudit::{Status, Words, run};
+use crate::given::ran;
+use sig_base::NoMemory;
+use sigaudit::{Status, Words};
 use std::alloc::Global;
 use std::test::Fail;
 
@@ -24,35 +23,39 @@ fn words_for(alloc: Global, rule: &str, at: &str) -> Result<Words, NoMemory> {
     Ok(words)
 }
 
+// How the run of a script for a rule's pairs ends, and what it writes.
+fn pairs_ran(alloc: Global, rule: &str, at: &str, script: &str) -> Result<(Status, Vec<u8>), Fail> {
+    let words = words_for(alloc, rule, at)?;
+    let files = [
+        ("c", RULE.as_bytes()),
+        ("s", script.as_bytes()),
+        ("f", FILE.as_bytes()),
+    ];
+    ran(alloc, &words, &files)
+}
+
 // A rule and a tenth that aren't there have no undecided line, and the script's lines write nothing.
 #[test]
 fn rules_and_tenths_that_are_not_there(rt: HostRuntime) -> Result<(), Fail> {
-    let alloc = rt.alloc();
-    let mut reads = Reads::new(Mark);
-    for (rule, at, script, status, text) in [
-        ("2", "2024-03-04T06:02:00.0", SCRIPT, Status::Done, NOTHING),
-        ("0", "2024-03-04T06:02:00.0", SCRIPT, Status::Done, NOTHING),
-        ("1", "2024-03-04T08:00:00.0", SCRIPT, Status::Done, NOTHING),
-        ("1", "3/4/2024T5:59:59.9", "", Status::Done, NOTHING),
+    for (rule, at, script, status) in [
+        ("2", "2024-03-04T06:02:00.0", SCRIPT, Status::Done),
+        ("0", "2024-03-04T06:02:00.0", SCRIPT, Status::Done),
+        ("1", "2024-03-04T08:00:00.0", SCRIPT, Status::Done),
+        ("1", "3/4/2024T5:59:59.9", "", Status::Done),
         (
             "000002",
             "2024-03-04T06:02:00.0",
             "lod 0 f\n",
             Status::SomeRefused,
-            NOTHING,
         ),
     ] {
-        let words = words_for(alloc, rule, at)?;
-        let mut shelf = MemShelf::new(alloc);
-        shelf.add("c", RULE.as_bytes())?;
-        shelf.add("s", script.as_bytes())?;
-        shelf.add("f", FILE.as_bytes())?;
-        let mut sink = MemSink::new(alloc, 1000)?;
+        let (end, said) = pairs_ran(rt.alloc(), rule, at, script)?;
+        assert_eq!(rt; end, status, "of rule {rule} at {at}");
         assert_eq!(rt;
-            run(alloc, &words, &mut shelf, &mut sink, &mut reads),
-            status
+            said.as_slice(),
+            NOTHING.as_bytes(),
+            "of rule {rule} at {at}"
         );
-        assert_eq!(rt; sink.bytes(), text.as_bytes(), "of rule {rule} at {at}");
     }
     Ok(())
 }
@@ -60,9 +63,7 @@ fn rules_and_tenths_that_are_not_there(rt: HostRuntime) -> Result<(), Fail> {
 // Without a script, and with a faulty configuration, the answer is that of a script's own words.
 #[test]
 fn words_of_pairs_without_their_files(rt: HostRuntime) -> Result<(), Fail> {
-    let alloc = rt.alloc();
-    let mut reads = Reads::new(Mark);
-    let words = words_for(alloc, "1", "2024-03-04T06:02:00.0")?;
+    let words = words_for(rt.alloc(), "1", "2024-03-04T06:02:00.0")?;
     for (config, status, text) in [
         (RULE, Status::NoFile, ""),
         (
@@ -71,14 +72,9 @@ fn words_of_pairs_without_their_files(rt: HostRuntime) -> Result<(), Fail> {
             "config refused: missing top.signal\n",
         ),
     ] {
-        let mut shelf = MemShelf::new(alloc);
-        shelf.add("c", config.as_bytes())?;
-        let mut sink = MemSink::new(alloc, 1000)?;
-        assert_eq!(rt;
-            run(alloc, &words, &mut shelf, &mut sink, &mut reads),
-            status
-        );
-        assert_eq!(rt; sink.bytes(), text.as_bytes());
+        let (end, said) = ran(rt.alloc(), &words, &[("c", config.as_bytes())])?;
+        assert_eq!(rt; end, status);
+        assert_eq!(rt; said.as_slice(), text.as_bytes());
     }
     Ok(())
 }
@@ -86,9 +82,6 @@ fn words_of_pairs_without_their_files(rt: HostRuntime) -> Result<(), Fail> {
 // A hole in the green that makes its line undecided, and the same line of a log without a hole.
 #[test]
 fn a_line_that_a_hole_leaves_undecided(rt: HostRuntime) -> Result<(), Fail> {
-    let alloc = rt.alloc();
-    let mut reads = Reads::new(Mark);
-    let words = words_for(alloc, "1", "2024-03-04T06:02:00.0")?;
     for (script, front) in [
         (
             SCRIPT,
@@ -96,16 +89,9 @@ fn a_line_that_a_hole_leaves_undecided(rt: HostRuntime) -> Result<(), Fail> {
         ),
         ("load 0 f\naudit\n", NOTHING),
     ] {
-        let mut shelf = MemShelf::new(alloc);
-        shelf.add("c", RULE.as_bytes())?;
-        shelf.add("s", script.as_bytes())?;
-        shelf.add("f", FILE.as_bytes())?;
-        let mut sink = MemSink::new(alloc, 1000)?;
-        assert_eq!(rt;
-            run(alloc, &words, &mut shelf, &mut sink, &mut reads),
-            Status::Done
-        );
-        assert!(rt; sink.bytes().starts_with(front.as_bytes()));
+        let (end, said) = pairs_ran(rt.alloc(), "1", "2024-03-04T06:02:00.0", script)?;
+        assert_eq!(rt; end, Status::Done);
+        assert!(rt; said.starts_with(front.as_bytes()));
     }
     Ok(())
 }

@@ -1,4 +1,4 @@
-use crate::audits::run_of;
+use crate::given::script_ran;
 use sigaudit::Status;
 use std::test::Fail;
 
@@ -30,8 +30,9 @@ const APPROACHED: [(&str, &str, [&str; 2], &str); 2] = [
 #[test]
 fn arrivals_and_the_diagram_of_a_phase(rt: HostRuntime) -> Result<(), Fail> {
     for (config, script, files, text) in APPROACHED {
-        let ran = run_of(rt.alloc(), config, script, files, text)?;
-        assert_eq!(rt; ran, (Status::SomeRefused, true), "of {script}");
+        let (end, said) = script_ran(rt.alloc(), config, script, files)?;
+        assert_eq!(rt; end, Status::SomeRefused, "of {script}");
+        assert_eq!(rt; said.as_slice(), text.as_bytes(), "of {script}");
     }
     Ok(())
 }

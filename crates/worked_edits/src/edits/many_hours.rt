@@ -1,5 +1,5 @@
-use super::apply;
 use super::configured::many_hours;
+use super::{apply, started};
 use crate::held::Mark;
 use session::{Edit, Session};
 use sig_base::{Applied, Hour, HourRows, Reads, Row};
@@ -63,7 +63,7 @@ fn is_opened_alone(before: &[u64], after: &[u64]) -> bool {
 #[test]
 fn one_hour_of_many(rt: HostRuntime) -> Result<(), Fail> {
     let alloc = rt.alloc();
-    let mut session = Session::new(alloc, many_hours(alloc)?)?;
+    let mut session = started(alloc, many_hours(alloc)?)?;
     let mut reads = Reads::new(Mark);
     assert!(rt; load_all(alloc, &mut session, &mut reads)?);
     let before = counts(alloc, &reads)?;

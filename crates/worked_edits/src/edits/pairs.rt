@@ -1,5 +1,5 @@
-use super::apply;
 use super::configured::one_interval;
+use super::{apply, started};
 use crate::held::{Mark, green, is_line, store_with_a_hole};
 use filling_pair::{Pair, Pairs, Strands, check_strands};
 use hour_store::HourStore;
@@ -11,7 +11,7 @@ use std::test::Fail;
 
 // Green of phase 2 from 1000 to 1200, where the tenths from 1050 up to 1070 are blanked.
 fn green_with_a_hole(alloc: Global, reads: &mut Reads<Mark>) -> Result<Session<Mark>, Fail> {
-    let mut session = Session::new(alloc, one_interval(alloc)?)?;
+    let mut session = started(alloc, one_interval(alloc)?)?;
     let hole = Edit::Blank {
         from: 1050,
         to: 1070,

@@ -97,16 +97,25 @@ const STEPS: [(Step, Result<Applied, EditError>, [u64; 3]); 10] = [
     (Step::Withdraw(1), SECOND, [1, 2, 35_990]),
 ];
 
+// How many of these edits come out so, up to the first that doesn't.
+fn right_steps(alloc: Global, session: &mut Session<Mark>) -> Result<usize, Fail> {
+    let mut reads = Reads::new(Mark);
+    let mut right: usize = 0;
+    for (step, wanted, after) in STEPS {
+        let (answer, held) = edited(alloc, session, step, &mut reads)?;
+        if answer != wanted || held != after {
+            break;
+        }
+        right = right.saturating_add(1);
+    }
+    Ok(right)
+}
+
 #[test]
 fn edits_one_after_another(rt: HostRuntime) -> Result<(), Fail> {
     let alloc = rt.alloc();
     let mut session = started(alloc, two_hours(alloc)?)?;
-    let mut reads = Reads::new(Mark);
-    for (step, wanted, after) in STEPS {
-        let (answer, held) = edited(alloc, &mut session, step, &mut reads)?;
-        assert_eq!(rt; answer, wanted);
-        assert_eq!(rt; held, after);
-    }
+    assert_eq!(rt; right_steps(alloc, &mut session)?, STEPS.len());
     Ok(())
 }
 
@@ -129,16 +138,25 @@ fn counts(reads: &Reads<Mark>) -> [u64; 3] {
     [reads.count(0), reads.count(1), reads.count(2)]
 }
 
+// How many of these edits move and open these hours, up to the first that doesn't.
+fn right_moves(alloc: Global, session: &mut Session<Mark>) -> Result<usize, Fail> {
+    let mut reads = Reads::new(Mark);
+    let mut right: usize = 0;
+    for (step, from, to, opened) in MOVES {
+        let (answer, _held) = edited(alloc, session, step, &mut reads)?;
+        if answer != Ok(Applied { from, to }) || counts(&reads) != opened {
+            break;
+        }
+        right = right.saturating_add(1);
+    }
+    Ok(right)
+}
+
 #[test]
 fn moves_no_other_hours(rt: HostRuntime) -> Result<(), Fail> {
     let alloc = rt.alloc();
     let mut session = started(alloc, three_hours(alloc)?)?;
-    let mut reads = Reads::new(Mark);
-    for (step, from, to, opened) in MOVES {
-        let (answer, _held) = edited(alloc, &mut session, step, &mut reads)?;
-        assert_eq!(rt; answer, Ok(Applied { from, to }));
-        assert_eq!(rt; counts(&reads), opened);
-    }
+    assert_eq!(rt; right_moves(alloc, &mut session)?, MOVES.len());
     Ok(())
 }
 
@@ -159,18 +177,24 @@ const YELLOW: Row = Row {
     param: 2,
 };
 
+// What the load of these rows answers, and what is held and known after it.
+fn contradicted(
+    alloc: Global,
+    session: &mut Session<Mark>,
+) -> Result<(Result<Applied, EditError>, [u64; 3]), Fail> {
+    let mut reads = Reads::new(Mark);
+    let edit = Edit::Load(contradicting(alloc)?);
+    let answer = apply(session, edit, &mut reads);
+    Ok((answer, numbers(session)))
+}
+
 // The load names the second row, and nothing is held after it.
 #[test]
 fn refuses_what_contradicts(rt: HostRuntime) -> Result<(), Fail> {
     let alloc = rt.alloc();
     let mut session = started(alloc, one_phase(alloc)?)?;
-    let mut reads = Reads::new(Mark);
-    let edit = Edit::Load(contradicting(alloc)?);
-    assert_eq!(rt;
-        apply(&mut session, edit, &mut reads),
-        Err(EditError::Contradiction(YELLOW))
-    );
-    assert_eq!(rt; numbers(&session), [0, 0, 0]);
+    let refused = Err(EditError::Contradiction(YELLOW));
+    assert_eq!(rt; contradicted(alloc, &mut session)?, (refused, [0, 0, 0]));
     Ok(())
 }
 
@@ -210,21 +234,28 @@ const BROKEN: AuditLine = AuditLine {
     window: None,
 };
 
-// A session that holds this green.
-fn with_too_short(alloc: Global, reads: &mut Reads<Mark>) -> Result<Session<Mark>, Fail> {
-    let mut session = started(alloc, one_interval(alloc)?)?;
+// The audit of the session once it holds this green.
+fn load_and_audit(
+    alloc: Global,
+    session: &mut Session<Mark>,
+    windows: bool,
+) -> Result<Vec<AuditLine>, Fail> {
+    let mut reads = Reads::new(Mark);
     let edit = Edit::Load(too_short(alloc)?);
-    let _applied = apply(&mut session, edit, reads);
-    Ok(session)
+    let _applied = apply(session, edit, &mut reads);
+    let lines = audited(alloc, session, windows, &mut reads)?;
+    Ok(lines)
+}
+
+fn audit_of_too_short(alloc: Global, windows: bool) -> Result<Vec<AuditLine>, Fail> {
+    let mut session = started(alloc, one_interval(alloc)?)?;
+    load_and_audit(alloc, &mut session, windows)
 }
 
 // The broken line has its window where that is wanted.
 #[test]
 fn finds_what_decides(rt: HostRuntime) -> Result<(), Fail> {
-    let alloc = rt.alloc();
-    let mut reads = Reads::new(Mark);
-    let session = with_too_short(alloc, &mut reads)?;
-    let lines = audited(alloc, &session, true, &mut reads)?;
+    let lines = audit_of_too_short(rt.alloc(), true)?;
     let window = Some((1000, 1149));
     assert_eq!(rt;
         lines.as_slice(),
@@ -236,10 +267,7 @@ fn finds_what_decides(rt: HostRuntime) -> Result<(), Fail> {
 // It has none where that isn't.
 #[test]
 fn finds_a_line_alone(rt: HostRuntime) -> Result<(), Fail> {
-    let alloc = rt.alloc();
-    let mut reads = Reads::new(Mark);
-    let session = with_too_short(alloc, &mut reads)?;
-    let lines = audited(alloc, &session, false, &mut reads)?;
+    let lines = audit_of_too_short(rt.alloc(), false)?;
     assert_eq!(rt; lines.as_slice(), [BROKEN].as_slice());
     Ok(())
 }

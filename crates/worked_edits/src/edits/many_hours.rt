@@ -2,7 +2,7 @@ use super::configured::many_hours;
 use super::{apply, started};
 use crate::held::Mark;
 use session::{Edit, Session};
-use sig_base::{Applied, Hour, HourRows, Reads, Row};
+use sig_base::{Applied, EditError, Hour, HourRows, Reads, Row};
 use std::alloc::Global;
 use std::test::Fail;
 
@@ -58,19 +58,38 @@ fn is_opened_alone(before: &[u64], after: &[u64]) -> bool {
     before.len() == after.len()
 }
 
+// Puts hour 350 anew with the rows that it has, and answers what comes of it.
+fn replace_one(
+    alloc: Global,
+    session: &mut Session<Mark>,
+    reads: &mut Reads<Mark>,
+) -> Result<Result<Applied, EditError>, Fail> {
+    let edit = Edit::Replace(green_in(alloc, 350)?);
+    Ok(apply(session, edit, reads))
+}
+
+// What comes of this in a session that holds all hours, and whether that hour alone is opened.
+fn replaced(
+    alloc: Global,
+    session: &mut Session<Mark>,
+) -> Result<(Result<Applied, EditError>, bool), Fail> {
+    let mut reads = Reads::new(Mark);
+    if !load_all(alloc, session, &mut reads)? {
+        return Err(Fail::from("load"));
+    }
+    let before = counts(alloc, &reads)?;
+    let answer = replace_one(alloc, session, &mut reads)?;
+    let after = counts(alloc, &reads)?;
+    Ok((answer, is_opened_alone(&before, &after)))
+}
+
 // Of 700 held hours one is put anew with the rows that it has: it moves alone and is opened one to
 // three times, and no other hour is opened.
 #[test]
 fn one_hour_of_many(rt: HostRuntime) -> Result<(), Fail> {
     let alloc = rt.alloc();
     let mut session = started(alloc, many_hours(alloc)?)?;
-    let mut reads = Reads::new(Mark);
-    assert!(rt; load_all(alloc, &mut session, &mut reads)?);
-    let before = counts(alloc, &reads)?;
-    let edit = Edit::Replace(green_in(alloc, 350)?);
-    let alone = Applied { from: 350, to: 351 };
-    assert_eq!(rt; apply(&mut session, edit, &mut reads), Ok(alone));
-    let after = counts(alloc, &reads)?;
-    assert!(rt; is_opened_alone(before.as_slice(), after.as_slice()));
+    let alone = Ok(Applied { from: 350, to: 351 });
+    assert_eq!(rt; replaced(alloc, &mut session)?, (alone, true));
     Ok(())
 }

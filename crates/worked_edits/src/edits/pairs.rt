@@ -10,16 +10,19 @@ use std::alloc::Global;
 use std::test::Fail;
 
 // Green of phase 2 from 1000 to 1200, where the tenths from 1050 up to 1070 are blanked.
-fn green_with_a_hole(alloc: Global, reads: &mut Reads<Mark>) -> Result<Session<Mark>, Fail> {
-    let mut session = started(alloc, one_interval(alloc)?)?;
+fn hold_a_hole(
+    alloc: Global,
+    session: &mut Session<Mark>,
+    reads: &mut Reads<Mark>,
+) -> Result<(), Fail> {
     let hole = Edit::Blank {
         from: 1050,
         to: 1070,
     };
-    apply(&mut session, hole, reads).map_err(|_| "blank")?;
+    apply(session, hole, reads).map_err(|_| "blank")?;
     let load = Edit::Load(green(alloc)?);
-    apply(&mut session, load, reads).map_err(|_| "load")?;
-    Ok(session)
+    apply(session, load, reads).map_err(|_| "load")?;
+    Ok(())
 }
 
 // The pairs of the first rule at a tenth.
@@ -54,30 +57,56 @@ fn checks(
     Ok(check_strands(session.config(), rules, store, &OPEN, strands, kept, reads))
 }
 
-// One part of the pair keeps the rule and the other one breaks it, and neither does both.
+// Whether one part of the pair keeps the rule and the other one breaks it, and neither does both.
+fn are_told_apart(
+    session: &Session<Mark>,
+    store: &HourStore<Mark>,
+    pair: &Pair,
+    reads: &mut Reads<Mark>,
+) -> Result<bool, Fail> {
+    for (strands, kept) in [(&pair.keeps, true), (&pair.breaks, false)] {
+        if !checks(session, store, strands, kept, reads)? {
+            return Ok(false);
+        }
+        if checks(session, store, strands, !kept, reads)? {
+            return Ok(false);
+        }
+    }
+    Ok(true)
+}
+
+// How many pairs there are at the green's end, and whether the first one is told apart.
+fn pairs_of_a_hole(alloc: Global, session: &mut Session<Mark>) -> Result<(usize, bool), Fail> {
+    let mut reads = Reads::new(Mark);
+    hold_a_hole(alloc, session, &mut reads)?;
+    let pairs = pairs_at(session, 1200, &mut reads)?;
+    let store = store_with_a_hole(alloc)?;
+    let first = pairs.list().first().ok_or("no pair")?;
+    let is_apart = are_told_apart(session, &store, first, &mut reads)?;
+    Ok((pairs.list().len(), is_apart))
+}
+
 #[test]
 fn a_pair_of_an_undecided_line(rt: HostRuntime) -> Result<(), Fail> {
     let alloc = rt.alloc();
-    let mut reads = Reads::new(Mark);
-    let session = green_with_a_hole(alloc, &mut reads)?;
-    let pairs = pairs_at(&session, 1200, &mut reads)?;
-    assert_eq!(rt; pairs.list().len(), 1);
-    let store = store_with_a_hole(alloc)?;
-    let pair: &Pair = pairs.list().first().ok_or("no pair")?;
-    for (strands, kept) in [(&pair.keeps, true), (&pair.breaks, false)] {
-        assert!(rt; checks(&session, &store, strands, kept, &mut reads)?);
-        assert!(rt; !checks(&session, &store, strands, !kept, &mut reads)?);
-    }
+    let mut session = started(alloc, one_interval(alloc)?)?;
+    assert_eq!(rt; pairs_of_a_hole(alloc, &mut session)?, (1, true));
     Ok(())
+}
+
+// How many pairs there are one tenth earlier.
+fn pairs_before(alloc: Global, session: &mut Session<Mark>) -> Result<usize, Fail> {
+    let mut reads = Reads::new(Mark);
+    hold_a_hole(alloc, session, &mut reads)?;
+    let pairs = pairs_at(session, 1199, &mut reads)?;
+    Ok(pairs.list().len())
 }
 
 // The line says undecided at no other tenth.
 #[test]
 fn no_pair_where_nothing_is_undecided(rt: HostRuntime) -> Result<(), Fail> {
     let alloc = rt.alloc();
-    let mut reads = Reads::new(Mark);
-    let session = green_with_a_hole(alloc, &mut reads)?;
-    let pairs = pairs_at(&session, 1199, &mut reads)?;
-    assert!(rt; pairs.list().is_empty());
+    let mut session = started(alloc, one_interval(alloc)?)?;
+    assert_eq!(rt; pairs_before(alloc, &mut session)?, 0);
     Ok(())
 }

@@ -1,11 +1,15 @@
 // A green with a short gap in it, which is long enough only without a second start in the gap; and
 // two phases that conflict.
+ghost use Rattle.std.specs.Prelude.{◌≡◌};
+ghost use Rattle.rule_audit.specs.Rules.{rules_for};
+
 use crate::held::{Mark, is_line, store_with_a_hole};
 use channel_tables::colour_named;
 use event_codes::Kind;
 use filling_pair::{Fill, Fills, Pair, Pairs, Strand, Strands, check_strands};
+use hour_store::HourStore;
 use ring_config::{Config, read_config};
-use rule_audit::{AuditLine, Place, rules_of};
+use rule_audit::{AuditLine, Place, Rule, rules_of};
 use sig_base::{Reads, Verdict};
 use std::alloc::Global;
 use std::test::Fail;
@@ -62,22 +66,44 @@ fn strand_of(alloc: Global, given: Given<'_>) -> Result<Strand, Fail> {
     })
 }
 
-// What `check_strands` says of these strands at this place of the first rule.
-fn checks(
-    alloc: Global,
-    config: &[u8],
-    at: u32,
-    place: Place,
-    given: &[Given<'_>],
-    kept: bool,
-) -> Result<bool, Fail> {
-    let config: Config = read_config(alloc, config)?;
-    let rules = rules_of(alloc, &config)?;
-    let store = store_with_a_hole(alloc)?;
+fn strands_of(alloc: Global, given: &[Given]) -> Result<Strands, Fail> {
     let mut strands = Strands::new(alloc);
     for one in given {
         strands.push(strand_of(alloc, *one)?)?;
     }
+    Ok(strands)
+}
+
+// What `check_strands` says of these strands at a line of one of the rules.
+fn says(
+    config: &Config,
+    rules: &[Rule],
+    store: &HourStore<Mark>,
+    line: &AuditLine,
+    strands: &Strands,
+    kept: bool,
+) -> Result<bool, Fail>
+    requires { rules.now ≡ rules_for config.now }
+{
+    let mut reads = Reads::new(Mark);
+    if !is_line(rules, store, line, &mut reads) {
+        return Err(Fail::from("line"));
+    }
+    Ok(check_strands(config, rules, store, line, strands, kept, &mut reads))
+}
+
+// The same at this place of the first rule of the configuration.
+fn checks(
+    alloc: Global,
+    config: &Config,
+    at: u32,
+    place: Place,
+    given: &[Given],
+    kept: bool,
+) -> Result<bool, Fail> {
+    let rules = rules_of(alloc, config)?;
+    let store = store_with_a_hole(alloc)?;
+    let strands = strands_of(alloc, given)?;
     let line = AuditLine {
         rule: 1,
         at,
@@ -85,12 +111,7 @@ fn checks(
         verdict: Verdict::Undecided,
         window: None,
     };
-    let mut reads = Reads::new(Mark);
-    let rules = rules.as_slice();
-    if !is_line(rules, &store, &line, &mut reads) {
-        return Err(Fail::from("line"));
-    }
-    Ok(check_strands(&config, rules, &store, &line, &strands, kept, &mut reads))
+    says(config, rules.as_slice(), &store, &line, &strands, kept)
 }
 
 fn from<'a>(spec: u16, colour: &'a str, fills: &'a [(u32, u8)]) -> Given<'a> {
@@ -103,6 +124,7 @@ fn from<'a>(spec: u16, colour: &'a str, fills: &'a [(u32, u8)]) -> Given<'a> {
 
 #[test]
 fn a_green_with_a_gap_in_it(rt: HostRuntime) -> Result<(), Fail> {
+    let config = read_config(rt.alloc(), CONFIG)?;
     let again = [(1050, 7), (1060, 1)].as_slice();
     let early = [(1049, 7), (1060, 1)].as_slice();
     for (colour, fills, kept, wanted) in [
@@ -115,7 +137,7 @@ fn a_green_with_a_gap_in_it(rt: HostRuntime) -> Result<(), Fail> {
     ] {
         let strands = [from(0, colour, fills)];
         let place = Place::BeforeRow(1);
-        let said = checks(rt.alloc(), CONFIG, 1200, place, &strands, kept)?;
+        let said = checks(rt.alloc(), &config, 1200, place, &strands, kept)?;
         assert_eq!(rt; said, wanted);
     }
     Ok(())
@@ -124,6 +146,7 @@ fn a_green_with_a_gap_in_it(rt: HostRuntime) -> Result<(), Fail> {
 // Phase 4 is in the ring of phase 2, whose green begins at 1000.
 #[test]
 fn two_phases_that_conflict(rt: HostRuntime) -> Result<(), Fail> {
+    let config = read_config(rt.alloc(), RING)?;
     let own = from(0, "Red", &[]);
     let red = from(1, "Red", &[]);
     let green = from(1, "Green", &[]);
@@ -135,21 +158,26 @@ fn two_phases_that_conflict(rt: HostRuntime) -> Result<(), Fail> {
         ([own, red, red].as_slice(), true, false),
         ([red, own].as_slice(), true, false),
     ] {
-        let said = checks(rt.alloc(), RING, 1000, Place::EndOfTenth, strands, kept)?;
+        let said = checks(rt.alloc(), &config, 1000, Place::EndOfTenth, strands, kept)?;
         assert_eq!(rt; said, wanted);
     }
     Ok(())
 }
 
-#[test]
-fn lists_pairs(rt: HostRuntime) -> Result<(), Fail> {
-    let mut keeps = Strands::new(rt.alloc());
-    keeps.push(strand_of(rt.alloc(), from(0, "Red", &[(5, 1)]))?)?;
-    let mut pairs = Pairs::new(rt.alloc());
+// A pair whose first part is a strand, and whose second has none.
+fn pairs_of_one(alloc: Global) -> Result<Pairs, Fail> {
+    let keeps = strands_of(alloc, &[from(0, "Red", &[(5, 1)])])?;
+    let mut pairs = Pairs::new(alloc);
     pairs.push(Pair {
         keeps,
-        breaks: Strands::new(rt.alloc()),
+        breaks: Strands::new(alloc),
     })?;
+    Ok(pairs)
+}
+
+#[test]
+fn lists_pairs(rt: HostRuntime) -> Result<(), Fail> {
+    let pairs = pairs_of_one(rt.alloc())?;
     assert_eq!(rt; pairs.list().len(), 1);
     Ok(())
 }

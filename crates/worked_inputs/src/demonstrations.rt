@@ -1,5 +1,6 @@
 // The files of a demonstration of two hours.
 use demonstration::Demo;
+use std::alloc::Global;
 use std::test::Fail;
 
 const FIRST: &[u8] = b"SignalID,Timestamp,EventCode,EventParam
@@ -26,18 +27,37 @@ unblank 2024-01-01T00:00:00.0 2024-01-01T02:00:00.0
 measures
 ";
 
-#[test]
-fn files_of_two_hours(rt: HostRuntime) -> Result<(), Fail> {
-    let alloc = rt.alloc();
+fn file_of_two(alloc: Global, name: &str) -> Result<Option<Vec<u8>>, Fail> {
     let demo = Demo::new(alloc, 2)?;
-    let script = demo.file(alloc, "script")?.ok_or("script")?;
+    Ok(demo.file(alloc, name)?)
+}
+
+#[test]
+fn the_script(rt: HostRuntime) -> Result<(), Fail> {
+    let script = file_of_two(rt.alloc(), "script")?.ok_or("script")?;
     assert_eq!(rt; script.as_slice(), SCRIPT);
-    let hour = demo.file(alloc, "0")?.ok_or("hour")?;
-    assert!(rt; hour.starts_with(FIRST));
-    let config = demo.file(alloc, "config")?.ok_or("config")?;
-    assert!(rt; config.starts_with(b"signal = \"9000\"\nstart = \"2024-01-01T00\"\nhours = 2\n"));
+    Ok(())
+}
+
+#[test]
+fn how_files_begin(rt: HostRuntime) -> Result<(), Fail> {
+    for (name, front) in [
+        ("0", FIRST),
+        (
+            "config",
+            b"signal = \"9000\"\nstart = \"2024-01-01T00\"\nhours = 2\n".as_slice(),
+        ),
+    ] {
+        let file = file_of_two(rt.alloc(), name)?.ok_or("file")?;
+        assert!(rt; file.starts_with(front), "of {name}");
+    }
+    Ok(())
+}
+
+#[test]
+fn no_other_files(rt: HostRuntime) -> Result<(), Fail> {
     for name in ["2", "00", "", "Config"] {
-        assert!(rt; demo.file(alloc, name)?.is_none(), "of {name}");
+        assert!(rt; file_of_two(rt.alloc(), name)?.is_none(), "of {name}");
     }
     Ok(())
 }

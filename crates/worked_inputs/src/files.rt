@@ -2,6 +2,8 @@ use outside::{
     DiskShelf, FetchError, MemShelf, MemSink, OutSink, PutFailed, Shelf, Sink, put_parts,
 };
 use sig_base::NoMemory;
+use std::alloc::Global;
+use std::test::Fail;
 use std::{fs, io};
 
 // Takes one byte at a time, and none once it is full.
@@ -29,30 +31,33 @@ impl io::Write for &mut Narrow {
     }
 }
 
+// What a fetch of this file of at most so many bytes answers, and what it adds.
+fn fetched<S: Shelf>(
+    alloc: Global,
+    shelf: &mut S,
+    name: &str,
+    limit: u64,
+) -> Result<(Result<(), FetchError>, Vec<u8>), NoMemory> {
+    let mut into = Vec::new(alloc);
+    into.extend_from_slice(b"# ")?;
+    let answer = shelf.fetch(alloc, name, limit, &mut into);
+    Ok((answer, into))
+}
+
 #[test]
-fn files_of_the_disk(rt: HostRuntime) -> io::Result<()> {
+fn files_of_the_disk(rt: HostRuntime) -> Result<(), Fail> {
     fs::write(&rt, "h06.csv", "7,2024-03-04 06:00:00.0,1,2\n")?;
     let mut shelf = DiskShelf::new(&rt);
-    let mut into = Vec::new(rt.alloc());
-    into.extend_from_slice(b"# ")?;
-    assert_eq!(rt;
-        shelf.fetch(rt.alloc(), "h06.csv", 27, &mut into),
-        Err(FetchError::TooLong)
-    );
-    assert_eq!(rt;
-        shelf.fetch(rt.alloc(), "h07.csv", 28, &mut into),
-        Err(FetchError::Missing)
-    );
-    assert_eq!(rt;
-        shelf.fetch(rt.alloc(), ".", 28, &mut into),
-        Err(FetchError::Failed)
-    );
-    assert_eq!(rt; into.as_slice(), b"# ".as_slice());
-    assert_eq!(rt; shelf.fetch(rt.alloc(), "h06.csv", 28, &mut into), Ok(()));
-    assert_eq!(rt;
-        into.as_slice(),
-        b"# 7,2024-03-04 06:00:00.0,1,2\n".as_slice()
-    );
+    for (name, limit, wanted, text) in [
+        ("h06.csv", 27, Err(FetchError::TooLong), "# "),
+        ("h07.csv", 28, Err(FetchError::Missing), "# "),
+        (".", 28, Err(FetchError::Failed), "# "),
+        ("h06.csv", 28, Ok(()), "# 7,2024-03-04 06:00:00.0,1,2\n"),
+    ] {
+        let (answer, into) = fetched(rt.alloc(), &mut shelf, name, limit)?;
+        let found = (answer, into.as_slice());
+        assert_eq!(rt; found, (wanted, text.as_bytes()), "of {name}");
+    }
     Ok(())
 }
 
@@ -68,36 +73,47 @@ fn a_writer_that_fills_up(rt: HostRuntime) {
     assert_eq!(rt; &narrow.bytes, b"rows 2 ");
 }
 
-#[test]
-fn files_in_memory(rt: HostRuntime) -> Result<(), NoMemory> {
-    let mut shelf = MemShelf::new(rt.alloc());
+// Two files, one of them put twice; the second fetch fails.
+fn shelf_of_two(alloc: Global) -> Result<MemShelf, NoMemory> {
+    let mut shelf = MemShelf::new(alloc);
     shelf.add("f", b"old")?;
     shelf.add("g", b"")?;
     shelf.add("f", b"new")?;
     shelf.fail_call(2)?;
-    let mut into = Vec::new(rt.alloc());
-    assert_eq!(rt; shelf.fetch(rt.alloc(), "f", 3, &mut into), Ok(()));
-    assert_eq!(rt;
-        shelf.fetch(rt.alloc(), "g", 3, &mut into),
-        Err(FetchError::Failed)
-    );
-    assert_eq!(rt; shelf.fetch(rt.alloc(), "g", 0, &mut into), Ok(()));
-    assert_eq!(rt;
-        shelf.fetch(rt.alloc(), "h", 3, &mut into),
-        Err(FetchError::Missing)
-    );
-    assert_eq!(rt; into.as_slice(), b"new".as_slice());
+    Ok(shelf)
+}
+
+#[test]
+fn files_in_memory(rt: HostRuntime) -> Result<(), NoMemory> {
+    let mut shelf = shelf_of_two(rt.alloc())?;
+    for (name, limit, wanted, text) in [
+        ("f", 3, Ok(()), "# new"),
+        ("g", 3, Err(FetchError::Failed), "# "),
+        ("g", 0, Ok(()), "# "),
+        ("h", 3, Err(FetchError::Missing), "# "),
+    ] {
+        let (answer, into) = fetched(rt.alloc(), &mut shelf, name, limit)?;
+        let found = (answer, into.as_slice());
+        assert_eq!(rt; found, (wanted, text.as_bytes()), "of {name}");
+    }
     Ok(())
+}
+
+// Which of these puts are taken.
+fn puts(sink: &mut MemSink, texts: [&[u8]; 4]) -> [bool; 4] {
+    let mut taken = [false; 4];
+    for i in 0..4 {
+        taken[i] = sink.put(texts[i]).is_ok();
+    }
+    taken
 }
 
 #[test]
 fn a_sink_in_memory(rt: HostRuntime) -> Result<(), NoMemory> {
     let mut sink = MemSink::new(rt.alloc(), 6)?;
     sink.fail_put(2);
-    assert_eq!(rt; sink.put(b"new"), Ok(()));
-    assert_eq!(rt; sink.put(b"1"), Err(PutFailed));
-    assert_eq!(rt; sink.put(b"1234"), Err(PutFailed));
-    assert_eq!(rt; sink.put(b"123"), Ok(()));
-    assert_eq!(rt; sink.bytes(), b"new123".as_slice());
+    let done = puts(&mut sink, [b"new", b"1", b"1234", b"123"]);
+    let found = (done, sink.bytes());
+    assert_eq!(rt; found, ([true, false, false, true], b"new123".as_slice()));
     Ok(())
 }

@@ -1,37 +1,34 @@
 use gap_map::{Stretch, stretches};
 use span_set::SpanSet;
+use std::alloc::Global;
 use std::test::Fail;
 
-// A blanked range in the middle of a held hour, and an hour that isn't held.
+// Hour 0, where the tenths from 1,050 up to 1,070 are blanked.
+fn cut(alloc: Global, held: bool) -> Result<Vec<Stretch>, Fail> {
+    let mut blanked = SpanSet::new(alloc);
+    blanked.add(1_050, 1_070)?;
+    let parts = stretches(alloc, 0, held, &blanked)?;
+    Ok(parts)
+}
+
+fn stretch(from: u32, to: u32, known: bool) -> Stretch {
+    Stretch { from, to, known }
+}
+
 #[test]
-fn cuts_an_hour(rt: HostRuntime) -> Result<(), Fail> {
-    let mut blanked = SpanSet::new(rt.alloc());
-    blanked.add(1050, 1070)?;
-    let held = stretches(rt.alloc(), 0, true, &blanked)?;
+fn a_held_hour(rt: HostRuntime) -> Result<(), Fail> {
     let parts = [
-        Stretch {
-            from: 0,
-            to: 1050,
-            known: true,
-        },
-        Stretch {
-            from: 1050,
-            to: 1070,
-            known: false,
-        },
-        Stretch {
-            from: 1070,
-            to: 36_000,
-            known: true,
-        },
+        stretch(0, 1_050, true),
+        stretch(1_050, 1_070, false),
+        stretch(1_070, 36_000, true),
     ];
-    assert_eq!(rt; held.as_slice(), parts.as_slice());
-    let not_held = stretches(rt.alloc(), 0, false, &blanked)?;
-    let whole = [Stretch {
-        from: 0,
-        to: 36_000,
-        known: false,
-    }];
-    assert_eq!(rt; not_held.as_slice(), whole.as_slice());
+    assert_eq!(rt; cut(rt.alloc(), true)?.as_slice(), parts.as_slice());
+    Ok(())
+}
+
+#[test]
+fn an_hour_that_is_not_held(rt: HostRuntime) -> Result<(), Fail> {
+    let whole = [stretch(0, 36_000, false)];
+    assert_eq!(rt; cut(rt.alloc(), false)?.as_slice(), whole.as_slice());
     Ok(())
 }

@@ -65,22 +65,26 @@ fn files(rt: HostRuntime) -> Result<(), Fail> {
         ),
         (b"", 0, 0),
     ];
-    let mut reads = Reads::new(());
     for (bytes, len, repeats) in cases {
         let rows: HourRows<()> = read_rows(rt.alloc(), bytes, "7", 0, &window)?;
-        assert_eq!(rt;
-            (rows.len(), rows.repeats()),
-            (len, repeats),
-            "in {bytes:?}"
-        );
-        assert_eq!(rt; rows.show(&mut reads).len() as u32, len);
+        let found = (rows.len(), rows.repeats());
+        assert_eq!(rt; found, (len, repeats), "in {bytes:?}");
     }
-    let bytes = b"7,3/4/2024 6:00:01,8,2\n7,3/4/2024 6:00:00,1,2\n7,3/4/2024 6:00:01,7,2\n";
-    let rows: HourRows<()> = read_rows(rt.alloc(), bytes, "7", 0, &window)?;
+    Ok(())
+}
+
+const MIXED: &[u8] = b"7,3/4/2024 6:00:01,8,2\n7,3/4/2024 6:00:00,1,2\n7,3/4/2024 6:00:01,7,2\n";
+
+// The rows stand in the order of their tenths, and else in that of the file.
+#[test]
+fn rows_in_order(rt: HostRuntime) -> Result<(), Fail> {
+    let window = Window::new(DAY, 6, 1).ok_or("window")?;
+    let rows: HourRows<()> = read_rows(rt.alloc(), MIXED, "7", 0, &window)?;
+    let mut reads = Reads::new(());
     let shown = rows.show(&mut reads);
+    let found = (shown, count_code(shown, 8));
     let want = [row(0, 1, 2), row(10, 8, 2), row(10, 7, 2)];
-    assert_eq!(rt; shown, want.as_slice());
-    assert_eq!(rt; count_code(shown, 8), 1);
+    assert_eq!(rt; found, (want.as_slice(), 1));
     Ok(())
 }
 
@@ -123,13 +127,23 @@ fn refusals(rt: HostRuntime) -> Result<(), Fail> {
             "in {bytes:?}"
         );
     }
-    let mut bytes = Vec::new(rt.alloc());
-    for _ in 0..400_001 {
+    Ok(())
+}
+
+// So many lines of one row.
+fn lines(alloc: Global, count: u32) -> Result<Vec<u8>, Fail> {
+    let mut bytes = Vec::new(alloc);
+    for _ in 0..count {
         bytes.extend_from_slice(b"7,3/4/2024 6:00:00,1,2\n")?;
     }
-    assert_eq!(rt;
-        refusal(rt.alloc(), &bytes, &window),
-        Some(RowError::TooManyRows)
-    );
+    Ok(bytes)
+}
+
+#[test]
+fn too_many_rows(rt: HostRuntime) -> Result<(), Fail> {
+    let window = Window::new(DAY, 6, 1).ok_or("window")?;
+    let bytes = lines(rt.alloc(), 400_001)?;
+    let found = refusal(rt.alloc(), &bytes, &window);
+    assert_eq!(rt; found, Some(RowError::TooManyRows));
     Ok(())
 }

@@ -1,5 +1,5 @@
 use sig_base::{HourRows, Reads, Row, Window};
-use std::alloc::AllocError;
+use std::test::Fail;
 
 #[derive(Drop)]
 struct Mark;
@@ -12,19 +12,27 @@ fn row(at: u32) -> Row {
     }
 }
 
-#[test]
-fn rows_are_handed_out_in_order_and_counted(rt: HostRuntime) -> Result<(), AllocError> {
-    let mixed: Option<HourRows<Mark>> = HourRows::new(0, vec![in rt.alloc(); row(5), row(4)]?, 0);
-    assert!(rt; mixed.is_none());
-    let Some(rows) = HourRows::new(1, vec![in rt.alloc(); row(36_000), row(36_000)]?, 3) else {
-        assert!(rt; false);
-        return Ok(());
-    };
+// So many rows, how often they repeat, and how often the first two hours were opened when they are
+// handed out.
+fn shown(rows: &HourRows<Mark>) -> (usize, u32, [u64; 2]) {
     let mut reads = Reads::new(Mark);
-    assert_eq!(rt; rows.show(&mut reads).len(), 2);
-    assert_eq!(rt; reads.count(0), 0);
-    assert_eq!(rt; reads.count(1), 1);
-    assert_eq!(rt; rows.repeats(), 3);
+    let count = rows.show(&mut reads).len();
+    (count, rows.repeats(), [reads.count(0), reads.count(1)])
+}
+
+#[test]
+fn rows_are_handed_out_and_counted(rt: HostRuntime) -> Result<(), Fail> {
+    let equal = vec![in rt.alloc(); row(36_000), row(36_000)]?;
+    let rows = HourRows::new(1, equal, 3).ok_or("rows")?;
+    assert_eq!(rt; shown(&rows), (2, 3, [0, 1]));
+    Ok(())
+}
+
+#[test]
+fn rows_out_of_order(rt: HostRuntime) -> Result<(), Fail> {
+    let mixed = vec![in rt.alloc(); row(5), row(4)]?;
+    let rows: Option<HourRows<Mark>> = HourRows::new(0, mixed, 0);
+    assert!(rt; rows.is_none());
     Ok(())
 }
 

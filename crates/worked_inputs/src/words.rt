@@ -1,8 +1,19 @@
 use command_line::{Refused, Request, parse_words};
+use std::alloc::Global;
+use std::test::Fail;
 
-// The words, with `|` between two.
+// The program's name and these words, with `|` between two.
+fn split_words<'a>(alloc: Global, words: &'a str) -> Result<Vec<&'a str>, Fail> {
+    let mut all = Vec::new(alloc);
+    all.push("sigaudit")?;
+    for word in words.split('|') {
+        all.push(word)?;
+    }
+    Ok(all)
+}
+
 #[test]
-fn words_in_any_order(rt: HostRuntime) {
+fn words_in_any_order(rt: HostRuntime) -> Result<(), Fail> {
     let run = Ok(Request::Run("c", "s"));
     let pairs = Ok(Request::Pairs("c", "s", 1, "3/4/2024T6:02:00"));
     let count = Ok(Request::Count("f", "7", 19_786, 6));
@@ -39,11 +50,8 @@ fn words_in_any_order(rt: HostRuntime) {
         ("--demo=+1", usage),
         ("--demo=1|--signal=7", usage),
     ] {
-        let mut all = Vec::new(rt.alloc());
-        assert!(rt; all.push("sigaudit").is_ok());
-        for word in words.split('|') {
-            assert!(rt; all.push(word).is_ok());
-        }
-        assert_eq!(rt; parse_words(rt.alloc(), &all), wanted);
+        let all = split_words(rt.alloc(), words)?;
+        assert_eq!(rt; parse_words(rt.alloc(), &all), wanted, "of {words}");
     }
+    Ok(())
 }

@@ -2,10 +2,12 @@ ghost use Rattle.std.specs.Prelude.{◌≡◌};
 ghost use Rattle.channel_tables.specs.Spec.{IsSpec};
 
 use channel_tables::Spec;
+use detector_state::{Switched, switched};
 use event_codes::{Channel, Kind};
 use gap_map::Stretch;
+use reach::Past;
 use ring_config::{Config, read_config};
-use sig_base::Row;
+use sig_base::{NoMemory, Row};
 use std::alloc::Global;
 use std::test::Fail;
 
@@ -51,4 +53,21 @@ pub fn row(at: u32, code: u8) -> Row
     ensures { result ≡ record { at = at; code = code; param = 2 } }
 {
     Row { at, code, param: 2 }
+}
+
+// What is told of detector 5 in an hour before which nothing is known of it.
+pub fn told(alloc: Global, rows: &[Row], stretches: &[Stretch]) -> Result<Switched, NoMemory> {
+    let detector = Channel {
+        kind: Kind::Detector,
+        number: 5,
+    };
+    let before = Past::start(alloc, 3)?;
+    switched(alloc, detector, &before, rows, stretches)
+}
+
+// A row of detector 5.
+pub fn at_detector(at: u32, code: u8) -> Row
+    ensures { result ≡ record { at = at; code = code; param = 5 } }
+{
+    Row { at, code, param: 5 }
 }

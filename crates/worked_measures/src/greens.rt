@@ -1,13 +1,10 @@
 // Detector 5, on from tenth 35,990 up to 36,010, and greens of phase 2 about the point between two
 // hours.
-use detector_state::{OnTenths, Switched, switched};
-use event_codes::{Channel, Kind};
+use crate::given::{WHOLE, at_detector, told};
+use detector_state::OnTenths;
 use gap_map::Stretch;
-use reach::Past;
 use service_cut::{Service, Termination};
-use sig_base::{Hour, NoMemory, Row};
 use split_windows::{OpenGreen, Windows, open_after, windows_hour};
-use std::alloc::Global;
 use std::test::Fail;
 
 // Its green and its red window are over in the first hour, before the detector is known.
@@ -40,21 +37,12 @@ const LATE: Service = Service {
     end: Termination::Unlogged,
 };
 
-// An hour all of whose tenths are known, and before which nothing is known of the detector.
-fn told(
-    alloc: Global,
-    rows: &[Row],
-    stretches: &[Stretch],
-    hour: Hour,
-) -> Result<Switched, NoMemory> {
-    let channel = Channel {
-        kind: Kind::Detector,
-        number: 5,
-    };
-    let before = Past::start(alloc, 3)?;
-    let told = switched(alloc, channel, &before, rows, stretches)?;
-    Ok(told)
-}
+// The stretches of the second hour, known whole.
+const SECOND: [Stretch; 1] = [Stretch {
+    from: 36_000,
+    to: 72_000,
+    known: true,
+}];
 
 fn on(least: u32, greatest: u32) -> OnTenths {
     OnTenths {
@@ -66,17 +54,7 @@ fn on(least: u32, greatest: u32) -> OnTenths {
 
 #[test]
 fn the_hour_before_a_point(rt: HostRuntime) -> Result<(), Fail> {
-    let rows = [Row {
-        at: 35_990,
-        code: 82,
-        param: 5,
-    }];
-    let stretches = [Stretch {
-        from: 0,
-        to: 36_000,
-        known: true,
-    }];
-    let told = told(rt.alloc(), &rows, &stretches, 0)?;
+    let told = told(rt.alloc(), &[at_detector(35_990, 82)], &WHOLE)?;
     let services = [EARLY, WAITING];
     let over = windows_hour(rt.alloc(), None, &[], &services, &told, 0)?;
     let early = [Windows {
@@ -89,38 +67,27 @@ fn the_hour_before_a_point(rt: HostRuntime) -> Result<(), Fail> {
         green: on(0, 50),
         red: on(10, 20),
     }];
-    assert_eq!(rt; over.ended.as_slice(), early.as_slice());
-    assert_eq!(rt; over.pending.as_slice(), waiting.as_slice());
-    let open = open_after(&told, 0, None, 35_985, 36_000);
+    let found = (over.ended.as_slice(), over.pending.as_slice());
+    assert_eq!(rt; found, (early.as_slice(), waiting.as_slice()));
+    Ok(())
+}
+
+#[test]
+fn a_green_at_the_point(rt: HostRuntime) -> Result<(), Fail> {
+    let told = told(rt.alloc(), &[at_detector(35_990, 82)], &WHOLE)?;
     let green = OpenGreen {
         b: 35_985,
         to: 36_000,
         tenths: on(10, 15),
     };
-    assert_eq!(rt; open, green);
+    assert_eq!(rt; open_after(&told, 0, None, 35_985, 36_000), green);
     Ok(())
 }
 
 #[test]
 fn the_hour_after_it(rt: HostRuntime) -> Result<(), Fail> {
-    let rows = [
-        Row {
-            at: 36_000,
-            code: 82,
-            param: 5,
-        },
-        Row {
-            at: 36_010,
-            code: 81,
-            param: 5,
-        },
-    ];
-    let stretches = [Stretch {
-        from: 36_000,
-        to: 72_000,
-        known: true,
-    }];
-    let told = told(rt.alloc(), &rows, &stretches, 1)?;
+    let rows = [at_detector(36_000, 82), at_detector(36_010, 81)];
+    let told = told(rt.alloc(), &rows, &SECOND)?;
     let begun = Some(OpenGreen {
         b: 35_985,
         to: 36_000,
@@ -144,7 +111,7 @@ fn the_hour_after_it(rt: HostRuntime) -> Result<(), Fail> {
             red: on(0, 0),
         },
     ];
-    assert_eq!(rt; over.ended.as_slice(), ended.as_slice());
-    assert!(rt; over.pending.is_empty());
+    let found = (over.ended.as_slice(), over.pending.len());
+    assert_eq!(rt; found, (ended.as_slice(), 0));
     Ok(())
 }

@@ -1,10 +1,13 @@
-ghost use Rattle.std.specs.Prelude.{◌≡◌, ◌≤◌, ◌<◌};
+ghost use Rattle.std.specs.Prelude.{◌≤◌, ◌<◌, IfOk};
+ghost use Rattle.board.specs.Logs.{HourLog, IsHour};
+ghost use Rattle.rule_audit.specs.Lines.{IsAudited};
 
-use crate::given::{PHASE, configured, row};
+use crate::given::{PHASE, WHOLE, configured, row};
 use board::{Aheads, HourView, Pasts, pasts_hour};
 use gap_map::Stretch;
+use ring_config::Config;
 use rule_audit::{AuditLine, Place, Rule, audit_rows, rules_of};
-use sig_base::Verdict;
+use sig_base::{Row, Verdict};
 use std::alloc::{AllocError, Global};
 use std::test::Fail;
 
@@ -53,54 +56,59 @@ fn described(alloc: Global, rule: &Rule) -> Result<String, AllocError> {
     }
 }
 
+// The rules of the configuration, a line each.
+fn listed(alloc: Global, config: &Config) -> Result<String, Fail> {
+    let mut text = String::new(alloc);
+    for rule in &rules_of(alloc, config)? {
+        text.push_str(described(alloc, rule)?.as_str())?;
+    }
+    Ok(text)
+}
+
 #[test]
 fn rules_of_a_corner(rt: HostRuntime) -> Result<(), Fail> {
-    let alloc = rt.alloc();
-    let config = configured(alloc, CORNER)?;
-    let mut text = String::new(alloc);
-    for rule in &rules_of(alloc, &config)? {
-        let line = described(alloc, rule)?;
-        text.push_str(line.as_str())?;
-    }
+    let config = configured(rt.alloc(), CORNER)?;
+    let text = listed(rt.alloc(), &config)?;
     assert_eq!(rt; text.as_str(), RULES);
     Ok(())
 }
 
-// The audit of a green of phase 2 that begins at 1000 and ends with a yellow.
-fn audited(alloc: Global, yellow: u32) -> Result<Vec<AuditLine>, Fail>
-    requires low { 1000 ≤ yellow }
-    requires high { yellow < 36000 }
+// A view of the hour.
+fn seen(
+    alloc: Global,
+    config: &Config,
+    rows: &[Row],
+    stretches: &[Stretch],
+) -> Result<HourView, Fail>
+    requires { IsHour 0 rows.now stretches.now }
+    ensures { IfOk result (λ v. (log : HourLog)
+        × IsAudited config.now v rows.now stretches.now log) }
 {
-    let config = configured(alloc, PHASE)?;
-    let rules = rules_of(alloc, &config)?;
-    let rows = [row(1000, 1), row(yellow, 8)];
-    let stretches = [Stretch {
-        from: 0,
-        to: 36_000,
-        known: true,
-    }];
     let specs = config.specs();
     let before = Pasts::start(alloc, specs)?;
     let after = Aheads::end(alloc, specs, 36_000)?;
-    let _later = pasts_hour(alloc, specs, &before, &rows, &stretches)?;
-    let view = HourView::new(alloc, specs, &before, &rows, &stretches, &after)?;
-    let lines = audit_rows(
-        alloc,
-        &config,
-        rules.as_slice(),
-        &view,
-        &rows,
-        &stretches,
-        false,
-    )?;
+    let _later = pasts_hour(alloc, specs, &before, rows, stretches)?;
+    let view = HourView::new(alloc, specs, &before, rows, stretches, &after)?;
+    Ok(view)
+}
+
+// The audit of a green of phase 2 that begins at 1000 and ends with a yellow.
+fn audited(alloc: Global, config: &Config, yellow: u32) -> Result<Vec<AuditLine>, Fail>
+    requires low { 1000 ≤ yellow }
+    requires high { yellow < 36000 }
+{
+    let rows = [row(1000, 1), row(yellow, 8)];
+    let view = seen(alloc, config, &rows, &WHOLE)?;
+    let rules = rules_of(alloc, config)?;
+    let lines = audit_rows(alloc, config, rules.as_slice(), &view, &rows, &WHOLE, false)?;
     Ok(lines)
 }
 
 // 14.9 seconds are too short, 15 are long enough.
 #[test]
 fn a_green_of_at_least_15_seconds(rt: HostRuntime) -> Result<(), Fail> {
+    let config = configured(rt.alloc(), PHASE)?;
     for (yellow, verdict) in [(1149, Verdict::Broken), (1150, Verdict::Kept)] {
-        let lines = audited(rt.alloc(), yellow)?;
         let line = AuditLine {
             rule: 1,
             at: yellow,
@@ -108,6 +116,7 @@ fn a_green_of_at_least_15_seconds(rt: HostRuntime) -> Result<(), Fail> {
             verdict,
             window: None,
         };
+        let lines = audited(rt.alloc(), &config, yellow)?;
         assert_eq!(rt; lines.as_slice(), [line].as_slice());
     }
     Ok(())

@@ -27,35 +27,63 @@ fn known(alloc: Global, carry: &mut CutCarry, hour: u32, rows: &[Row]) -> Result
     cut_hour(alloc, &PHASES, carry, rows, &stretches)
 }
 
-// The green begins in hour 0, and the yellow ends in hour 1.
+// The green begins in hour 0.
+fn begun(alloc: Global, carry: &mut CutCarry) -> Result<(usize, usize), NoMemory> {
+    let cuts = known(alloc, carry, 0, &[row(35_900, 1)])?;
+    Ok((cuts.services().len(), cuts.open_services().len()))
+}
+
+// The yellow ends in hour 1.
+fn ended(alloc: Global, carry: &mut CutCarry) -> Result<Cuts, NoMemory> {
+    known(alloc, carry, 1, &[row(36_100, 8), row(36_135, 9)])
+}
+
+fn service(b: u32, g: u32, r: u32, end: Termination) -> Service {
+    Service {
+        phase: 2,
+        b,
+        g,
+        y: g,
+        r,
+        end,
+    }
+}
+
 #[test]
 fn a_service_across_a_point(rt: HostRuntime) -> Result<(), Fail> {
     let mut carry = CutCarry::start(rt.alloc(), &PHASES)?;
-    let first = known(rt.alloc(), &mut carry, 0, &[row(35_900, 1)])?;
-    assert!(rt; first.services().is_empty());
-    assert_eq!(rt; first.open_services().len(), 1);
-    let copy = carry.copy()?;
-    assert!(rt; copy.same(&carry));
-    let second = known(rt.alloc(), &mut carry, 1, &[row(36_100, 8), row(36_135, 9)])?;
-    let whole = [Service {
-        phase: 2,
-        b: 35_900,
-        g: 36_100,
-        y: 36_100,
-        r: 36_135,
-        end: Termination::Unlogged,
-    }];
-    assert_eq!(rt; second.services(), whole.as_slice());
-    assert!(rt; second.open_services().is_empty());
-    assert_eq!(rt; second.open_cycles().len(), 1);
-    assert!(rt; !copy.same(&carry));
+    assert_eq!(rt; begun(rt.alloc(), &mut carry)?, (0, 1));
+    let cuts = ended(rt.alloc(), &mut carry)?;
+    let whole = [service(35_900, 36_100, 36_135, Termination::Unlogged)];
+    let open = (cuts.open_services().len(), cuts.open_cycles().len());
+    assert_eq!(rt; (cuts.services(), open), (whole.as_slice(), (0, 1)));
     Ok(())
+}
+
+// Whether a copy is the same, before the hour after it and then.
+fn alike(alloc: Global, carry: &mut CutCarry) -> Result<(bool, bool), NoMemory> {
+    let copy = carry.copy()?;
+    let before = copy.same(carry);
+    ended(alloc, carry)?;
+    Ok((before, copy.same(carry)))
+}
+
+#[test]
+fn what_crosses_the_point(rt: HostRuntime) -> Result<(), Fail> {
+    let mut carry = CutCarry::start(rt.alloc(), &PHASES)?;
+    assert_eq!(rt; alike(rt.alloc(), &mut carry)?, (true, false));
+    Ok(())
+}
+
+// The first hour with these rows.
+fn first(alloc: Global, rows: &[Row]) -> Result<Cuts, NoMemory> {
+    let mut carry = CutCarry::start(alloc, &PHASES)?;
+    known(alloc, &mut carry, 0, rows)
 }
 
 // Rows of one tenth, in their order.
 #[test]
 fn rows_of_one_tenth(rt: HostRuntime) -> Result<(), Fail> {
-    let mut carry = CutCarry::start(rt.alloc(), &PHASES)?;
     let rows = [
         row(10, 8),
         row(20, 9),
@@ -64,7 +92,6 @@ fn rows_of_one_tenth(rt: HostRuntime) -> Result<(), Fail> {
         row(20, 9),
         row(20, 10),
     ];
-    let cuts = known(rt.alloc(), &mut carry, 0, &rows)?;
     let cycle = [Cycle {
         phase: 2,
         from: 20,
@@ -72,32 +99,22 @@ fn rows_of_one_tenth(rt: HostRuntime) -> Result<(), Fail> {
         green: 0,
         yellow: 0,
     }];
-    assert_eq!(rt; cuts.cycles(), cycle.as_slice());
+    assert_eq!(rt; first(rt.alloc(), &rows)?.cycles(), cycle.as_slice());
     Ok(())
 }
 
 // A row that says why the green ended stands after the service, within its tenth.
 #[test]
 fn the_termination_comes_last(rt: HostRuntime) -> Result<(), Fail> {
-    let mut carry = CutCarry::start(rt.alloc(), &PHASES)?;
     let rows = [row(10, 1), row(10, 8), row(10, 9), row(10, 5), row(11, 6)];
-    let cuts = known(rt.alloc(), &mut carry, 0, &rows)?;
-    let whole = [Service {
-        phase: 2,
-        b: 10,
-        g: 10,
-        y: 10,
-        r: 10,
-        end: Termination::MaxOut,
-    }];
-    assert_eq!(rt; cuts.services(), whole.as_slice());
+    let whole = [service(10, 10, 10, Termination::MaxOut)];
+    assert_eq!(rt; first(rt.alloc(), &rows)?.services(), whole.as_slice());
     Ok(())
 }
 
 // The green begins twice before it ends in yellow; the second begin counts.
 #[test]
 fn the_last_begin_of_green(rt: HostRuntime) -> Result<(), Fail> {
-    let mut carry = CutCarry::start(rt.alloc(), &PHASES)?;
     let rows = [
         row(10, 1),
         row(20, 7),
@@ -106,15 +123,7 @@ fn the_last_begin_of_green(rt: HostRuntime) -> Result<(), Fail> {
         row(50, 8),
         row(60, 9),
     ];
-    let cuts = known(rt.alloc(), &mut carry, 0, &rows)?;
-    let whole = [Service {
-        phase: 2,
-        b: 30,
-        g: 50,
-        y: 50,
-        r: 60,
-        end: Termination::GapOut,
-    }];
-    assert_eq!(rt; cuts.services(), whole.as_slice());
+    let whole = [service(30, 50, 60, Termination::GapOut)];
+    assert_eq!(rt; first(rt.alloc(), &rows)?.services(), whole.as_slice());
     Ok(())
 }

@@ -1,12 +1,12 @@
 // A green of phase 2 with its yellow, and detector 5 at its stop bar.
-use detector_state::switched;
-use event_codes::{Channel, Kind};
-use gap_map::Stretch;
-use reach::Past;
-use ring_config::read_config;
-use service_cut::{CutCarry, Service, Termination, cut_hour};
-use sig_base::{Frac, NoMemory, Row};
-use split_measures::{SplitCarry, SplitSum, SplitVerdict, split_verdict, splits_hour, verdict_sum};
+use crate::given::{WHOLE, at_detector, row, told};
+use ring_config::{Config, read_config};
+use service_cut::{CutCarry, Cuts, Service, Termination, cut_hour};
+use sig_base::{Frac, NoMemory, PhaseItem, Row};
+use split_measures::{
+    PhaseSum, SplitCarry, SplitSum, SplitSums, SplitVerdict, split_verdict, splits_hour,
+    verdict_sum,
+};
 use split_windows::windows_hour;
 use std::alloc::Global;
 use std::test::Fail;
@@ -14,40 +14,49 @@ use std::test::Fail;
 const TEXT: &[u8] =
     b"signal = \"7\"\nstart = \"2024-03-04T06\"\nhours = 2\n[[phase]]\nnumber = 4\nring = 1\nside = 2\n[[phase]]\nnumber = 2\nring = 1\nside = 1\n";
 
+// A green from tenth 1,000 up to 1,200.
+fn cut(alloc: Global, phases: &[PhaseItem]) -> Result<Cuts, NoMemory> {
+    let rows = [row(1_000, 1), row(1_200, 8), row(1_235, 9)];
+    let mut carry = CutCarry::start(alloc, phases)?;
+    cut_hour(alloc, phases, &mut carry, &rows, &WHOLE)
+}
+
+// The numbers of its hour.
+fn summed(alloc: Global, config: &Config) -> Result<SplitSums, NoMemory> {
+    let cuts = cut(alloc, config.phases())?;
+    let mut carry = SplitCarry::start(alloc, config)?;
+    splits_hour(alloc, config, &mut carry, &cuts, &[], 0)
+}
+
+// Phase 4, which has no service.
+const NONE: PhaseSum = PhaseSum {
+    services: 0,
+    least: None,
+    greatest: None,
+    sum: 0,
+    gap_out: 0,
+    max_out: 0,
+    force_off: 0,
+    unlogged: 0,
+    cycles: 0,
+    cycle_sum: 0,
+};
+
+// Phase 2.
+const ONE: PhaseSum = PhaseSum {
+    services: 1,
+    least: Some(235),
+    greatest: Some(235),
+    sum: 235,
+    unlogged: 1,
+    ..NONE
+};
+
 #[test]
 fn phases_by_number(rt: HostRuntime) -> Result<(), Fail> {
     let config = read_config(rt.alloc(), TEXT)?;
-    let mut cut = CutCarry::start(rt.alloc(), config.phases())?;
-    let mut carry = SplitCarry::start(rt.alloc(), &config)?;
-    let rows = [
-        Row {
-            at: 1000,
-            code: 1,
-            param: 2,
-        },
-        Row {
-            at: 1200,
-            code: 8,
-            param: 2,
-        },
-        Row {
-            at: 1235,
-            code: 9,
-            param: 2,
-        },
-    ];
-    let stretches = [Stretch {
-        from: 0,
-        to: 36_000,
-        known: true,
-    }];
-    let cuts = cut_hour(rt.alloc(), config.phases(), &mut cut, &rows, &stretches)?;
-    let sums = splits_hour(rt.alloc(), &config, &mut carry, &cuts, &[], 0)?;
-    assert_eq!(rt; sums.phases().len(), 2);
-    assert_eq!(rt; sums.phases()[0].sum, 235);
-    assert_eq!(rt; sums.phases()[0].unlogged, 1);
-    assert_eq!(rt; sums.phases()[1].least, None);
-    assert!(rt; sums.approaches().is_empty());
+    let sums = summed(rt.alloc(), &config)?;
+    assert_eq!(rt; sums.phases(), [ONE, NONE].as_slice());
     Ok(())
 }
 
@@ -64,20 +73,18 @@ fn verdicts_by_four_numbers(rt: HostRuntime) {
     }
 }
 
+const EMPTY: SplitSum = SplitSum {
+    fail: 0,
+    pass: 0,
+    undecided: 0,
+    left_open: 0,
+    fault: 0,
+};
+
 // The verdict of a green from tenth 1,000 up to 1,200 with its end of yellow at 1,235, at a detector
 // of which nothing is known before the rows.
 fn verdict_of_rows(alloc: Global, rows: &[Row]) -> Result<SplitSum, NoMemory> {
-    let channel = Channel {
-        kind: Kind::Detector,
-        number: 5,
-    };
-    let before = Past::start(alloc, 3)?;
-    let stretches = [Stretch {
-        from: 0,
-        to: 36_000,
-        known: true,
-    }];
-    let told = switched(alloc, channel, &before, rows, &stretches)?;
+    let told = told(alloc, rows, &WHOLE)?;
     let services = [Service {
         phase: 2,
         b: 1_000,
@@ -94,30 +101,13 @@ fn verdict_of_rows(alloc: Global, rows: &[Row]) -> Result<SplitSum, NoMemory> {
 #[test]
 fn a_fault_in_the_green(rt: HostRuntime) -> Result<(), Fail> {
     let rows = [
-        Row {
-            at: 900,
-            code: 81,
-            param: 5,
-        },
-        Row {
-            at: 950,
-            code: 85,
-            param: 5,
-        },
-        Row {
-            at: 1_040,
-            code: 82,
-            param: 5,
-        },
-        Row {
-            at: 1_275,
-            code: 81,
-            param: 5,
-        },
+        at_detector(900, 81),
+        at_detector(950, 85),
+        at_detector(1_040, 82),
+        at_detector(1_275, 81),
     ];
-    let sum = verdict_of_rows(rt.alloc(), &rows)?;
-    assert_eq!(rt; (sum.fail, sum.pass, sum.undecided), (0, 0, 0));
-    assert_eq!(rt; (sum.left_open, sum.fault), (0, 1));
+    let wanted = SplitSum { fault: 1, ..EMPTY };
+    assert_eq!(rt; verdict_of_rows(rt.alloc(), &rows)?, wanted);
     Ok(())
 }
 
@@ -125,34 +115,13 @@ fn a_fault_in_the_green(rt: HostRuntime) -> Result<(), Fail> {
 #[test]
 fn a_fault_that_ends_before_the_green(rt: HostRuntime) -> Result<(), Fail> {
     let rows = [
-        Row {
-            at: 900,
-            code: 81,
-            param: 5,
-        },
-        Row {
-            at: 950,
-            code: 85,
-            param: 5,
-        },
-        Row {
-            at: 960,
-            code: 83,
-            param: 5,
-        },
-        Row {
-            at: 1_040,
-            code: 82,
-            param: 5,
-        },
-        Row {
-            at: 1_275,
-            code: 81,
-            param: 5,
-        },
+        at_detector(900, 81),
+        at_detector(950, 85),
+        at_detector(960, 83),
+        at_detector(1_040, 82),
+        at_detector(1_275, 81),
     ];
-    let sum = verdict_of_rows(rt.alloc(), &rows)?;
-    assert_eq!(rt; (sum.fail, sum.pass, sum.undecided), (1, 0, 0));
-    assert_eq!(rt; (sum.left_open, sum.fault), (0, 0));
+    let wanted = SplitSum { fail: 1, ..EMPTY };
+    assert_eq!(rt; verdict_of_rows(rt.alloc(), &rows)?, wanted);
     Ok(())
 }

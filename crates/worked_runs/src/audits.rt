@@ -48,8 +48,8 @@ const AUDITED: [(&str, &str, Status, &str); 5] = [
 fn verdicts_and_contradictions(rt: HostRuntime) -> Result<(), Fail> {
     for (script, file, status, text) in AUDITED {
         let (end, said) = script_ran(rt.alloc(), TIMED, script, [file, ""])?;
-        assert_eq!(rt; end, status, "of {file}");
-        assert_eq!(rt; said.as_slice(), text.as_bytes(), "of {file}");
+        let found = (end, said.as_slice());
+        assert_eq!(rt; found, (status, text.as_bytes()), "of {file}");
     }
     Ok(())
 }
@@ -151,8 +151,8 @@ const HOLES: [(&str, &str, [&str; 2], &str); 9] = [
 fn a_hole_that_may_be_filled_both_ways(rt: HostRuntime) -> Result<(), Fail> {
     for (config, script, files, text) in HOLES {
         let (end, said) = script_ran(rt.alloc(), config, script, files)?;
-        assert_eq!(rt; end, Status::Done, "of {script}");
-        assert_eq!(rt; said.as_slice(), text.as_bytes(), "of {script}");
+        let found = (end, said.as_slice());
+        assert_eq!(rt; found, (Status::Done, text.as_bytes()), "of {script}");
     }
     Ok(())
 }

@@ -40,9 +40,10 @@ fn each_put_fails(rt: HostRuntime) -> Result<(), Fail> {
     for put in 1..61u64 {
         let (end, written) = cut_at(rt.alloc(), put)?;
         let whole = written.len() == TEXT.len();
-        assert_eq!(rt; end, if whole { Status::Done } else { Status::Fault });
-        assert!(rt; TEXT.starts_with(&written));
-        assert!(rt; whole || put == 1 || before < written.len(), "put {put}");
+        let is_longer = whole || put == 1 || before < written.len();
+        let found = (end, TEXT.starts_with(&written), is_longer);
+        let wanted = if whole { Status::Done } else { Status::Fault };
+        assert_eq!(rt; found, (wanted, true, true), "put {put}");
         before = written.len();
     }
     assert_eq!(rt; before, TEXT.len());
@@ -57,37 +58,49 @@ fn the_third_fetch_fails(rt: HostRuntime) -> Result<(), Fail> {
     let mut shelf = shelf_of_three(alloc)?;
     shelf.fail_call(3)?;
     let (end, said) = ran_over(alloc, &words, &mut shelf, 1000)?;
-    assert_eq!(rt; end, Status::Fault);
+    let found = (end, said.as_slice());
     assert_eq!(rt;
-        said.as_slice(),
-        b"1 measures\nheld 0 rows 0 known 0\nphase 2 services 0 least - greatest - sum 0 gap 0 max 0 force 0 unlogged 0 cycles 0 cycle_sum 0\n2 ok moved 0 2\n".as_slice()
+        found,
+        (
+            Status::Fault,
+            b"1 measures\nheld 0 rows 0 known 0\nphase 2 services 0 least - greatest - sum 0 gap 0 max 0 force 0 unlogged 0 cycles 0 cycle_sum 0\n2 ok moved 0 2\n".as_slice()
+        )
     );
     Ok(())
 }
 
-#[test]
-fn faults_missing_files_and_faulty_words(rt: HostRuntime) -> Result<(), Fail> {
-    let alloc = rt.alloc();
-    let words = count_words(alloc)?;
-    let none = Words::new(alloc);
+// How two runs of these words end, one after the other, where the second fetch fails.
+fn ends(alloc: Global, words: &Words, sink: &mut MemSink) -> Result<[Status; 2], Fail> {
     let mut shelf = MemShelf::new(alloc);
     shelf.fail_call(2)?;
-    let mut sink = MemSink::new(alloc, 140)?;
     let mut reads = Reads::new(Mark);
-    for (asked, status) in [
-        (&words, Status::NoFile),
-        (&words, Status::Fault),
-        (&none, Status::Usage),
-        (&none, Status::Fault),
-    ] {
-        assert_eq!(rt;
-            end_of(alloc, asked, &mut shelf, &mut sink, &mut reads),
-            status
-        );
-    }
+    let first = end_of(alloc, words, &mut shelf, sink, &mut reads);
+    Ok([first, end_of(alloc, words, &mut shelf, sink, &mut reads)])
+}
+
+const USAGE: &str =
+    "usage: sigaudit --config C --script S [--rule K --at T] | --count F --signal ID --hour H | --pack F --signal ID --hour H | --demo N\n";
+
+// A count of a file that isn't there, and then one whose fetch fails.
+#[test]
+fn a_missing_file_and_a_fault(rt: HostRuntime) -> Result<(), Fail> {
+    let words = count_words(rt.alloc())?;
+    let mut sink = MemSink::new(rt.alloc(), 140)?;
+    let found = ends(rt.alloc(), &words, &mut sink)?;
     assert_eq!(rt;
-        sink.bytes(),
-        b"usage: sigaudit --config C --script S [--rule K --at T] | --count F --signal ID --hour H | --pack F --signal ID --hour H | --demo N\n".as_slice()
+        (found, sink.bytes().len()),
+        ([Status::NoFile, Status::Fault], 0)
     );
+    Ok(())
+}
+
+// No words, twice: the second time there is no room for the usage.
+#[test]
+fn words_that_ask_for_nothing(rt: HostRuntime) -> Result<(), Fail> {
+    let words = Words::new(rt.alloc());
+    let mut sink = MemSink::new(rt.alloc(), 140)?;
+    let found = ends(rt.alloc(), &words, &mut sink)?;
+    let wanted = ([Status::Usage, Status::Fault], USAGE.as_bytes());
+    assert_eq!(rt; (found, sink.bytes()), wanted);
     Ok(())
 }

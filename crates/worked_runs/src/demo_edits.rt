@@ -61,32 +61,65 @@ fn are_moved_alone(moved: &Applied, reads: &Reads<Mark>) -> bool {
     true
 }
 
-// The edits of a demonstration of a day, each with counts of its own.
-#[test]
-fn edits_open_what_they_move(rt: HostRuntime) -> Result<(), Fail> {
-    let alloc = rt.alloc();
-    let demo = Demo::new(alloc, HOURS)?;
-    let config = file_of(alloc, &demo, "config")?;
-    let mut session = Session::new(alloc, read_config(alloc, &config)?)?;
-    let script = file_of(alloc, &demo, "script")?;
-    let mut rest = script.as_slice();
+// Whether the edit moves its hours, and no other hour is opened.
+fn edited(session: &mut Session<Mark>, edit: Edit<Mark>) -> Result<bool, Fail> {
+    let mut reads = Reads::new(Mark);
+    let moved = session.apply(edit, &mut reads).map_err(|_| "refused")?;
+    Ok(are_moved_alone(&moved, &reads))
+}
+
+// The same of the edit of a line of the script, where it is one.
+fn line_done(
+    alloc: Global,
+    demo: &Demo,
+    session: &mut Session<Mark>,
+    line: &[u8],
+) -> Result<Option<bool>, Fail> {
+    let line = read_line(line, session.config().window());
+    match edit_of(alloc, demo, session.config(), line)? {
+        Some(edit) => Ok(Some(edited(session, edit)?)),
+        None => Ok(None),
+    }
+}
+
+// How many edits the script has, and whether each of them does so.
+fn edits_done(
+    alloc: Global,
+    demo: &Demo,
+    session: &mut Session<Mark>,
+    script: &[u8],
+) -> Result<(u32, bool), Fail> {
+    let mut rest = script;
     let mut edits = 0u32;
+    let mut are_alone = true;
     for _line in 0..1000 {
         if rest.is_empty() {
             break;
         }
         let (line, later) = split_line(rest);
         rest = later;
-        let line = read_line(line, session.config().window());
-        let Some(edit) = edit_of(alloc, &demo, session.config(), line)? else {
-            continue;
-        };
-        let mut reads = Reads::new(Mark);
-        let moved = session.apply(edit, &mut reads).map_err(|_| "refused")?;
-        assert!(rt; are_moved_alone(&moved, &reads), "of edit {edits}");
-        edits = edits.saturating_add(1);
+        if let Some(is_alone) = line_done(alloc, demo, session, line)? {
+            edits = edits.saturating_add(1);
+            are_alone &= is_alone;
+        }
     }
-    assert!(rt; rest.is_empty());
-    assert!(rt; edits > HOURS);
+    Ok((edits, are_alone && rest.is_empty()))
+}
+
+fn session_of(alloc: Global, demo: &Demo) -> Result<Session<Mark>, Fail> {
+    let text = file_of(alloc, demo, "config")?;
+    let session = Session::new(alloc, read_config(alloc, &text)?)?;
+    Ok(session)
+}
+
+// The edits of a demonstration of a day, each with counts of its own.
+#[test]
+fn edits_open_what_they_move(rt: HostRuntime) -> Result<(), Fail> {
+    let alloc = rt.alloc();
+    let demo = Demo::new(alloc, HOURS)?;
+    let script = file_of(alloc, &demo, "script")?;
+    let mut session = session_of(alloc, &demo)?;
+    let (edits, are_alone) = edits_done(alloc, &demo, &mut session, &script)?;
+    assert_eq!(rt; (edits > HOURS, are_alone), (true, true));
     Ok(())
 }

@@ -52,8 +52,8 @@ fn ten_thousand_blanks_and_one_too_many(rt: HostRuntime) -> Result<(), Fail> {
     shelf.add("s", &blanks(alloc)?)?;
     let wanted = answers(alloc)?;
     let (end, said) = ran_over(alloc, &words, &mut shelf, wanted.len())?;
-    assert_eq!(rt; end, Status::SomeRefused);
-    assert_eq!(rt; said.as_slice(), wanted.as_slice());
+    let found = (end, said.as_slice());
+    assert_eq!(rt; found, (Status::SomeRefused, wanted.as_slice()));
     Ok(())
 }
 
@@ -89,8 +89,8 @@ fn the_longest_hour_file(rt: HostRuntime) -> Result<(), Fail> {
         (LONGEST, Status::Done, "1 ok rows 0 repeats 0 moved 0 2\n"),
     ] {
         let (end, said) = loaded(rt.alloc(), length)?;
-        assert_eq!(rt; end, status);
-        assert_eq!(rt; said.as_slice(), text.as_bytes());
+        let found = (end, said.as_slice());
+        assert_eq!(rt; found, (status, text.as_bytes()));
     }
     Ok(())
 }

@@ -70,8 +70,8 @@ const MEASURED: [(&str, &str, [&str; 2], &str); 6] = [
 fn measures_of_phases_pedestrians_preempts_and_coordination(rt: HostRuntime) -> Result<(), Fail> {
     for (config, script, files, text) in MEASURED {
         let (end, said) = script_ran(rt.alloc(), config, script, files)?;
-        assert_eq!(rt; end, Status::Done, "of {script}");
-        assert_eq!(rt; said.as_slice(), text.as_bytes(), "of {script}");
+        let found = (end, said.as_slice());
+        assert_eq!(rt; found, (Status::Done, text.as_bytes()), "of {script}");
     }
     Ok(())
 }

@@ -19,7 +19,7 @@ const TEXT: &str =
 #[test]
 fn shifts_of_an_approach(rt: HostRuntime) -> Result<(), Fail> {
     let (end, said) = script_ran(rt.alloc(), CONFIG, SCRIPT, [FILE, ""])?;
-    assert_eq!(rt; end, Status::SomeRefused);
-    assert_eq!(rt; said.as_slice(), TEXT.as_bytes());
+    let found = (end, said.as_slice());
+    assert_eq!(rt; found, (Status::SomeRefused, TEXT.as_bytes()));
     Ok(())
 }

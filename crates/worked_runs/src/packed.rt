@@ -61,8 +61,8 @@ fn files_are_packed_or_refused(rt: HostRuntime) -> Result<(), Fail> {
     let words = pack_words(alloc)?;
     for (file, status, bytes) in FILES {
         let (end, said) = ran(alloc, &words, &[("f", file)])?;
-        assert_eq!(rt; end, status);
-        assert_eq!(rt; said.as_slice(), bytes);
+        let found = (end, said.as_slice());
+        assert_eq!(rt; found, (status, bytes));
     }
     Ok(())
 }

@@ -50,10 +50,10 @@ fn rules_and_tenths_that_are_not_there(rt: HostRuntime) -> Result<(), Fail> {
         ),
     ] {
         let (end, said) = pairs_ran(rt.alloc(), rule, at, script)?;
-        assert_eq!(rt; end, status, "of rule {rule} at {at}");
+        let found = (end, said.as_slice());
         assert_eq!(rt;
-            said.as_slice(),
-            NOTHING.as_bytes(),
+            found,
+            (status, NOTHING.as_bytes()),
             "of rule {rule} at {at}"
         );
     }
@@ -73,8 +73,8 @@ fn words_of_pairs_without_their_files(rt: HostRuntime) -> Result<(), Fail> {
         ),
     ] {
         let (end, said) = ran(rt.alloc(), &words, &[("c", config.as_bytes())])?;
-        assert_eq!(rt; end, status);
-        assert_eq!(rt; said.as_slice(), text.as_bytes());
+        let found = (end, said.as_slice());
+        assert_eq!(rt; found, (status, text.as_bytes()));
     }
     Ok(())
 }

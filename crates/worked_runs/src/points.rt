@@ -31,8 +31,12 @@ const APPROACHED: [(&str, &str, [&str; 2], &str); 2] = [
 fn arrivals_and_the_diagram_of_a_phase(rt: HostRuntime) -> Result<(), Fail> {
     for (config, script, files, text) in APPROACHED {
         let (end, said) = script_ran(rt.alloc(), config, script, files)?;
-        assert_eq!(rt; end, Status::SomeRefused, "of {script}");
-        assert_eq!(rt; said.as_slice(), text.as_bytes(), "of {script}");
+        let found = (end, said.as_slice());
+        assert_eq!(rt;
+            found,
+            (Status::SomeRefused, text.as_bytes()),
+            "of {script}"
+        );
     }
     Ok(())
 }

@@ -47,8 +47,8 @@ fn a_script_of_edits(rt: HostRuntime) -> Result<(), Fail> {
             ("f", TWICE),
         ];
         let (end, said) = ran(rt.alloc(), &words, &files)?;
-        assert_eq!(rt; end, status, "of {script}");
-        assert_eq!(rt; said.as_slice(), text.as_bytes(), "of {script}");
+        let found = (end, said.as_slice());
+        assert_eq!(rt; found, (status, text.as_bytes()), "of {script}");
     }
     Ok(())
 }

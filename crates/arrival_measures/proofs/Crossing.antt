@@ -7,6 +7,7 @@ use Rattle.std.proofs.lemmas.List.{append-nil}
 use Rattle.std.proofs.lemmas.List.Elements.{All-nil, All-cons, All-head, All-tail, All-weaker}
 use Rattle.sig_base.specs.declared.values.Row.{Row}
 use Rattle.sig_base.specs.declared.values.PhaseItem.{PhaseItem}
+use Rattle.sig_base.specs.Numbers.{has_phase}
 use Rattle.hour_sweep.specs.Rows.{kept_last, live, known_rows}
 use Rattle.hour_sweep.specs.Hours.{AreOrdered, point}
 use Rattle.hour_sweep.specs.Numbers.{numbered, given, outs_from}
@@ -17,7 +18,7 @@ use Rattle.service_cut.specs.declared.cycles.CycleBegun.{CycleBegun}
 use Rattle.service_cut.specs.declared.items.Cycle.{Cycle}
 use Rattle.service_cut.specs.declared.items.OpenCycle.{OpenCycle}
 use Rattle.service_cut.specs.Cycles.{is_yellow_end, last_end_from, cycle_begun, cycle_begun_in, cycle_begun_of, cycle_of, cycle_at}
-use Rattle.service_cut.specs.Parts.{has_phase, room, part_of, open_cycle_of, open_cycle}
+use Rattle.service_cut.specs.Parts.{room, part_of, open_cycle_of, open_cycle}
 use Rattle.service_cut.specs.Cut.{cycles_from, CutLists, IsCut}
 use Rattle.service_cut.proofs.Rooms.{has_room}
 use Rattle.ring_config.specs.Settings.{Settings}

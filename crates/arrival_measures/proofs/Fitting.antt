@@ -5,10 +5,10 @@ use Rattle.std.proofs.lemmas.List.{map-append}
 use Rattle.std.proofs.lemmas.List.Elements.{All-append, All-nil, All-cons, All-head, All-tail, All-filter}
 use Rattle.std.proofs.lemmas.Bool.{cases_Bool, eqb-true}
 use Rattle.sig_base.specs.declared.values.Row.{Row}
+use Rattle.sig_base.specs.Numbers.{has_phase}
 use Rattle.hour_sweep.specs.Hours.{AreOrdered}
 use Rattle.ring_config.specs.Settings.{Settings}
 use Rattle.service_cut.specs.declared.items.Cycle.{Cycle}
-use Rattle.service_cut.specs.Parts.{has_phase}
 use Rattle.service_cut.specs.Cut.{cycles_from}
 use Rattle.service_cut.specs.Whole.{CycleFits}
 use Rattle.service_cut.proofs.Fitting.{cycles_fit}

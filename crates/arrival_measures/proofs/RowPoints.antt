@@ -8,9 +8,9 @@ use Rattle.std.proofs.lemmas.List.Elements.{All-head, All-tail}
 use Rattle.std.proofs.lemmas.Grind.{flat_map-append}
 use Rattle.sig_base.specs.declared.values.Row.{Row}
 use Rattle.sig_base.specs.declared.values.PhaseItem.{PhaseItem}
+use Rattle.sig_base.specs.Numbers.{has_number}
 use Rattle.ring_config.specs.Settings.{Settings, detectors, some_number}
 use Rattle.ring_config.specs.Sound.{IsApproach, IsBetween}
-use Rattle.ring_config.specs.Values.{has_number}
 use Rattle.ring_config.specs.declared.items.Approach.{Approach}
 use Rattle.arrival_measures.specs.declared.points.Point.{Point}
 use Rattle.arrival_measures.specs.Crossing.{has_detector}

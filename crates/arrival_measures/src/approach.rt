@@ -1,7 +1,7 @@
 // The approaches of a configuration, and the places of their phases.
 ghost use Rattle.std.specs.Prelude.{◌≡◌, ◌<◌, true, length, slice_index_or};
 ghost use Rattle.ring_config.specs.Settings.{spec_place};
-ghost use Rattle.ring_config.specs.Values.{has_phase};
+ghost use Rattle.sig_base.specs.Numbers.{has_phase};
 ghost use Rattle.ring_config.specs.declared.items.Approach.{Approach};
 ghost use Rattle.arrival_measures.specs.Judged.{phase_channel};
 ghost use Rattle.arrival_measures.specs.Steps.{IsOwnOf};

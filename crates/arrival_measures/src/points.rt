@@ -55,6 +55,7 @@ impl Points {
         Ok(())
     }
 
+    /// The points, as they were added.
     pub fn list(&self) -> &[Point]
         ensures { result.now ≡ self.now }
     {

@@ -12,17 +12,6 @@ use cycle_arrivals::Open;
 use gap_map::Stretch;
 use sig_base::Row;
 
-/// The first tenth of the hour with these stretches.
-pub(crate) fn first_of(stretches: &[Stretch]) -> u32
-    ensures { (known : ℕ → Bool) (a b : ℕ) → AreStretches known a b stretches.now → a < b
-        → result ≡ a }
-{
-    match stretches.first() {
-        Some(stretch) => stretch.from,
-        None => 0,
-    }
-}
-
 // The rows at the tenths from one up to another; an hour's rows stand by tenth.
 fn rows_between(rows: &[Row], from: u32, to: u32) -> &[Row]
     ensures { (a b : ℕ) → AreOrdered a b rows.now → result.now ≡ rows_within from to rows.now }

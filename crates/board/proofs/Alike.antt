@@ -1,3 +1,4 @@
+-- States that can no longer be told apart, and what they lead to.
 use Rattle.std.proofs.Common.{◌≡◌, refl, sym, ◌∙◌, subst, ◌⊎◌, inl, inr, ℕ, ◌<◌, ℤ, pos, ◌+ℤ◌, ◌≤ℤ◌, Bool, List, [], ◌∷◌, arith, Some}
 use Rattle.std.proofs.lemmas.Int.{ints}
 use Rattle.colour_machine.specs.Rules.{Rules, IsMachine}

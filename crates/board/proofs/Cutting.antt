@@ -1,3 +1,4 @@
+-- An hour's stretches and rows cut at a tenth.
 use Rattle.std.proofs.Common.{suc, ◌≡◌, refl, ap, sym, ◌∙◌, subst, inl, inr, ◌↔◌, ℕ, ◌+◌, ◌-◌, ◌<◌, ◌≤◌, pos, true, nat_eq, List, [], ◌∷◌, ◌++◌, length, length-drop, take, drop, arith, Option, Some, None}
 use Rattle.std.proofs.lemmas.Bool.{cases_Bool}
 use Rattle.std.proofs.lemmas.List.{append-nil, append_assoc, take-append-le, drop-append-le, take_all, drop_all, take-append-drop}

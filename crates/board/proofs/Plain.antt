@@ -1,3 +1,4 @@
+-- What the moves of an hour lead to, said of its runs.
 use Rattle.std.proofs.Common.{refl, arith, ◌∙◌, Bool, ◌+◌, ◌<ℤ◌, ◌∷◌, ◌++◌, ℤ, pos, ◌-ℤ◌, inl, inr, ◌≡◌, ◌↔◌, ℕ, ◌<◌, List, [], length, get_or, Option, Some, None}
 use Rattle.span_set.specs.declared.set.Span.{Span}
 use Rattle.reach.specs.Runs.{State, state}

@@ -1,3 +1,4 @@
+-- The place of a row of the hour, and the runs before and after it.
 use Rattle.std.proofs.Common.{suc, zero, ◌≡◌, refl, ap, sym, ◌∙◌, subst, inl, inr, ◌↔◌, ℕ, ◌+◌, ◌<◌, ◌≤◌, ℤ, pos, true, List, [], ◌∷◌, ◌++◌, length, length-append, take, drop, get_or, arith, Some}
 use Rattle.std.proofs.lemmas.Bool.{eq-eqb, lt-ltb}
 use Rattle.std.proofs.lemmas.List.{take_at, take-append-drop, take_more, drop_more, length-take-le, get_or_at}

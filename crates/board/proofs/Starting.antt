@@ -1,3 +1,4 @@
+-- What each channel starts and ends with, channel by channel.
 use Rattle.std.proofs.Common.{suc, ◌≡◌, refl, inl, inr, ◌↔◌, ℕ, ◌+◌, ◌<◌, ℤ, negsuc, List, [], ◌∷◌, ◌++◌, length, get_or, arith, ◌<ℤ◌, Option}
 use Rattle.std.proofs.lemmas.Int.{ints}
 use Rattle.std.proofs.lemmas.Bool.{cases_eq}

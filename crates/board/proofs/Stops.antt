@@ -1,3 +1,4 @@
+-- A stop among the moves is a row of the hour at which no run goes on.
 use Rattle.std.proofs.Common.{suc, zero, ◌≡◌, refl, ap, sym, ◌∙◌, subst, inl, inr, ℕ, ◌+◌, ◌-◌, ◌<◌, ◌≤◌, true, List, [], ◌∷◌, ◌++◌, length, length-append, length-drop, take, drop, get_or, arith, Option, Some, None}
 use Rattle.std.proofs.lemmas.Bool.{cases_lt, cases_Bool}
 use Rattle.std.proofs.lemmas.List.{take_at, take_more, length-take-le, get_or_at, get_or_append_left, get_or-append_right, get_or-take, get_or-drop}

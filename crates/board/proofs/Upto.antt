@@ -1,3 +1,4 @@
+-- The runs up to a place in the middle of an hour.
 use Rattle.std.proofs.Common.{suc, zero, ◌≡◌, refl, ap, sym, ◌↔◌, ℕ, ◌+◌, ◌-◌, ◌<◌, ◌≤◌, Bool, List, [], ◌∷◌, take, arith}
 use Rattle.span_set.specs.declared.set.Span.{Span}
 use Rattle.reach.specs.Runs.{State}

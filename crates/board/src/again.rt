@@ -10,12 +10,12 @@ ghost use Rattle.board.specs.Stops.{IsFirstStop, AreBefore};
 ghost use Rattle.board.specs.Places.{AllEarly, AreAheadsOf};
 ghost use Rattle.board.specs.Hours.{AreAheadsBefore, AreClampedPasts, ArePastsOf, NamesStop};
 
-use crate::aheads::{Aheads, ahead_before, first_of};
+use crate::aheads::{Aheads, ahead_before};
 use crate::courses::{Course, courses_of};
 use crate::meeting::aheads_meeting;
 use crate::pasts::{After, Pasts, PastsError, clamp_past, earlier, end_of, pasts_hour, walk_spec};
 use channel_tables::Spec;
-use gap_map::Stretch;
+use gap_map::{Stretch, first_of};
 use sig_base::{NoMemory, Row};
 use std::alloc::Global;
 

@@ -19,7 +19,7 @@ use crate::pasts::Pasts;
 use channel_path::{Move, walk_ahead};
 use channel_tables::{AnyMachine, Spec, machine_of};
 use colour_machine::Machine;
-use gap_map::Stretch;
+use gap_map::{Stretch, first_of};
 use reach::{Ahead, Past, is_sure};
 use sig_base::{NoMemory, Row, Tenth};
 use std::alloc::Global;
@@ -162,14 +162,6 @@ pub fn aheads_hour(
         aheads.push(ahead)?;
     }
     Ok(Aheads { aheads, alloc })
-}
-
-// The first tenth of the stretches.
-pub fn first_of(stretches: &[Stretch]) -> u32
-    requires { 1 ≤ length stretches.now }
-    ensures { (f t : ℕ) → FollowOn f t stretches.now → result ≡ f }
-{
-    stretches[0].from
 }
 
 // The states of one channel, entered before the tenth, from which its moves lead to one that is

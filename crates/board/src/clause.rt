@@ -49,6 +49,7 @@ impl Clause {
         Some(Clause { terms })
     }
 
+    /// The terms, in the order in which they were given.
     pub fn terms(&self) -> &[Term]
         ensures terms { result.now ≡ self.now }
         ensures fit { AreClause self.now }
@@ -69,8 +70,8 @@ fn are_apart(terms: &[Term]) -> bool
     true
 }
 
-// Whether one of the terms is of the spec.
-fn has_spec(terms: &[Term], spec: u16) -> bool
+/// Whether one of the terms is of the spec.
+pub fn has_spec(terms: &[Term], spec: u16) -> bool
     ensures { IsTrue result ↔ HasSpec spec terms.now }
 {
     for term in terms {
@@ -96,7 +97,7 @@ pub fn clause_verdict(view: &HourView, at: u32, clause: &Clause) -> Verdict
         if !seen.some_false {
             return Verdict::Kept;
         }
-        some = either(some, seen.some_true);
+        some |= seen.some_true;
     }
     if some {
         return Verdict::Undecided;
@@ -115,13 +116,4 @@ fn term_seen(view: &HourView, at: u32, term: Term) -> Seen
         at: i64::from(at),
     };
     view.seen_at_end(term.spec, at, &test)
-}
-
-fn either(a: bool, b: bool) -> bool
-    ensures { IsTrue result ↔ (IsTrue a ⊎ IsTrue b) }
-{
-    if a {
-        return true;
-    }
-    b
 }

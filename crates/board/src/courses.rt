@@ -50,6 +50,7 @@ impl Course {
         Ok(())
     }
 
+    /// The moves, in the order of their tenths.
     pub fn moves(&self) -> &[Move]
         ensures { result.now ≡ self.now }
     {

@@ -11,11 +11,11 @@ ghost use Rattle.board.specs.Logs.{IsHour};
 ghost use Rattle.board.specs.Places.{AreAheadsOf};
 ghost use Rattle.board.specs.Hours.{AreAheadsBefore};
 
-use crate::aheads::{Aheads, first_of, lower_before};
+use crate::aheads::{Aheads, lower_before};
 use crate::courses::courses_of;
 use channel_path::{Move, walk_ahead};
 use channel_tables::{Spec, machine_of};
-use gap_map::Stretch;
+use gap_map::{Stretch, first_of};
 use reach::Ahead;
 use sig_base::{NoMemory, Row};
 use std::alloc::Global;

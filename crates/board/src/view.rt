@@ -11,14 +11,14 @@ ghost use Rattle.board.specs.Stops.{AreBefore, moves_at};
 ghost use Rattle.board.specs.Places.{IsBefore, IsSplit, IsLog, AreAheadsOf};
 ghost use Rattle.board.specs.Verdicts.{SeesRow, SeesEnd};
 
-use crate::aheads::{Aheads, first_of};
+use crate::aheads::Aheads;
 use crate::courses::courses_of;
 use crate::marks::{Marks, marks_of};
 use crate::pasts::Pasts;
 use crate::slice_view::SliceView;
 use channel_path::{Move, Path};
 use channel_tables::{AnyMachine, Spec, machine_of};
-use gap_map::Stretch;
+use gap_map::{Stretch, first_of};
 use reach::{Ahead, Past, Seen, Test};
 use sig_base::{Hour, NoMemory, Row, Tenth};
 use std::alloc::Global;
@@ -57,7 +57,6 @@ impl Model for HourView {
 
 // The hour of the stretches.
 fn hour_of(stretches: &[Stretch]) -> Hour
-    requires { 1 ≤ length stretches.now }
     ensures { (h : ℕ) → FollowOn (first_tenth h) (end_tenth h) stretches.now → result ≡ h }
 {
     first_of(stretches) / 36_000

@@ -14,5 +14,5 @@ mod path;
 
 pub use ahead::walk_ahead;
 pub use moves::{Move, runs_are_moves};
-pub use past::walk_past;
+pub use past::{end_run, walk_past};
 pub use path::Path;

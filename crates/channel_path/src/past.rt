@@ -178,8 +178,8 @@ fn count_on(count: usize, next: Move) -> usize
     }
 }
 
-// A letter ends the run before it, whose Past is kept. A gap goes on with it.
-fn end_run(pasts: &mut Vec<Past>, past: &Past, next: Move) -> Result<(), NoMemory>
+/// A letter ends the run before it, whose states are kept. A gap goes on with it.
+pub fn end_run(pasts: &mut Vec<Past>, past: &Past, next: Move) -> Result<(), NoMemory>
     ensures { OnOk result (pasts.new.items ≡ kept_before next pasts.old.items past.now) }
 {
     match next {

@@ -76,6 +76,7 @@ impl<M: Machine> Path<M> {
         })
     }
 
+    /// The moves that the runs take, in the order of their tenths.
     pub fn moves(&self) -> &[Move]
         ensures { result.now ≡ self.now.moves }
     {

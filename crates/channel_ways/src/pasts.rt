@@ -1,11 +1,11 @@
 // The possible states before each letter of a list of moves, and after the last move.
-ghost use Rattle.std.specs.Prelude.{◌≡◌, ℕ, ◌+◌, ◌≤◌, ◌∷◌, [], length, IfOk, OnOk};
+ghost use Rattle.std.specs.Prelude.{◌≡◌, ℕ, ◌+◌, ◌≤◌, ◌∷◌, [], length, IfOk};
 ghost use Rattle.reach.specs.Runs.{State};
 ghost use Rattle.channel_path.specs.Walks.{EnteredBefore, InOrder, AfterMoves};
-ghost use Rattle.channel_path.specs.Kept.{letters, kept_before};
+ghost use Rattle.channel_path.specs.Kept.{letters};
 ghost use Rattle.channel_ways.specs.Pasts.{AreRunPasts};
 
-use channel_path::{Move, walk_past};
+use channel_path::{Move, end_run, walk_past};
 use colour_machine::Machine;
 use reach::Past;
 use sig_base::NoMemory;
@@ -35,20 +35,6 @@ pub fn run_pasts<M: Machine>(
     }
     pasts.push(past)?;
     Ok(pasts)
-}
-
-// A letter ends the run before it, whose states are kept. A gap goes on with it.
-fn end_run(pasts: &mut Vec<Past>, past: &Past, next: Move) -> Result<(), NoMemory>
-    ensures { OnOk result (pasts.new.items ≡ kept_before next pasts.old.items past.now) }
-{
-    match next {
-        Move::Letter { .. } => {
-            let kept = past.copy()?;
-            pasts.push(kept)?;
-            Ok(())
-        }
-        Move::Gap { .. } => Ok(()),
-    }
 }
 
 /// The number of the run before the move, where this is that after it.

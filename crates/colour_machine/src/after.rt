@@ -79,8 +79,8 @@ fn with_changes<M: Machine>(machine: &M, colour: u8, mask: Mask) -> Mask
     next
 }
 
-// The mask with the colour that the letter leads to, where that is another.
-fn with_change<M: Machine>(machine: &M, colour: u8, letter: u8, mask: Mask) -> Mask
+/// The mask with the colour that the letter leads to, where that is another.
+pub fn with_change<M: Machine>(machine: &M, colour: u8, letter: u8, mask: Mask) -> Mask
     requires colour { colour < (M.rules machine.now).colours }
     requires letter { letter < (M.rules machine.now).letters }
     ensures { (d : ℕ) → Has result d ↔ (Has mask d ⊎ (Goes (M.rules machine.now) colour letter d

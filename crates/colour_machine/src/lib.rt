@@ -13,7 +13,7 @@ mod limits;
 mod machine;
 mod mask;
 
-pub use after::{after_any, after_through};
+pub use after::{after_any, after_through, with_change};
 pub use before::before_through;
 pub use limits::{greatest_floor, legal_letters, machine_colours};
 pub use machine::Machine;

@@ -4,20 +4,8 @@ ghost use Rattle.board.specs.Verdicts.{HasSpec};
 ghost use Rattle.filling_pair.specs.Strands.{Ascend, HasStrand, IsAbout};
 
 use crate::strands::Strand;
-use board::Term;
+use board::{Term, has_spec};
 use rule_audit::Rule;
-
-// Whether one of the terms is of the channel.
-fn has_spec(terms: &[Term], spec: u16) -> bool
-    ensures { IsTrue result ↔ HasSpec spec terms.now }
-{
-    for term in terms {
-        if term.spec == spec {
-            return true;
-        }
-    }
-    false
-}
 
 // Whether the rule is about the channel.
 fn is_about(rule: &Rule, spec: u16) -> bool

@@ -63,12 +63,6 @@ fn check_one<L>(
     }
 }
 
-fn either(a: bool, b: bool) -> bool
-    ensures { IsTrue result ↔ (IsTrue a ⊎ IsTrue b) }
-{
-    a || b
-}
-
 // All of them.
 #[tactic(auto, using(crate::proofs::Growing::grow_on, crate::proofs::Growing::grow_same))]
 fn check_each<L>(
@@ -95,7 +89,7 @@ fn check_each<L>(
         if !checked.are_strands {
             return checked;
         }
-        is_kept = either(is_kept, checked.is_kept);
+        is_kept |= checked.is_kept;
     }
     Checked {
         are_strands: true,

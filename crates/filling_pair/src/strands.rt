@@ -48,6 +48,7 @@ impl Fills {
         Ok(())
     }
 
+    /// The fills, as they were added.
     pub fn list(&self) -> &[Fill]
         ensures { result.now ≡ self.now }
     {
@@ -101,6 +102,7 @@ impl Strands {
         Ok(())
     }
 
+    /// The strands, as they were added.
     pub fn list(&self) -> &[Strand]
         ensures { result.now ≡ self.now }
     {
@@ -149,6 +151,7 @@ impl Pairs {
         Ok(())
     }
 
+    /// The pairs, as they were added.
     pub fn list(&self) -> &[Pair]
         ensures { result.now ≡ self.now }
     {

@@ -4,4 +4,4 @@
 
 mod stretch;
 
-pub use stretch::{Stretch, stretches};
+pub use stretch::{Stretch, first_of, stretches};

@@ -3,7 +3,7 @@ ghost use Rattle.std.specs.Prelude.{◌≡◌, ◌+◌, ◌*◌, ◌<◌, ◌≤
 ghost use Rattle.span_set.specs.declared.set.Span.{Span};
 ghost use Rattle.span_set.specs.Spans.{Above, AreRanges};
 ghost use Rattle.gap_map.specs.declared.stretch.Stretch.{Stretch};
-ghost use Rattle.gap_map.specs.Stretches.{IsCut, known_in};
+ghost use Rattle.gap_map.specs.Stretches.{FollowOn, IsCut, known_in};
 ghost use Rattle.gap_map.specs.Cuts.{clip, cut_of, known_part};
 
 use sig_base::{Hour, NoMemory, Tenth};
@@ -48,6 +48,16 @@ pub fn stretches(
         known: false,
     })?;
     Ok(all)
+}
+
+/// The first tenth of the stretches, where they have one.
+pub fn first_of(stretches: &[Stretch]) -> u32
+    ensures { (from to : ℕ) → FollowOn from to stretches.now → from < to → result ≡ from }
+{
+    match stretches.first() {
+        Some(stretch) => stretch.from,
+        None => 0,
+    }
 }
 
 // The ranges without those that end at the tenth or before.

@@ -67,6 +67,7 @@ impl<L> HourStore<L> {
         self.hours.len() as u32
     }
 
+    /// Whether the rows of the hour are held.
     pub fn is_held(&self, hour: Hour) -> bool
         requires { hour < length self.now.hours }
         ensures { result ≡ is_some (held_at self.now hour) }

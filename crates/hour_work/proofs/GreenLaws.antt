@@ -7,6 +7,7 @@ use Rattle.std.proofs.lemmas.List.{append-nil}
 use Rattle.std.proofs.lemmas.List.Elements.{All-filter, All-head, All-tail, filter-append}
 use Rattle.std.proofs.lemmas.List.Quantifiers.{position-Some}
 use Rattle.sig_base.specs.declared.values.Row.{Row}
+use Rattle.sig_base.specs.Numbers.{has_phase}
 use Rattle.event_codes.specs.declared.channels.Channel.{Channel}
 use Rattle.event_codes.specs.declared.channels.Kind.{Kind}
 use Rattle.event_codes.specs.declared.channels.Kind.TheVariants.{Phase, Ped, Overlap, Detector, PedDetector, PreemptInput, PreemptService, Coordination}
@@ -25,7 +26,6 @@ use Rattle.signal_log.specs.States.{IsAtEndOf}
 use Rattle.service_cut.specs.declared.items.Cycle.{Cycle}
 use Rattle.service_cut.specs.Signs.{is_end, is_yellow, sign}
 use Rattle.service_cut.specs.Cycles.{cycle_at}
-use Rattle.service_cut.specs.Parts.{has_phase}
 use Rattle.service_cut.specs.Whole.{AllKnown, IsCycle}
 use Rattle.service_cut.proofs.WholeCycles.{cycle_is_whole}
 use Rattle.cycle_arrivals.specs.Arrivals.{rows_within}

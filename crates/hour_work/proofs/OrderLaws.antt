@@ -5,6 +5,7 @@ use Rattle.std.specs.Option.{option_or}
 use Rattle.std.proofs.lemmas.Bool.{cases_Bool, eq-eqb, eqb-true}
 use Rattle.std.proofs.lemmas.List.Elements.{All-nil, All-cons, All-filter, All-head, All-map, All-tail}
 use Rattle.sig_base.specs.declared.values.Row.{Row}
+use Rattle.sig_base.specs.Numbers.{has_phase}
 use Rattle.event_codes.specs.declared.channels.Channel.{Channel}
 use Rattle.channel_tables.specs.declared.spec.Spec.{Spec}
 use Rattle.channel_tables.specs.Letters.{IsNumber}
@@ -24,7 +25,6 @@ use Rattle.service_cut.specs.declared.items.Cycle.{Cycle}
 use Rattle.service_cut.specs.Signs.{code_sign, is_begin, is_end, is_yellow, sign}
 use Rattle.service_cut.specs.Cut.{cycles_from}
 use Rattle.service_cut.specs.Cycles.{cycle_at, offset_of}
-use Rattle.service_cut.specs.Parts.{has_phase}
 use Rattle.service_cut.specs.Whole.{AllKnown, IsCycle}
 use Rattle.service_cut.proofs.Fitting.{begin_only, offset_in, yellow_only}
 use Rattle.service_cut.proofs.WholeCycles.{cycle_is_whole}

@@ -3,6 +3,7 @@ use Rattle.std.proofs.Common.{◌≡◌, ℕ, zero, suc, ◌+◌, ◌<◌, ◌�
 use Rattle.std.specs.List.{All, range_with_len}
 use Rattle.std.proofs.lemmas.Bool.Decides.{nat_tests}
 use Rattle.sig_base.specs.declared.values.Row.{Row}
+use Rattle.sig_base.specs.Numbers.{has_number}
 use Rattle.channel_tables.specs.declared.spec.Spec.{Spec}
 use Rattle.board.specs.Logs.{no_row}
 use Rattle.ring_config.specs.declared.items.IntervalItem.{IntervalItem}
@@ -12,7 +13,6 @@ use Rattle.rule_audit.specs.declared.rules.Rule.{Rule}
 use Rattle.rule_audit.specs.declared.rules.Rule.TheVariants.{Interval, Conflict, Companion, Parents}
 use Rattle.rule_audit.specs.declared.lines.Place.{Place}
 use Rattle.rule_audit.specs.declared.lines.Place.TheVariants.{BeforeRow, EndOfTenth}
-use Rattle.ring_config.specs.Values.{has_number}
 use Rattle.rule_audit.specs.Rules.{companion_rule, companion_rules, companion_terms, conflict_rule, conflict_rules, conflict_terms, each_number, is_conflict, parents_rule, parents_rule_of, parents_rules, parents_terms, rules_for}
 use Rattle.rule_audit.specs.Obligations.{Obligation, end_obligations, is_due, is_timed_by, obligation, obligations_from, row_obligations, rows_obligations, tenth_obligations}
 

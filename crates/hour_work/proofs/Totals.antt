@@ -6,7 +6,6 @@ use Rattle.hour_store.specs.Store.{IsStore, Store, is_known, known_rows}
 use Rattle.hour_sums.specs.Numbers.{by_number, merged}
 use Rattle.hour_sweep.specs.Hours.{point}
 use Rattle.ring_config.specs.Settings.{Settings}
-use Rattle.service_cut.specs.Parts.{has_phase}
 use Rattle.service_cut.specs.declared.items.Service.{Service}
 use Rattle.service_cut.specs.declared.items.Cycle.{Cycle}
 use Rattle.service_cut.specs.Cut.{cycles_from, services_from}
@@ -14,6 +13,7 @@ use Rattle.service_cut.proofs.HourLists.{cycles_add, services_add}
 use Rattle.split_measures.specs.Phases.{added, phase_sum, phase_sums}
 use Rattle.split_measures.proofs.Adding.{numbers_add}
 use Rattle.sig_base.specs.declared.values.PhaseItem.{PhaseItem}
+use Rattle.sig_base.specs.Numbers.{has_phase}
 use Rattle.other_measures.specs.Hours.{AreNumbers}
 use Rattle.arrival_measures.specs.Hours.{HaveCycles}
 use Rattle.other_measures.proofs.Stores.{delays_total, first_total}

@@ -9,6 +9,7 @@ use Rattle.std.proofs.lemmas.List.Quantifiers.{position-Some}
 use Rattle.std.proofs.lemmas.List.Sums.{sum_by-cons}
 use Rattle.sig_base.specs.declared.values.PhaseItem.{PhaseItem}
 use Rattle.sig_base.specs.declared.values.Row.{Row}
+use Rattle.sig_base.specs.Numbers.{has_phase}
 use Rattle.channel_tables.specs.declared.spec.Spec.{Spec}
 use Rattle.reach.specs.Runs.{State}
 use Rattle.board.specs.Logs.{end_tenth, first_tenth, no_spec}
@@ -17,7 +18,6 @@ use Rattle.hour_sums.specs.Numbers.{capped, one_if}
 use Rattle.hour_sweep.specs.Numbers.{given, outs_from}
 use Rattle.service_cut.specs.declared.items.Service.{Service}
 use Rattle.service_cut.specs.Cut.{services_from}
-use Rattle.service_cut.specs.Parts.{has_phase}
 use Rattle.service_cut.specs.Services.{service_at}
 use Rattle.ring_config.specs.Settings.{Settings, is_same_channel, spec_place}
 use Rattle.ring_config.specs.declared.items.Approach.{Approach}

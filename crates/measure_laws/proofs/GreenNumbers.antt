@@ -4,6 +4,7 @@ use Rattle.std.specs.List.{count_by, filter}
 use Rattle.std.proofs.lemmas.Bool.{and_parts, cases_Bool, leb-true, ltb-true}
 use Rattle.std.proofs.lemmas.List.Sums.{sum_by-cons}
 use Rattle.sig_base.specs.declared.values.Row.{Row}
+use Rattle.sig_base.specs.Numbers.{has_phase}
 use Rattle.board.specs.Channels.{AreSpecs}
 use Rattle.hour_store.specs.Store.{IsStore, Store, is_known}
 use Rattle.hour_sums.specs.Numbers.{one_if}
@@ -13,7 +14,6 @@ use Rattle.signal_log.specs.Log.{HasHistory, log_of}
 use Rattle.ring_config.specs.Settings.{Settings, spec_place}
 use Rattle.state_tenths.specs.States.{IsCount}
 use Rattle.service_cut.specs.declared.items.Cycle.{Cycle}
-use Rattle.service_cut.specs.Parts.{has_phase}
 use Rattle.service_cut.proofs.Fitting.{cycles_fit}
 use Rattle.cycle_arrivals.specs.Arrivals.{is_on, rows_within}
 use Rattle.cycle_arrivals.specs.Green.{shows_green, tenths_with}

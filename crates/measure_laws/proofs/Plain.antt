@@ -10,6 +10,7 @@ use Rattle.std.proofs.lemmas.List.Sums.{count_by-le-length, sum-map, sum_by-appe
 use Rattle.sig_base.specs.HourRows.{Shown}
 use Rattle.sig_base.specs.declared.values.Frac.{Frac}
 use Rattle.sig_base.specs.declared.values.Row.{Row}
+use Rattle.sig_base.specs.Numbers.{has_number, has_phase}
 use Rattle.board.specs.Logs.{end_tenth, first_tenth}
 use Rattle.signal_log.specs.Log.{Log, log_of, window_end}
 use Rattle.hour_store.specs.Store.{IsStore, Store, is_known, known_rows, rows_of}
@@ -18,7 +19,6 @@ use Rattle.hour_sweep.specs.Hours.{AreOrdered, point}
 use Rattle.hour_sweep.specs.Numbers.{given, outs_from}
 use Rattle.hour_sweep.proofs.Orders.{below_end}
 use Rattle.ring_config.specs.Settings.{Settings}
-use Rattle.ring_config.specs.Values.{has_number}
 use Rattle.ring_config.specs.declared.items.Approach.{Approach}
 use Rattle.stop_bar.specs.declared.bars.StopBar.{StopBar}
 use Rattle.stop_bar.specs.All.{bar_with}
@@ -29,7 +29,6 @@ use Rattle.service_cut.specs.declared.items.Service.{Service}
 use Rattle.service_cut.specs.declared.items.Termination.TheVariants.{ForceOff, GapOut, MaxOut, Unlogged}
 use Rattle.service_cut.specs.Cut.{cycle_is_in, cycles_from, service_is_in, services_from}
 use Rattle.service_cut.specs.Cycles.{cycle_at}
-use Rattle.service_cut.specs.Parts.{has_phase}
 use Rattle.service_cut.specs.Services.{service_at}
 use Rattle.service_cut.proofs.HourLists.{cycles_count, services_count}
 use Rattle.split_windows.specs.Windows.{due, left}

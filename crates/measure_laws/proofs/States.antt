@@ -4,7 +4,7 @@ use Rattle.event_codes.specs.declared.channels.Channel.{Channel}
 use Rattle.hour_sums.specs.Numbers.{capped, merged}
 use Rattle.hour_sweep.specs.Hours.{point}
 use Rattle.ring_config.specs.Settings.{Settings}
-use Rattle.ring_config.specs.Values.{has_number}
+use Rattle.sig_base.specs.Numbers.{has_number}
 use Rattle.state_tenths.specs.declared.asked.Asked.{Asked}
 use Rattle.state_tenths.specs.declared.asked.Asked.TheVariants.{Colour, NoneOf}
 use Rattle.state_tenths.specs.Ranges.{Counts}

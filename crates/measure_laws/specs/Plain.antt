@@ -1,17 +1,16 @@
 -- No number of a report stands at the last value of a u64: each is the count or the sum itself.
 use Rattle.std.specs.Prelude.{ℕ, ◌≡◌, ◌<◌, ◌++◌, ◌==◌, Bool, true, not, List, [], Option, Some, None, filter, length, sum, sum_by, count_by, slice_index_or}
 use Rattle.sig_base.specs.declared.values.Row.{Row}
+use Rattle.sig_base.specs.Numbers.{has_number, has_phase}
 use Rattle.board.specs.Logs.{end_tenth, first_tenth}
 use Rattle.hour_store.specs.Store.{IsStore, Store, is_known, known_rows}
 use Rattle.signal_log.specs.Log.{Log, log_of, window_end}
 use Rattle.ring_config.specs.Settings.{Settings}
-use Rattle.ring_config.specs.Values.{has_number}
 use Rattle.ring_config.specs.declared.items.Approach.{Approach}
 use Rattle.service_cut.specs.declared.items.Cycle.{Cycle}
 use Rattle.service_cut.specs.declared.items.Service.{Service}
 use Rattle.service_cut.specs.declared.items.Termination.TheVariants.{ForceOff, GapOut, MaxOut, Unlogged}
 use Rattle.service_cut.specs.Cut.{cycles_from, services_from}
-use Rattle.service_cut.specs.Parts.{has_phase}
 use Rattle.split_windows.specs.Windows.{due, left}
 use Rattle.stop_bar.specs.declared.bars.StopBar.{StopBar}
 use Rattle.stop_bar.specs.All.{IsPlaceOf, bar_with}

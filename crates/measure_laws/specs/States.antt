@@ -4,7 +4,7 @@ use Rattle.event_codes.specs.declared.channels.Channel.{Channel}
 use Rattle.board.specs.Logs.{first_tenth}
 use Rattle.hour_store.specs.Store.{IsStore, Store}
 use Rattle.ring_config.specs.Settings.{Settings, spec_place}
-use Rattle.ring_config.specs.Values.{has_number}
+use Rattle.sig_base.specs.Numbers.{has_number}
 use Rattle.state_tenths.specs.declared.asked.Asked.{Asked}
 use Rattle.state_tenths.specs.declared.asked.Asked.TheVariants.{Colour, NoneOf}
 use Rattle.state_tenths.specs.Ranges.{Counts}

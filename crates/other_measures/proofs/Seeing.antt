@@ -40,11 +40,3 @@ tenths_more At from c all state n len low h below q lt = elim (cases_eq q state)
       subst (λ (z : ℕ). HasTenths At from c coordination (Colour q) z) (sym at) (subst (λ (z : ℕ). HasTenths At from c coordination (Colour z) n) (sym same) h)
   | inr ne ↦ subst (λ (z : ℕ). HasTenths At from c coordination (Colour q) z) (sym (get_or-set_other all state q n 0 ne)) (below q (omega arith))
 ]
-
-pub first_from : (ss : List Stretch) (a b : ℕ) (s : Stretch) → Some s ≡ slice_get ss 0 → FollowOn a b ss → s.from ≡ a
-first_from [] a b s e h = absurd (cc)
-first_from (x ∷ xs) a b s e h = let same : s ≡ x = cc in rw same h.0
-
-pub first_none : (ss : List Stretch) (a b : ℕ) → None ≡ slice_get ss 0 → FollowOn a b ss → a < b → 0 ≡ a
-first_none [] a b e h lt = absurd (let same : a ≡ b = h in omega arith)
-first_none (x ∷ xs) a b e h lt = absurd (cc)

@@ -4,9 +4,9 @@ use Rattle.std.specs.List.{range_with_len}
 use Rattle.std.proofs.Math.ListN.{drop_of_length-le}
 use Rattle.std.proofs.lemmas.Bool.{eqb-true}
 use Rattle.sig_base.specs.declared.values.Row.{Row}
+use Rattle.sig_base.specs.Numbers.{has_number}
 use Rattle.hour_sweep.proofs.Tables.{table_same}
 use Rattle.ring_config.specs.Settings.{Settings}
-use Rattle.ring_config.specs.Values.{has_number}
 use Rattle.other_measures.specs.LastRows.{last_row_of}
 use Rattle.other_measures.specs.Peds.{is_walk, is_call, ped_of}
 use Rattle.other_measures.specs.Preempts.{is_entry, is_exit, is_dwell, call_of, preempt_of}

@@ -2,12 +2,12 @@
 use Rattle.std.proofs.Common.{◌≡◌, ◌↔◌, inl, inr, ℕ, zero, suc, ◌+◌, ◌<◌, ◌≤◌, Bool, true, false, eqb, List, [], ◌∷◌, ◌++◌, Some, length, refl, ap, sym, subst, ◌∙◌, arith}
 use Rattle.std.proofs.lemmas.List.{same_from_push, ext_get_or, length-append}
 use Rattle.sig_base.specs.declared.values.Row.{Row}
+use Rattle.sig_base.specs.Numbers.{has_number}
 use Rattle.event_codes.specs.declared.channels.Channel.{Channel}
 use Rattle.hour_sums.specs.Numbers.{capped, merged}
 use Rattle.hour_sums.proofs.Adding.{count-add}
 use Rattle.hour_sweep.specs.Hours.{AreOrdered}
 use Rattle.ring_config.specs.Settings.{Settings, spec_place}
-use Rattle.ring_config.specs.Values.{has_number}
 use Rattle.state_tenths.specs.declared.asked.Asked.{Asked}
 use Rattle.state_tenths.specs.declared.asked.Asked.TheVariants.{Colour, NoneOf}
 use Rattle.state_tenths.specs.States.{IsCount}

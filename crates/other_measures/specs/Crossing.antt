@@ -1,10 +1,10 @@
 -- What crosses a point between two hours.
 use Rattle.std.specs.Prelude.{ℕ, ◌≡◌, ◌<◌, ◌+◌, max, Bool, List, [], ◌∷◌, Option, Some, None, All, if◌then◌else◌}
 use Rattle.sig_base.specs.declared.values.Row.{Row}
+use Rattle.sig_base.specs.Numbers.{has_number}
 use Rattle.hour_sweep.specs.Hours.{point}
 use Rattle.hour_sweep.specs.Numbers.{table}
 use Rattle.ring_config.specs.Settings.{Settings}
-use Rattle.ring_config.specs.Values.{has_number}
 use Rattle.other_measures.specs.declared.peds.PedPart.{PedPart}
 use Rattle.other_measures.specs.declared.preempts.PreemptPart.{PreemptPart}
 use Rattle.other_measures.specs.Peds.{ped_of}

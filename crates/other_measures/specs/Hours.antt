@@ -1,10 +1,10 @@
 -- The numbers of one hour.
 use Rattle.std.specs.Prelude.{ℕ, ◌≡◌, ◌+◌, ◌==◌, Bool, true, false, if◌then◌else◌, List, [], ◌∷◌, count_by}
 use Rattle.sig_base.specs.declared.values.Row.{Row}
+use Rattle.sig_base.specs.Numbers.{has_number}
 use Rattle.hour_sums.specs.Numbers.{capped, merged}
 use Rattle.hour_sweep.specs.Numbers.{outs_from}
 use Rattle.ring_config.specs.Settings.{Settings}
-use Rattle.ring_config.specs.Values.{has_number}
 use Rattle.state_tenths.specs.declared.asked.Asked.{Asked}
 use Rattle.other_measures.specs.declared.peds.Delay.{Delay}
 use Rattle.other_measures.specs.declared.preempts.PreemptEvent.{PreemptEvent}

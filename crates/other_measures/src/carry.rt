@@ -1,14 +1,13 @@
 // What crosses a point between two hours.
 ghost use Rattle.std.specs.Prelude.{◌≡◌, ◌↔◌, ◌≤◌, ℕ, Bool, [], IsTrue, IfOk, map};
 ghost use Rattle.std.specs.List.{range_with_len};
-ghost use Rattle.ring_config.specs.Values.{has_number};
 ghost use Rattle.other_measures.specs.Crossing.{IsCarry, no_ped, no_preempt, places};
 
 use crate::peds::PedPart;
 use crate::preempts::PreemptPart;
 use crate::same::{same_peds, same_preempts};
 use ring_config::Config;
-use sig_base::NoMemory;
+use sig_base::{NoMemory, has_number};
 use std::alloc::Global;
 use std::marker::Model;
 
@@ -29,13 +28,6 @@ impl Model for OtherCarry {
     ghost Value = { Crossing };
 
     ghost view = { λ c. record { peds = c.peds.items; preempts = c.preempts.items } };
-}
-
-/// Whether the number is one of these.
-pub(crate) fn has_number(numbers: &[u8], number: u8) -> bool
-    ensures { result ≡ has_number numbers.now number }
-{
-    numbers.iter().any(|one| *one == number)
 }
 
 // How many places a table needs in which each of these numbers stands at its own.

@@ -1,31 +1,31 @@
 // The numbers of an hour.
 ghost use Rattle.std.specs.Prelude.{◌≡◌, ◌+◌, ◌++◌, ℕ, Bool, true, List, Option, length, option_copied, IfOk, IfSome, OnOk, OnErr, []};
 ghost use Rattle.sig_base.specs.declared.values.Row.{Row};
+ghost use Rattle.sig_base.specs.Numbers.{has_number};
 ghost use Rattle.hour_sweep.specs.Rows.{known_rows};
 ghost use Rattle.hour_sweep.specs.Hours.{IsHour};
 ghost use Rattle.board.specs.Logs.{HourLog, first_tenth};
 ghost use Rattle.ring_config.specs.Settings.{Settings};
-ghost use Rattle.ring_config.specs.Values.{has_number};
 ghost use Rattle.other_measures.specs.Crossing.{IsCarry};
 ghost use Rattle.other_measures.specs.Hours.{AreNumbers, AreStates, HasDelays, HasEvents, delays_from, events_from, no_numbers, others_added, with_detector, with_states};
 ghost use Rattle.other_measures.specs.States.{EachOf, HasDetector, HasStates, IsSeen, IsWhatIsSeen, MetBy};
 ghost use Rattle.state_tenths.specs.States.{MeetsAt};
 
-use crate::carry::{OtherCarry, has_number};
+use crate::carry::OtherCarry;
 use crate::coordination_sums::{coordination_of, coordination_unseen, no_coordination};
 use crate::ped_sums::ped_table;
 use crate::peds::Delay;
 use crate::preempt_sums::preempt_table;
 use crate::preempts::PreemptEvent;
-use crate::states::{Seen, first_of, tenths};
+use crate::states::{Seen, tenths};
 use crate::sums::{CoordSum, PedSum, PreemptSum};
 use board::HourView;
 use event_codes::{Channel, Kind};
-use gap_map::Stretch;
+use gap_map::{Stretch, first_of};
 use hour_sums::{Sum, add_each};
 use hour_sweep::track_hour;
 use ring_config::Config;
-use sig_base::{NoMemory, Row};
+use sig_base::{NoMemory, Row, has_number};
 use state_tenths::Asked;
 use std::alloc::Global;
 use std::marker::Model;

@@ -1,6 +1,5 @@
 // The tenths of states of one channel.
 ghost use Rattle.std.specs.Prelude.{◌≡◌, ◌<◌, ℕ, true, length, Option, option_copied, IfSome};
-ghost use Rattle.gap_map.specs.Stretches.{FollowOn};
 ghost use Rattle.board.specs.Logs.{HourLog};
 ghost use Rattle.ring_config.specs.Settings.{Settings, is_tracked};
 ghost use Rattle.state_tenths.specs.States.{IsAsked, IsCount};
@@ -8,7 +7,6 @@ ghost use Rattle.other_measures.specs.States.{HasTenths, IsWhatIsSeen, MetBy};
 
 use board::HourView;
 use event_codes::Channel;
-use gap_map::Stretch;
 use ring_config::Config;
 use state_tenths::{Asked, tenths_of};
 
@@ -18,16 +16,6 @@ pub(crate) struct Seen<'a> {
     pub(crate) view: &'a HourView,
     /// The hour's first tenth.
     pub(crate) from: u32,
-}
-
-/// The first tenth of the hour with these stretches.
-pub(crate) fn first_of(stretches: &[Stretch]) -> u32
-    ensures { (a b : ℕ) → FollowOn a b stretches.now → a < b → result ≡ a }
-{
-    match stretches.first() {
-        Some(stretch) => stretch.from,
-        None => 0,
-    }
 }
 
 // The known tenths of the hour at whose end the channel with this place among the specs meets what

@@ -11,7 +11,7 @@ ghost use Rattle.reach.specs.Single.{sets_of, IsSingle};
 
 use crate::past::{Past, Single, alone, sets_of};
 use crate::sets::{add_each, settle_each, starts_of};
-use colour_machine::{Machine, Mask};
+use colour_machine::{Machine, Mask, with_change};
 use sig_base::{NoMemory, Tenth};
 use span_set::SpanSet;
 
@@ -240,20 +240,7 @@ fn entered_if<M: Machine>(machine: &M, letter: u8, leave: Mask, colour: u8, mask
         × Goes (M.rules machine.now) colour letter d × (d ≢ colour))) }
 {
     if leave.has(colour) {
-        return with_change(machine, letter, colour, mask);
+        return with_change(machine, colour, letter, mask);
     }
     mask
-}
-
-fn with_change<M: Machine>(machine: &M, letter: u8, colour: u8, mask: Mask) -> Mask
-    requires letter { letter < (M.rules machine.now).letters }
-    requires colour { colour < (M.rules machine.now).colours }
-    ensures { (d : ℕ) → Has result d ↔ (Has mask d ⊎ (Goes (M.rules machine.now) colour letter d
-        × (d ≢ colour))) }
-{
-    match machine.step(colour, letter) {
-        Some(to) if to != colour => mask.with(to),
-        Some(_) => mask,
-        None => mask,
-    }
 }

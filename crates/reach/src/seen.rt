@@ -142,23 +142,10 @@ fn seen_in(sets: &[SpanSet], latest: &[Option<Tenth>], test: &Test) -> Seen
         some_false: false,
     };
     for colour in 0..sets.len() {
-        let some_true = seen_true(&sets[colour], latest[colour], colour as u8, test);
-        let some_false = seen_false(&sets[colour], latest[colour], colour as u8, test);
-        seen = Seen {
-            some_true: either(seen.some_true, some_true),
-            some_false: either(seen.some_false, some_false),
-        };
+        seen.some_true |= seen_true(&sets[colour], latest[colour], colour as u8, test);
+        seen.some_false |= seen_false(&sets[colour], latest[colour], colour as u8, test);
     }
     seen
-}
-
-fn either(a: bool, b: bool) -> bool
-    ensures { IsTrue result ↔ (IsTrue a ⊎ IsTrue b) }
-{
-    if a {
-        return true;
-    }
-    b
 }
 
 // Whether some possible entry of the colour meets the test.

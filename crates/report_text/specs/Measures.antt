@@ -2,7 +2,7 @@
 use Rattle.std.specs.Prelude.{◌++◌, ◌-◌, if◌then◌else◌, ℕ, Bool, List, [], ◌∷◌, codes, decimal, Option, Some, None, filter, slice_index}
 use Rattle.std.specs.List.{range_with_len}
 use Rattle.ring_config.specs.Settings.{Settings}
-use Rattle.ring_config.specs.Values.{has_number, has_phase}
+use Rattle.sig_base.specs.Numbers.{has_number, has_phase}
 use Rattle.split_measures.specs.declared.sums.PhaseSum.{PhaseSum}
 use Rattle.other_measures.specs.declared.sums.PedSum.{PedSum}
 use Rattle.other_measures.specs.declared.sums.PreemptSum.{PreemptSum}

@@ -1,7 +1,7 @@
 // The line of a pedestrian signal.
 ghost use Rattle.std.specs.Prelude.{◌≡◌};
 ghost use Rattle.outside.specs.Sink.{Puts};
-ghost use Rattle.ring_config.specs.Values.{has_number};
+ghost use Rattle.sig_base.specs.Numbers.{has_number};
 ghost use Rattle.report_text.specs.Measures.{ped_delays, ped_line, ped_states};
 
 use crate::lines::{Numbered, number_or_dash};
@@ -9,6 +9,7 @@ use itoa::Buffer;
 use other_measures::PedSum;
 use outside::{PutFailed, Sink, put_parts};
 use ring_config::Config;
+use sig_base::has_number;
 
 fn put_delays<K: Sink>(number: u8, sums: &PedSum, sink: &mut K) -> Result<(), PutFailed>
     ensures { Puts (K.taken sink.old) (K.taken sink.new) (ped_delays number sums.now) result }
@@ -71,7 +72,7 @@ impl Numbered for PedSum {
     ghost line = { ped_line };
 
     fn is_configured(config: &Config, number: u8) -> bool {
-        config.peds().iter().any(|ped| *ped == number)
+        has_number(config.peds(), number)
     }
 
     fn put_line<K: Sink>(&self, number: u8, sink: &mut K) -> Result<(), PutFailed> {

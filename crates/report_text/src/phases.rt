@@ -1,13 +1,14 @@
 // The line of a phase.
 ghost use Rattle.std.specs.Prelude.{◌≡◌};
 ghost use Rattle.outside.specs.Sink.{Puts};
-ghost use Rattle.ring_config.specs.Values.{has_phase};
+ghost use Rattle.sig_base.specs.Numbers.{has_phase};
 ghost use Rattle.report_text.specs.Measures.{phase_ends, phase_line, phase_splits};
 
 use crate::lines::{Numbered, number_or_dash};
 use itoa::Buffer;
 use outside::{PutFailed, Sink, put_parts};
 use ring_config::Config;
+use sig_base::has_phase;
 use split_measures::PhaseSum;
 
 fn put_splits<K: Sink>(number: u8, sums: &PhaseSum, sink: &mut K) -> Result<(), PutFailed>
@@ -77,7 +78,7 @@ impl Numbered for PhaseSum {
     ghost line = { phase_line };
 
     fn is_configured(config: &Config, number: u8) -> bool {
-        config.phases().iter().any(|phase| phase.number == number)
+        has_phase(config.phases(), number)
     }
 
     fn put_line<K: Sink>(&self, number: u8, sink: &mut K) -> Result<(), PutFailed> {

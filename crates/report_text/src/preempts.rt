@@ -1,7 +1,7 @@
 // The line of a preempt.
 ghost use Rattle.std.specs.Prelude.{◌≡◌};
 ghost use Rattle.outside.specs.Sink.{Puts};
-ghost use Rattle.ring_config.specs.Values.{has_number};
+ghost use Rattle.sig_base.specs.Numbers.{has_number};
 ghost use Rattle.report_text.specs.Measures.{preempt_delays, preempt_line, preempt_states};
 
 use crate::lines::Numbered;
@@ -9,6 +9,7 @@ use itoa::Buffer;
 use other_measures::PreemptSum;
 use outside::{PutFailed, Sink, put_parts};
 use ring_config::Config;
+use sig_base::has_number;
 
 fn put_delays<K: Sink>(number: u8, sums: &PreemptSum, sink: &mut K) -> Result<(), PutFailed>
     ensures { Puts (K.taken sink.old) (K.taken sink.new) (preempt_delays number sums.now) result }
@@ -89,7 +90,7 @@ impl Numbered for PreemptSum {
     ghost line = { preempt_line };
 
     fn is_configured(config: &Config, number: u8) -> bool {
-        config.preempts().iter().any(|preempt| *preempt == number)
+        has_number(config.preempts(), number)
     }
 
     fn put_line<K: Sink>(&self, number: u8, sink: &mut K) -> Result<(), PutFailed> {

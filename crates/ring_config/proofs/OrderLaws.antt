@@ -12,7 +12,7 @@ use Rattle.channel_tables.specs.declared.spec.Spec.{Spec}
 use Rattle.channel_tables.specs.Spec.{IsSpec, HasNoFloor}
 use Rattle.ring_config.specs.declared.items.FloorItem.{FloorItem}
 use Rattle.ring_config.specs.declared.items.Approach.{Approach}
-use Rattle.ring_config.specs.Values.{has_number}
+use Rattle.sig_base.specs.Numbers.{has_number}
 use Rattle.ring_config.specs.Walk.{EachPair}
 use Rattle.ring_config.specs.Settings.{Layout, numbered, signal_channels, all_channels, coordination_channel, detectors, floor_of, floors_of, specs_from, kind_rank}
 use Rattle.ring_config.specs.Sound.{IsBefore, IsTimed}

@@ -8,11 +8,12 @@ use Rattle.std.proofs.lemmas.List.{length_push, drop_all}
 use Rattle.std.proofs.lemmas.Nat.Bits.{bit_at_or, bit_at-lt, bit_at-zero, bit_at-pow_same, bit_at-pow_other, same_from_bits}
 use Rattle.colour_machine.specs.Mask.{Has}
 use Rattle.sig_base.specs.declared.values.PhaseItem.{PhaseItem}
+use Rattle.sig_base.specs.Numbers.{has_number}
 use Rattle.toml.specs.declared.value.Value.{Value}
 use Rattle.toml.specs.Data.{Data}
 use Rattle.toml.specs.View.{view, items_view}
 use Rattle.toml.proofs.Views.{items_view-drop}
-use Rattle.ring_config.specs.Values.{configured, has_number, next_phase, phases_from, few_parents, passing, mask_of, phases_in}
+use Rattle.ring_config.specs.Values.{configured, next_phase, phases_from, few_parents, passing, mask_of, phases_in}
 use Rattle.ring_config.specs.Parents.{ArePositive, IsMaskOf, Adds}
 
 -- ---- bits

@@ -9,7 +9,7 @@ use Rattle.ring_config.specs.declared.items.Approach.{Approach}
 use Rattle.event_codes.specs.declared.channels.Channel.{Channel}
 use Rattle.channel_tables.specs.declared.spec.Spec.{Spec}
 use Rattle.ring_config.specs.declared.items.FloorItem.{FloorItem}
-use Rattle.ring_config.specs.Values.{has_number}
+use Rattle.sig_base.specs.Numbers.{has_number}
 use Rattle.ring_config.specs.Settings.{Layout, numbered, signal_channels, all_channels, detectors, coordination_channel, floor_of, floors_of, specs_from}
 
 pub numbered_none : (kind : Kind) (numbers : List ℕ) → numbered kind 0 numbers ≡ []

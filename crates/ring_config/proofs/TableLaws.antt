@@ -8,6 +8,7 @@ use Rattle.std.proofs.lemmas.Option.{same_Some}
 use Rattle.toml.specs.Data.{Data, Items, no_items, item, as_str, as_array, as_integer}
 use Rattle.sig_base.specs.declared.values.PhaseItem.{PhaseItem}
 use Rattle.sig_base.specs.declared.values.Frac.{Frac}
+use Rattle.sig_base.specs.Numbers.{has_number, has_phase}
 use Rattle.event_codes.specs.declared.channels.Kind.{Kind}
 use Rattle.event_codes.specs.declared.channels.Kind.TheVariants as kinds
 use Rattle.event_codes.specs.declared.channels.Channel.{Channel}
@@ -26,7 +27,7 @@ use Rattle.ring_config.specs.declared.items.IntervalItem.{IntervalItem}
 use Rattle.ring_config.specs.declared.items.Approach.{Approach}
 use Rattle.ring_config.specs.Reading.{◌>>=◌, EntryData, place, value_at, good, or_default, required, defaulted, optional}
 use Rattle.ring_config.specs.Values as values
-use Rattle.ring_config.specs.Values.{whole, configured, has_phase, has_pair, has_number, next_phase, phases_from, few_parents, mask_of, phases_in, passing, partner, kind_word, is_word_and, is_named, named_from, channel, colour, colour_of, name, is_short_text, is_name_byte}
+use Rattle.ring_config.specs.Values.{whole, configured, has_pair, next_phase, phases_from, few_parents, mask_of, phases_in, passing, partner, kind_word, is_word_and, is_named, named_from, channel, colour, colour_of, name, is_short_text, is_name_byte}
 use Rattle.ring_config.specs.Parents.{ArePositive, IsMaskOf}
 use Rattle.ring_config.specs.Tables.{phase_values, overlap_values, pair_values, floor_values, bound_of, bound_at, interval_values, is_over, numerator, high_of, high_at, travel_with, approach_values}
 use Rattle.ring_config.specs.Sound.{IsBetween, IsConfigured, IsPhase, IsOverlap, IsPairOf, IsTimed, IsBound, IsApproach}

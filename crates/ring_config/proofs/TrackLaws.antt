@@ -5,13 +5,13 @@ use Rattle.std.proofs.lemmas.Bool.{cases_Bool, and_parts, eqb-true, eq-eqb}
 use Rattle.std.proofs.lemmas.Bool.Decides.{eqb_tells, nat_tests}
 use Rattle.std.proofs.lemmas.List.Folds.{list_any-append}
 use Rattle.sig_base.specs.declared.values.PhaseItem.{PhaseItem}
+use Rattle.sig_base.specs.Numbers.{has_number, has_phase}
 use Rattle.event_codes.specs.declared.channels.Kind.{Kind}
 use Rattle.event_codes.specs.declared.channels.Kind.TheVariants as kinds
 use Rattle.event_codes.specs.declared.channels.Channel.{Channel}
 use Rattle.ring_config.specs.declared.items.FloorItem.{FloorItem}
 use Rattle.ring_config.specs.declared.items.OverlapItem.{OverlapItem}
 use Rattle.ring_config.specs.declared.items.Approach.{Approach}
-use Rattle.ring_config.specs.Values.{has_number, has_phase}
 use Rattle.ring_config.specs.Settings.{Settings, Layout, numbered, signal_channels, all_channels, coordination_channel, detectors, some_number, specs_from, kind_rank, is_same_channel, is_tracked, is_tracked_as, spec_place}
 use Rattle.ring_config.specs.Sound.{IsBetween, IsConfigured, IsPhase, IsOverlap, IsApproach}
 use Rattle.ring_config.proofs.ListLaws.{all_weaker, all_append}

@@ -7,6 +7,7 @@ use Rattle.toml.specs.Data.{Members}
 use Rattle.toml.specs.Parse.{parse_document}
 use Rattle.sig_base.specs.Window.{Span}
 use Rattle.sig_base.specs.declared.values.PhaseItem.{PhaseItem}
+use Rattle.sig_base.specs.Numbers.{has_number, has_phase}
 use Rattle.event_codes.specs.declared.channels.Kind.{Kind}
 use Rattle.event_codes.specs.declared.channels.Kind.TheVariants as kinds
 use Rattle.event_codes.specs.declared.channels.Channel.{Channel}
@@ -19,7 +20,7 @@ use Rattle.ring_config.specs.declared.items.FloorItem.{FloorItem}
 use Rattle.ring_config.specs.declared.items.IntervalItem.{IntervalItem}
 use Rattle.ring_config.specs.declared.items.Approach.{Approach}
 use Rattle.ring_config.specs.Reading.{Read, ◌>>=◌, EntryData, only}
-use Rattle.ring_config.specs.Values.{has_number, has_pair, has_phase}
+use Rattle.ring_config.specs.Values.{has_pair}
 use Rattle.ring_config.specs.Walk.{entries_of}
 use Rattle.ring_config.specs.Tables.{Top, LayoutArrays, DetailArrays, top_keys, top_of, layout_arrays_of, detail_arrays_of, phase_rules, ped_rules, overlap_rules, preempt_rules, conflict_rules, allow_rules, floor_rules, interval_rules, approach_rules}
 

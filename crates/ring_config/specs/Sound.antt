@@ -1,6 +1,7 @@
 -- What holds of every accepted configuration, table by table.
 use Rattle.std.specs.Prelude.{is_some, ◌≡◌, ◌≢◌, ◌⊎◌, ℕ, ◌+◌, ◌<◌, ◌≤◌, true, false, IsTrue, IfSome, List, length, All, AllPairs, slice_get, Some, None}
 use Rattle.sig_base.specs.declared.values.PhaseItem.{PhaseItem}
+use Rattle.sig_base.specs.Numbers.{has_phase}
 use Rattle.event_codes.specs.declared.channels.Kind.{Kind}
 use Rattle.event_codes.specs.declared.channels.Kind.TheVariants.{Phase, Ped, Overlap, PreemptService}
 use Rattle.event_codes.specs.declared.channels.Channel.{Channel}
@@ -15,7 +16,7 @@ use Rattle.ring_config.specs.declared.items.OverlapItem.{OverlapItem}
 use Rattle.ring_config.specs.declared.items.IntervalItem.{IntervalItem}
 use Rattle.ring_config.specs.declared.items.Approach.{Approach}
 use Rattle.row_reader.specs.Signal.{is_signal}
-use Rattle.ring_config.specs.Values.{has_phase, has_pair, is_name_byte, is_short_text, phases_in}
+use Rattle.ring_config.specs.Values.{has_pair, is_name_byte, is_short_text, phases_in}
 use Rattle.ring_config.specs.Settings.{Settings, kind_rank, is_tracked, spec_place}
 
 abbrev pub IsBetween : ℕ → ℕ → ℕ → Type 0

@@ -6,6 +6,7 @@ use Rattle.std.specs.Str.{bytes_eq}
 use Rattle.toml.specs.Data.{Data, table, Items, no_items, item, Members, as_str, as_integer, as_bool, as_array}
 use Rattle.sig_base.specs.Window.{Span}
 use Rattle.sig_base.specs.declared.values.PhaseItem.{PhaseItem}
+use Rattle.sig_base.specs.Numbers.{has_number, has_phase}
 use Rattle.event_codes.specs.declared.channels.Kind.{Kind}
 use Rattle.event_codes.specs.declared.channels.Kind.TheVariants as kinds
 use Rattle.event_codes.specs.declared.channels.Channel.{Channel}
@@ -71,9 +72,6 @@ window first d = option_and_then (window_from first) (whole 1 744 d)
 
 -- ---- phases
 
-abbrev pub has_phase : List PhaseItem → ℕ → Bool
-has_phase phases number = list_any (λ p. p.number == number) phases
-
 -- the number of a configured phase
 unfoldable pub configured : List PhaseItem → Data → Option ℕ
 configured phases d = passing (has_phase phases) (whole 1 16 d)
@@ -87,9 +85,6 @@ has_pair pairs a b = list_any (λ p. is_pair p a b) pairs
 -- another configured phase than a, with which a is not a pair of those barred
 unfoldable pub partner : List PhaseItem → List Pair → ℕ → Data → Option ℕ
 partner phases barred a d = passing (λ b. not (b == a || has_pair barred a b)) (configured phases d)
-
-abbrev pub has_number : List ℕ → ℕ → Bool
-has_number numbers n = list_any (λ m. m == n) numbers
 
 -- a configured phase that isn't among those found
 abbrev pub next_phase : List PhaseItem → List ℕ → Data → Option ℕ

@@ -1,6 +1,6 @@
 // The tracked channels in their order, and their floors.
 ghost use Rattle.std.specs.Prelude.{◌≡◌, ◌∷◌, [], if◌then◌else◌, ◌≤◌, ◌+◌, ◌++◌, ◌&&◌, ◌==◌, ℕ, List, Option, IfOk, OnOk, flat_map, length, map, option_map, find};
-ghost use Rattle.ring_config.specs.Values.{has_number};
+ghost use Rattle.sig_base.specs.Numbers.{has_number};
 ghost use Rattle.ring_config.specs.Seen.{layout_seen};
 ghost use Rattle.ring_config.specs.Settings.{all_channels, coordination_channel, signal_channels, numbered, detectors, some_number, floor_of, floors_of, specs_from};
 
@@ -8,7 +8,7 @@ use crate::format::layout::Layout;
 use crate::items::{Approach, FloorItem, OverlapItem};
 use channel_tables::Spec;
 use event_codes::{Channel, Kind};
-use sig_base::PhaseItem;
+use sig_base::{PhaseItem, has_number};
 use std::alloc::{AllocError, Global};
 
 // The numbers of the phases, in file order.
@@ -54,12 +54,6 @@ fn detector_numbers(alloc: Global, approaches: &[Approach]) -> Result<Vec<u8>, A
         push_detectors(approach, &mut numbers)?;
     }
     Ok(numbers)
-}
-
-fn has_number(numbers: &[u8], number: u8) -> bool
-    ensures { result ≡ has_number numbers.now number }
-{
-    numbers.iter().any(|other| *other == number)
 }
 
 // Adds the channel, where its number is one of these.

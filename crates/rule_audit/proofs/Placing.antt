@@ -19,7 +19,8 @@ use Rattle.ring_config.specs.declared.items.IntervalItem.{IntervalItem}
 use Rattle.ring_config.specs.declared.items.OverlapItem.{OverlapItem}
 use Rattle.ring_config.specs.Settings.{Settings, in_conflict, is_same_channel, is_tracked_as, kind_rank, spec_place}
 use Rattle.ring_config.specs.Sound.{IsBefore, IsConfigured, IsIntervalOf, IsOverlap, IsSound}
-use Rattle.ring_config.specs.Values.{has_number, has_phase, phases_in}
+use Rattle.sig_base.specs.Numbers.{has_number, has_phase}
+use Rattle.ring_config.specs.Values.{phases_in}
 use Rattle.rule_audit.specs.declared.rules.Rule.{Rule}
 use Rattle.rule_audit.specs.declared.rules.Rule.TheVariants.{Interval, Conflict, Companion, Parents}
 use Rattle.rule_audit.specs.Channels.{AreOf, AreOfOwn, IsOfOwn, IsPlace, channel_of, companion_channels, conflict_channels, parents_channels}

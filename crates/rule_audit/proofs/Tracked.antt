@@ -7,13 +7,13 @@ use Rattle.event_codes.specs.declared.channels.Channel.{Channel}
 use Rattle.event_codes.specs.declared.channels.Kind.{Kind}
 use Rattle.event_codes.specs.declared.channels.Kind.TheVariants.{Phase, Ped, Overlap, Detector, PedDetector, PreemptInput, PreemptService, Coordination}
 use Rattle.sig_base.specs.declared.values.PhaseItem.{PhaseItem}
+use Rattle.sig_base.specs.Numbers.{has_number, has_phase}
 use Rattle.channel_tables.specs.declared.spec.Spec.{Spec}
 use Rattle.channel_tables.specs.Letters.{IsNumber}
 use Rattle.ring_config.specs.declared.items.Approach.{Approach}
 use Rattle.ring_config.specs.declared.items.OverlapItem.{OverlapItem}
 use Rattle.ring_config.specs.Settings.{Settings, detectors, is_same_channel, is_tracked, kind_rank, some_number, spec_place}
 use Rattle.ring_config.specs.Sound.{IsApproach, IsBefore, IsBetween, IsConfigured, IsOverlap, IsPhase, IsSound}
-use Rattle.ring_config.specs.Values.{has_number, has_phase}
 use Rattle.board.specs.Channels.{AreSpecs}
 use Rattle.board.proofs.Bridge.{lt_tells}
 use Rattle.rule_audit.proofs.Lists.{among}

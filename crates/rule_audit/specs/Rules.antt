@@ -11,7 +11,7 @@ use Rattle.channel_tables.specs.PedTable as ped
 use Rattle.channel_tables.specs.OverlapTable as overlap
 use Rattle.board.specs.declared.clause.Term.{Term}
 use Rattle.ring_config.specs.declared.items.OverlapItem.{OverlapItem}
-use Rattle.ring_config.specs.Values.{has_number, has_phase}
+use Rattle.sig_base.specs.Numbers.{has_number, has_phase}
 use Rattle.ring_config.specs.Settings.{Settings, in_conflict, spec_place}
 use Rattle.rule_audit.specs.declared.rules.Rule.{Rule}
 use Rattle.rule_audit.specs.declared.rules.Rule.TheVariants.{Interval, Conflict, Companion, Parents}

@@ -1,14 +1,13 @@
 // The rules with their numbers.
 ghost use Rattle.std.specs.Prelude.{◌≡◌, ◌++◌, Contains, IfOk, OnOk, map};
 ghost use Rattle.ring_config.specs.Sound.{IsSound};
-ghost use Rattle.ring_config.specs.Values.{has_number, has_phase};
 ghost use Rattle.rule_audit.specs.declared.rules.Rule.TheVariants.{Interval};
 ghost use Rattle.rule_audit.specs.Rules.{companion_rule, companion_rules, conflict_rule, conflict_rules, each_number, is_conflict, parents_rule, parents_rule_of, parents_rules, rules_for};
 
 use crate::terms::{companion_clause, conflict_clause, parents_clause};
 use board::Clause;
 use ring_config::{Config, IntervalItem, OverlapItem};
-use sig_base::{NoMemory, PhaseItem};
+use sig_base::{NoMemory, has_number, has_phase};
 use std::alloc::Global;
 
 /// An audit rule. The numbers are those of the phases, the pedestrian signal or the overlap.
@@ -103,12 +102,6 @@ fn is_conflict(config: &Config, a: u8, b: u8) -> bool
     false
 }
 
-fn has_phase(phases: &[PhaseItem], number: u8) -> bool
-    ensures { result ≡ has_phase phases.now number }
-{
-    phases.iter().any(|phase| phase.number == number)
-}
-
 fn push_companions(rules: &mut Vec<Rule>, alloc: Global, config: &Config) -> Result<(), NoMemory>
     requires { IsSound config.now }
     ensures { OnOk result (rules.new.items ≡ rules.old.items ++ companion_rules config.now) }
@@ -134,12 +127,6 @@ fn push_companion(
         return Ok(());
     }
     Ok(())
-}
-
-fn has_number(numbers: &[u8], number: u8) -> bool
-    ensures { result ≡ has_number numbers.now number }
-{
-    numbers.iter().any(|one| *one == number)
 }
 
 fn push_all_parents(rules: &mut Vec<Rule>, alloc: Global, config: &Config) -> Result<(), NoMemory>

@@ -5,6 +5,7 @@ use Rattle.std.proofs.lemmas.List.FromFn.{length-map-range_with_len}
 use Rattle.std.proofs.lemmas.List.Elements.{All-nil, All-append, All-weaker, All-filter}
 use Rattle.sig_base.specs.declared.values.Row.{Row}
 use Rattle.sig_base.specs.declared.values.PhaseItem.{PhaseItem}
+use Rattle.sig_base.specs.Numbers.{has_phase}
 use Rattle.gap_map.specs.declared.stretch.Stretch.{Stretch}
 use Rattle.hour_sweep.specs.Rows.{known_rows}
 use Rattle.hour_sweep.specs.Hours.{AreOrdered, IsHour, point}
@@ -22,7 +23,7 @@ use Rattle.service_cut.specs.declared.parts.Told.{Told}
 use Rattle.service_cut.specs.Signs.{sign, is_end}
 use Rattle.service_cut.specs.Services.{service_of, whole_service, service_begun_of, service_at}
 use Rattle.service_cut.specs.Cycles.{cycle_of, cycle_begun_of, is_yellow_end, cycle_at}
-use Rattle.service_cut.specs.Parts.{has_phase, room, part_of, parts_of, IsCarry, open_service, open_cycle}
+use Rattle.service_cut.specs.Parts.{room, part_of, parts_of, IsCarry, open_service, open_cycle}
 use Rattle.service_cut.specs.Cut.{services_from, cycles_from, service_is_in, cycle_is_in, CutLists, IsCut}
 use Rattle.service_cut.specs.Steps.{part_after, part_cleared, told_by, cycle_told, services_told}
 use Rattle.service_cut.proofs.Push.{service_at-append}

@@ -5,10 +5,11 @@ use Rattle.std.specs.List.{range_with_len}
 use Rattle.std.proofs.lemmas.Bool.{eqb-true}
 use Rattle.std.proofs.lemmas.List.{drop_more, drop_all}
 use Rattle.sig_base.specs.declared.values.PhaseItem.{PhaseItem}
+use Rattle.sig_base.specs.Numbers.{has_phase}
 use Rattle.hour_sweep.proofs.Tables.{table_same}
 use Rattle.service_cut.specs.Services.{service_begun_of}
 use Rattle.service_cut.specs.Cycles.{yellow_of, cycle_begun_of}
-use Rattle.service_cut.specs.Parts.{has_phase, room, part_of, parts_of}
+use Rattle.service_cut.specs.Parts.{room, part_of, parts_of}
 use Rattle.service_cut.specs.Steps.{no_part}
 
 or_cases : (a b : Bool) → (a || b) ≡ true → (a ≡ true) ⊎ (b ≡ true)

@@ -3,6 +3,7 @@ use Rattle.std.specs.Prelude.{ℕ, ◌≡◌, ◌+◌, nat_le, nat_lt, ◌&&◌,
 use Rattle.std.specs.List.{filter}
 use Rattle.sig_base.specs.declared.values.Row.{Row}
 use Rattle.sig_base.specs.declared.values.PhaseItem.{PhaseItem}
+use Rattle.sig_base.specs.Numbers.{has_phase}
 use Rattle.hour_sweep.specs.Rows.{known_rows}
 use Rattle.hour_sweep.specs.Hours.{AreOrdered, point}
 use Rattle.hour_sweep.specs.Numbers.{outs_from}
@@ -12,7 +13,7 @@ use Rattle.service_cut.specs.declared.items.OpenService.{OpenService}
 use Rattle.service_cut.specs.declared.items.OpenCycle.{OpenCycle}
 use Rattle.service_cut.specs.Services.{service_at}
 use Rattle.service_cut.specs.Cycles.{cycle_at}
-use Rattle.service_cut.specs.Parts.{has_phase, parts_of, open_service, open_cycle}
+use Rattle.service_cut.specs.Parts.{parts_of, open_service, open_cycle}
 
 -- the whole services that end among the rows, in their order, where the first rows stand before them
 abbrev pub services_from : (ℕ → Bool) → List PhaseItem → List Row → List Row → List Service

@@ -3,6 +3,7 @@ use Rattle.std.specs.Prelude.{ℕ, ◌≡◌, ◌+◌, ◌<◌, ◌==◌, max, B
 use Rattle.std.specs.List.{list_any}
 use Rattle.sig_base.specs.declared.values.Row.{Row}
 use Rattle.sig_base.specs.declared.values.PhaseItem.{PhaseItem}
+use Rattle.sig_base.specs.Numbers.{has_phase}
 use Rattle.hour_sweep.specs.Hours.{point}
 use Rattle.hour_sweep.specs.Numbers.{table}
 use Rattle.service_cut.specs.declared.items.OpenService.{OpenService}
@@ -12,10 +13,6 @@ use Rattle.service_cut.specs.declared.cycles.CycleBegun.{CycleBegun}
 use Rattle.service_cut.specs.declared.parts.Part.{Part}
 use Rattle.service_cut.specs.Services.{service_begun_of}
 use Rattle.service_cut.specs.Cycles.{yellow_of, cycle_begun_of}
-
--- one of the phases has this number
-abbrev pub has_phase : List PhaseItem → ℕ → Bool
-has_phase phases n = list_any (λ p. p.number == n) phases
 
 -- the least number above all of theirs, 0 where there is none
 abbrev pub room : List PhaseItem → ℕ

@@ -4,6 +4,7 @@ use Rattle.std.specs.List.{cons_option}
 use Rattle.std.specs.Option.{option_or}
 use Rattle.sig_base.specs.declared.values.Row.{Row}
 use Rattle.sig_base.specs.declared.values.PhaseItem.{PhaseItem}
+use Rattle.sig_base.specs.Numbers.{has_phase}
 use Rattle.service_cut.specs.declared.items.Service.{Service}
 use Rattle.service_cut.specs.declared.items.Cycle.{Cycle}
 use Rattle.service_cut.specs.declared.services.ServiceBegun.{ServiceBegun}
@@ -17,7 +18,6 @@ use Rattle.service_cut.specs.declared.signs.Sign.TheVariants.{Begin, Change, Yel
 use Rattle.service_cut.specs.Signs.{sign}
 use Rattle.service_cut.specs.Services.{is_within, termination}
 use Rattle.service_cut.specs.Cycles.{cycle_of}
-use Rattle.service_cut.specs.Parts.{has_phase}
 
 abbrev pub first_of : Option Row → Row → Option Row
 first_of (Some g) x = Some g

@@ -1,11 +1,12 @@
 // What crosses a point between two hours.
 ghost use Rattle.std.specs.Prelude.{◌≡◌, ◌↔◌, ◌+◌, ◌<◌, ◌≤◌, ℕ, Bool, [], IsTrue, IfOk};
-ghost use Rattle.service_cut.specs.Parts.{IsCarry, has_phase, room};
+ghost use Rattle.sig_base.specs.Numbers.{has_phase};
+ghost use Rattle.service_cut.specs.Parts.{IsCarry, room};
 ghost use Rattle.service_cut.specs.Steps.{no_part};
 
 use crate::parts::Part;
 use crate::same::same_parts;
-use sig_base::{NoMemory, PhaseItem};
+use sig_base::{NoMemory, PhaseItem, has_phase};
 use std::alloc::Global;
 use std::marker::Model;
 
@@ -49,16 +50,10 @@ fn room_for(phases: &[PhaseItem]) -> usize
     room
 }
 
-fn is_phase(phases: &[PhaseItem], number: u8) -> bool
-    ensures { result ≡ has_phase phases.now number }
-{
-    phases.iter().any(|phase| phase.number == number)
-}
-
 fn empty_part(phases: &[PhaseItem], number: u8) -> Option<Part>
     ensures { result ≡ no_part phases.now number }
 {
-    if is_phase(phases, number) {
+    if has_phase(phases, number) {
         Some(Part {
             phase: number,
             service: None,

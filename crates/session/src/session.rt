@@ -71,8 +71,6 @@ fn rows_with<L>(store: &HourStore<L>, hour: Hour, count: u32) -> u64
     store.rows_held() + count as u64 - store.len_of(hour) as u64
 }
 
-fn let_go<L>(_put: Put<L>) {}
-
 fn edit_error(error: ForwardError) -> EditError
     ensures { result ≡ refusal_for error }
 {
@@ -115,6 +113,7 @@ impl<L> Session<L> {
         })
     }
 
+    /// The configuration that the session was made with.
     pub fn config(&self) -> &Config
         ensures value { result.now ≡ self.now.config }
         ensures hours { length self.now.store.hours ≡ self.now.config.window.hours }
@@ -245,13 +244,13 @@ impl<L> Session<L> {
             reads,
         ) {
             Ok(fresh) => {
-                let_go(before);
+                drop(before);
                 let hours = moved(&fresh.points);
                 adopt(&mut self.worked, fresh);
                 Ok(hours)
             }
             Err(error) => {
-                let_go(exchange(&mut self.store, before));
+                drop(exchange(&mut self.store, before));
                 Err(edit_error(error))
             }
         }

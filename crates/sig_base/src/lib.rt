@@ -8,6 +8,7 @@
 
 mod hour_rows;
 mod memory;
+mod numbers;
 mod reads;
 mod stamp;
 mod values;
@@ -15,6 +16,7 @@ mod window;
 
 pub use hour_rows::HourRows;
 pub use memory::NoMemory;
+pub use numbers::{has_number, has_phase};
 pub use reads::Reads;
 pub use values::{Applied, EditError, Frac, Hour, PhaseItem, Row, Tenth, Verdict};
 pub use window::Window;

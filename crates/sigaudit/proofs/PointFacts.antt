@@ -1,19 +1,18 @@
 -- The diagrams of a phase, one after another.
-use Rattle.std.proofs.Common.{◌≡◌, ◌<◌, ◌≤◌, ◌+◌, ◌*◌, ◌++◌, ◌∙◌, ℕ, Bool, true, false, List, [], ◌∷◌, length, drop, Option, Some, None, Result, Ok, Err, refl, sym, ap, subst, get_or, cond}
+use Rattle.std.proofs.Common.{◌≡◌, ◌<◌, ◌*◌, ◌++◌, ◌∙◌, ℕ, Bool, true, false, List, [], ◌∷◌, length, Option, Some, None, Result, Ok, Err, refl, sym, ap, subst, cond}
 use Rattle.std.specs.List.{All, cons_option}
 use Rattle.std.specs.Prelude.{◌==◌}
 use Rattle.std.proofs.lemmas.List.Elements.{All-cons, All-filter, All-head, All-map, All-nil, All-push, All-same, All-tail, All-weaker, filter_passes}
 use Rattle.outside.specs.Sink.{Stops, Taken, Writes}
 use Rattle.sig_base.specs.declared.values.PhaseItem.{PhaseItem}
 use Rattle.sig_base.specs.declared.values.Row.{Row}
+use Rattle.sig_base.specs.Numbers.{has_phase}
 use Rattle.hour_store.specs.Store.{Store, is_known, known_rows, rows_of}
 use Rattle.service_cut.specs.declared.items.Cycle.{Cycle}
 use Rattle.service_cut.specs.Cut.{cycles_from}
 use Rattle.service_cut.specs.Cycles.{cycle_at, cycle_begun, cycle_begun_in, cycle_begun_of, cycle_of, is_yellow_end, last_end_from}
-use Rattle.service_cut.specs.Parts.{has_phase}
 use Rattle.service_cut.proofs.WholeCycles.{EndIs, end_is}
 use Rattle.ring_config.specs.Settings.{Settings}
-use Rattle.ring_config.specs.Values.{has_phase as is_configured}
 use Rattle.arrival_measures.specs.declared.points.Diagram.{Diagram}
 use Rattle.arrival_measures.specs.Hours.{cycles_of}
 use Rattle.arrival_measures.specs.Points.{diagram_of, diagrams_of, points_from}
@@ -121,14 +120,14 @@ points_cut c c' n p s ds ds' w w' ec e e' h =
     (points_turn c n p s true, refl, h')
 
 -- a phase that is configured, or isn't
-pub phase_there : (c c' : Settings) (n p : ℕ) (s : Store) (b : Bool) (w w' : Taken) (r : Result Bool Stopped) → c' ≡ c → b ≡ is_configured c'.phases p → b ≡ true
+pub phase_there : (c c' : Settings) (n p : ℕ) (s : Store) (b : Bool) (w w' : Taken) (r : Result Bool Stopped) → c' ≡ c → b ≡ has_phase c'.phases p → b ≡ true
     → TakesBy (λ t. t ≡ points_turn c n p s true) w w' s r → TakesBy (λ t. t ≡ points_of_phase c n p s) w w' s r
 phase_there c c' n p s b w w' r ec e y h =
-    let there : true ≡ is_configured c.phases p = sym y ∙ e ∙ ap (λ (k : Settings). is_configured k.phases p) ec in
+    let there : true ≡ has_phase c.phases p = sym y ∙ e ∙ ap (λ (k : Settings). has_phase k.phases p) ec in
     subst (λ (x : Bool). TakesBy (λ t. t ≡ points_turn c n p s x) w w' s r) there h
 
-pub phase_absent : (c c' c'' : Settings) (n p : ℕ) (s : Store) (b : Bool) (w w' : Taken) (r : Result Bool Stopped) → c' ≡ c → c'' ≡ c → b ≡ is_configured c'.phases p → b ≡ false
+pub phase_absent : (c c' c'' : Settings) (n p : ℕ) (s : Store) (b : Bool) (w w' : Taken) (r : Result Bool Stopped) → c' ≡ c → c'' ≡ c → b ≡ has_phase c'.phases p → b ≡ false
     → ((x : Store) → TakesPut (refuses c'' n BadLine x) w w' x r) → TakesBy (λ t. t ≡ points_of_phase c n p s) w w' s r
 phase_absent c c' c'' n p s b w w' r ec ed e y h =
-    let absent : false ≡ is_configured c.phases p = sym y ∙ e ∙ ap (λ (k : Settings). is_configured k.phases p) ec in
+    let absent : false ≡ has_phase c.phases p = sym y ∙ e ∙ ap (λ (k : Settings). has_phase k.phases p) ec in
     subst (λ (x : Bool). TakesBy (λ t. t ≡ points_turn c n p s x) w w' s r) absent (by_refusal (λ t. t ≡ refuses c n BadLine s) c c'' n BadLine s w w' r ed refl h)

@@ -2,7 +2,7 @@
 use Rattle.std.specs.Prelude.{ℕ, ◌++◌, Bool, true, false}
 use Rattle.hour_store.specs.Store.{Store, is_known, known_rows}
 use Rattle.ring_config.specs.Settings.{Settings}
-use Rattle.ring_config.specs.Values.{has_phase}
+use Rattle.sig_base.specs.Numbers.{has_phase}
 use Rattle.arrival_measures.specs.Points.{diagrams_of}
 use Rattle.report_text.specs.declared.refusal.Refusal.TheVariants.{BadLine}
 use Rattle.report_text.specs.Heads.{points_head}

@@ -1,6 +1,5 @@
 // The diagrams of a phase.
 ghost use Rattle.std.specs.Prelude.{◌≡◌, true};
-ghost use Rattle.ring_config.specs.Values.{has_phase};
 ghost use Rattle.sig_base.specs.Reads.{Grow};
 ghost use Rattle.sigaudit.specs.Points.{points_of_phase, points_turn};
 ghost use Rattle.sigaudit.specs.Run.{TakesBy};
@@ -11,13 +10,7 @@ use outside::Sink;
 use report_text::{Refusal, put_diagrams};
 use ring_config::Config;
 use session::Session;
-use sig_base::Reads;
-
-fn is_phase(config: &Config, phase: u8) -> bool
-    ensures { result ≡ has_phase config.now.phases phase }
-{
-    config.phases().iter().any(|one| one.number == phase)
-}
+use sig_base::{Reads, has_phase};
 
 // Writes the diagrams of a phase of the configuration.
 #[tactic(auto, using(crate::proofs::GrowFacts::grow_same))]
@@ -51,7 +44,7 @@ pub fn points_line<L, K: Sink>(
         session.now.store) (K.taken sink.old) (K.taken sink.new) session.now.store result }
     ensures grow { Grow reads.old reads.new }
 {
-    if !is_phase(session.config(), phase) {
+    if !has_phase(session.config().phases(), phase) {
         return refuse(session.config(), number, Refusal::BadLine, sink);
     }
     phase_diagrams(number, phase, session, sink, reads)

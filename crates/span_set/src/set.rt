@@ -83,6 +83,7 @@ impl SpanSet {
         change::remove(&mut self.spans, from, to)
     }
 
+    /// A set with the same members. It takes memory for all ranges.
     pub fn copy(&self) -> Result<SpanSet, NoMemory>
         ensures { IfOk result (λ s. s ≡ self.now) }
     {
@@ -92,6 +93,7 @@ impl SpanSet {
         })
     }
 
+    /// Whether the tenth is a member.
     pub fn contains(&self, at: Tenth) -> bool
         ensures member { IsTrue result ↔ Member self.now at }
         ensures value { result ≡ is_member self.now at }

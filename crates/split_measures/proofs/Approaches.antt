@@ -7,12 +7,12 @@ use Rattle.std.proofs.lemmas.List.{take_more}
 use Rattle.std.proofs.lemmas.List.Folds.{list_any_at}
 use Rattle.sig_base.specs.declared.values.Frac.{Frac}
 use Rattle.sig_base.specs.declared.values.Row.{Row}
+use Rattle.sig_base.specs.Numbers.{has_number}
 use Rattle.event_codes.specs.declared.channels.Kind.TheVariants.{Detector}
 use Rattle.board.specs.Logs.{end_tenth, first_tenth, no_spec}
 use Rattle.signal_log.specs.Log.{Log, window_end}
 use Rattle.service_cut.specs.declared.items.Service.{Service}
 use Rattle.ring_config.specs.Settings.{Settings, detectors, some_number, spec_place}
-use Rattle.ring_config.specs.Values.{has_number}
 use Rattle.ring_config.specs.Sound.{IsSound}
 use Rattle.ring_config.specs.declared.items.Approach.{Approach}
 use Rattle.detector_state.specs.Switches.{IsChannelOf}

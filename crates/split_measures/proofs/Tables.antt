@@ -7,7 +7,7 @@ use Rattle.hour_sums.specs.Numbers.{AreSums, by_number}
 use Rattle.hour_sums.proofs.Places.{sums_more}
 use Rattle.split_measures.specs.declared.sums.PhaseSum.{PhaseSum}
 use Rattle.sig_base.specs.declared.values.PhaseItem.{PhaseItem}
-use Rattle.service_cut.specs.Parts.{has_phase}
+use Rattle.sig_base.specs.Numbers.{has_phase}
 use Rattle.split_measures.specs.Phases.{phase_sum_of, added, services_of, phase_sum, phase_sums, zero_sum}
 use Rattle.split_measures.proofs.Adding.{service_more, cycle_more}
 

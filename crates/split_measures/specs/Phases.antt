@@ -1,11 +1,11 @@
 -- The numbers of phases, as counts and sums over whole services and whole cycles.
 use Rattle.std.specs.Prelude.{ℕ, ◌+◌, ◌-◌, Bool, true, false, if◌then◌else◌, None, List, map, length, sum, count_by}
 use Rattle.sig_base.specs.declared.values.PhaseItem.{PhaseItem}
+use Rattle.sig_base.specs.Numbers.{has_phase}
 use Rattle.service_cut.specs.declared.items.Service.{Service}
 use Rattle.service_cut.specs.declared.items.Cycle.{Cycle}
 use Rattle.service_cut.specs.declared.items.Termination.{Termination}
 use Rattle.service_cut.specs.declared.items.Termination.TheVariants.{GapOut, MaxOut, ForceOff, Unlogged}
-use Rattle.service_cut.specs.Parts.{has_phase}
 use Rattle.hour_sums.specs.Numbers.{capped, lesser, greater, least, greatest, own, by_number}
 use Rattle.split_measures.specs.declared.sums.PhaseSum.{PhaseSum}
 

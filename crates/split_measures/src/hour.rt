@@ -1,6 +1,6 @@
 // The numbers of an hour.
 ghost use Rattle.std.specs.Prelude.{◌≡◌, ◌<◌, [], IfOk, OnErr, OnOk, length, slice_set, slice_index_or};
-ghost use Rattle.service_cut.specs.Parts.{has_phase};
+ghost use Rattle.sig_base.specs.Numbers.{has_phase};
 ghost use Rattle.hour_sums.specs.Numbers.{AreSums, by_number};
 ghost use Rattle.split_measures.specs.Hours.{AreHourSums, CrossesNext, no_splits, splits_added};
 ghost use Rattle.split_measures.specs.Phases.{added, phase_sum_of, phase_sums, services_of, zero_sum};
@@ -13,7 +13,7 @@ use detector_state::Switched;
 use hour_sums::{Sum, add_each};
 use ring_config::Config;
 use service_cut::{Cuts, Cycle, Service};
-use sig_base::{Hour, NoMemory, PhaseItem};
+use sig_base::{Hour, NoMemory, PhaseItem, has_phase};
 use std::alloc::Global;
 use std::marker::Model;
 use stop_bar::bars_hour;
@@ -101,12 +101,6 @@ fn add_cycles(sums: &mut [PhaseSum], services: &[Service], cycles: &[Cycle])
     }
 }
 
-fn is_phase(phases: &[PhaseItem], number: u8) -> bool
-    ensures { result ≡ has_phase phases.now number }
-{
-    phases.iter().any(|phase| phase.number == number)
-}
-
 // The numbers of the phases, from a table by number.
 fn of_phases(
     alloc: Global,
@@ -118,7 +112,7 @@ fn of_phases(
 {
     let mut sums = Vec::new(alloc);
     for number in 0..17u8 {
-        if is_phase(phases, number) {
+        if has_phase(phases, number) {
             sums.push(table[usize::from(number)])?;
         }
     }

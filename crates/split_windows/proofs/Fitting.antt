@@ -9,6 +9,7 @@ use Rattle.std.proofs.lemmas.List.Elements.{All-append, All-cons, All-head, All-
 use Rattle.std.proofs.lemmas.List.Folds.{find-append}
 use Rattle.sig_base.specs.declared.values.PhaseItem.{PhaseItem}
 use Rattle.sig_base.specs.declared.values.Row.{Row}
+use Rattle.sig_base.specs.Numbers.{has_phase}
 use Rattle.board.specs.Logs.{end_tenth, first_tenth}
 use Rattle.hour_sweep.specs.Hours.{AreOrdered}
 use Rattle.hour_sweep.specs.Numbers.{given, outs_from}
@@ -18,7 +19,6 @@ use Rattle.hour_sweep.proofs.Places.{AllLast, last_with_all}
 use Rattle.service_cut.specs.declared.items.Service.{Service}
 use Rattle.service_cut.specs.declared.services.ServiceBegun.{ServiceBegun}
 use Rattle.service_cut.specs.Cut.{services_from}
-use Rattle.service_cut.specs.Parts.{has_phase}
 use Rattle.service_cut.specs.Signs.{is_begin, is_change, sign}
 use Rattle.service_cut.specs.Services.{is_over, service_at, service_begun, service_begun_in, service_begun_of}
 use Rattle.service_cut.proofs.WholeServices.{LastIs, find_split, last_is, service_is_whole}

@@ -3,11 +3,11 @@ use Rattle.std.proofs.Common.{◌≡◌, ap, sym, ◌∙◌, subst, ℕ, ◌+◌
 use Rattle.std.specs.Prelude.{slice_get}
 use Rattle.std.proofs.lemmas.List.{take_more}
 use Rattle.sig_base.specs.declared.values.Row.{Row}
+use Rattle.sig_base.specs.Numbers.{has_phase}
 use Rattle.signal_log.specs.Log.{Log}
 use Rattle.hour_sweep.specs.Rows.{known_rows}
 use Rattle.service_cut.specs.Cut.{CutLists}
 use Rattle.ring_config.specs.Settings.{Settings}
-use Rattle.ring_config.specs.Values.{has_phase}
 use Rattle.detector_state.specs.declared.part.Part.{Part}
 use Rattle.detector_state.specs.Hours.{IsSwitched}
 use Rattle.split_windows.specs.declared.items.Windows.{Windows}

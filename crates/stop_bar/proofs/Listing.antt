@@ -7,12 +7,12 @@ use Rattle.std.proofs.lemmas.List.{append-nil}
 use Rattle.std.proofs.lemmas.List.Elements.{All-cons, All-filter, All-head, All-nil, All-tail, filter-append}
 use Rattle.sig_base.specs.declared.values.PhaseItem.{PhaseItem}
 use Rattle.sig_base.specs.declared.values.Row.{Row}
+use Rattle.sig_base.specs.Numbers.{has_phase}
 use Rattle.hour_sweep.specs.Hours.{AreOrdered}
 use Rattle.hour_sweep.proofs.Counted.{HasTenth, IsGivenAt, given_between}
 use Rattle.service_cut.specs.declared.items.Service.{Service}
 use Rattle.service_cut.specs.declared.services.ServiceBegun.{ServiceBegun}
 use Rattle.service_cut.specs.Cut.{services_from}
-use Rattle.service_cut.specs.Parts.{has_phase}
 use Rattle.service_cut.specs.Signs.{is_end, sign}
 use Rattle.service_cut.specs.Services.{service_at, service_begun_of, service_of, whole_service}
 use Rattle.service_cut.proofs.HourLists.{services_add}

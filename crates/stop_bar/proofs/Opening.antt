@@ -5,11 +5,12 @@ use Rattle.std.specs.List.{cons_option, range_with_len}
 use Rattle.std.proofs.lemmas.Bool.{cases_eq, eq-eqb, ne_eqb}
 use Rattle.sig_base.specs.declared.values.PhaseItem.{PhaseItem}
 use Rattle.sig_base.specs.declared.values.Row.{Row}
+use Rattle.sig_base.specs.Numbers.{has_phase}
 use Rattle.hour_sweep.specs.Hours.{point}
 use Rattle.hour_sweep.specs.Numbers.{numbered}
 use Rattle.service_cut.specs.declared.items.OpenService.{OpenService}
 use Rattle.service_cut.specs.declared.services.ServiceBegun.{ServiceBegun}
-use Rattle.service_cut.specs.Parts.{has_phase, open_service, open_service_of, part_of, parts_of, room}
+use Rattle.service_cut.specs.Parts.{open_service, open_service_of, part_of, parts_of, room}
 use Rattle.service_cut.specs.Services.{service_begun_of}
 use Rattle.service_cut.proofs.Rooms.{has_room}
 use Rattle.split_windows.specs.Going.{tenth_or}

@@ -3,6 +3,7 @@ use Rattle.std.specs.Prelude.{ℕ, ◌≡◌, ◌+◌, ◌++◌, true, All, Opti
 use Rattle.sig_base.specs.declared.values.PhaseItem.{PhaseItem}
 use Rattle.sig_base.specs.HourRows.{AreRowsOf}
 use Rattle.sig_base.specs.declared.values.Row.{Row}
+use Rattle.sig_base.specs.Numbers.{has_phase}
 use Rattle.span_set.specs.declared.set.Span.{Span}
 use Rattle.event_codes.specs.declared.channels.Channel.{Channel}
 use Rattle.event_codes.specs.declared.channels.Kind.TheVariants as kinds
@@ -16,7 +17,6 @@ use Rattle.signal_log.specs.Points.{ArePastsAt, HasHour, rows_or_none}
 use Rattle.hour_sweep.specs.Rows.{known_rows}
 use Rattle.service_cut.specs.Cut.{CutLists, IsCut}
 use Rattle.ring_config.specs.Settings.{Settings, spec_place}
-use Rattle.ring_config.specs.Values.{has_phase}
 use Rattle.ring_config.specs.declared.items.Approach.{Approach}
 use Rattle.detector_state.specs.declared.part.Part.{Part}
 use Rattle.detector_state.specs.Hours.{IsSwitched}

@@ -1,6 +1,6 @@
 // The stop bars of a configuration.
 ghost use Rattle.std.specs.Prelude.{◌≡◌, ◌<◌, true, IfOk, length, slice_index_or};
-ghost use Rattle.ring_config.specs.Values.{has_phase};
+ghost use Rattle.sig_base.specs.Numbers.{has_phase};
 ghost use Rattle.ring_config.specs.declared.items.Approach.{Approach};
 ghost use Rattle.stop_bar.specs.All.{AreServed, bar_with, bars_of};
 

@@ -2,11 +2,11 @@
 use Rattle.std.proofs.Common.{◌≡◌, ◌∙◌, ℕ, ◌++◌, Bool, true, Option, Some, None, List, [], ◌∷◌, length, get_or, refl, ap}
 use Rattle.std.specs.Prelude.{filter, map, not}
 use Rattle.sig_base.specs.declared.values.Row.{Row}
+use Rattle.sig_base.specs.Numbers.{has_phase}
 use Rattle.reach.specs.Runs.{State}
 use Rattle.hour_sums.specs.Numbers.{capped}
 use Rattle.ring_config.specs.Settings.{Settings}
 use Rattle.ring_config.specs.Sound.{IsSound}
-use Rattle.ring_config.specs.Values.{has_phase}
 use Rattle.ring_config.specs.declared.items.Approach.{Approach}
 use Rattle.stop_bar.specs.Lists.{Each}
 use Rattle.cycle_arrivals.specs.Arrivals.{ons_of}

@@ -2,10 +2,10 @@
 use Rattle.std.proofs.Common.{◌≡◌, inl, inr, ℕ, Bool, true, false, List, refl}
 use Rattle.std.proofs.lemmas.Bool.{cases_Bool}
 use Rattle.sig_base.specs.declared.values.Row.{Row}
+use Rattle.sig_base.specs.Numbers.{has_number}
 use Rattle.event_codes.specs.declared.channels.Channel.{Channel}
 use Rattle.ring_config.specs.Settings.{Settings, is_tracked}
 use Rattle.ring_config.specs.Sound.{IsSound}
-use Rattle.ring_config.specs.Values.{has_number}
 use Rattle.state_tenths.specs.declared.asked.Asked.{Asked}
 use Rattle.state_tenths.specs.declared.asked.Asked.TheVariants.{Colour, NoneOf}
 use Rattle.other_measures.specs.declared.sums.PedSum.{PedSum}

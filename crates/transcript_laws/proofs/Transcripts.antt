@@ -8,6 +8,7 @@ use Rattle.sig_base.specs.HourRows.{AreRowsOf, Shown}
 use Rattle.sig_base.specs.declared.values.EditError.{EditError}
 use Rattle.sig_base.specs.declared.values.EditError.TheVariants.{Contradiction, OutOfWindow}
 use Rattle.sig_base.specs.declared.values.Row.{Row}
+use Rattle.sig_base.specs.Numbers.{has_phase}
 use Rattle.row_reader.specs.declared.row_error.RowError.{RowError}
 use Rattle.row_reader.specs.Rows.{Wanted, rows_of}
 use Rattle.hour_pack.specs.declared.pack_error.PackError.{PackError}
@@ -17,7 +18,6 @@ use Rattle.hour_store.specs.Store.{Store, nothing_held}
 use Rattle.ring_config.specs.Reading.{Read}
 use Rattle.ring_config.specs.Settings.{Settings, config_of}
 use Rattle.ring_config.specs.Sound.{IsSound}
-use Rattle.ring_config.specs.Values.{has_phase}
 use Rattle.rule_audit.specs.declared.lines.AuditLine.{AuditLine}
 use Rattle.rule_audit.specs.Rules.{rules_for}
 use Rattle.hour_work.specs.Numbers.{Numbers, total_of}

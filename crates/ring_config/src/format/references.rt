@@ -4,7 +4,7 @@ ghost use Rattle.std.specs.List.{list_any};
 ghost use Rattle.std.specs.Str.{bytes_eq};
 ghost use Rattle.toml.specs.View.{view, items_view};
 ghost use Rattle.ring_config.specs.Reading.{Gives, required};
-ghost use Rattle.ring_config.specs.Values.{has_phase, configured, is_pair, has_pair, partner, next_phase, phases_from, few_parents, mask_of, parents, passing, kind_word, is_word_and, is_named, named_from, channel, colour, colour_of};
+ghost use Rattle.ring_config.specs.Values.{configured, is_pair, has_pair, partner, next_phase, phases_from, few_parents, mask_of, parents, passing, kind_word, is_word_and, is_named, named_from, channel, colour, colour_of};
 ghost use Rattle.ring_config.specs.Parents.{IsMaskOf, Adds};
 ghost use Rattle.ring_config.specs.Seen.{entry_seen};
 
@@ -16,14 +16,8 @@ use channel_tables::colour_named;
 use colour_machine::Mask;
 use event_codes::{Channel, Kind};
 use itoa::Buffer;
-use sig_base::PhaseItem;
+use sig_base::{PhaseItem, has_phase};
 use toml::Value;
-
-fn has_phase(phases: &[PhaseItem], number: u8) -> bool
-    ensures { result ≡ has_phase phases.now number }
-{
-    phases.iter().any(|phase| phase.number == number)
-}
 
 /// The number of a configured phase.
 #[tactic(auto, unfolding(crate::specs::Values::configured))]

@@ -86,7 +86,7 @@ loop-i-preserved c =
       rw items (length_push _ _ ∙ ap (λ n. n + 1) inv.0),
       ap (λ n. n + 1) inv.1 ∙ sym (chosen_one others i on),
       rw items (widths_more specs i spec c.loop-i.aheads.items new is inv.0 width inv.2),
-      λ h is_hour. rw items (aheads_push specs rows ss (first_tenth h) (end_tenth h) after i c.loop-i.aheads.items new inv.0 (inv.3 h is_hour) (width ∙ ap (λ s. (rules_of s).colours) (is no_spec), before_hour specs rows ss i spec no_spec c.moves.result.now after c.index-in-loop-i.result.now new c.first_of-first.result (is no_spec) (c.moves.ensures ∙ moves) old c.ahead_before-ahead.ensures.before (first_tenth h) (end_tenth h) (c.first_of-first.ensures (first_tenth h) (end_tenth h) is_hour.follow) is_hour.follow (hour_rows h rows ss is_hour))),
+      λ h is_hour. rw items (aheads_push specs rows ss (first_tenth h) (end_tenth h) after i c.loop-i.aheads.items new inv.0 (inv.3 h is_hour) (width ∙ ap (λ s. (rules_of s).colours) (is no_spec), before_hour specs rows ss i spec no_spec c.moves.result.now after c.index-in-loop-i.result.now new c.first_of-first.result (is no_spec) (c.moves.ensures ∙ moves) old c.ahead_before-ahead.ensures.before (first_tenth h) (end_tenth h) (c.first_of-first.ensures (first_tenth h) (end_tenth h) is_hour.follow (omega arith)) is_hour.follow (hour_rows h rows ss is_hour))),
     )
 
 pub returns-clause-before : goal.returns-clause-before

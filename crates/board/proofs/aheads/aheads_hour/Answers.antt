@@ -8,11 +8,8 @@ use Rattle.board.proofs.Hours.{moves_order, course_is}
 use Rattle.board.proofs.Plain.{before_hour, aheads_push}
 use Rattle.board.proofs.Starting.{widths_more}
 use Rattle.board.proofs.Viewing.{element}
-use Rattle.board.proofs.Within.{hour_rows, some_stretch}
+use Rattle.board.proofs.Within.{hour_rows}
 use Rattle.board.proofs.aheads.aheads_hour.Goals as goal
-
-pub first_of-first-requires : goal.first_of-first-requires
-first_of-first-requires c = some_stretch c.requires.hour.0 c.args.rows.now c.args.stretches.now c.requires.hour.1
 
 pub ahead_before-ahead-requires-clause-fits : goal.ahead_before-ahead-requires-clause-fits
 ahead_before-ahead-requires-clause-fits c = c.requires.specs.fit c.loop-i.i no_spec c.loop-i-test.true
@@ -48,7 +45,7 @@ loop-i-preserved c =
     let width = c.ahead_before-ahead.ensures.colours ∙ (ap length old ∙ (c.requires.after.1 i no_spec c.loop-i-test.true)) in (
       rw items (length_push _ _ ∙ ap (λ n. n + 1) inv.0),
       rw items (widths_more specs i spec c.loop-i.aheads.items new is inv.0 width inv.1),
-      λ h is_hour. rw items (aheads_push specs rows ss (first_tenth h) (end_tenth h) after i c.loop-i.aheads.items new inv.0 (inv.2 h is_hour) (width ∙ ap (λ s. (rules_of s).colours) (is no_spec), before_hour specs rows ss i spec no_spec c.moves.result.now after c.index.result.now new c.first_of-first.result k.0 (c.moves.ensures ∙ k.1) old c.ahead_before-ahead.ensures.before (first_tenth h) (end_tenth h) (c.first_of-first.ensures (first_tenth h) (end_tenth h) is_hour.follow) is_hour.follow (hour_rows h rows ss is_hour))),
+      λ h is_hour. rw items (aheads_push specs rows ss (first_tenth h) (end_tenth h) after i c.loop-i.aheads.items new inv.0 (inv.2 h is_hour) (width ∙ ap (λ s. (rules_of s).colours) (is no_spec), before_hour specs rows ss i spec no_spec c.moves.result.now after c.index.result.now new c.first_of-first.result k.0 (c.moves.ensures ∙ k.1) old c.ahead_before-ahead.ensures.before (first_tenth h) (end_tenth h) (c.first_of-first.ensures (first_tenth h) (end_tenth h) is_hour.follow (omega arith)) is_hour.follow (hour_rows h rows ss is_hour))),
     )
 
 pub returns-clause-shape : goal.returns-clause-shape

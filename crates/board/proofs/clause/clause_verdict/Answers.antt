@@ -1,6 +1,7 @@
-use Rattle.std.proofs.Common.{arith, ℕ, ◌≡◌, length, take, get_or}
+use Rattle.std.proofs.Common.{arith, ℕ, ◌≡◌, ◌||◌, length, take, get_or}
 use Rattle.std.proofs.lemmas.List.{take_all}
 use Rattle.reach.specs.Runs.{State}
+use Rattle.reach.proofs.Seeing.{or_is}
 use Rattle.board.specs.Verdicts.{MayPass, SomeNot}
 use Rattle.board.proofs.Verdicts.{terms_below, are_terms, verdict_turn, histories_are, kept_by, all_fail, one_holds, none_holds, clash, not_true, not_false}
 use Rattle.board.proofs.clause.clause_verdict.Goals as goal
@@ -26,7 +27,7 @@ loop-i-preserved c =
     let inv = c.loop-i.invariant in
     let log = c.args.view.now in
     λ known. let s = c.term_seen-seen.ensures known in let v = inv known in
-    verdict_turn (MayPass log c.args.at) c.terms-terms.result.now c.loop-i.i c.index-terms-i.result c.loop-i.some c.term_seen-seen.result.some_true c.term_seen-seen.result.some_false c.either-some.result c.index-terms-i.is c.loop-i-test.true v.0 v.1 s.0 s.1 (not_false c.term_seen-seen.result.some_false c.if-not-seen.false) c.either-some.ensures
+    verdict_turn (MayPass log c.args.at) c.terms-terms.result.now c.loop-i.i c.index-terms-i.result c.loop-i.some c.term_seen-seen.result.some_true c.term_seen-seen.result.some_false (c.loop-i.some || c.term_seen-seen.result.some_true) c.index-terms-i.is c.loop-i-test.true v.0 v.1 s.0 s.1 (not_false c.term_seen-seen.result.some_false c.if-not-seen.false) (or_is c.loop-i.some c.term_seen-seen.result.some_true)
 
 pub returns-then-some : goal.returns-then-some
 returns-then-some c = λ known w.

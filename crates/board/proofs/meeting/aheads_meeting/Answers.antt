@@ -33,7 +33,7 @@ ahead_meeting-ahead-requires-clause-was c =
     let old = element c.was_after.inside.aheads.items was_after i c.index-in-loop-i.result.now [] c.was_after.view_is la c.index-in-loop-i.ensures in
     let new = element c.was_before.inside.aheads.items was_before i c.index-in-loop-i-2.result.now [] c.was_before.view_is lb c.index-in-loop-i-2.ensures in
     let k = course_is specs rows ss c.in_ok-courses.courses.items i spec c.index-in-loop-i-3.result.now c.in_ok-courses.ensures t (get_or_default specs i no_spec spec t) c.index-in-loop-i-3.ensures no_spec in
-    hour_before specs rows ss i spec no_spec c.moves.result.now was_after c.index-in-loop-i.result.now c.index-in-loop-i-2.result.now c.first_of-first.result k.0 (c.moves.ensures ∙ k.1) old (first_tenth h) (end_tenth h) (c.first_of-first.ensures (first_tenth h) (end_tenth h) is.follow) is.follow (hour_rows h rows ss is) (rw new (c.requires.was h is i t).1)
+    hour_before specs rows ss i spec no_spec c.moves.result.now was_after c.index-in-loop-i.result.now c.index-in-loop-i-2.result.now c.first_of-first.result k.0 (c.moves.ensures ∙ k.1) old (first_tenth h) (end_tenth h) (c.first_of-first.ensures (first_tenth h) (end_tenth h) is.follow (omega arith)) is.follow (hour_rows h rows ss is) (rw new (c.requires.was h is i t).1)
 
 pub loop-i-preserved : goal.loop-i-preserved
 loop-i-preserved c =
@@ -51,7 +51,7 @@ loop-i-preserved c =
     let width = c.ahead_meeting-ahead.ensures.colours ∙ (ap length old ∙ (c.requires.after.1 i no_spec t)) in (
       rw items (length_push _ _ ∙ ap (λ n. n + 1) inv.0),
       rw items (widths_more specs i spec c.loop-i.aheads.items new is inv.0 width inv.1),
-      λ h is_hour. rw items (aheads_push specs rows ss (first_tenth h) (end_tenth h) after i c.loop-i.aheads.items new inv.0 (inv.2 h is_hour) (width ∙ ap (λ s. (rules_of s).colours) (is no_spec), before_hour specs rows ss i spec no_spec c.moves.result.now after c.index.result.now new c.first_of-first.result k.0 (c.moves.ensures ∙ k.1) old c.ahead_meeting-ahead.ensures.before (first_tenth h) (end_tenth h) (c.first_of-first.ensures (first_tenth h) (end_tenth h) is_hour.follow) is_hour.follow (hour_rows h rows ss is_hour))),
+      λ h is_hour. rw items (aheads_push specs rows ss (first_tenth h) (end_tenth h) after i c.loop-i.aheads.items new inv.0 (inv.2 h is_hour) (width ∙ ap (λ s. (rules_of s).colours) (is no_spec), before_hour specs rows ss i spec no_spec c.moves.result.now after c.index.result.now new c.first_of-first.result k.0 (c.moves.ensures ∙ k.1) old c.ahead_meeting-ahead.ensures.before (first_tenth h) (end_tenth h) (c.first_of-first.ensures (first_tenth h) (end_tenth h) is_hour.follow (omega arith)) is_hour.follow (hour_rows h rows ss is_hour))),
     )
 
 pub returns-clause-before : goal.returns-clause-before

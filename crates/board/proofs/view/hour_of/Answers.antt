@@ -4,5 +4,5 @@ use Rattle.board.proofs.view.hour_of.Goals as goal
 
 pub returns : goal.returns
 returns c = λ h follow.
-    let first = c.first_of.ensures (first_tenth h) (end_tenth h) follow in
+    let first = c.first_of.ensures (first_tenth h) (end_tenth h) follow (omega arith) in
     omega arith

@@ -1,3 +1,5 @@
+use Rattle.std.proofs.Common.{◌||◌}
+use Rattle.reach.proofs.Seeing.{or_is}
 use Rattle.signal_log.specs.Log.{log_of}
 use Rattle.filling_pair.proofs.Judged.{each_stop, each_turn, kept_turn, not_false, not_true}
 use Rattle.filling_pair.proofs.Growing.{grow_on}
@@ -14,5 +16,5 @@ loop-strand-preserved g c =
     record {
       grow = grow_on _ _ _ c.loop-strand.invariant.grow one.ensures.grow;
       strands = each_turn log c.args.rows.now c.args.line.now.at c.args.line.now.place c.args.rule.now c.args.strands.now c.loop-strand.strand-index c.strand-item.result c.loop-strand-test.true c.strand-item.is (one.ensures.strand.0 (not_false one.result.are_strands c.if-not-checked.false)) c.loop-strand.invariant.strands;
-      kept = kept_turn log c.args.rows.now c.args.line.now.at c.args.line.now.place c.args.rule.now c.loop-strand.is_kept one.result.is_kept c.either-is_kept.result c.args.strands.now c.loop-strand.strand-index c.strand-item.result c.loop-strand-test.true c.strand-item.is (one.ensures.kept (not_false one.result.are_strands c.if-not-checked.false)) c.either-is_kept.ensures c.loop-strand.invariant.kept;
+      kept = kept_turn log c.args.rows.now c.args.line.now.at c.args.line.now.place c.args.rule.now c.loop-strand.is_kept one.result.is_kept (c.loop-strand.is_kept || one.result.is_kept) c.args.strands.now c.loop-strand.strand-index c.strand-item.result c.loop-strand-test.true c.strand-item.is (one.ensures.kept (not_false one.result.are_strands c.if-not-checked.false)) (or_is c.loop-strand.is_kept one.result.is_kept) c.loop-strand.invariant.kept;
     }

@@ -1,5 +1,5 @@
 use Rattle.std.proofs.Common.{ap, ◌∙◌}
-use Rattle.ring_config.specs.Values.{has_number}
+use Rattle.sig_base.specs.Numbers.{has_number}
 use Rattle.other_measures.specs.Hours.{HasDelays}
 use Rattle.other_measures.specs.States.{HasDetector, MetBy}
 use Rattle.other_measures.proofs.Tables.{each_none, each_more, each_passed, is_number}

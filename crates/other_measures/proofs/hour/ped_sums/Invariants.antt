@@ -1,7 +1,7 @@
 use Rattle.std.proofs.Common.{ℕ, Option}
 use Rattle.std.specs.Prelude.{option_copied}
 use Rattle.board.specs.Logs.{HourLog}
-use Rattle.ring_config.specs.Values.{has_number}
+use Rattle.sig_base.specs.Numbers.{has_number}
 use Rattle.other_measures.specs.Hours.{HasDelays}
 use Rattle.other_measures.specs.States.{EachOf, HasDetector, IsWhatIsSeen, MetBy}
 use Rattle.other_measures.proofs.hour.ped_sums.Given as goal

@@ -2,7 +2,7 @@ use Rattle.std.proofs.Common.{arith, ◌≡◌, ◌∙◌, get_or, [], None, len
 use Rattle.std.proofs.lemmas.List.{get_or_default}
 use Rattle.reach.specs.Tests.{SeenTrue, SeenFalse}
 use Rattle.reach.proofs.Later.{then_iff}
-use Rattle.reach.proofs.Seeing.{some_more, all_true, all_false}
+use Rattle.reach.proofs.Seeing.{some_more, all_true, all_false, or_is}
 use Rattle.reach.proofs.seen.seen_in.Goals as goal
 
 pub loop-colour-preserved : goal.loop-colour-preserved
@@ -10,10 +10,10 @@ loop-colour-preserved c =
     let lt = c.loop-colour-test.true in
     let one = c.index-sets-colour.is ∙ get_or_default c.args.sets.now c.loop-colour.colour c.index-sets-colour.result [] lt in
     let two = c.index-sets-colour-in-loop-colour.is ∙ get_or_default c.args.sets.now c.loop-colour.colour c.index-sets-colour-in-loop-colour.result [] lt in
-    let t = rw one at c.seen_true-some_true.ensures in
-    let f = rw two at c.seen_false-some_false.ensures in (
-      some_more (λ k. SeenTrue (get_or c.args.sets.now k []) (get_or c.args.latest.now k None) k c.args.test.now) c.loop-colour.colour _ _ _ c.loop-colour.invariant.0 t c.either.ensures,
-      some_more (λ k. SeenFalse (get_or c.args.sets.now k []) (get_or c.args.latest.now k None) k c.args.test.now) c.loop-colour.colour _ _ _ c.loop-colour.invariant.1 f c.either-in-loop-colour.ensures,
+    let t = rw one at c.seen_true.ensures in
+    let f = rw two at c.seen_false.ensures in (
+      some_more (λ k. SeenTrue (get_or c.args.sets.now k []) (get_or c.args.latest.now k None) k c.args.test.now) c.loop-colour.colour _ _ _ c.loop-colour.invariant.0 t (or_is _ _),
+      some_more (λ k. SeenFalse (get_or c.args.sets.now k []) (get_or c.args.latest.now k None) k c.args.test.now) c.loop-colour.colour _ _ _ c.loop-colour.invariant.1 f (or_is _ _),
     )
 
 pub returns : goal.returns

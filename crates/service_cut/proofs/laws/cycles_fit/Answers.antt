@@ -1,4 +1,4 @@
-use Rattle.service_cut.specs.Parts.{has_phase}
+use Rattle.sig_base.specs.Numbers.{has_phase}
 use Rattle.service_cut.proofs.Fitting.{cycles_fit}
 use Rattle.service_cut.proofs.laws.cycles_fit.Goals as goal
 

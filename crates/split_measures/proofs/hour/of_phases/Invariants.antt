@@ -1,5 +1,5 @@
 use Rattle.std.proofs.Common.{◌≡◌, get_or}
-use Rattle.service_cut.specs.Parts.{has_phase}
+use Rattle.sig_base.specs.Numbers.{has_phase}
 use Rattle.hour_sums.specs.Numbers.{by_number}
 use Rattle.split_measures.specs.Phases.{zero_sum}
 use Rattle.split_measures.proofs.hour.of_phases.Given as goal

@@ -1,6 +1,6 @@
 use Rattle.std.proofs.Common.{ap, sym, ◌∙◌, subst, ℕ, ◌≡◌, true, List, refl, arith, take_all, get_or, length}
 use Rattle.std.specs.Prelude.{All, slice_get}
-use Rattle.ring_config.specs.Values.{has_phase}
+use Rattle.sig_base.specs.Numbers.{has_phase}
 use Rattle.stop_bar.specs.Crossing.{Crossing}
 use Rattle.stop_bar.specs.declared.bars.StopBar.{StopBar}
 use Rattle.stop_bar.specs.All.{bars_of}

@@ -1,5 +1,5 @@
 use Rattle.std.proofs.Common.{◌≡◌, ap, sym, ◌∙◌, ℕ, true, Option, Some, None, arith}
-use Rattle.ring_config.specs.Values.{has_phase}
+use Rattle.sig_base.specs.Numbers.{has_phase}
 use Rattle.ring_config.specs.declared.items.Approach.{Approach}
 use Rattle.stop_bar.specs.declared.bars.StopBar.{StopBar}
 use Rattle.stop_bar.specs.All.{bar_with}

@@ -1,6 +1,6 @@
 use Rattle.std.proofs.Common.{◌≡◌, true, take}
 use Rattle.std.specs.Prelude.{All}
-use Rattle.ring_config.specs.Values.{has_phase}
+use Rattle.sig_base.specs.Numbers.{has_phase}
 use Rattle.stop_bar.specs.All.{bars_of}
 use Rattle.stop_bar.proofs.bars.stop_bars.Given as goal
 

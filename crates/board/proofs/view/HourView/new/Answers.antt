@@ -2,11 +2,7 @@ use Rattle.std.proofs.Common.{◌≡◌, ◌∙◌, ℕ, ap, subst, sym}
 use Rattle.std.proofs.lemmas.Result.{IfOk-weaker}
 use Rattle.board.specs.Logs.{HourLog, hour_log}
 use Rattle.board.specs.Places.{IsLog}
-use Rattle.board.proofs.Within.{some_stretch}
 use Rattle.board.proofs.view.HourView.new.Goals as goal
-
-pub hour_of-hour-requires : goal.hour_of-hour-requires
-hour_of-hour-requires c = some_stretch c.requires.log.0 c.args.rows.now c.args.stretches.now c.requires.log.1.is_hour
 
 pub of_hour-requires-clause-log : goal.of_hour-requires-clause-log
 of_hour-requires-clause-log c =

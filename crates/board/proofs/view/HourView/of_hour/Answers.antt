@@ -4,11 +4,7 @@ use Rattle.channel_tables.specs.declared.spec.Spec.{Spec}
 use Rattle.board.specs.Logs.{HourLog, hour_log, no_spec, first_tenth}
 use Rattle.board.proofs.Hours.{moves_order, course_is}
 use Rattle.board.proofs.Viewing.{paths_more, element}
-use Rattle.board.proofs.Within.{some_stretch}
 use Rattle.board.proofs.view.HourView.of_hour.Goals as goal
-
-pub first_of-requires : goal.first_of-requires
-first_of-requires c = some_stretch c.args.hour c.args.rows.now c.args.stretches.now c.requires.log.is_hour
 
 pub path_of-requires-clause-order : goal.path_of-requires-clause-order
 path_of-requires-clause-order c =

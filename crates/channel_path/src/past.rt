@@ -1,5 +1,5 @@
 // The states after moves.
-ghost use Rattle.std.specs.Prelude.{◌≡◌, ℕ, pos, ◌<◌, ◌≤◌, ◌+◌, ◌^◌, ◌↔◌, ◌∷◌, length, take, IsTrue, IfOk, OnOk, MatchOption, MatchBool, slice_index_or, []};
+ghost use Rattle.std.specs.Prelude.{◌≡◌, ℕ, pos, ◌<◌, ◌≤◌, ◌+◌, ◌^◌, ◌↔◌, ◌∷◌, length, take, IsTrue, IfOk, OnOk, OnErr, MatchOption, MatchBool, slice_index_or, []};
 ghost use Rattle.reach.specs.Runs.{State};
 ghost use Rattle.reach.specs.Past.{Holds, AfterGap};
 ghost use Rattle.channel_path.specs.Walks.{limit_before, IsMove, InOrder, AfterMove, AfterMoves, StopsAt, EnteredBefore};
@@ -178,9 +178,11 @@ fn count_on(count: usize, next: Move) -> usize
     }
 }
 
-/// A letter ends the run before it, whose states are kept. A gap goes on with it.
+/// A letter ends the run before it, whose states are kept. A gap goes on with it. Where memory is
+/// lacking, `pasts` is as before.
 pub fn end_run(pasts: &mut Vec<Past>, past: &Past, next: Move) -> Result<(), NoMemory>
-    ensures { OnOk result (pasts.new.items ≡ kept_before next pasts.old.items past.now) }
+    ensures ok { OnOk result (pasts.new.items ≡ kept_before next pasts.old.items past.now) }
+    ensures err { OnErr result (pasts.new.items ≡ pasts.old.items) }
 {
     match next {
         Move::Letter { .. } => {

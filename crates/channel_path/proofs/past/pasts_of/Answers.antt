@@ -20,7 +20,7 @@ loop-place-preserved g c =
     let end = c.leg_end-end.ensures in
     let k = c.in_ok-_some.ensures in
     let leg = slice_leg xs a b end.within end.leg in
-    let kept : c.end_run.new.pasts.items ≡ kept_before (get_or xs a (Letter 0 0 0)) c.loop-place.pasts.items c.loop-place.past = c.in_ok-end_run.ensures in
+    let kept : c.end_run.new.pasts.items ≡ kept_before (get_or xs a (Letter 0 0 0)) c.loop-place.pasts.items c.loop-place.past = c.in_ok-end_run.ensures.ok in
     record {
       within = end.within;
       after = (k.colours ∙ i.after.0, after_leg m before c.loop-place.past c.leg_past.new.past xs a b (let lt = end.some in omega arith) i.after.1 k.after);

@@ -34,7 +34,7 @@ loop-place-preserved g c =
     let lt = c.loop-place-test.true in
     let i = c.loop-place.invariant in
     let k = rw c.in_default.is at c.in_ok-stop.ensures.after in
-    let kept : c.end_run.new.pasts.items ≡ kept_before (get_or xs a (Letter 0 0 0)) c.loop-place.pasts.items c.loop-place.past = c.in_ok-end_run.ensures in
+    let kept : c.end_run.new.pasts.items ≡ kept_before (get_or xs a (Letter 0 0 0)) c.loop-place.pasts.items c.loop-place.past = c.in_ok-end_run.ensures.ok in
     record {
       after = (c.in_ok-stop.ensures.colours ∙ i.after.0, after_leg m before c.loop-place.past c.walk_past.new.past xs a (a + 1) (omega arith) i.after.1 k.0);
       kept = rw kept (kept_leg m before xs a (a + 1) (Letter 0 0 0) c.loop-place.pasts.items c.loop-place.past (omega arith) (omega arith) (one_move xs a (a + 1) (omega arith)) i.after i.kept);

@@ -9,6 +9,7 @@ use Rattle.sig_base.specs.declared.values.Row.{Row}
 use Rattle.hour_sweep.specs.Rows.{known_rows}
 use Rattle.hour_sweep.specs.Hours.{AreOrdered}
 use Rattle.hour_sweep.proofs.Orders.{ordered_from}
+use Rattle.service_cut.proofs.YellowEnds.{from_first}
 use Rattle.cycle_arrivals.specs.declared.open.Open.{Open}
 use Rattle.cycle_arrivals.specs.Arrivals.{rows_within}
 use Rattle.cycle_arrivals.specs.Opens.{open_at}
@@ -19,10 +20,6 @@ use Rattle.arrival_measures.proofs.Filters.{and_same}
 use Rattle.arrival_measures.proofs.Opens.{from_is, open_same}
 
 -- rows in order don't fall
-
-pub ordered_low : (a b c : ℕ) (xs : List Row) → c ≤ a → AreOrdered a b xs → All (λ z. c ≤ z.at) xs
-ordered_low a b c [] le h = All-nil (λ z. c ≤ z.at)
-ordered_low a b c (x ∷ xs) le h = let l = h.0 in All-cons (λ z. c ≤ z.at) x xs (omega arith) (ordered_low x.at b c xs (omega arith) h.2)
 
 at_least : (a b : ℕ) (xs : List Row) (j : ℕ) (d : Row) → AreOrdered a b xs → j < length xs → a ≤ (get_or xs j d).at
 at_least a b [] j d h lt = absurd (omega arith)
@@ -87,7 +84,7 @@ known_within known a b f rows low kn =
     ∙ sym (filter_filter (λ x. leb a x.at && ltb x.at b) (λ x. known x.at) rows)
 
 all_low : (a f e : ℕ) (rows : List Row) → AreOrdered f e rows → All (λ x. a ≤ x.at → f ≤ x.at) rows
-all_low a f e rows h = All-weaker (λ (x : Row). f ≤ x.at) (λ x. a ≤ x.at → f ≤ x.at) (λ x l m. l) rows (ordered_low f e f rows (omega arith) h)
+all_low a f e rows h = All-weaker (λ (x : Row). f ≤ x.at) (λ x. a ≤ x.at → f ≤ x.at) (λ x l m. l) rows (from_first f e f rows (omega arith) h)
 
 all_any : (a : ℕ) (rows : List Row) → All (λ x. a ≤ x.at → a ≤ x.at) rows
 all_any a [] = All-nil (λ x. a ≤ x.at → a ≤ x.at)

@@ -1,19 +1,19 @@
 -- Rows in chains, and those that a chain passes over.
-use Rattle.std.proofs.Common.{◌≡◌, ◌≢◌, ℕ, zero, suc, ◌+◌, ◌-◌, ◌<◌, ◌≤◌, Bool, true, false, ◌||◌, cond, List, [], ◌∷◌, ◌++◌, length, get_or, set, take, refl, ap, sym, subst, ◌∙◌, arith, inl, inr}
+use Rattle.std.proofs.Common.{◌≡◌, ◌≢◌, ℕ, zero, suc, ◌+◌, ◌-◌, ◌<◌, ◌≤◌, Bool, true, false, cond, List, [], ◌∷◌, ◌++◌, length, get_or, set, take, ap, sym, subst, ◌∙◌, arith, inl, inr}
 use Rattle.std.specs.Prelude.{min}
 use Rattle.std.specs.List.{filter}
 use Rattle.std.proofs.Math.ListN.{replicate}
-use Rattle.std.proofs.lemmas.Bool.{cases_Bool, cases_eq}
+use Rattle.std.proofs.lemmas.Bool.{cases_Bool, cases_eq, or_from, or_left, or_right}
 use Rattle.std.proofs.lemmas.List.{append-nil, get_or-replicate, get_or-set_same, get_or-set_other, length-set, length-replicate}
 use Rattle.std.proofs.lemmas.List.Elements.{filter_more}
 use Rattle.sig_base.specs.declared.values.Row.{Row}
+use Rattle.sig_base.proofs.Common.{clash}
 use Rattle.board.specs.Logs.{no_row}
 use Rattle.cycle_arrivals.specs.Arrivals.{is_on}
 use Rattle.cycle_arrivals.specs.Own.{turns_green, is_own, own_rows}
 use Rattle.arrival_measures.specs.declared.chains.Chain.{Chain}
 use Rattle.arrival_measures.specs.declared.chains.Chain.TheVariants.{Green, On}
 use Rattle.arrival_measures.specs.Chains.{AreChains, IsNext, IsOnlyIn, cell_of, is_in, number_of}
-use Rattle.arrival_measures.proofs.Filters.{clash}
 
 -- ---- the next row of a chain
 
@@ -147,18 +147,6 @@ one_left test rows i lt e = filter_more test rows i no_row lt ∙ ap (λ v. filt
 
 -- ---- two chains together
 
-or_false : (a b : Bool) → a ≡ false → b ≡ false → (a || b) ≡ false
-or_false true b h k = h
-or_false false b h k = k
-
-or_left : (a b : Bool) → a ≡ true → (a || b) ≡ true
-or_left true b h = refl
-or_left false b h = absurd (cc)
-
-or_right : (a b : Bool) → b ≡ true → (a || b) ≡ true
-or_right true b h = refl
-or_right false b h = h
-
 -- at a place: the next ones of both chains, and the rows of both up to it
 pub record AreMerged (p d : ℕ) (rows : List Row) (place green on : ℕ) (own : List Row) : Type 0 where
   pub at : place ≡ min green on
@@ -175,7 +163,7 @@ merged_at p d rows k place green on own g o at e =
       at = at;
       green_next = next_later (turns_green p) rows k place green (omega arith) (omega arith) g;
       on_next = next_later (is_on d) rows k place on (omega arith) (omega arith) o;
-      are_own = e ∙ sym (passed_over (is_own p d) rows k place (omega arith) (omega arith) (λ j lo hi. or_false (turns_green p (get_or rows j no_row)) (is_on d (get_or rows j no_row)) (g.none j lo (omega arith)) (o.none j lo (omega arith))));
+      are_own = e ∙ sym (passed_over (is_own p d) rows k place (omega arith) (omega arith) (λ j lo hi. or_from (turns_green p (get_or rows j no_row)) (is_on d (get_or rows j no_row)) (g.none j lo (omega arith)) (o.none j lo (omega arith))));
     }
 
 merged_own : (p d : ℕ) (rows : List Row) (place green on : ℕ) (own : List Row) → place < length rows → AreMerged p d rows place green on own → is_own p d (get_or rows place no_row) ≡ true

@@ -1,10 +1,11 @@
 -- Rows of a detector, judged one by one.
 use Rattle.std.proofs.Common.{◌≡◌, ◌↔◌, inl, inr, ℕ, suc, ◌+◌, ◌^◌, ◌<◌, ◌≤◌, Bool, true, false, not, IsTrue, List, [], ◌∷◌, ◌++◌, length, get_or, take, refl, ap, sym, subst, ◌∙◌, arith}
 use Rattle.std.specs.List.{filter}
-use Rattle.std.proofs.lemmas.Bool.{cases_Bool, and_parts, not-true}
+use Rattle.std.proofs.lemmas.Bool.{cases_Bool, and_parts, not-true, not_from_false, not_from_true}
 use Rattle.std.proofs.lemmas.List.{length-take-le}
 use Rattle.std.proofs.lemmas.List.Sums.{length-filter, count_by-le-length}
 use Rattle.sig_base.specs.declared.values.Row.{Row}
+use Rattle.sig_base.proofs.Common.{clash}
 use Rattle.reach.specs.Runs.{State}
 use Rattle.reach.specs.Tests.{Meets}
 use Rattle.reach.specs.declared.seen.Test.{Test}
@@ -12,10 +13,10 @@ use Rattle.reach.specs.declared.seen.AgeBound.TheVariants.{Any}
 use Rattle.reach.specs.declared.seen.Seen.{Seen}
 use Rattle.hour_sums.specs.Numbers.{capped, one_if}
 use Rattle.board.specs.Logs.{no_row}
+use Rattle.hour_sums.proofs.Common.{capped_zero}
 use Rattle.arrival_measures.specs.declared.judged.Judged.{Judged}
 use Rattle.arrival_measures.specs.Judged.{AllPass, NonePass, CountOf}
 use Rattle.arrival_measures.specs.Steps.{IsMaskOf, Says, AreJudgedRows, judged_unseen, judged_with, no_judged}
-use Rattle.arrival_measures.proofs.Filters.{clash}
 use Rattle.arrival_measures.proofs.Chaining.{one_kept, one_left}
 
 -- counts
@@ -46,7 +47,7 @@ capped_few : (n k l : ℕ) → n ≤ l → l + 1 < 2 ^ 64 → k ≤ 1 → capped
 unfolding capped
 capped_few n k l a b c = omega arith
 
-one_low : (b : Bool) → one_if b ≤ 1
+pub one_low : (b : Bool) → one_if b ≤ 1
 one_low true = omega arith
 one_low false = omega arith
 
@@ -73,14 +74,6 @@ pushed_length T rows i lt e = sym (ap (λ zs. length zs) (one_kept T rows i lt e
     one_longer [] x = refl
     one_longer (y ∷ ys) x = let r = one_longer ys x in omega arith
 
-not_seen : (b : Bool) → b ≡ true → not b ≡ false
-not_seen true e = refl
-not_seen false e = absurd (cc)
-
-not_hidden : (b : Bool) → b ≡ false → not b ≡ true
-not_hidden false e = refl
-not_hidden true e = absurd (cc)
-
 module _ (test : ℕ → Bool) (May : ℕ → State → Type 0) (sees : Row → Bool) (rows : List Row) (i : ℕ) (lt : i < length rows) (few : length rows < 2 ^ 64) where
   count_on : (P : Row → Type 0) (n : ℕ) (b : Bool) → sees (get_or rows i no_row) ≡ true → (IsTrue b ↔ P (get_or rows i no_row)) → CountOf P (filter sees (take i rows)) n → CountOf P (filter sees (take (i + 1) rows)) (capped (n + one_if b))
   count_on P n b on d h =
@@ -93,7 +86,7 @@ module _ (test : ℕ → Bool) (May : ℕ → State → Type 0) (sees : Row → 
     all = count_on _ j.all _ on s.all h.all;
     none = count_on _ j.none _ on s.none h.none;
     some = count_on _ j.some _ on s.some h.some;
-    unseen = h.unseen ∙ ap (λ zs. capped (length zs)) (sym (one_left (λ x. not (sees x)) rows i lt (not_seen (sees (get_or rows i no_row)) on)));
+    unseen = h.unseen ∙ ap (λ zs. capped (length zs)) (sym (one_left (λ x. not (sees x)) rows i lt (not_from_true (sees (get_or rows i no_row)) on)));
   })
 
   count_off : (P : Row → Type 0) (n : ℕ) → sees (get_or rows i no_row) ≡ false → CountOf P (filter sees (take i rows)) n → CountOf P (filter sees (take (i + 1) rows)) n
@@ -105,7 +98,7 @@ module _ (test : ℕ → Bool) (May : ℕ → State → Type 0) (sees : Row → 
     all = count_off _ j.all off h.all;
     none = count_off _ j.none off h.none;
     some = count_off _ j.some off h.some;
-    unseen = capped_next j.unseen (length (filter (λ x. not (sees x)) (take i rows))) h.unseen ∙ ap (λ k. capped k) (pushed_length (λ x. not (sees x)) rows i lt (not_hidden (sees (get_or rows i no_row)) off));
+    unseen = capped_next j.unseen (length (filter (λ x. not (sees x)) (take i rows))) h.unseen ∙ ap (λ k. capped k) (pushed_length (λ x. not (sees x)) rows i lt (not_from_false (sees (get_or rows i no_row)) off));
   })
 
 -- what is seen at one tenth
@@ -157,10 +150,6 @@ kept_count n lt = omega arith
 none_counted : (P : Row → Type 0) → CountOf P [] 0
 unfolding CountOf
 none_counted P = refl
-
-capped_zero : 0 ≡ capped 0
-unfolding capped
-capped_zero = omega arith
 
 pub judged_none : (test : ℕ → Bool) (May : ℕ → State → Type 0) (sees : Row → Bool) (j : Judged) → j ≡ no_judged → AreJudgedRows test May sees [] j
 judged_none test May sees j e = rw e (record { count = capped_zero; all = none_counted _; none = none_counted _; some = none_counted _; unseen = capped_zero })

@@ -4,16 +4,17 @@ use Rattle.std.specs.Prelude.{All, IfSome, find, filter_map}
 use Rattle.std.specs.List.{cons_option, range_with_len}
 use Rattle.std.proofs.lemmas.Bool.{cases_Bool, cases_eq, le-leb, eq-eqb, ne_eqb}
 use Rattle.std.proofs.lemmas.List.{append-nil}
-use Rattle.std.proofs.lemmas.List.Elements.{All-nil, All-cons, All-head, All-tail, All-weaker}
+use Rattle.std.proofs.lemmas.List.Elements.{All-nil, All-cons, All-weaker}
 use Rattle.sig_base.specs.declared.values.Row.{Row}
 use Rattle.sig_base.specs.declared.values.PhaseItem.{PhaseItem}
 use Rattle.sig_base.specs.Numbers.{has_phase}
+use Rattle.sig_base.proofs.Common.{clash}
 use Rattle.hour_sweep.specs.Rows.{kept_last, live, known_rows}
 use Rattle.hour_sweep.specs.Hours.{AreOrdered, point}
 use Rattle.hour_sweep.specs.Numbers.{numbered, given, outs_from}
 use Rattle.hour_sweep.proofs.Known.{since_le, since_known, live_lost}
 use Rattle.hour_sweep.proofs.Orders.{filter_ordered, below_end}
-use Rattle.hour_sweep.proofs.Places.{AllLast, kept_all}
+use Rattle.hour_sweep.proofs.Places.{AllLast}
 use Rattle.service_cut.specs.declared.cycles.CycleBegun.{CycleBegun}
 use Rattle.service_cut.specs.declared.items.Cycle.{Cycle}
 use Rattle.service_cut.specs.declared.items.OpenCycle.{OpenCycle}
@@ -21,6 +22,8 @@ use Rattle.service_cut.specs.Cycles.{is_yellow_end, last_end_from, cycle_begun, 
 use Rattle.service_cut.specs.Parts.{room, part_of, open_cycle_of, open_cycle}
 use Rattle.service_cut.specs.Cut.{cycles_from, CutLists, IsCut}
 use Rattle.service_cut.proofs.Rooms.{has_room}
+use Rattle.service_cut.proofs.YellowEnds.{from_first}
+use Rattle.service_cut.proofs.Fitting.{row_late, earlier_low, end_all}
 use Rattle.ring_config.specs.Settings.{Settings}
 use Rattle.cycle_arrivals.specs.declared.open.Open.{Open}
 use Rattle.cycle_arrivals.specs.Opens.{open_at}
@@ -28,8 +31,6 @@ use Rattle.arrival_measures.specs.Crossing.{open_since, open_with}
 use Rattle.ring_config.specs.declared.items.Approach.{Approach}
 use Rattle.arrival_measures.specs.Travel.{told}
 use Rattle.arrival_measures.specs.Steps.{IsCycleOf}
-use Rattle.arrival_measures.proofs.Filters.{clash}
-use Rattle.arrival_measures.proofs.Between.{ordered_low}
 
 -- the last end of yellow of two lists of rows
 
@@ -55,10 +56,6 @@ end_from-append known p before (x ∷ xs) ys =
     let more = end_from-append known p first xs ys ∙ ap (λ zs. joined_last (last_end_from known p zs ys) (last_end_from known p first xs) ys) (append_assoc before (x ∷ []) xs) in
     ap (λ o. kept_last o (is_yellow_end known p before x) x (xs ++ ys)) more
     ∙ joined_kept (last_end_from known p (before ++ (x ∷ xs)) ys) (last_end_from known p first xs) (is_yellow_end known p before x) x xs ys
-
-end_all : (P : Row → Type 0) (known : ℕ → Bool) (p : ℕ) (before xs : List Row) → All P xs → AllLast P (last_end_from known p before xs)
-end_all P known p before [] h = tt
-end_all P known p before (x ∷ xs) h = kept_all P (last_end_from known p (before ++ x ∷ []) xs) (is_yellow_end known p before x) x xs (end_all P known p (before ++ x ∷ []) xs (All-tail P x xs h)) (All-head P x xs h) (All-tail P x xs h)
 
 -- what is live
 
@@ -157,23 +154,15 @@ outs_all P out has before (r ∷ rs) h = given_all P (given out has before r rs)
 
 -- the rows in front of one
 
-row_late : (a b : ℕ) (xs : List Row) (r : Row) (ys : List Row) → AreOrdered a b (xs ++ r ∷ ys) → a ≤ r.at
-row_late a b [] r ys h = h.0
-row_late a b (x ∷ xs) r ys h = let l = h.0 in let m = row_late x.at b xs r ys h.2 in omega arith
-
 front_low : (a b c : ℕ) (xs : List Row) (r : Row) (ys : List Row) → c ≤ a → AreOrdered a b (xs ++ r ∷ ys) → All (λ x. c ≤ x.at) xs
 front_low a b c [] r ys le h = All-nil (λ x. c ≤ x.at)
 front_low a b c (x ∷ xs) r ys le h = let l = h.0 in All-cons (λ z. c ≤ z.at) x xs (omega arith) (front_low x.at b c xs r ys (omega arith) h.2)
-
-front_high : (a b : ℕ) (xs : List Row) (r : Row) (ys : List Row) → AreOrdered a b (xs ++ r ∷ ys) → All (λ x. x.at ≤ r.at) xs
-front_high a b [] r ys h = All-nil (λ x. x.at ≤ r.at)
-front_high a b (x ∷ xs) r ys h = All-cons (λ z. z.at ≤ r.at) x xs (row_late x.at b xs r ys h.2) (front_high x.at b xs r ys h.2)
 
 pub cycles_of_hour : (known : ℕ → Bool) (phases : List PhaseItem) (before seen : List Row) (first end : ℕ) → All (λ x. x.at < first) before → AreOrdered first end seen → All (IsOfHour known before first) (cycles_from known phases before seen)
 cycles_of_hour known phases before seen first end early or = outs_all (IsOfHour known before first) (λ p earlier r rest. cycle_at known p earlier r) (has_phase phases) before seen
     (λ xs r ys c e o.
     let or' = subst (λ (zs : List Row). AreOrdered first end zs) e or in
-    of_hour known before xs first r c (row_late first end xs r ys or') early (front_low first end first xs r ys (omega arith) or') (front_high first end xs r ys or') o)
+    of_hour known before xs first r c (row_late first end xs r ys or') early (front_low first end first xs r ys (omega arith) or') (earlier_low first end xs r ys or') o)
 
 -- what had begun is at hand
 
@@ -263,7 +252,7 @@ open_cycle_is known c a d before hour rows cuts begun (Some y) early ordered fou
     let or = filter_ordered known (point hour) (point hour + 36000) (point hour) rows (omega arith) ordered in
     let (s, is, from) = open_some a.phase (cycle_begun_of known (point (hour + 1)) a.phase (before ++ seen)) y found in
     let high = All-weaker (λ (x : Row). x.at < point hour + 36000) (λ x. x.at ≤ point (hour + 1)) (λ x l. omega arith) seen (below_end (point hour) (point hour + 36000) seen or) in
-    let b = begun_is known a.phase before seen (point hour) (point (hour + 1)) s (omega arith) early (ordered_low (point hour) (point hour + 36000) (point hour) seen (omega arith) or) high is in
+    let b = begun_is known a.phase before seen (point hour) (point (hour + 1)) s (omega arith) early (from_first (point hour) (point hour + 36000) (point hour) seen (omega arith) or) high is in
     let order = b.order in
     record {
       order = omega arith;

@@ -4,6 +4,7 @@ use Rattle.std.specs.Prelude.{All, option_map, filter_map}
 use Rattle.std.specs.List.{cons_option, filter}
 use Rattle.std.proofs.lemmas.Bool.{and_parts, eq-eqb, ne_eqb, ltb-true}
 use Rattle.sig_base.specs.declared.values.Row.{Row}
+use Rattle.sig_base.proofs.Common.{and_false}
 use Rattle.gap_map.specs.declared.stretch.Stretch.{Stretch}
 use Rattle.hour_sweep.specs.Rows.{known_rows, last, last_with, since}
 use Rattle.hour_sweep.specs.Hours.{IsHour, point}
@@ -14,6 +15,7 @@ use Rattle.hour_sweep.proofs.Laws.{hour_tracked}
 use Rattle.hour_sweep.proofs.Orders.{rise_ordered}
 use Rattle.hour_sweep.proofs.Places.{AllLast, last-push, last_with_all}
 use Rattle.ring_config.specs.Settings.{Settings}
+use Rattle.cycle_arrivals.proofs.Counts.{and_true}
 use Rattle.arrival_measures.specs.declared.faults.Flag.{Flag}
 use Rattle.arrival_measures.specs.declared.faults.Detection.{Detection}
 use Rattle.arrival_measures.specs.declared.faults.Detections.{Detections}
@@ -22,14 +24,6 @@ use Rattle.arrival_measures.specs.Crossing.{flag_of, flags_of, has_detector}
 use Rattle.arrival_measures.specs.Steps.{AreDetections, arrival_in, detected_at, detected_by, fault_in, flag_after, flag_cleared, of_approaches}
 
 -- ---- the flag of a detector, row by row
-
-and_true : (b : Bool) → (b && true) ≡ b
-and_true true = refl
-and_true false = refl
-
-and_false : (b : Bool) → (b && false) ≡ false
-and_false true = refl
-and_false false = refl
 
 abbrev flag : Bool → Flag
 flag v = record { fault = v }
@@ -51,7 +45,7 @@ passed known p before x ne =
     let other : is_of p x ≡ false = ap (λ v. v && is_own x.code) (ne_eqb x.param p ne) in
     ap (λ o. faulty_since known x.at o) (last-push (is_of p) before x ∙ ap (λ v. cond v (Some x) (last (is_of p) before)) other)
 
-same_since : (known : ℕ → Bool) (t u : ℕ) (o : Option Row) → since known t ≡ since known u → faulty_since known t o ≡ faulty_since known u o
+pub same_since : (known : ℕ → Bool) (t u : ℕ) (o : Option Row) → since known t ≡ since known u → faulty_since known t o ≡ faulty_since known u o
 same_since known t u None e = refl
 same_since known t u (Some x) e = ap (λ v. begins_fault x.code && v) (live_same known x.at t u e)
 
@@ -59,7 +53,7 @@ kept_on : (known : ℕ → Bool) (t u p : ℕ) (before : List Row) → since kno
 unfolding faulty
 kept_on known t u p before e = same_since known t u (last (is_of p) before) e
 
-lost_since : (known : ℕ → Bool) (k u : ℕ) (o : Option (Row × List Row)) → AllLast (λ z. z.at ≤ k) o → k < u → known k ≡ false → faulty_since known u (option_map (λ f. f.0) o) ≡ false
+pub lost_since : (known : ℕ → Bool) (k u : ℕ) (o : Option (Row × List Row)) → AllLast (λ z. z.at ≤ k) o → k < u → known k ≡ false → faulty_since known u (option_map (λ f. f.0) o) ≡ false
 lost_since known k u None h lt e = refl
 lost_since known k u (Some f) h lt e = ap (λ v. begins_fault f.0.code && v) (live_lost known f.0.at k u h.0 lt e) ∙ and_false (begins_fault f.0.code)
 

@@ -6,9 +6,6 @@ use Rattle.std.specs.List.Sorted.{IsPartitionPoint}
 use Rattle.std.proofs.lemmas.List.Elements.{All-head, All-tail}
 use Rattle.std.proofs.lemmas.List.Sums.{length-filter}
 
-pub clash : (b : Bool) → b ≡ true → b ≡ false → ⊥
-clash b t f = let bad : true ≡ false = sym t ∙ f in absurd (cc)
-
 pub filter_same : {X : Type 0} (p q : X → Bool) (xs : List X) → All (λ x. p x ≡ q x) xs → filter p xs ≡ filter q xs
 filter_same p q [] h = refl
 filter_same p q (x ∷ xs) h = rw (All-head (λ z. p z ≡ q z) x xs h, filter_same p q xs (All-tail (λ z. p z ≡ q z) x xs h)) refl

@@ -2,7 +2,7 @@
 use Rattle.std.proofs.Common.{◌≡◌, ℕ, ◌+◌, ◌<◌, ◌≤◌, Bool, true, false, ◌&&◌, ◌||◌, leb, ltb, List, [], ◌∷◌, ◌++◌, Option, Some, None, length, get_or, map, refl, ap, sym, subst, ◌∙◌, arith, inl, inr}
 use Rattle.std.specs.Prelude.{All, IfSome}
 use Rattle.std.specs.List.{filter}
-use Rattle.std.proofs.lemmas.Bool.{cases_Bool, cases_lt, leb-true, le-ltb, lt-ltb}
+use Rattle.std.proofs.lemmas.Bool.{cases_Bool, cases_lt, leb-true, le-ltb, lt-ltb, and_from}
 use Rattle.std.proofs.lemmas.List.Elements.{All-nil, All-cons, All-filter, All-head, All-tail, filter_passes}
 use Rattle.sig_base.specs.declared.values.Row.{Row}
 use Rattle.gap_map.specs.declared.stretch.Stretch.{Stretch}
@@ -13,6 +13,8 @@ use Rattle.hour_sweep.proofs.Orders.{below_end, ordered-append, rise_ordered}
 use Rattle.reach.specs.Runs.{State}
 use Rattle.service_cut.specs.Cut.{CutLists, IsCut}
 use Rattle.board.specs.Logs.{HourLog}
+use Rattle.service_cut.proofs.YellowEnds.{from_first}
+use Rattle.hour_sums.proofs.Common.{capped_none}
 use Rattle.ring_config.specs.Settings.{Settings, spec_place}
 use Rattle.ring_config.specs.declared.items.Approach.{Approach}
 use Rattle.cycle_arrivals.specs.Arrivals.{is_on, ons_of}
@@ -32,7 +34,6 @@ use Rattle.arrival_measures.specs.Results.{IsSeenSum, IsSumBy, IsUnseenSum}
 use Rattle.arrival_measures.specs.Travel.{arrivals_at, from_tenth}
 use Rattle.arrival_measures.specs.Steps.{AreGiven, AreJudgedRows, AreSources, arriving_with, due_of, no_judged, of_approaches, rows_with, sum_of}
 use Rattle.arrival_measures.proofs.Arriving.{ons_kept}
-use Rattle.arrival_measures.proofs.Between.{ordered_low}
 use Rattle.arrival_measures.proofs.Counting.{judged_none, none_of}
 use Rattle.arrival_measures.proofs.Each.{got_map}
 use Rattle.arrival_measures.proofs.Travels.{at_ordered, kept_ordered, late_ordered, wider}
@@ -44,10 +45,6 @@ due_is known c hour d v rows = filter_filter (λ x. is_last c hour || ltb x.at (
 
 none_due : (last : Bool) (end : ℕ) → due_of last end [] ≡ []
 none_due last end = refl
-
-capped_none : capped 0 ≡ 0
-unfolding capped
-capped_none = omega arith
 
 -- of an approach
 
@@ -84,12 +81,8 @@ passing_all P test before (x ∷ xs) h =
       | inr e ↦ rw e more
     ]
 
-both_on : (a b : Bool) → a ≡ true → b ≡ true → (a && b) ≡ true
-both_on true b e h = h
-both_on false b e h = absurd (cc)
-
 joined_all : (known : ℕ → Bool) (end : ℕ) (xs : List Row) → All (λ x. x.at < end) xs → All (λ x. known x.at ≡ true) xs → All (λ x. (known x.at && ltb x.at end) ≡ true) xs
-joined_all known end xs low kn = λ k d lt. both_on (known (get_or xs k d).at) _ (kn k d lt) (lt-ltb (get_or xs k d).at end (low k d lt))
+joined_all known end xs low kn = λ k d lt. and_from (known (get_or xs k d).at) _ (kn k d lt) (lt-ltb (get_or xs k d).at end (low k d lt))
 
 hour_seen : (known : ℕ → Bool) (hour : ℕ) (rows : List Row) → AreOrdered (point hour) (point hour + 36000) rows → All (λ x. is_seen known hour x ≡ true) (known_rows known rows)
 hour_seen known hour rows or =
@@ -213,7 +206,7 @@ both_bounds a b xs lo hi = λ k d lt. (lo k d lt, hi k d lt)
 arrivals_bounded : (known : ℕ → Bool) (hour : ℕ) (c : Settings) (before rows : List Row) → AreOrdered (point hour) (point hour + 36000) rows → HourTenths hour (of_approaches c (arrivals_from known before (known_rows known rows)))
 arrivals_bounded known hour c before rows or =
     let P : Row → Type 0 = λ x. (point hour ≤ x.at) × (x.at < point hour + 36000) in
-    let all = both_bounds (point hour) (point hour + 36000) rows (ordered_low (point hour) (point hour + 36000) (point hour) rows (omega arith) or) (below_end (point hour) (point hour + 36000) rows or) in
+    let all = both_bounds (point hour) (point hour + 36000) rows (from_first (point hour) (point hour + 36000) (point hour) rows (omega arith) or) (below_end (point hour) (point hour + 36000) rows or) in
     All-filter (λ x. has_detector c x.param) P (arrivals_from known before (known_rows known rows)) (passing_all P (is_arrival known) before (known_rows known rows) (All-filter (λ x. known x.at) P rows all))
 
 pub bar_low : (known : ℕ → Bool) (hour : ℕ) (c : Settings) (before rows : List Row) (o : Option ℕ) → AreOrdered (point hour) (point hour + 36000) rows → All (λ x. point hour ≤ x.at) (rows_with (of_approaches c (arrivals_from known before (known_rows known rows))) o)

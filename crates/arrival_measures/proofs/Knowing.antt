@@ -6,8 +6,8 @@ use Rattle.sig_base.specs.declared.values.Row.{Row}
 use Rattle.gap_map.specs.declared.stretch.Stretch.{Stretch}
 use Rattle.gap_map.specs.Stretches.{AreStretches, known_at}
 use Rattle.gap_map.proofs.Following.{known_at_is}
+use Rattle.gap_map.proofs.Cutting.{ends_within}
 use Rattle.hour_sweep.specs.Hours.{IsHour, point}
-use Rattle.hour_sweep.proofs.Orders.{stretches_end}
 
 -- stretches end one after another
 
@@ -47,7 +47,7 @@ has_tenth known a b t (s ∷ ss) (suc i) d h lo hi le cut =
 
 ends_in : (known : ℕ → Bool) (a b : ℕ) (ss : List Stretch) (j : ℕ) (d : Stretch) → AreStretches known a b ss → j < length ss → (get_or ss j d).to ≤ b
 ends_in known a b [] j d h lt = absurd (omega arith)
-ends_in known a b (s ∷ ss) zero d h lt = stretches_end known s.to b ss h.3
+ends_in known a b (s ∷ ss) zero d h lt = ends_within known s.to b ss h.3
 ends_in known a b (s ∷ ss) (suc j) d h lt = ends_in known s.to b ss j d h.3 (omega arith)
 
 pub past_all : (known : ℕ → Bool) (a b t : ℕ) (ss : List Stretch) (i : ℕ) → AreStretches known a b ss → b ≤ t → IsPartitionPoint (λ (s : Stretch). leb s.to t ≡ true) (λ s. leb s.to t ≡ false) ss i → i < length ss → ⊥

@@ -1,8 +1,6 @@
 -- What a cycle gives, by the rows of its own tenths alone.
-use Rattle.std.proofs.Common.{◌≡◌, ℕ, ◌+◌, ◌-◌, ◌<◌, ◌≤◌, Bool, true, false, ◌&&◌, leb, ltb, List, length, refl, ap, sym, ◌∙◌, arith}
+use Rattle.std.proofs.Common.{◌≡◌, ℕ, ◌+◌, ◌-◌, ◌<◌, ◌≤◌, false, ◌&&◌, List, length, refl, ap, sym, ◌∙◌, arith}
 use Rattle.std.specs.Prelude.{count_by}
-use Rattle.std.proofs.lemmas.Bool.{ltb-true, lt-ltb}
-use Rattle.std.proofs.lemmas.List.Elements.{filter_agree}
 use Rattle.sig_base.specs.declared.values.Row.{Row}
 use Rattle.cycle_arrivals.specs.Arrivals.{is_on, ons_of, rows_within}
 use Rattle.cycle_arrivals.specs.Green.{greens, shows_green, arrivals_in, green_arrivals_in, green_tenths_in}
@@ -10,22 +8,11 @@ use Rattle.cycle_arrivals.specs.Opens.{open_at}
 use Rattle.cycle_arrivals.proofs.Within.{within_below}
 use Rattle.cycle_arrivals.proofs.Counts.{count_same}
 use Rattle.cycle_arrivals.proofs.Tenths.{tenths_same}
-use Rattle.cycle_arrivals.proofs.Own.{filter_filter}
+use Rattle.cycle_arrivals.proofs.Parts.{within_part}
 
 pub from_is : (p d a t : ℕ) (rows : List Row) → (open_at p d a t rows).from ≡ a
 unfolding open_at
 from_is p d a t rows = refl
-
-part_of_test : (l s t : Bool) → (t ≡ true → s ≡ true) → ((l && s) && (l && t)) ≡ (l && t)
-part_of_test true true t h = refl
-part_of_test true false true h = h refl
-part_of_test true false false h = refl
-part_of_test false s t h = refl
-
-within_part : (a t b : ℕ) (xs : List Row) → t ≤ b → rows_within a t (rows_within a b xs) ≡ rows_within a t xs
-within_part a t b xs le =
-    filter_filter (λ x. leb a x.at && ltb x.at t) (λ x. leb a x.at && ltb x.at b) xs
-    ∙ filter_agree (λ x. (leb a x.at && ltb x.at b) && (leb a x.at && ltb x.at t)) (λ x. leb a x.at && ltb x.at t) (λ x. part_of_test (leb a x.at) (ltb x.at b) (ltb x.at t) (λ e. let lt = ltb-true x.at t e in lt-ltb x.at b (omega arith))) xs
 
 -- of two lists with the same rows in the cycle
 module _ (p d a b : ℕ) (xs ys : List Row) (same : rows_within a b xs ≡ rows_within a b ys) where

@@ -7,6 +7,7 @@ use Rattle.std.proofs.lemmas.List.{drop_more, length-take-le, take_more}
 use Rattle.std.proofs.lemmas.List.Elements.{All-nil, All-cons, All-head, All-tail}
 use Rattle.sig_base.specs.declared.values.Row.{Row}
 use Rattle.sig_base.specs.HourRows.{AreRowsOf}
+use Rattle.sig_base.proofs.Common.{clash, some_same}
 use Rattle.gap_map.specs.declared.stretch.Stretch.{Stretch}
 use Rattle.gap_map.specs.Stretches.{AreStretches, known_at}
 use Rattle.gap_map.proofs.Following.{own_known}
@@ -14,14 +15,13 @@ use Rattle.hour_sweep.specs.Hours.{AreOrdered}
 use Rattle.hour_sweep.proofs.Orders.{below_end, rise_ordered}
 use Rattle.board.specs.Logs.{HourLog, end_tenth, first_tenth, no_row}
 use Rattle.board.specs.Verdicts.{MayPassRow}
+use Rattle.service_cut.proofs.YellowEnds.{from_first}
 use Rattle.ring_config.specs.Settings.{Settings, spec_place}
 use Rattle.ring_config.specs.declared.items.Approach.{Approach}
 use Rattle.arrival_measures.specs.Crossing.{has_detector}
 use Rattle.arrival_measures.specs.Judged.{AllPass}
 use Rattle.arrival_measures.specs.Points.{ArePicked, IsArrival, MayWork, detector_channel, is_ahead, is_fault, is_on_at}
 use Rattle.arrival_measures.specs.Views.{IsSeen}
-use Rattle.arrival_measures.proofs.Between.{ordered_low}
-use Rattle.arrival_measures.proofs.Filters.{clash}
 
 -- ---- rows that are picked, row by row
 
@@ -67,9 +67,6 @@ module _ (P : ℕ → Row → Type 0) where
   picked_all Q n (x ∷ xs) picked all (inr (q, r)) = picked_all Q (n + 1) xs picked (All-tail Q x xs all) r
 
 -- ---- a detector that isn't sure to have a fault
-
-some_same : (x y : ℕ) → Some x ≡ Some y → x ≡ y
-some_same x y e = cc
 
 pub may_work_is : (c : Settings) (log : HourLog) (n : ℕ) (x : Row) (place : ℕ) (sure : Bool) → Some place ≡ spec_place c.specs (detector_channel x.param) → (IsTrue sure ↔ AllPass is_fault (MayPassRow log n place)) → IsTrue (not sure) ↔ MayWork c log n x
 may_work_is c log n x place sure at is = (
@@ -152,7 +149,7 @@ row_known c view rows ss log n x b is lt at tells =
     let order = rows_ordered log.hour log.rows hour.are_rows in
     let lt_own : n < length log.rows = subst (λ (zs : List Row). n < length zs) (sym is.same_rows) lt in
     let own : x ≡ get_or log.rows n no_row = at ∙ ap (λ (zs : List Row). get_or zs n no_row) (sym is.same_rows) in
-    let from : f ≤ x.at = subst (λ (z : Row). f ≤ z.at) (sym own) (ordered_low f t f log.rows (omega arith) order n no_row lt_own) in
+    let from : f ≤ x.at = subst (λ (z : Row). f ≤ z.at) (sym own) (from_first f t f log.rows (omega arith) order n no_row lt_own) in
     let upto : x.at < t = subst (λ (z : Row). z.at < t) (sym own) (below_end f t log.rows order n no_row lt_own) in
     let are : AreStretches (known_at log.stretches) f t ss = subst (λ (zs : List Stretch). AreStretches (known_at log.stretches) f t zs) is.same_stretches (own_known f t log.stretches hour.follow) in
     tells (known_at log.stretches) f t are from ∙ and_on (known_at log.stretches x.at) (ltb x.at t) (lt-ltb x.at t upto)

@@ -2,7 +2,7 @@
 use Rattle.std.proofs.Common.{◌≡◌, ℕ, zero, suc, ◌+◌, ◌<◌, Bool, true, false, ◌&&◌, ◌||◌, cond, eqb, ltb, List, [], ◌∷◌, ◌++◌, Option, Some, None, length, get_or, take, drop, refl, ap, sym, ◌∙◌, append_assoc, arith, inl, inr}
 use Rattle.std.specs.Prelude.{All, IfSome, flat_map}
 use Rattle.std.specs.List.{list_any}
-use Rattle.std.proofs.lemmas.Bool.{and_parts, cases_Bool, eq-eqb, eqb-true, lt-ltb}
+use Rattle.std.proofs.lemmas.Bool.{and_parts, cases_Bool, eq-eqb, eqb-true, lt-ltb, and_from, or_left, and_right, or_right}
 use Rattle.std.proofs.lemmas.List.{drop_more, take_more, append-nil}
 use Rattle.std.proofs.lemmas.List.Elements.{All-head, All-tail}
 use Rattle.std.proofs.lemmas.Grind.{flat_map-append}
@@ -43,14 +43,6 @@ point_next p i all x d b old new whole lt e n h =
 
 -- a row of a detector that no approach has gives none
 
-or_left : (a b : Bool) → a ≡ true → (a || b) ≡ true
-or_left true b h = refl
-or_left false b h = absurd (cc)
-
-or_right : (a b : Bool) → b ≡ true → (a || b) ≡ true
-or_right true b h = refl
-or_right false b h = h
-
 abbrev pub has_of : ℕ → Approach → Bool
 has_of n a = has_number (detectors a) n
 
@@ -81,15 +73,11 @@ rest_none false h r e = refl
 rest_none true true r e = absurd (cc)
 rest_none true false r e = e
 
-and_no : (a b : Bool) → b ≡ false → (a && b) ≡ false
-and_no true b h = h
-and_no false b h = refl
-
 no_points : (phases : List PhaseItem) (p i : ℕ) (all : List Approach) (x : Row) → All (IsApproach phases) all → (ltb x.param 129 && list_any (has_of x.param) all) ≡ false → points_at p i all x ≡ []
 no_points phases p i [] x sound none = refl
 no_points phases p i (a ∷ more) x sound none =
     let here = All-head (IsApproach phases) a more sound in
-    rw (and_no (eqb a.phase p) (is_on_at a.advance x) (not_on a x (list_any (has_of x.param) more) here.advance none))
+    rw (and_right (eqb a.phase p) (is_on_at a.advance x) (not_on a x (list_any (has_of x.param) more) here.advance none))
     (no_points phases p (i + 1) more x (All-tail (IsApproach phases) a more sound) (rest_none (ltb x.param 129) (has_of x.param a) (list_any (has_of x.param) more) none))
 
 pub points_kept : (c : Settings) (p : ℕ) (rows : List Row) → All (IsApproach c.phases) c.approaches → flat_map (points_at p 0 c.approaches) (of_approaches c rows) ≡ flat_map (points_at p 0 c.approaches) rows
@@ -115,15 +103,11 @@ second_has o None = tt
 second_has None (Some d) = or_left (eqb d d) _ (eq-eqb d d refl)
 second_has (Some c) (Some d) = or_right (eqb c d) _ (or_left (eqb d d) _ (eq-eqb d d refl))
 
-both_on : (a b : Bool) → a ≡ true → b ≡ true → (a && b) ≡ true
-both_on true b e h = h
-both_on false b e h = absurd (cc)
-
 some_has : (c : Settings) (i : ℕ) (d : Approach) (o : Option ℕ) → i < length c.approaches → IfSome o (IsBetween 1 128) → IfSome o (λ n. has_of n (get_or c.approaches i d) ≡ true) → IfSome o (λ n. has_detector c n ≡ true)
 some_has c i d None lt small has = tt
 some_has c i d (Some n) lt small has =
     let hi = small.1 in
-    both_on (ltb n 129) (list_any (has_of n) c.approaches) (lt-ltb n 129 (omega arith)) (any_at (has_of n) c.approaches i d lt has)
+    and_from (ltb n 129) (list_any (has_of n) c.approaches) (lt-ltb n 129 (omega arith)) (any_at (has_of n) c.approaches i d lt has)
 
 pub is_own_of : (c : Settings) (i : ℕ) (d : Approach) → i < length c.approaches → IsApproach c.phases (get_or c.approaches i d) → IsOwnOf c (get_or c.approaches i d)
 is_own_of c i d lt is =

@@ -1,11 +1,12 @@
 -- Points by tenth.
 use Rattle.std.proofs.Common.{◌≡◌, ◌≤◌, ◌<◌, ◌+◌, ◌-◌, ℕ, suc, zero, Bool, true, false, not, ◌&&◌, leb, ltb, List, [], ◌∷◌, ◌++◌, length, refl, sym, ap, ◌∙◌, arith, get_or, cond, drop, take, filter, append-nil, inl, inr}
-use Rattle.std.proofs.lemmas.Bool.{and_parts, cases_Bool, cases_lt, eqb-true, leb-true, le-leb, lt-ltb, ltb-true}
+use Rattle.std.proofs.lemmas.Bool.{and_parts, cases_Bool, cases_lt, eqb-true, leb-true, le-leb, lt-ltb, ltb-true, and_from}
 use Rattle.std.proofs.lemmas.Bool.Decides.{nat_tests}
 use Rattle.std.specs.List.Sorted.{IsNonDecreasingBy, IsStableByKey, ties}
 use Rattle.std.specs.Prelude.{◌==◌}
 use Rattle.std.specs.Ordering.{nat_cmp, is_lt}
 use Rattle.std.proofs.lemmas.List.Elements.{filter_agree}
+use Rattle.sig_base.proofs.Common.{tie_is}
 use Rattle.arrival_measures.proofs.Between.{not_before}
 use Rattle.cycle_arrivals.proofs.Own.{filter_filter, filter_less}
 use Rattle.arrival_measures.specs.declared.points.Point.{Point}
@@ -143,15 +144,12 @@ filter-same : (p q : Point → Bool) (xs : List Point) → ((y : Point) → p y 
 filter-same p q [] h = refl
 filter-same p q (x ∷ xs) h = rw (h x, filter-same p q xs h) refl
 
-tie-is : (a b : ℕ) → (not (is_lt (nat_cmp a b)) && not (is_lt (nat_cmp b a))) ≡ (b == a)
-tie-is a b = grind (arith, nat_tests)
-
 pub sorted_is : (xs ys : List Point) → IsNonDecreasingBy (λ (r : Point). r.offset) ys → IsStableByKey (λ (r : Point). r.offset) nat_cmp xs ys → IsByTenth xs ys
 sorted_is xs ys sorted stable = record {
   rise = sorted;
   same = λ s.
       let x : Point = record { approach = 0; offset = s } in
-      let same : (y : Point) → ties (λ (a b : Point). is_lt (nat_cmp a.offset b.offset)) x y ≡ (y.offset == s) = λ y. tie-is s y.offset in
+      let same : (y : Point) → ties (λ (a b : Point). is_lt (nat_cmp a.offset b.offset)) x y ≡ (y.offset == s) = λ y. tie_is s y.offset in
       sym (filter-same _ _ ys same) ∙ stable x ∙ filter-same _ _ xs same;
 }
 
@@ -167,12 +165,8 @@ kept_rise P a (x ∷ xs) h = elim (cases_Bool (P x)) [
 abbrev between : ℕ → ℕ → Point → Bool
 between f t x = leb f x.offset && ltb x.offset t
 
-both_on : (a b : Bool) → a ≡ true → b ≡ true → (a && b) ≡ true
-both_on true b e h = h
-both_on false b e h = absurd (cc)
-
 within_at : (f t s : ℕ) (xs : List Point) → f ≤ s → s < t → at_tenth s (filter (between f t) xs) ≡ at_tenth s xs
-within_at f t s xs lo hi = filter_less (λ (x : Point). x.offset == s) (between f t) (λ x e. let at = eqb-true x.offset s e in both_on (leb f x.offset) (ltb x.offset t) (le-leb f x.offset (omega arith)) (lt-ltb x.offset t (omega arith))) xs
+within_at f t s xs lo hi = filter_less (λ (x : Point). x.offset == s) (between f t) (λ x e. let at = eqb-true x.offset s e in and_from (leb f x.offset) (ltb x.offset t) (le-leb f x.offset (omega arith)) (lt-ltb x.offset t (omega arith))) xs
 
 outside_at : (f t s : ℕ) (xs : List Point) → (f ≤ s → s < t → ⊥) → at_tenth s (filter (between f t) xs) ≡ []
 outside_at f t s [] out = refl

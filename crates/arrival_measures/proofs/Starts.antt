@@ -4,9 +4,9 @@ use Rattle.std.specs.List.{range_with_len}
 use Rattle.std.proofs.lemmas.Bool.{lt-ltb}
 use Rattle.sig_base.specs.declared.values.Row.{Row}
 use Rattle.event_codes.specs.declared.channels.Kind.TheVariants.{Detector}
-use Rattle.hour_sums.specs.Numbers.{capped}
 use Rattle.hour_sweep.specs.Numbers.{numbered}
-use Rattle.service_cut.specs.Cycles.{cycle_begun_of}
+use Rattle.service_cut.proofs.Rooms.{cycle_at_start}
+use Rattle.hour_sums.proofs.Common.{capped_zero}
 use Rattle.ring_config.specs.Settings.{Settings, is_tracked_as}
 use Rattle.ring_config.specs.declared.items.Approach.{Approach}
 use Rattle.arrival_measures.specs.declared.carry.Crossing.{Crossing}
@@ -25,13 +25,9 @@ no_approach = record { name = []; phase = 0; advance = None; stop_bar = None; tr
 abbrev pub nothing_crosses : Approach → Crossing
 nothing_crosses a = no_crossing
 
-none_begun : (known : ℕ → Bool) (p : ℕ) → cycle_begun_of known 0 p [] ≡ None
-unfolding cycle_begun_of
-none_begun known p = refl
-
 none_with : (known : ℕ → Bool) (a : Approach) (o : Option ℕ) → None ≡ open_with known 0 [] a o
 none_with known a None = refl
-none_with known a (Some d) = rw (none_begun known a.phase) refl
+none_with known a (Some d) = rw (cycle_at_start known a.phase) refl
 
 none_pending : (known : ℕ → Bool) (a : Approach) (o : Option ℕ) → [] ≡ pending_with known 0 [] a o
 unfolding arrivals_at
@@ -65,11 +61,7 @@ flags_same known c a (suc n) le =
 pub no_flags_are : (known : ℕ → Bool) (c : Settings) → no_flags c ≡ flags_of known c 0 []
 no_flags_are known c = flags_same known c 0 129 (omega arith)
 
-capped_none : 0 ≡ capped 0
-unfolding capped
-capped_none = omega arith
-
 -- of no cycle nothing is counted
 pub no_numbers : (p d : ℕ) (rows : List Row) → no_cycles ≡ numbers_of p d rows []
 unfolding numbers_of
-no_numbers p d rows = rw (← capped_none) refl
+no_numbers p d rows = rw (← capped_zero) refl

@@ -28,7 +28,7 @@ known_kept known a b xs kn =
     let both = and_parts (leb a x.at) (ltb x.at b) e in
     kn x.at (leb-true a x.at both.0) (ltb-true x.at b both.1)) xs
 
-within-append : (a b : ℕ) (xs ys : List Row) → rows_within a b (xs ++ ys) ≡ rows_within a b xs ++ rows_within a b ys
+pub within-append : (a b : ℕ) (xs ys : List Row) → rows_within a b (xs ++ ys) ≡ rows_within a b xs ++ rows_within a b ys
 within-append a b xs ys = filter-append (λ x. leb a x.at && ltb x.at b) xs ys
 
 -- an hour from tenth t on, with these rows and these known rows before it

@@ -1,8 +1,8 @@
 -- The runs over the stretches of an hour are the walks over the channel's moves.
-use Rattle.std.proofs.Common.{suc, zero, ◌≡◌, ◌≢◌, refl, ap, sym, ◌∙◌, subst, ◌⊎◌, inl, inr, ◌↔◌, ℕ, ◌+◌, ◌-◌, ◌<◌, ◌≤◌, ℤ, pos, ◌+ℤ◌, Bool, true, false, nat_eq, nat_lt, nat_le, ◌&&◌, ◌||◌, List, [], ◌∷◌, ◌++◌, length, length-append, take, drop, arith, Option, Some, None}
+use Rattle.std.proofs.Common.{suc, zero, ◌≡◌, ◌≢◌, refl, ap, sym, ◌∙◌, subst, inl, inr, ◌↔◌, ℕ, ◌+◌, ◌-◌, ◌<◌, ◌≤◌, ℤ, pos, ◌+ℤ◌, Bool, true, false, nat_eq, nat_lt, nat_le, ◌&&◌, ◌||◌, List, [], ◌∷◌, ◌++◌, length, length-append, take, drop, arith, Option, Some, None}
 use Rattle.std.proofs.lemmas.Int.{ints}
 use Rattle.std.proofs.lemmas.Bool.{cases_Bool}
-use Rattle.std.proofs.lemmas.Bool.{ltb-true, ltb-false, leb-true, le-leb, lt-ltb}
+use Rattle.std.proofs.lemmas.Bool.{leb-true, le-leb, lt-ltb}
 use Rattle.std.proofs.lemmas.Bool.Decides.{eqb_tells}
 use Rattle.colour_machine.specs.Rules.{Rules}
 use Rattle.reach.specs.Runs.{State, Step, Steps, Run, Fills}
@@ -11,8 +11,10 @@ use Rattle.channel_path.specs.declared.moves.Move.{Move}
 use Rattle.channel_path.specs.Walks.{Walk}
 use Rattle.channel_path.proofs.Moving.{walk_join}
 use Rattle.sig_base.specs.declared.values.Row.{Row}
+use Rattle.sig_base.proofs.Common.{not_less}
 use Rattle.gap_map.specs.declared.stretch.Stretch.{Stretch}
 use Rattle.gap_map.specs.Stretches.{FollowOn, known_at}
+use Rattle.gap_map.proofs.Cutting.{nat_cases}
 use Rattle.board.specs.History.{Agree, Agreeing, Event, Track, event_of, events_at, letters, put}
 use Rattle.board.specs.Moves.{RowsIn, count_before, letter_moves, own, stretch_moves, with_letter}
 
@@ -72,10 +74,7 @@ gap_free k known given f t s u h = (
   λ (lists, len, r). let e : f + length lists ≡ t = omega (arith, ints) in (lists, e, (agree_free known (λ x. letters k (given x)) f t lists e h, r)),
 )
 
-pub lt_tells : (a b : ℕ) → ((nat_lt a b ≡ true) × (a < b)) ⊎ ((nat_lt a b ≡ false) × (b ≤ a))
-lt_tells a b = elim (cases_Bool (nat_lt a b)) [ inl x ↦ inl (x, ltb-true a b x) | inr x ↦ inr (x, ltb-false a b x) ]
-
-event_here : (r : Row) (rs : List Row) (x : ℕ) → nat_eq r.at x ≡ true → events_at (r ∷ rs) x ≡ event_of r ∷ events_at rs x
+pub event_here : (r : Row) (rs : List Row) (x : ℕ) → nat_eq r.at x ≡ true → events_at (r ∷ rs) x ≡ event_of r ∷ events_at rs x
 event_here r rs x e = rw e
 
 pub event_not_here : (r : Row) (rs : List Row) (x : ℕ) → r.at ≢ x → events_at (r ∷ rs) x ≡ events_at rs x
@@ -149,11 +148,8 @@ rows_walk k known given (suc d) f t i rs s u e h n g =
       λ b. let (v, ev, q) = (w s u).0 b in mid.1 (v, ev, (rest v).1 q),
     )
 
-leb_no : (a b : ℕ) → b < a → nat_le a b ≡ false
+pub leb_no : (a b : ℕ) → b < a → nat_le a b ≡ false
 leb_no a b h = elim (cases_Bool (nat_le a b)) [ inl x ↦ absurd (let q = leb-true a b x in omega arith) | inr x ↦ x ]
-
-le_ltb_no : (a b : ℕ) → b ≤ a → nat_lt a b ≡ false
-le_ltb_no a b h = elim (lt_tells a b) [ inl (x, q) ↦ absurd (omega arith) | inr (x, _) ↦ x ]
 
 both_no : (a : Bool) → ((a && false) || false) ≡ false
 both_no true = refl
@@ -187,7 +183,7 @@ pub known_here : (s : Stretch) (ss : List Stretch) (f t x : ℕ) → FollowOn f 
 known_here s ss f t x h l1 l2 = let a = h.0 in yes_test s.known (nat_le s.from x) (nat_lt x s.to) (known_at ss x) (le-leb s.from x (omega arith)) (lt-ltb x s.to l2) (known_late ss s.to t x h.2 l2)
 
 pub known_there : (s : Stretch) (ss : List Stretch) (x : ℕ) → s.to ≤ x → known_at (s ∷ ss) x ≡ known_at ss x
-known_there s ss x l = past_test s.known (nat_le s.from x) (nat_lt x s.to) (known_at ss x) (le_ltb_no x s.to l)
+known_there s ss x l = past_test s.known (nat_le s.from x) (nat_lt x s.to) (known_at ss x) (not_less x s.to l)
 
 abbrev pub CutAt : ℕ → ℕ → ℕ → List Row → List Row → List Row → Type 0
 CutAt f m t rows before rest = RowsIn f m before × RowsIn m t rest × ((x : ℕ) → x < m → events_at rows x ≡ events_at before x) × ((x : ℕ) → m ≤ x → events_at rows x ≡ events_at rest x)
@@ -198,7 +194,7 @@ rows_later f m t (r ∷ rs) le h late = (late r rs refl, h.1, h.2)
 
 pub cut_rows : (f m t : ℕ) (rows : List Row) → f ≤ m → m ≤ t → RowsIn f t rows → CutAt f m t rows (take (count_before m rows) rows) (drop (count_before m rows) rows)
 cut_rows f m t [] a b h = (a, b, (λ x l. refl), λ x l. refl)
-cut_rows f m t (r ∷ rows) a b h = elim (lt_tells r.at m) [
+cut_rows f m t (r ∷ rows) a b h = elim (nat_cases r.at m) [
   | inl (test, lt) ↦ rw test (
       let q = h.0 in
       let (k1, k2, k3, k4) = cut_rows r.at m t rows (omega arith) b h.2 in (

@@ -33,7 +33,7 @@ one_spec s fits number = record {
   distinct = λ i j d li lj ne. absurd (ne (omega arith));
 }
 
-no_set : (s : State) → Holds [] s → ⊥
+pub no_set : (s : State) → Holds [] s → ⊥
 no_set s h = absurd h
 
 pub start_early : (specs : List Spec) (pasts : List (List (List Span))) → AreBefore specs pasts → AreStarts specs (length specs) pasts → AllEarly 0 pasts

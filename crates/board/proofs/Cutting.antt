@@ -9,11 +9,13 @@ use Rattle.channel_path.specs.declared.moves.Move.TheVariants.{Letter}
 use Rattle.channel_path.specs.Walks.{Walk}
 use Rattle.sig_base.specs.declared.values.Row.{Row}
 use Rattle.gap_map.specs.declared.stretch.Stretch.{Stretch}
-use Rattle.board.proofs.Bridge.{lt_tells, cut_rows, known_here, known_there, own_walk, agreeing_join, agreeing_first, agreeing_none, agreeing_same, none_at, event_not_here}
+use Rattle.board.proofs.Bridge.{cut_rows, known_here, known_there, own_walk, agreeing_join, agreeing_first, agreeing_none, agreeing_same, none_at, event_not_here}
 use Rattle.gap_map.specs.Stretches.{FollowOn, known_at}
+use Rattle.gap_map.proofs.Cutting.{nat_cases}
 use Rattle.board.specs.History.{Track, event_of, events_at, letters}
 use Rattle.board.specs.Moves.{RowsIn, count_before, letter_moves, own, stretch_moves, with_letter}
 use Rattle.board.specs.Places.{FromPlace, IsPlace, ToPlace, since, upto}
+use Rattle.board.proofs.Adding.{count_le}
 
 with_join : (o : Option ℕ) (at n : ℕ) (xs ys zs : List Move) → zs ≡ xs ++ ys → with_letter o at n zs ≡ with_letter o at n xs ++ ys
 with_join None at n xs ys zs e = e
@@ -26,56 +28,52 @@ letter_join k n (r ∷ xs) ys = with_join (k.letter r.code r.param) r.at n (lett
 
 count_all : (f x m : ℕ) (xs ys : List Row) → RowsIn f (x + 1) xs → x + 1 ≤ m → count_before m (xs ++ ys) ≡ length xs + count_before m ys
 count_all f x m [] ys h le = omega arith
-count_all f x m (r ∷ xs) ys h le = elim (lt_tells r.at m) [
+count_all f x m (r ∷ xs) ys h le = elim (nat_cases r.at m) [
   | inl (test, _) ↦ rw test (let k = count_all r.at x m xs ys h.2 le in omega arith)
   | inr (test, ge) ↦ absurd (let a = h.1 in omega arith)
 ]
 
 count_none : (f m t : ℕ) (xs ys : List Row) → RowsIn f t ys → m ≤ f → count_before m (xs ++ ys) ≡ count_before m xs
 count_none f m t [] [] h le = refl
-count_none f m t [] (r ∷ ys) h le = elim (lt_tells r.at m) [ inl (test, lt) ↦ absurd (let a = h.0 in omega arith) | inr (test, _) ↦ rw test refl ]
-count_none f m t (r ∷ xs) ys h le = elim (lt_tells r.at m) [ inl (test, _) ↦ rw test (ap suc (count_none f m t xs ys h le)) | inr (test, _) ↦ rw test refl ]
+count_none f m t [] (r ∷ ys) h le = elim (nat_cases r.at m) [ inl (test, lt) ↦ absurd (let a = h.0 in omega arith) | inr (test, _) ↦ rw test refl ]
+count_none f m t (r ∷ xs) ys h le = elim (nat_cases r.at m) [ inl (test, _) ↦ rw test (ap suc (count_none f m t xs ys h le)) | inr (test, _) ↦ rw test refl ]
 
-pub count_max : (m : ℕ) (xs : List Row) → count_before m xs ≤ length xs
-count_max m [] = omega arith
-count_max m (r ∷ xs) = elim (lt_tells r.at m) [ inl (test, _) ↦ rw test (let k = count_max m xs in omega arith) | inr (test, _) ↦ rw test (omega arith) ]
-
-take_more_of : (xs ys : List Row) (c : ℕ) → take (length xs + c) (xs ++ ys) ≡ xs ++ take c ys
+pub take_more_of : (xs ys : List Row) (c : ℕ) → take (length xs + c) (xs ++ ys) ≡ xs ++ take c ys
 take_more_of [] ys c = let e : 0 + c ≡ c = omega arith in ap (λ n. take n ys) e
 take_more_of (x ∷ xs) ys c = let e : suc (length xs) + c ≡ suc (length xs + c) = omega arith in rw e (ap (λ zs. x ∷ zs) (take_more_of xs ys c))
 
-drop_more_of : (xs ys : List Row) (c : ℕ) → drop (length xs + c) (xs ++ ys) ≡ drop c ys
+pub drop_more_of : (xs ys : List Row) (c : ℕ) → drop (length xs + c) (xs ++ ys) ≡ drop c ys
 drop_more_of [] ys c = let e : 0 + c ≡ c = omega arith in ap (λ n. drop n ys) e
 drop_more_of (x ∷ xs) ys c = let e : suc (length xs) + c ≡ suc (length xs + c) = omega arith in rw e (drop_more_of xs ys c)
 
 pub upto_in : (f t x : ℕ) (ss : List Stretch) → FollowOn f t ss → f ≤ x → x < t → FollowOn f (x + 1) (upto x ss)
 upto_in f t x [] h a b = absurd (omega arith)
-upto_in f t x (s ∷ ss) h a b = elim (lt_tells x s.to) [
+upto_in f t x (s ∷ ss) h a b = elim (nat_cases x s.to) [
   | inl (test, lt) ↦ rw test (h.0, omega arith, refl)
   | inr (test, ge) ↦ rw test (h.0, h.1, upto_in s.to t x ss h.2 ge b)
 ]
 
 pub since_in : (f t x : ℕ) (ss : List Stretch) → FollowOn f t ss → f ≤ x → x < t → FollowOn x t (since x ss)
 since_in f t x [] h a b = absurd (omega arith)
-since_in f t x (s ∷ ss) h a b = elim (lt_tells x s.to) [
+since_in f t x (s ∷ ss) h a b = elim (nat_cases x s.to) [
   | inl (test, lt) ↦ rw test (refl, lt, h.2)
   | inr (test, ge) ↦ rw test (since_in s.to t x ss h.2 ge b)
 ]
 
 pub upto_known : (f t x y : ℕ) (ss : List Stretch) → FollowOn f t ss → f ≤ x → x < t → f ≤ y → y < x + 1 → known_at ss y ≡ known_at (upto x ss) y
 upto_known f t x y [] h a b c d = refl
-upto_known f t x y (s ∷ ss) h a b c d = elim (lt_tells x s.to) [
+upto_known f t x y (s ∷ ss) h a b c d = elim (nat_cases x s.to) [
   | inl (test, lt) ↦ rw test (known_here s ss f t y h c (omega arith) ∙ sym (known_here (record { from = s.from; to = x + 1; known = s.known }) [] f (x + 1) y (h.0, omega arith, refl) c d))
-  | inr (test, ge) ↦ rw test (elim (lt_tells y s.to) [
+  | inr (test, ge) ↦ rw test (elim (nat_cases y s.to) [
     | inl (_, l2) ↦ known_here s ss f t y h c l2 ∙ sym (known_here s (upto x ss) f (x + 1) y (h.0, h.1, upto_in s.to t x ss h.2 ge b) c l2)
     | inr (_, g2) ↦ known_there s ss y g2 ∙ (upto_known s.to t x y ss h.2 ge b g2 d ∙ sym (known_there s (upto x ss) y g2))
   ])
 ]
 
-since_known : (f t x y : ℕ) (ss : List Stretch) → FollowOn f t ss → f ≤ x → x < t → x ≤ y → y < t → known_at ss y ≡ known_at (since x ss) y
+pub since_known : (f t x y : ℕ) (ss : List Stretch) → FollowOn f t ss → f ≤ x → x < t → x ≤ y → y < t → known_at ss y ≡ known_at (since x ss) y
 since_known f t x y [] h a b c d = refl
-since_known f t x y (s ∷ ss) h a b c d = elim (lt_tells x s.to) [
-  | inl (test, lt) ↦ rw test (elim (lt_tells y s.to) [
+since_known f t x y (s ∷ ss) h a b c d = elim (nat_cases x s.to) [
+  | inl (test, lt) ↦ rw test (elim (nat_cases y s.to) [
     | inl (_, l2) ↦ known_here s ss f t y h (omega arith) l2 ∙ sym (known_here (record { from = x; to = s.to; known = s.known }) ss x t y (refl, lt, h.2) c l2)
     | inr (_, g2) ↦ known_there s ss y g2 ∙ sym (known_there (record { from = x; to = s.to; known = s.known }) ss y g2)
   ])
@@ -84,7 +82,7 @@ since_known f t x y (s ∷ ss) h a b c d = elim (lt_tells x s.to) [
 
 pub count_whole : (f x : ℕ) (xs : List Row) → RowsIn f (x + 1) xs → count_before (x + 1) xs ≡ length xs
 count_whole f x [] h = refl
-count_whole f x (r ∷ xs) h = elim (lt_tells r.at (x + 1)) [ inl (test, _) ↦ rw test (ap suc (count_whole r.at x xs h.2)) | inr (test, ge) ↦ absurd (let a = h.1 in omega arith) ]
+count_whole f x (r ∷ xs) h = elim (nat_cases r.at (x + 1)) [ inl (test, _) ↦ rw test (ap suc (count_whole r.at x xs h.2)) | inr (test, ge) ↦ absurd (let a = h.1 in omega arith) ]
 
 pub stretch_by : (k : Track) (n c : ℕ) (s : Stretch) (ss : List Stretch) (rows xs ys : List Row) → count_before s.to rows ≡ c → take c rows ≡ xs → drop c rows ≡ ys → own k n rows (s ∷ ss) ≡ stretch_moves k n xs s ++ own k (n + c) ys ss
 stretch_by k n c s ss rows xs ys e a b = rw (e, a, b) refl
@@ -95,7 +93,7 @@ known_moves k n xs s e = rw e refl
 -- the moves up to the place, and those from it on
 pub own_cut : (k : Track) (f t x n : ℕ) (xs ys : List Row) (ss : List Stretch) → FollowOn f t ss → RowsIn f (x + 1) xs → RowsIn x t ys → f ≤ x → x < t → known_at ss x ≡ true → own k n (xs ++ ys) ss ≡ own k n xs (upto x ss) ++ own k (n + length xs) ys (since x ss)
 own_cut k f t x n xs ys [] h hx hy a b is = absurd (omega arith)
-own_cut k f t x n xs ys (s ∷ ss) h hx hy a b is = elim (lt_tells x s.to) [
+own_cut k f t x n xs ys (s ∷ ss) h hx hy a b is = elim (nat_cases x s.to) [
   | inl (test, lt) ↦ rw test (
       let known : s.known ≡ true = sym (known_here s ss f t x h a lt) ∙ is in
       let c = count_before s.to ys in
@@ -113,7 +111,7 @@ own_cut k f t x n xs ys (s ∷ ss) h hx hy a b is = elim (lt_tells x s.to) [
       )
   | inr (test, ge) ↦ rw test (
       let c = count_before s.to xs in
-      let le = count_max s.to xs in
+      let le = count_le s.to xs in
       let (k1, k2, _, _) = cut_rows f s.to (x + 1) xs (let q = h.1 in omega arith) (omega arith) hx in
       let known = sym (known_there s ss x ge) ∙ is in
       let rest = own_cut k s.to t x (n + c) (drop c xs) ys ss h.2 k2 hy ge b known in

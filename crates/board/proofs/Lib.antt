@@ -24,3 +24,4 @@ pub mod Few
 pub mod Suiting
 pub mod Back
 pub mod Among
+pub mod Common

@@ -36,6 +36,7 @@ use Rattle.channel_path.proofs.Moving.{taken_early}
 use Rattle.std.proofs.lemmas.List.{get_or_past}
 use Rattle.board.specs.Places.{AllEarly}
 use Rattle.board.specs.Hours.{AllClamped, AreClampedPasts, AreHourAheads, AreHourPasts, IsAfterHour, IsBeforeHour, IsHourStop}
+use Rattle.board.proofs.Cases.{no_set}
 
 first_same : (P Q : ℕ → Type 0) (S R : ℕ → ℕ → Type 0) (n : ℕ) (o : Option ℕ) → ((i : ℕ) → P i → Q i) → ((i x : ℕ) → S i x → R i x) → ((i x : ℕ) → R i x → S i x) → IsFirst P S n o → IsFirst Q R n o
 first_same P Q S R n None p s r h = λ i lt. p i (h i lt)
@@ -45,9 +46,6 @@ pub after_hour : (k : Track) (f t : ℕ) (rows : List Row) (ss : List Stretch) (
 after_hour k f t rows ss before h r u =
     let w = λ (s : State). own_walk k (known_at ss) (events_at rows) f t 0 rows ss s u h r (λ x l1 l2. refl) (λ x l1 l2. refl) in
     ((λ (s, hs, a). (s, hs, (w s).1 a)), λ (s, hs, a). (s, hs, (w s).0 a))
-
-no_set : (s : State) → Holds [] s → ⊥
-no_set s h = absurd h
 
 pub hour_stop : (specs : List Spec) (rows : List Row) (ss : List Stretch) (f t : ℕ) (before : List (List (List Span))) (stop : Option ℕ) → FollowOn f t ss → RowsIn f t rows → IsFirstStop specs rows ss before (length specs) stop → IsHourStop specs rows ss f t before stop
 hour_stop specs rows ss f t before stop h r first =
@@ -90,7 +88,7 @@ clamped_shape specs rows ss before old new limit len colours all after goes = (
 )
 
 -- after the hour no state is entered at its end or later
-agreeing_early : (k : Track) (known : ℕ → Bool) (given : ℕ → List Event) (f t : ℕ) (s u : State) → Agreeing k known given f t s u → s.entry <ℤ pos f → u.entry <ℤ pos t
+pub agreeing_early : (k : Track) (known : ℕ → Bool) (given : ℕ → List Event) (f t : ℕ) (s u : State) → Agreeing k known given f t s u → s.entry <ℤ pos f → u.entry <ℤ pos t
 agreeing_early k known given f t s u (lists, len, (a, r)) e = taken_early k.rules (Gap f t) s u (lists, omega (arith, ints), r) e
 
 pub pasts_early : (specs : List Spec) (rows : List Row) (ss : List Stretch) (f t : ℕ) (before pasts : List (List (List Span))) → length pasts ≡ length specs → AllEarly f before → AreClampedPasts specs rows ss f t before pasts → AllEarly t pasts

@@ -11,10 +11,11 @@ use Rattle.channel_path.specs.Walks.{AfterMoves}
 use Rattle.channel_path.proofs.Moving.{after_end}
 use Rattle.sig_base.specs.declared.values.Row.{Row}
 use Rattle.gap_map.specs.declared.stretch.Stretch.{Stretch}
-use Rattle.board.proofs.Bridge.{lt_tells, known_here, known_there}
+use Rattle.board.proofs.Bridge.{known_here, known_there}
 use Rattle.board.proofs.Joining.{letters_join}
 use Rattle.board.proofs.Cutting.{own_cut, to_walk, stretch_by, known_moves, events_join}
 use Rattle.gap_map.specs.Stretches.{FollowOn, known_at}
+use Rattle.gap_map.proofs.Cutting.{nat_cases}
 use Rattle.board.specs.History.{Track, event_of, events_at, letters}
 use Rattle.board.specs.Moves.{RowsIn, count_before, letter_moves, own}
 use Rattle.board.specs.Stops.{StopRow}
@@ -64,7 +65,7 @@ to_next k rows ss f n l s u lt e =
 -- the moves from the place before a row of the channel on begin with its letter
 since_head : (k : Track) (f t x n l : ℕ) (r : Row) (rs : List Row) (ss : List Stretch) → FollowOn f t ss → f ≤ x → x < t → known_at ss x ≡ true → r.at ≡ x → k.letter r.code r.param ≡ Some l → (rest : List Move) × (own k n (r ∷ rs) (since x ss) ≡ Letter x l n ∷ rest)
 since_head k f t x n l r rs [] h a b is e m = absurd (omega arith)
-since_head k f t x n l r rs (s ∷ ss) h a b is e m = elim (lt_tells x s.to) [
+since_head k f t x n l r rs (s ∷ ss) h a b is e m = elim (nat_cases x s.to) [
   | inl (test, lt) ↦ rw test (
       let known : s.known ≡ true = sym (known_here s ss f t x h a lt) ∙ is in
       let s2 : Stretch = record { from = x; to = s.to; known = s.known } in

@@ -15,16 +15,18 @@ use Rattle.channel_path.specs.Walks.{InOrder}
 use Rattle.channel_path.specs.Places.{limit_of, TakesFrom, Passes, SeesPassing}
 use Rattle.sig_base.specs.declared.values.Row.{Row}
 use Rattle.gap_map.specs.declared.stretch.Stretch.{Stretch}
-use Rattle.board.proofs.Bridge.{lt_tells, cut_rows, late_end, known_here, known_there}
+use Rattle.board.proofs.Bridge.{cut_rows, late_end, known_here, known_there}
 use Rattle.board.proofs.Tracks.{Lettered}
 use Rattle.board.proofs.Ordering.{own_order, rows_order, part_order, order_join, end_low, end_join}
-use Rattle.board.proofs.Cutting.{own_cut, to_walk, from_walk, since_in, stretch_by, count_whole, known_moves, count_max}
+use Rattle.board.proofs.Cutting.{own_cut, to_walk, from_walk, since_in, stretch_by, count_whole, known_moves}
 use Rattle.gap_map.specs.Stretches.{FollowOn, known_at}
+use Rattle.gap_map.proofs.Cutting.{nat_cases}
 use Rattle.board.specs.History.{Track}
 use Rattle.board.specs.Moves.{RowsIn, count_before, letter_moves, own, stretch_moves, with_letter}
 use Rattle.board.specs.Places.{IsAtPlace, IsBefore, IsPlace, IsSplit, SeesAt, since, upto}
+use Rattle.board.proofs.Adding.{count_le}
 
-more_rows : (f a b : ℕ) (rs : List Row) → a ≤ b → RowsIn f a rs → RowsIn f b rs
+pub more_rows : (f a b : ℕ) (rs : List Row) → a ≤ b → RowsIn f a rs → RowsIn f b rs
 more_rows f a b [] le h = omega arith
 more_rows f a b (r ∷ rs) le h = (h.0, (let q = h.1 in omega arith), more_rows r.at a b rs le h.2)
 
@@ -87,7 +89,7 @@ part_lower k h y x i n rs s le r l2 g = elim (cases_Bool s.known) [
 -- the moves up to the place end by its tenth, and come before it
 upto_facts : (k : Track) (f t x i n : ℕ) (rows : List Row) (ss : List Stretch) → Lettered k → FollowOn f t ss → RowsIn f (x + 1) rows → f ≤ x → x < t → known_at ss x ≡ true → n + length rows ≤ i → (limit_of f (own k n rows (upto x ss)) ≤ x + 1) × Upper x i (own k n rows (upto x ss))
 upto_facts k f t x i n rows [] small h r a b is g = absurd (omega arith)
-upto_facts k f t x i n rows (s ∷ ss) small h r a b is g = elim (lt_tells x s.to) [
+upto_facts k f t x i n rows (s ∷ ss) small h r a b is g = elim (nat_cases x s.to) [
   | inl (test, lt) ↦ rw test (
       let known : s.known ≡ true = sym (known_here s ss f t x h a lt) ∙ is in
       let s1 : Stretch = record { from = s.from; to = x + 1; known = s.known } in
@@ -96,7 +98,7 @@ upto_facts k f t x i n rows (s ∷ ss) small h r a b is g = elim (lt_tells x s.t
       )
   | inr (test, ge) ↦ rw test (
       let c = count_before s.to rows in
-      let le = count_max s.to rows in
+      let le = count_le s.to rows in
       let lt = h.1 in
       let (k1, k2, _, _) = cut_rows f s.to (x + 1) rows (omega arith) (omega arith) r in
       let lt1 : length (take c rows) ≡ c = length-take-le c rows le in
@@ -114,7 +116,7 @@ upto_facts k f t x i n rows (s ∷ ss) small h r a b is g = elim (lt_tells x s.t
 -- those from a place in a known tenth on take what was entered up to that tenth
 since_order : (k : Track) (f t x n : ℕ) (rows : List Row) (ss : List Stretch) → Lettered k → FollowOn f t ss → f ≤ x → x < t → known_at ss x ≡ true → RowsIn x t rows → InOrder k.rules (x + 1) (own k n rows (since x ss))
 since_order k f t x n rows [] small h a b is r = absurd (omega arith)
-since_order k f t x n rows (s ∷ ss) small h a b is r = elim (lt_tells x s.to) [
+since_order k f t x n rows (s ∷ ss) small h a b is r = elim (nat_cases x s.to) [
   | inl (test, lt) ↦ rw test (
       let known : s.known ≡ true = sym (known_here s ss f t x h a lt) ∙ is in
       let s2 : Stretch = record { from = x; to = s.to; known = s.known } in
@@ -175,7 +177,7 @@ split_of y x i o ms ns h g u w =
 PlaceFacts : Track → List Row → List Stretch → ℕ → ℕ → List (List Span) → List (Option ℤ) → ℕ → ℕ → Option ℕ → List Move → ℕ → Type 0
 PlaceFacts k rows ss f t before after x i o all j = IsSplit (pos x) o all j × (limit_of f (take j all) ≤ x + 1) × TakesFrom (x + 1) (drop j all) × ((v : State) → Passes k.rules before after (take j all) (drop j all) v ↔ IsAtPlace k rows ss f t before after x i v)
 
-begin_of : (m : Rules) (x : ℕ) (ms : List Move) → InOrder m x ms → TakesFrom x ms
+pub begin_of : (m : Rules) (x : ℕ) (ms : List Move) → InOrder m x ms → TakesFrom x ms
 begin_of m x [] o = tt
 begin_of m x (y ∷ ms) o = o.0
 

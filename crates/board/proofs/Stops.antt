@@ -12,7 +12,7 @@ use Rattle.gap_map.specs.declared.stretch.Stretch.{Stretch}
 use Rattle.board.proofs.Bridge.{cut_rows, late_end, known_here, known_there}
 use Rattle.board.proofs.Tracks.{Lettered}
 use Rattle.board.proofs.Ordering.{own_order}
-use Rattle.board.proofs.Cutting.{to_walk, count_max}
+use Rattle.board.proofs.Cutting.{to_walk}
 use Rattle.board.proofs.Rows.{rows_split, place_before, to_next, about_row}
 use Rattle.gap_map.specs.Stretches.{FollowOn, known_at}
 use Rattle.board.specs.History.{Track}
@@ -20,6 +20,7 @@ use Rattle.board.specs.Moves.{RowsIn, count_before, letter_moves, own, stretch_m
 use Rattle.board.specs.Stops.{StopRow, number}
 use Rattle.board.specs.Logs.{no_row}
 use Rattle.board.specs.Places.{IsStop, upto}
+use Rattle.board.proofs.Adding.{count_le}
 
 -- the numbers of the letters rise, from n on and up to m
 NumbersIn : ℕ → ℕ → List Move → Type 0
@@ -58,7 +59,7 @@ unfolding NumbersIn
 own_numbers k n m rows [] e = omega arith
 own_numbers k n m rows (s ∷ ss) e =
     let c = count_before s.to rows in
-    let le = count_max s.to rows in
+    let le = count_le s.to rows in
     let lt1 : length (take c rows) ≡ c = length-take-le c rows le in
     let ld : length (drop c rows) ≡ length rows - c = length-drop c rows in
     numbers_join n (n + c) m (stretch_moves k n (take c rows) s) (own k (n + c) (drop c rows) ss) (part_numbers k n (n + c) (take c rows) s (omega arith)) (own_numbers k (n + c) m (drop c rows) ss (omega arith))
@@ -115,7 +116,7 @@ unfolding RowOf
 own_origin k f t n j a l i d rows [] h r lt e = absurd (omega arith)
 own_origin k f t n j a l i d rows (s ∷ ss) h r lt e =
     let c = count_before s.to rows in
-    let le = count_max s.to rows in
+    let le = count_le s.to rows in
     let sm = stretch_moves k n (take c rows) s in
     let tail = own k (n + c) (drop c rows) ss in
     let size : length (sm ++ tail) ≡ length sm + length tail = length-append sm tail in

@@ -1,16 +1,11 @@
 -- Where two Aheads admit the same of the states that are possible.
-use Rattle.std.proofs.Common.{◌≡◌, sym, subst, ℤ, ◌≤ℤ◌, List, Option, Some, None, get_or, arith}
-use Rattle.std.proofs.lemmas.Int.{ints}
+use Rattle.std.proofs.Common.{◌≡◌, sym, subst, ℤ, ◌≤ℤ◌, List, Option, None, get_or}
 use Rattle.span_set.specs.declared.set.Span.{Span}
 use Rattle.reach.specs.Runs.{State}
 use Rattle.reach.specs.Past.{Holds}
-use Rattle.reach.specs.Ahead.{Admits, NotLater}
+use Rattle.reach.specs.Ahead.{Admits}
+use Rattle.reach.proofs.Common.{not_later}
 use Rattle.board.specs.Places.{SameFor}
-
--- what admits a state admits those of its colour that were entered earlier
-not_later : (x : Option ℤ) (e f : ℤ) → e ≤ℤ f → NotLater x f → NotLater x e
-not_later None e f le n = n
-not_later (Some x) e f le n = omega (arith, ints)
 
 pub admits_earlier : (a : List (Option ℤ)) (s u : State) → s.colour ≡ u.colour → s.entry ≤ℤ u.entry → Admits a u → Admits a s
 admits_earlier a s u e le ad = rw e (not_later (get_or a u.colour None) s.entry u.entry le ad)

@@ -2,6 +2,7 @@
 use Rattle.std.proofs.Common.{◌≡◌, ◌≢◌, refl, ap, sym, ◌∙◌, inl, inr, ℕ, ◌<◌, true, nat_eq, List, length, get_or, Option, Some, None}
 use Rattle.std.proofs.lemmas.Bool.{cases_Bool, and_parts, eqb-true, eq-eqb}
 use Rattle.std.proofs.lemmas.List.{get_or_default}
+use Rattle.sig_base.proofs.Common.{some_same}
 use Rattle.event_codes.specs.declared.channels.Channel.{Channel}
 use Rattle.event_codes.specs.Cells.{kind_number}
 use Rattle.event_codes.specs.Channels.{channel_in_table}
@@ -46,9 +47,6 @@ letter_elsewhere s c p absent = elim (cases_Bool (is_channel s.channel (channel_
 abbrev pub Lettered : Track → Type 0
 Lettered k = (c p l : ℕ) → k.letter c p ≡ Some l → l < k.rules.letters
 
-some_same : (x y : ℕ) → Some x ≡ Some y → x ≡ y
-some_same x y e = cc
-
 pub spec_lettered : (s : Spec) → Lettered (track s)
 spec_lettered s c p l e =
     let (here, letter) = spec_letter s c p l e in
@@ -61,14 +59,11 @@ spec_lettered s c p l e =
 abbrev pub Apart : List Spec → Type 0
 Apart specs = (i j : ℕ) (d e : Spec) (c p l : ℕ) → i < length specs → j < length specs → i ≢ j → letter_in (get_or specs i d) c p ≡ Some l → letter_in (get_or specs j e) c p ≡ None
 
-channel_once : (c d : Channel) → Some c ≡ Some d → c ≡ d
-channel_once c d e = cc
-
 pub specs_apart : (specs : List Spec) → AreSpecs specs → Apart specs
 specs_apart specs are i j d e c p l li lj ne m =
     let there : get_or specs j e ≡ get_or specs j d = get_or_default specs j e d lj in
     let here = (spec_letter (get_or specs i d) c p l m).0 in
-    rw there (letter_elsewhere (get_or specs j d) c p (λ other. are.distinct i j d li lj ne (channel_once (get_or specs i d).channel (get_or specs j d).channel (sym here ∙ other))))
+    rw there (letter_elsewhere (get_or specs j d) c p (λ other. are.distinct i j d li lj ne (some_same (get_or specs i d).channel (get_or specs j d).channel (sym here ∙ other))))
 
 -- the letter of an event whose channel is known
 abbrev pub own_letter : Channel → ℕ → ℕ → Option ℕ
@@ -83,7 +78,7 @@ no_letter s c p channel here none =
     elim (cases_Bool (is_channel s.channel (channel_in_table c p))) [ inl is ↦ rw is all | inr other ↦ rw other refl ]
 
 pub letter_of_none : (s : Spec) (c p : ℕ) (channel : Channel) → Some channel ≡ channel_in_table c p → s.channel ≢ channel → letter_in s c p ≡ None
-letter_of_none s c p channel here other = letter_elsewhere s c p (λ e. other (channel_once s.channel channel (sym e ∙ sym here)))
+letter_of_none s c p channel here other = letter_elsewhere s c p (λ e. other (some_same s.channel channel (sym e ∙ sym here)))
 
 -- what the joining of runs asks of the tracks
 pub tracks_are : (specs : List Spec) (d : Spec) → AreSpecs specs → AreTracks (length specs) (λ i. track (get_or specs i d))

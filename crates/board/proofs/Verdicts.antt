@@ -193,10 +193,6 @@ apart_not cs k d lt h a = let b = subst (λ (xs : List Term). AreApart xs) (drop
 pub clash : (b : Bool) → IsTrue b → b ≡ false → ⊥
 clash b t f = let bad : true ≡ false = sym t ∙ f in absurd (cc)
 
-pub not_true : (b : Bool) → not b ≡ true → b ≡ false
-not_true true e = let bad : false ≡ true = e in absurd (cc)
-not_true false e = refl
-
 pub not_false : (b : Bool) → not b ≡ false → b ≡ true
 not_false true e = refl
 not_false false e = let bad : true ≡ false = e in absurd (cc)

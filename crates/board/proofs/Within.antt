@@ -9,10 +9,10 @@ use Rattle.board.specs.Moves.{RowsIn, count_before}
 use Rattle.board.specs.Logs.{IsHour, first_tenth, end_tenth, no_row}
 use Rattle.board.specs.Places.{IsPlace}
 use Rattle.board.proofs.Bridge.{cut_rows, known_late, known_there, late_end}
-use Rattle.board.proofs.Cutting.{count_max}
 use Rattle.board.proofs.Rows.{place_before}
+use Rattle.board.proofs.Adding.{count_le}
 
-rise_rows : (f t : ℕ) (rs : List Row) → f ≤ t → RiseIn f t rs → RowsIn f t rs
+pub rise_rows : (f t : ℕ) (rs : List Row) → f ≤ t → RiseIn f t rs → RowsIn f t rs
 rise_rows f t [] le h = le
 rise_rows f t (r ∷ rs) le h = (h.0, h.1, (let b = h.1 in rise_rows r.at t rs (omega arith) h.2))
 
@@ -54,9 +54,9 @@ known_within f t x (s ∷ ss) h is = elim (cases_lt x f) [
 pub row_place : (h n : ℕ) (rows : List Row) (ss : List Stretch) → IsHour h rows ss → n < length rows → known_at ss (get_or rows n no_row).at ≡ true → IsPlace (first_tenth h) (end_tenth h) rows ss (get_or rows n no_row).at n
 row_place h n rows ss is lt known = place_before (first_tenth h) (end_tenth h) n rows ss is.follow (hour_rows h rows ss is) lt known
 
-rows_from : (f g t : ℕ) (rs : List Row) → g ≤ f → RowsIn f t rs → RowsIn g t rs
-rows_from f g t [] le h = omega arith
-rows_from f g t (r ∷ rs) le h = ((let a = h.0 in omega arith), h.1, h.2)
+pub rows_since : (f g t : ℕ) (rs : List Row) → g ≤ f → RowsIn f t rs → RowsIn g t rs
+rows_since f g t [] le h = omega arith
+rows_since f g t (r ∷ rs) le h = ((let a = h.0 in omega arith), h.1, h.2)
 
 -- the place at the end of a known tenth
 pub end_is_place : (h x : ℕ) (rows : List Row) (ss : List Stretch) → IsHour h rows ss → known_at ss x ≡ true → IsPlace (first_tenth h) (end_tenth h) rows ss x (count_before (x + 1) rows) × RowsIn (x + 1) (end_tenth h) (drop (count_before (x + 1) rows) rows)
@@ -72,9 +72,9 @@ end_is_place h x rows ss is known =
         first = a;
         last = b;
         is_known = known;
-        count = count_max (x + 1) rows;
+        count = count_le (x + 1) rows;
         before = k1;
-        after = rows_from (x + 1) x t (drop (count_before (x + 1) rows) rows) (omega arith) k2;
+        after = rows_since (x + 1) x t (drop (count_before (x + 1) rows) rows) (omega arith) k2;
       },
       k2,
     )

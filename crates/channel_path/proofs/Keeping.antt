@@ -36,7 +36,7 @@ run_same m t x s u (ls ∷ rest) (v, a, r) e h =
 fills_same : (m : Rules) (f t : ℤ) (s u : State) → Fills m f t s u → u.entry <ℤ f → u ≡ s
 fills_same m f t s u (lists, _, r) e = run_same m f f s u lists r e (omega (arith, ints))
 
-move_on : (m : Rules) (x : Move) → IsMove m x → limit_before x ≤ limit_after x
+pub move_on : (m : Rules) (x : Move) → IsMove m x → limit_before x ≤ limit_after x
 move_on m (Letter at l r) k = omega arith
 move_on m (Gap f t) k = omega arith
 

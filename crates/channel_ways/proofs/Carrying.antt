@@ -10,6 +10,7 @@ use Rattle.gap_ways.proofs.Sources.{way_fills}
 use Rattle.channel_path.specs.declared.moves.Move.{Move}
 use Rattle.channel_path.specs.declared.moves.Move.TheVariants.{Letter, Gap}
 use Rattle.channel_path.specs.Walks.{limit_before, limit_after, IsMove, InOrder, Taken, Walk}
+use Rattle.channel_path.proofs.Keeping.{move_on}
 use Rattle.channel_ways.specs.Moves.{FilledMove, Filled, Alike, AddedAlike}
 use Rattle.channel_ways.specs.Laws.{FillingsAreWalks, AlikeGoesOn, HoursJoin, Thread}
 use Rattle.gap_ways.specs.declared.states.Entered.{Entered}
@@ -57,17 +58,13 @@ move_alike : (m : Rules) (p : ℤ) (x : Move) (fs : List Fill) (s r u : State) �
 move_alike m p (Letter at l n) fs s r u laws pl al (e, a) = let (w, b, al2) = step_alike m p (pos at) s r u l laws (omega (arith, ints)) al a in (w, (e, b), al2)
 move_alike m p (Gap f t) fs s r u laws pl al (e, a) = let (w, b, al2) = way_alike m p (pos f) (pos t) fs s r u laws (omega (arith, ints)) al a in (w, (e, b), al2)
 
-next_late : (m : Rules) (x : Move) → IsMove m x → limit_before x ≤ limit_after x
-next_late m (Letter at l r) k = omega arith
-next_late m (Gap f t) k = omega arith
-
 -- from a state that is alike the same fills lead to one that is alike
 pub filled_alike : (m : Rules) (p : ℤ) (low : ℕ) (xs : List Move) (fs : List Fill) (s r u : State) → IsMachine m → p ≤ℤ pos low → InOrder m low xs → Alike p s r → Filled m xs fs s u → (w : State) × Filled m xs fs r w × Alike p u w
 filled_alike m p low [] fs s r u laws pl o al (e, q) = (r, (e, refl), subst (λ (z : State). Alike p z r) (sym q) al)
 filled_alike m p low (x ∷ xs) fs s r u laws pl o al (hs, bs, e, (v, a, w)) =
     let b = o.0 in
     let (v2, a2, al2) = move_alike m p x hs s r v laws (omega (arith, ints)) al a in
-    let n = next_late m x o.1 in
+    let n = move_on m x o.1 in
     let (u2, w2, al3) = filled_alike m p (limit_after x) xs bs v v2 u laws (omega (arith, ints)) o.2 al2 w in
     (u2, (hs, bs, e, (v2, a2, w2)), al3)
 

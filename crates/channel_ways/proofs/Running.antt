@@ -80,7 +80,7 @@ pub after_older : (m : Rules) (before past : List (List Span)) (xs : List Move) 
 after_older m before past xs is older u h = let (s, hs, w) = (is u).0 h in walk_late m (negsuc (2 ^ 39)) xs s u w (omega (arith, ints)) (older s hs)
 
 -- a place of a list that is walked to its end
-walk_prefix : (m : Rules) (k : ℕ) (xs : List Move) (s u : State) → Walk m xs s u → (v : State) × Walk m (take k xs) s v
+pub walk_prefix : (m : Rules) (k : ℕ) (xs : List Move) (s u : State) → Walk m xs s u → (v : State) × Walk m (take k xs) s v
 walk_prefix m zero xs s u w = (s, refl)
 walk_prefix m (suc k) [] s u w = (s, refl)
 walk_prefix m (suc k) (x ∷ xs) s u (v, a, w) = let (z, r) = walk_prefix m k xs v u w in (z, (v, a, r))

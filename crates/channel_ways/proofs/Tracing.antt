@@ -1,5 +1,5 @@
 -- A way back over moves.
-use Rattle.std.proofs.Common.{suc, zero, ◌≡◌, refl, sym, ap, ◌∙◌, subst, inl, inr, ◌↔◌, ℕ, ◌+◌, ◌<◌, ◌≤◌, ◌^◌, ℤ, pos, ◌<ℤ◌, ◌≤ℤ◌, List, [], ◌∷◌, ◌++◌, length, take, drop, get_or, reverse, append_assoc, Option, arith}
+use Rattle.std.proofs.Common.{◌≡◌, refl, sym, ap, ◌∙◌, subst, inl, inr, ◌↔◌, ℕ, ◌+◌, ◌<◌, ◌≤◌, ◌^◌, ℤ, pos, ◌<ℤ◌, ◌≤ℤ◌, List, [], ◌++◌, length, take, drop, get_or, reverse, append_assoc, Option, arith}
 use Rattle.std.proofs.lemmas.Int.{ints}
 use Rattle.std.proofs.lemmas.List.{get_or_default, take_more, drop_all, drop_more, reverse-append, append-nil, length-reverse}
 use Rattle.span_set.specs.declared.set.Span.{Span}
@@ -12,12 +12,13 @@ use Rattle.reach.specs.Ahead.{Admits}
 use Rattle.gap_ways.specs.Ways.{state_of, Added, IsSource}
 use Rattle.channel_path.specs.declared.moves.Move.{Move}
 use Rattle.channel_path.specs.declared.moves.Move.TheVariants.{Letter, Gap}
-use Rattle.channel_path.specs.Walks.{limit_before, InOrder, Walk, AfterMoves, BeforeMoves, EnteredBefore, StopsAt}
+use Rattle.channel_path.specs.Walks.{limit_before, InOrder, AfterMoves, BeforeMoves, EnteredBefore, StopsAt}
 use Rattle.channel_path.specs.Places.{EntersBefore, limit_of}
 use Rattle.channel_path.specs.Kept.{letters, IsPast}
 use Rattle.channel_ways.specs.Pasts.{AreRunPasts}
 use Rattle.channel_ways.specs.Moves.{FilledMove, Filled, ComesFrom, IsMoveSource, AddedMoves, ClampedAfter, IsUnclamped}
 use Rattle.channel_path.proofs.Moving.{after_end, walk_early, order_take, order_drop, taken_early}
+use Rattle.channel_ways.proofs.Running.{walk_prefix}
 
 -- one more move in front, whose fills were added after those of the others
 pub filled_more : (m : Rules) (xs : List Move) (j : ℕ) (d : Move) (hs bs : List Fill) (s v u : State) → j < length xs → FilledMove m (get_or xs j d) hs s v → Filled m (drop (j + 1) xs) bs v u → Filled m (drop j xs) (hs ++ bs) s u
@@ -79,10 +80,6 @@ pub at_start : (m : Rules) (before : List (List Span)) (u : State) → AfterMove
 at_start m before u (z, h, e) = rw e h
 
 -- ---- onward
-walk_prefix : (m : Rules) (k : ℕ) (xs : List Move) (s u : State) → Walk m xs s u → (v : State) × Walk m (take k xs) s v
-walk_prefix m zero xs s u w = (s, refl)
-walk_prefix m (suc k) [] s u w = (s, refl)
-walk_prefix m (suc k) (x ∷ xs) s u (v, a, w) = let (z, r) = walk_prefix m k xs v u w in (z, (v, a, r))
 
 -- a walk over all the moves stops nowhere
 pub no_stop : (m : Rules) (sets : List (List Span)) (after : List (Option ℤ)) (xs : List Move) (s : State) (j : ℕ) → Holds sets s → BeforeMoves m after xs s → StopsAt m sets xs j → ⊥

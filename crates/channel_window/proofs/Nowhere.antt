@@ -24,7 +24,7 @@ walk_take m ys (suc k) zero s u le w = absurd (omega arith)
 walk_take m [] (suc k) (suc j) s u le w = (s, refl)
 walk_take m (y ∷ ys) (suc k) (suc j) s u le (v, t, w) = let (z, r) = walk_take m ys k j v u (omega arith) w in (z, (v, t, r))
 
-walk_first : (m : Rules) (ys : List Move) (k : ℕ) (s u : State) → Walk m ys s u → (v : State) × Walk m (take k ys) s v
+pub walk_first : (m : Rules) (ys : List Move) (k : ℕ) (s u : State) → Walk m ys s u → (v : State) × Walk m (take k ys) s v
 walk_first m ys zero s u w = (s, refl)
 walk_first m [] (suc k) s u w = (s, refl)
 walk_first m (y ∷ ys) (suc k) s u (v, t, w) = let (z, r) = walk_first m ys k v u w in (z, (v, t, r))
@@ -66,12 +66,8 @@ end_of m sets kept xs K ys n are e = record {
 pub some_keeps : (m : Rules) (sets kept : List (List Span)) (xs : List Move) (K : State → Type 0) (ys : List Move) → ((u : State) → Holds kept u ↔ (AfterMoves m sets xs u × K u)) → ((u : State) × AfterMoves m kept ys u) → NoneKeeps m sets xs K ys → ⊥
 some_keeps m sets kept xs K ys are (u, (v, h, w)) none = let (a, q) = (are v).0 h in none v u a q w
 
--- the end of the moves is one of all of them
-take_whole : (m : Rules) (ys : List Move) (n : ℕ) (v u : State) → Walk m ys v u → (w : State) × Walk m (take n ys) v w
-take_whole m ys n v u w = walk_first m ys n v u w
-
 end_all : (m : Rules) (sets : List (List Span)) (xs : List Move) (K : State → Type 0) (ys : List Move) (n : ℕ) → IsEnd m sets xs K ys n → NoneKeeps m sets xs K ys
-end_all m sets xs K ys n e v u a k w = let (z, r) = take_whole m ys n v u w in e.none v z a k r
+end_all m sets xs K ys n e v u a k w = let (z, r) = walk_first m ys n v u w in e.none v z a k r
 
 -- an end is found exactly where all of the moves leave none
 pub end_says : (m : Rules) (sets : List (List Span)) (xs : List Move) (K : State → Type 0) (ys : List Move) (o : Option ℕ) → MatchOption o (NoneKeeps m sets xs K ys → ⊥) (λ n. IsEnd m sets xs K ys n) → IsTrue (is_some o) ↔ NoneKeeps m sets xs K ys

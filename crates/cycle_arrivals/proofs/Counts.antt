@@ -4,6 +4,7 @@ use Rattle.std.specs.Prelude.{All, count_by}
 use Rattle.std.proofs.lemmas.List.Sums.{sum_by-cons, sum_by_push, length-filter}
 use Rattle.std.proofs.lemmas.Bool.{cases_lt, le-leb, lt-leb, lt-ltb, le-ltb}
 use Rattle.sig_base.specs.declared.values.Row.{Row}
+use Rattle.sig_base.proofs.Common.{and_false}
 use Rattle.cycle_arrivals.specs.Arrivals.{is_on, rows_within}
 use Rattle.cycle_arrivals.specs.Green.{arrivals_in, green_arrivals_in, shows_green}
 use Rattle.cycle_arrivals.proofs.Within.{filter_same, within_past, within_on, within_off, within_at, within_below, shows_off}
@@ -14,13 +15,9 @@ count_cons q x xs = sum_by-cons (λ z. cond (q z) 1 0) x xs
 pub count_same : (P : Row → Type 0) (p q : Row → Bool) (xs : List Row) → ((x : Row) → P x → p x ≡ q x) → All P xs → count_by p xs ≡ count_by q xs
 count_same P p q xs e h = sym (length-filter p xs) ∙ ap (λ zs. length zs) (filter_same P p q xs e h) ∙ length-filter q xs
 
-and_true : (b : Bool) → (b && true) ≡ b
+pub and_true : (b : Bool) → (b && true) ≡ b
 and_true true = refl
 and_true false = refl
-
-and_false : (b : Bool) → (b && false) ≡ false
-and_false true = refl
-and_false false = refl
 
 count_none : (xs : List Row) → count_by (λ x. false) xs ≡ 0
 count_none [] = refl

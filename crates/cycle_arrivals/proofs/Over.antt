@@ -10,6 +10,7 @@ use Rattle.hour_sweep.specs.Passes.{swept_rows}
 use Rattle.hour_sweep.proofs.Orders.{below_end, end_of}
 use Rattle.hour_sums.specs.Numbers.{capped}
 use Rattle.hour_sums.proofs.Adding.{capped-add}
+use Rattle.hour_sums.proofs.Common.{capped_none}
 use Rattle.cycle_arrivals.specs.declared.open.Open.{Open}
 use Rattle.cycle_arrivals.specs.declared.in_tenth.InTenth.{InTenth}
 use Rattle.cycle_arrivals.specs.Arrivals.{is_on, rows_within}
@@ -33,10 +34,6 @@ cycle_same a n g t n' g' t' b b' en eg et eb =
 tenth_same : (o o' : Open) (t n n' : ℕ) → o ≡ o' → n ≡ n' → tenth o t n ≡ tenth o' t n'
 tenth_same o o' t n n' eo en = ap (λ x. tenth x t n) eo ∙ ap (λ x. tenth o' t x) en
 
-capped_nil : capped 0 ≡ 0
-unfolding capped
-capped_nil = omega arith
-
 -- a cycle begins with nothing
 pub open_nil : (p d a : ℕ) (rows : List Row) → record { from = a; arrivals = 0; green = 0; green_tenths = 0; is_green = false } ≡ open_at p d a a rows
 unfolding open_at
@@ -44,8 +41,8 @@ open_nil p d a rows =
     let none = within_empty a a rows (omega arith) in
     let tenths = tenths_within (shows_green p a rows) a (a - a) in
     cycle_same a 0 0 0 (capped (arrivals_in d a a rows)) (capped (green_arrivals_in p d a a rows)) (green_tenths_in p a a rows) false (greens p false (rows_within a a rows))
-    (sym (ap (λ zs. capped (length (filter (is_on d) zs))) none ∙ capped_nil))
-    (sym (ap (λ zs. capped (count_by (λ x. is_on d x && shows_green p a rows x.at) zs)) none ∙ capped_nil))
+    (sym (ap (λ zs. capped (length (filter (is_on d) zs))) none ∙ capped_none))
+    (sym (ap (λ zs. capped (count_by (λ x. is_on d x && shows_green p a rows x.at) zs)) none ∙ capped_none))
     (omega arith)
     (sym (ap (λ zs. greens p false zs) none))
 
@@ -55,11 +52,11 @@ unfolding open_at in_tenth shows_green
 first_tenth p d a t o rows e h =
     tenth_same o _ t 0 (capped (arrivals_in d t (t + 1) rows))
     (e ∙ ap (λ zs. cycle a (capped (arrivals_in d a t rows)) (capped (green_arrivals_in p d a t rows)) (green_tenths_in p a t rows) (greens p false zs)) (within_before a t t (t + 1) rows (omega arith) (omega arith) h))
-    (sym (ap (λ zs. capped (length (filter (is_on d) zs))) (within_none t (t + 1) rows h) ∙ capped_nil))
+    (sym (ap (λ zs. capped (length (filter (is_on d) zs))) (within_none t (t + 1) rows h) ∙ capped_none))
 
 capped_cond : (v : Bool) (n : ℕ) → cond v (capped n) 0 ≡ capped (cond v n 0)
 capped_cond true n = refl
-capped_cond false n = sym capped_nil
+capped_cond false n = sym capped_none
 
 ended_is : (p d a t u : ℕ) (rows : List Row) → a ≤ t → t < u → u < 2 ^ 32 → All (λ x. x.at ≤ t) rows → ended u (in_tenth p d a t rows) ≡ in_tenth p d a u rows
 unfolding in_tenth ended
@@ -76,7 +73,7 @@ ended_is p d a t u rows le lt small h =
     ∙ ap (λ n. capped n) (sym (green_on p d a t u rows le lt h)))
     (omega (arith, sum, within))
     (sym (shows_on p a t u rows (omega arith) h)))
-    (sym (ap (λ zs. capped (length (filter (is_on d) zs))) (within_none u (u + 1) rows (All-weaker (λ x. x.at ≤ t) (λ x. x.at < u) (λ x up. omega arith) rows h)) ∙ capped_nil))
+    (sym (ap (λ zs. capped (length (filter (is_on d) zs))) (within_none u (u + 1) rows (All-weaker (λ x. x.at ≤ t) (λ x. x.at < u) (λ x up. omega arith) rows h)) ∙ capped_none))
 
 at_of : (p d a t : ℕ) (rows : List Row) → (in_tenth p d a t rows).at ≡ t
 unfolding in_tenth

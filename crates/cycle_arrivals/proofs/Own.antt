@@ -1,7 +1,7 @@
 -- A cycle is the same over the rows of its phase and its detector alone.
 use Rattle.std.proofs.Common.{◌≡◌, ℕ, ◌+◌, ◌-◌, Bool, true, false, ◌&&◌, ◌||◌, cond, List, [], ◌∷◌, refl, ap, sym, ◌∙◌, filter, ltb, leb, length, inl, inr}
 use Rattle.std.specs.Prelude.{count_by}
-use Rattle.std.proofs.lemmas.Bool.{cases_Bool, and_parts}
+use Rattle.std.proofs.lemmas.Bool.{cases_Bool, and_parts, or_right}
 use Rattle.std.proofs.lemmas.List.Elements.{filter_agree}
 use Rattle.std.proofs.lemmas.List.Sums.{length-filter}
 use Rattle.sig_base.specs.declared.values.Row.{Row}
@@ -40,10 +40,6 @@ pub filter_less : {X : Type 0} (p q : X → Bool) → ((x : X) → p x ≡ true 
 filter_less p q h xs = filter_filter p q xs ∙ filter_agree (λ x. q x && p x) p (λ x. and_part (q x) (p x) (h x)) xs
 
 -- rows of others
-
-or_right : (b v : Bool) → v ≡ true → (b || v) ≡ true
-or_right true v e = refl
-or_right false v e = e
 
 on_own : (p d : ℕ) (x : Row) → is_on d x ≡ true → is_own p d x ≡ true
 on_own p d x e = or_right _ (is_on d x) e

@@ -1,6 +1,5 @@
 -- A cycle is the same over lists that have the same begins and ends of green in it and the same arrivals.
 use Rattle.std.proofs.Common.{◌≡◌, ℕ, ◌+◌, ◌-◌, ◌<◌, ◌≤◌, Bool, true, false, ◌&&◌, ◌||◌, leb, ltb, cond, List, [], ◌∷◌, length, filter, refl, ap, sym, ◌∙◌, arith, inl, inr}
-use Rattle.std.specs.Prelude.{All, count_by}
 use Rattle.std.proofs.lemmas.Bool.{cases_Bool, ltb-true, lt-ltb}
 use Rattle.std.proofs.lemmas.List.Elements.{All-filter, filter_agree}
 use Rattle.std.proofs.lemmas.List.Sums.{length-filter}
@@ -13,7 +12,7 @@ use Rattle.cycle_arrivals.proofs.Own.{filter_filter, filter_swap}
 use Rattle.cycle_arrivals.proofs.Tenths.{tenths_same}
 use Rattle.cycle_arrivals.proofs.Within.{filter_same, within_below}
 
-quiet : (b e g : Bool) → (b || e) ≡ false → cond b true (cond e false g) ≡ g
+pub quiet : (b e g : Bool) → (b || e) ≡ false → cond b true (cond e false g) ≡ g
 quiet true e g h = absurd (cc)
 quiet false true g h = absurd (cc)
 quiet false false g h = refl
@@ -22,7 +21,7 @@ other_green : (p : ℕ) (x : Row) (g : Bool) → turns_green p x ≡ false → g
 other_green p x g e = quiet _ _ g e
 
 -- the rows that turn green say what the phase shows
-greens_turns : (p : ℕ) (g : Bool) (xs : List Row) → greens p g (filter (turns_green p) xs) ≡ greens p g xs
+pub greens_turns : (p : ℕ) (g : Bool) (xs : List Row) → greens p g (filter (turns_green p) xs) ≡ greens p g xs
 greens_turns p g [] = refl
 greens_turns p g (x ∷ xs) = elim (cases_Bool (turns_green p x)) [
   | inl e ↦ ap (λ v. greens p g (cond v (x ∷ filter (turns_green p) xs) (filter (turns_green p) xs))) e ∙ greens_turns p (green_after p x g) xs
@@ -32,7 +31,7 @@ greens_turns p g (x ∷ xs) = elim (cases_Bool (turns_green p x)) [
       ∙ ap (λ v. greens p v xs) (sym (other_green p x g e))
 ]
 
-part_of_test : (l s t : Bool) → (t ≡ true → s ≡ true) → ((l && s) && (l && t)) ≡ (l && t)
+pub part_of_test : (l s t : Bool) → (t ≡ true → s ≡ true) → ((l && s) && (l && t)) ≡ (l && t)
 part_of_test true true t h = refl
 part_of_test true false true h = h refl
 part_of_test true false false h = refl

@@ -111,7 +111,7 @@ module _ (log : Log) (rows : List Row) (number x : ℕ) (are : AreSpecs log.spec
   verdict_is (BeforeRow n) (Companion p terms) fits place broken = absurd broken
   verdict_is (BeforeRow n) (Parents o terms) fits place broken = absurd broken
 
-at_place : (log : Log) (rows : List Row) (number x : ℕ) (place : Place) (rule : Rule) → x < window_end log → log.known x ≡ true → FitsRule log.specs rule → IsPlaceIn rows x place → IsAt log rows (obligation number rule x place)
+pub at_place : (log : Log) (rows : List Row) (number x : ℕ) (place : Place) (rule : Rule) → x < window_end log → log.known x ≡ true → FitsRule log.specs rule → IsPlaceIn rows x place → IsAt log rows (obligation number rule x place)
 at_place log rows number x (BeforeRow n) (Interval item) lt is fits (a, b) = record { within = lt; is_known = is; fits = (b, fits.within) }
 at_place log rows number x (BeforeRow n) (Conflict p q terms) lt is fits h = record { within = lt; is_known = is; fits = tt }
 at_place log rows number x (BeforeRow n) (Companion p terms) lt is fits h = record { within = lt; is_known = is; fits = tt }
@@ -122,7 +122,7 @@ at_place log rows number x EndOfTenth (Companion p terms) lt is fits h = record 
 at_place log rows number x EndOfTenth (Parents o terms) lt is fits h = record { within = lt; is_known = is; fits = tt }
 
 -- what is broken over the log is broken over all tenths of its window
-whole_broken : (log : Log) (rows : List Row) (o : Obligation) (v : ℕ) → AreSpecs log.specs → HasHistory log → IsAt log rows o → ((t : ℕ) → log.known t ≡ true → t ≤ v) → HasLogVerdict log rows o Broken → HasLogVerdict (only 0 v log) rows o Broken
+pub whole_broken : (log : Log) (rows : List Row) (o : Obligation) (v : ℕ) → AreSpecs log.specs → HasHistory log → IsAt log rows o → ((t : ℕ) → log.known t ≡ true → t ≤ v) → HasLogVerdict log rows o Broken → HasLogVerdict (only 0 v log) rows o Broken
 whole_broken log rows o v are has at inside broken =
     let more = only 0 v log in
     let all = more_whole log 0 v in
@@ -135,7 +135,7 @@ whole_broken log rows o v are has at inside broken =
     broken_stays log more rows o are less at (history_less log more.known more.rows are all.known all.rows has) broken
 
 -- a known tenth is in the window
-known_within : (s : Store) (t : ℕ) → is_known s t ≡ true → t < 36000 * length s.hours
+pub known_within : (s : Store) (t : ℕ) → is_known s t ≡ true → t < 36000 * length s.hours
 known_within s t e = elim (cases_lt (t / 36000) (length s.hours)) [
   | inl lt ↦ omega arith
   | inr ge ↦

@@ -1,7 +1,7 @@
 -- The decisive window of an obligation, by its ends that were found.
 use Rattle.std.proofs.Common.{◌≡◌, refl, ap, sym, ◌∙◌, subst, inl, inr, ◌↔◌, ℕ, suc, zero, ◌+◌, ◌<◌, ◌≤◌, Bool, true, false, List, [], ◌∷◌, length, take, map, get_or, arith, ◌||◌}
 use Rattle.std.specs.List.{list_any}
-use Rattle.std.proofs.lemmas.Bool.{cases_Bool, cases_eq, cases_lt, eq-eqb}
+use Rattle.std.proofs.lemmas.Bool.{cases_Bool, cases_eq, cases_lt}
 use Rattle.sig_base.specs.declared.values.Row.{Row}
 use Rattle.sig_base.specs.declared.values.Verdict.TheVariants.{Broken}
 use Rattle.gap_map.specs.declared.stretch.Stretch.{Stretch}
@@ -15,10 +15,12 @@ use Rattle.board.specs.Logs.{no_row, no_spec}
 use Rattle.board.specs.Places.{IsPlace}
 use Rattle.board.proofs.Bridge.{event_not_here}
 use Rattle.board.proofs.Rows.{rows_split}
+use Rattle.board.proofs.Common.{event_here}
 use Rattle.signal_log.specs.Log.{HasHistory, Log, window_end}
 use Rattle.rule_audit.specs.declared.rules.Rule.{Rule}
 use Rattle.rule_audit.specs.declared.rules.Rule.TheVariants.{Interval, Conflict, Companion, Parents}
 use Rattle.rule_audit.specs.Obligations.{Obligation, is_row_of, is_row_of_some}
+use Rattle.rule_audit.proofs.Walking.{sorted}
 use Rattle.decisive.specs.declared.judge.Start.{Start}
 use Rattle.decisive.specs.declared.parts.Part.{Part}
 use Rattle.decisive.specs.Parts.{AllNone, parts_of, term_part}
@@ -28,11 +30,11 @@ use Rattle.decisive.specs.Searches.{IsBeginAt, IsEndAt, NoBegin, NoEnd}
 use Rattle.decisive.specs.Laws.{TellsOf}
 use Rattle.decisive.specs.Window.{HasLogVerdict, HasRowAt, IsCandidate, IsGreatestTo, IsLeastFrom, is_row_of_rule, only}
 use Rattle.decisive.proofs.Growing.{begins_none, ends_none}
-use Rattle.decisive.proofs.Placing.{row_after, row_before, sorted}
+use Rattle.decisive.proofs.Placing.{row_after, row_before}
 
 -- ---- rows of a rule
 
-or_false : (b : Bool) → (b || false) ≡ b
+pub or_false : (b : Bool) → (b || false) ≡ b
 or_false b = elim (cases_Bool b) [ inl e ↦ rw e refl | inr e ↦ rw e refl ]
 
 terms_any : (specs : List Spec) (r : Row) (terms : List Term) → is_row_of_some specs r terms ≡ is_row_of_parts specs (map term_part terms) r
@@ -49,9 +51,6 @@ row_of_rule specs r (Parents o terms) = terms_any specs r terms
 
 no_event : Event
 no_event = record { code = 0; param = 0 }
-
-event_here : (r : Row) (rs : List Row) (w : ℕ) → r.at ≡ w → events_at (r ∷ rs) w ≡ event_of r ∷ events_at rs w
-event_here r rs w e = rw (eq-eqb r.at w e) refl
 
 event_in : (rows : List Row) (i w : ℕ) → i < length rows → (get_or rows i no_row).at ≡ w → (k : ℕ) × (k < length (events_at rows w)) × (get_or (events_at rows w) k no_event ≡ event_of (get_or rows i no_row))
 event_in [] i w lt e = absurd (omega arith)

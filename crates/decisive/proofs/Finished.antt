@@ -12,10 +12,10 @@ use Rattle.board.specs.Logs.{first_tenth, no_row}
 use Rattle.board.specs.Moves.{RowsIn, count_before}
 use Rattle.board.specs.Places.{IsPlace, upto}
 use Rattle.board.proofs.Bridge.{cut_rows}
-use Rattle.board.proofs.Cutting.{count_max}
 use Rattle.board.proofs.Rows.{place_before}
+use Rattle.board.proofs.Within.{rows_since}
+use Rattle.board.proofs.Adding.{count_le}
 use Rattle.signal_log.specs.Log.{HasHistory, Log, log_of}
-use Rattle.signal_log.proofs.Stored.{rows_low}
 use Rattle.decisive.specs.declared.hours.HoursTold.{HoursTold}
 use Rattle.decisive.specs.declared.hours.Placed.{Placed}
 use Rattle.decisive.specs.declared.judge.Question.{Question}
@@ -97,9 +97,9 @@ place_is log rows ss f t x EndOfTenth tells known low high h =
       first = low;
       last = high;
       is_known = tells.same_known x low high ∙ known;
-      count = count_max (x + 1) rows;
+      count = count_le (x + 1) rows;
       before = k1;
-      after = rows_low (x + 1) x t _ (omega arith) k2;
+      after = rows_since (x + 1) x t _ (omega arith) k2;
     }
 
 pub rank_is : (f t x : ℕ) (rows : List Row) (place : Place) → RowsIn f t rows → f ≤ x → x < t → length (events_at (take (place_in rows x place) rows) x) ≡ rank_in rows x place

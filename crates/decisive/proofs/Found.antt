@@ -12,9 +12,10 @@ use Rattle.board.specs.History.{events_at}
 use Rattle.board.specs.Moves.{own}
 use Rattle.board.specs.Places.{IsPlace, since, upto}
 use Rattle.board.proofs.Bridge.{cut_rows}
-use Rattle.board.proofs.Cutting.{since_in, upto_in, upto_known}
+use Rattle.board.proofs.Cutting.{since_in, upto_in, upto_known, since_known}
 use Rattle.signal_log.specs.Log.{HasHistory, Log, track_at, window_end}
 use Rattle.channel_window.specs.Moves.{KeepsBy, NoneKeeps}
+use Rattle.board.proofs.Common.{renumbered}
 use Rattle.decisive.specs.declared.judge.Start.{Start}
 use Rattle.decisive.specs.declared.judge.Start.TheVariants.{Free, Kept}
 use Rattle.decisive.specs.declared.parts.Part.{Part}
@@ -23,9 +24,8 @@ use Rattle.decisive.specs.Breaks.{AllBreak, FitsPart, FitsParts, PartBreaks}
 use Rattle.decisive.specs.Candidates.{FromLog, rows_from}
 use Rattle.decisive.specs.Laws.{TellsOf, rows_to}
 use Rattle.decisive.specs.Window.{only}
-use Rattle.decisive.proofs.Numbers.{none_from, numbers}
+use Rattle.decisive.proofs.Numbers.{none_from}
 use Rattle.decisive.proofs.Parted.{none_free, none_kept}
-use Rattle.decisive.proofs.Since.{since_known}
 
 -- ---- judgements by moves are judgements by histories
 
@@ -43,8 +43,8 @@ part_by (Free g) log rows ss f u v x n p fits has tells place last (e1, e2) =
     let b = own k n (drop n rows) (since x ss) in
     let K = KeepsBy p.keep (pos x) in
     rw (e1, e2) (
-      (λ h. law.1 (none_from k.rules f xs xs K a b (λ s z w. w) (λ s z w. numbers k x (v + 1) n 0 (drop n rows) (since x ss) s z follow place.after w) h)),
-      λ h. none_from k.rules f xs xs K b a (λ s z w. w) (λ s z w. numbers k x (v + 1) 0 n (drop n rows) (since x ss) s z follow place.after w) (law.0 h),
+      (λ h. law.1 (none_from k.rules f xs xs K a b (λ s z w. w) (λ s z w. renumbered k x (v + 1) n 0 (drop n rows) (since x ss) s z follow place.after w) h)),
+      λ h. none_from k.rules f xs xs K b a (λ s z w. w) (λ s z w. renumbered k x (v + 1) 0 n (drop n rows) (since x ss) s z follow place.after w) (law.0 h),
     )
 part_by (Kept pasts) log rows ss f u v x n p fits has tells place last (e2, (point, e1, at)) =
     let k = track_at log p.spec in
@@ -57,8 +57,8 @@ part_by (Kept pasts) log rows ss f u v x n p fits has tells place last (e2, (poi
     let K = KeepsBy p.keep (pos x) in
     let sets = get_or pasts.now p.spec [] in
     rw e2 (
-      (λ h. law.1 (none_after k.rules sets xs K a b (λ s z w. numbers k x (v + 1) n 0 (drop n rows) (since x ss) s z follow place.after w) h)),
-      λ h. none_after k.rules sets xs K b a (λ s z w. numbers k x (v + 1) 0 n (drop n rows) (since x ss) s z follow place.after w) (law.0 h),
+      (λ h. law.1 (none_after k.rules sets xs K a b (λ s z w. renumbered k x (v + 1) n 0 (drop n rows) (since x ss) s z follow place.after w) h)),
+      λ h. none_after k.rules sets xs K b a (λ s z w. renumbered k x (v + 1) 0 n (drop n rows) (since x ss) s z follow place.after w) (law.0 h),
     )
 
 one_fits : (specs : List Spec) (parts : List Part) (k : ℕ) → FitsParts specs parts → k < length parts → FitsParts specs (get_or parts k no_part ∷ [])

@@ -1,11 +1,7 @@
 -- Facts of results and of numbers.
 use Rattle.std.proofs.Common.{sym, subst, inl, inr, ℕ, ◌+◌, ◌<◌, arith}
-use Rattle.std.specs.Prelude.{IfOk, IfSome, MatchOption, OnOk, Option, Some, None, Result, Ok, Err}
+use Rattle.std.specs.Prelude.{IfSome, MatchOption, OnOk, Option, Some, None, Result, Ok, Err}
 use Rattle.std.proofs.lemmas.Bool.{cases_eq}
-
-pub more_ok : {A E : Type 0} → (r : Result A E) (P Q : A → Type 0) → ((a : A) → P a → Q a) → IfOk r P → IfOk r Q
-more_ok (Ok a) P Q f h = f a h
-more_ok (Err e) P Q f h = tt
 
 pub one_more : (P : ℕ → Type 0) (i : ℕ) → ((k : ℕ) → k < i → P k) → P i → (k : ℕ) → k < i + 1 → P k
 one_more P i h p k lt = elim (cases_eq k i) [ inl same ↦ subst P (sym same) p | inr ne ↦ h k (omega arith) ]

@@ -3,9 +3,9 @@ use Rattle.std.proofs.Common.{◌≡◌, refl, ap, sym, ◌∙◌, subst, inl, i
 use Rattle.std.proofs.lemmas.Bool.{and_parts, cases_lt}
 use Rattle.sig_base.specs.declared.values.Row.{Row}
 use Rattle.sig_base.specs.declared.values.Verdict.TheVariants.{Broken, Idle, Kept}
+use Rattle.gap_map.proofs.Cutting.{nat_cases}
 use Rattle.reach.specs.Runs.{State}
 use Rattle.board.specs.Channels.{AreSpecs}
-use Rattle.board.proofs.Bridge.{lt_tells}
 use Rattle.board.specs.Logs.{no_row, no_spec}
 use Rattle.board.specs.declared.clause.Term.{Term}
 use Rattle.board.specs.Verdicts.{IsVerdict, Keeps}
@@ -52,12 +52,12 @@ in_range u v t e =
     (of t u a, of v t b)
   where
     of : (x y : ℕ) → not (nat_lt x y) ≡ true → y ≤ x
-    of x y a = elim (lt_tells x y) [ inl (test, lt) ↦ (let bad : false ≡ true = rw test at a in absurd (cc)) | inr (test, ge) ↦ ge ]
+    of x y a = elim (nat_cases x y) [ inl (test, lt) ↦ (let bad : false ≡ true = rw test at a in absurd (cc)) | inr (test, ge) ↦ ge ]
 
 pub to_range : (u v t : ℕ) → u ≤ t → t ≤ v → is_from_to u v t ≡ true
-to_range u v t a b = elim (lt_tells t u) [
+to_range u v t a b = elim (nat_cases t u) [
   | inl (_, lt) ↦ absurd (omega arith)
-  | inr (one, _) ↦ elim (lt_tells v t) [ inl (_, lt) ↦ absurd (omega arith) | inr (two, _) ↦ rw (one, two) refl ]
+  | inr (one, _) ↦ elim (nat_cases v t) [ inl (_, lt) ↦ absurd (omega arith) | inr (two, _) ↦ rw (one, two) refl ]
 ]
 
 pub less_only : OnlyTellsLess

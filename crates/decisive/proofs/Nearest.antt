@@ -8,6 +8,7 @@ use Rattle.board.specs.Logs.{no_row}
 use Rattle.board.specs.Moves.{count_before}
 use Rattle.board.specs.Places.{upto}
 use Rattle.board.proofs.Cutting.{upto_known}
+use Rattle.rule_audit.proofs.Walking.{sorted}
 use Rattle.decisive.specs.declared.judge.Question.{Question}
 use Rattle.decisive.specs.declared.judge.Start.{Start}
 use Rattle.decisive.specs.declared.judge.Told.{Told}
@@ -19,7 +20,7 @@ use Rattle.decisive.specs.Candidates.{IsOwnRow}
 use Rattle.decisive.specs.Cuts.{IsCutAfter, IsCutBefore}
 use Rattle.decisive.specs.Laws.{rows_to}
 use Rattle.decisive.specs.Tries.{Begins, BeginsGrow, DoesAt, Ends, EndsGrow, IsBeginRow, IsEndRow, IsFirstOf, IsNearest, IsOwnAt, IsSought, IsToldAt, IsTrail, NoBeginRow, NoEndRow, NoneDo, found_at, row_at, row_count, tenth_at}
-use Rattle.decisive.proofs.Placing.{count_over, row_after, row_before, sorted}
+use Rattle.decisive.proofs.Placing.{count_over, row_after, row_before}
 
 -- ---- what was found
 

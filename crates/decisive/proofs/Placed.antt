@@ -6,12 +6,12 @@ use Rattle.board.specs.Places.{IsPlace}
 use Rattle.board.specs.History.{events_at}
 use Rattle.board.specs.Moves.{RowsIn}
 use Rattle.board.proofs.Bridge.{late_end}
-use Rattle.board.proofs.Cutting.{events_join, none_after}
+use Rattle.board.proofs.Cutting.{events_join, none_after, take_more_of}
 use Rattle.signal_log.specs.Log.{log_of}
 use Rattle.decisive.specs.declared.hours.HoursTold.{HoursTold}
 use Rattle.decisive.specs.Laws.{TellsOf}
 use Rattle.decisive.specs.Searches.{ArePlaced, rank}
-use Rattle.decisive.proofs.Telling.{place_back, place_on, take_after, take_front, tells_join}
+use Rattle.decisive.proofs.Telling.{place_back, place_on, take_front, tells_join}
 
 pub placed_on : (s : Store) (old more new : HoursTold) (f m t k x n : ℕ) → ((specs : List Spec) → TellsOf (log_of specs s) more.rows.items more.stretches.items m t) → length more.rows.items ≤ 400000 → new.rows.items ≡ old.rows.items ++ more.rows.items → new.stretches.items ≡ old.stretches.items ++ more.stretches.items → ArePlaced s old f m k x n → ArePlaced s new f t (k + 1) x n
 placed_on s old more new f m t k x n tells few rows ss p =
@@ -48,4 +48,4 @@ pub rank_on : (old more new : HoursTold) (f m x n : ℕ) → new.rows.items ≡ 
 rank_on old more new f m x n rows p = rw rows (ap (λ rs. length (events_at rs x)) (take_front n old.rows.items more.rows.items p.count))
 
 pub rank_back : (more old new : HoursTold) (f m x n : ℕ) → RowsIn f m more.rows.items → m ≤ x → new.rows.items ≡ more.rows.items ++ old.rows.items → rank new x (length more.rows.items + n) ≡ rank old x n
-rank_back more old new f m x n in_rows le rows = rw rows (ap (λ rs. length (events_at rs x)) (take_after more.rows.items old.rows.items n) ∙ ap (λ es. length es) (events_join more.rows.items (take n old.rows.items) x ∙ ap (λ es. es ++ events_at (take n old.rows.items) x) (none_after more.rows.items f m x in_rows le)))
+rank_back more old new f m x n in_rows le rows = rw rows (ap (λ rs. length (events_at rs x)) (take_more_of more.rows.items old.rows.items n) ∙ ap (λ es. length es) (events_join more.rows.items (take n old.rows.items) x ∙ ap (λ es. es ++ events_at (take n old.rows.items) x) (none_after more.rows.items f m x in_rows le)))

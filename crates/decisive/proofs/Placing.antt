@@ -5,35 +5,38 @@ use Rattle.std.proofs.lemmas.List.{length-take-le}
 use Rattle.std.proofs.lemmas.List.Sorted.{IsNonDecreasingBy-from_default}
 use Rattle.sig_base.specs.declared.values.Row.{Row}
 use Rattle.gap_map.specs.declared.stretch.Stretch.{Stretch}
+use Rattle.gap_map.proofs.Cutting.{nat_cases}
 use Rattle.board.specs.History.{events_at}
 use Rattle.board.specs.Logs.{no_row}
 use Rattle.board.specs.Moves.{RowsIn, count_before}
 use Rattle.board.specs.Places.{IsPlace, since, upto}
-use Rattle.board.proofs.Bridge.{cut_rows, lt_tells}
-use Rattle.board.proofs.Cutting.{count_max, events_join, none_after, since_in, upto_in, upto_known}
+use Rattle.board.proofs.Bridge.{cut_rows}
+use Rattle.board.proofs.Cutting.{events_join, none_after, since_in, upto_in, upto_known, since_known}
 use Rattle.board.proofs.Rows.{rows_split}
+use Rattle.board.proofs.Adding.{count_le}
+use Rattle.rule_audit.proofs.Walking.{sorted}
 use Rattle.decisive.specs.Candidates.{rows_from}
 use Rattle.decisive.specs.Laws.{rows_to}
-use Rattle.decisive.proofs.Since.{back, since_known, take_both}
+use Rattle.decisive.proofs.Since.{back, take_both}
 
 -- rows before a place are counted up to any later tenth
 pub count_over : (f g m n : ℕ) (rows : List Row) → n ≤ length rows → RowsIn f g (take n rows) → g ≤ m → n ≤ count_before m rows
 count_over f g m zero rows le h few = omega arith
 count_over f g m (suc n) [] le h few = absurd (omega arith)
-count_over f g m (suc n) (r ∷ rows) le (a, b, h) few = elim (lt_tells r.at m) [ inl (test, _) ↦ rw test (let k = count_over r.at g m n rows (omega arith) h few in omega arith) | inr (_, ge) ↦ absurd (omega arith) ]
+count_over f g m (suc n) (r ∷ rows) le (a, b, h) few = elim (nat_cases r.at m) [ inl (test, _) ↦ rw test (let k = count_over r.at g m n rows (omega arith) h few in omega arith) | inr (_, ge) ↦ absurd (omega arith) ]
 
 -- rows from a place on aren't
 pub count_under : (x t m n : ℕ) (rows : List Row) → RowsIn x t (drop n rows) → m ≤ x → count_before m rows ≤ n
 count_under x t m zero [] h le = omega arith
-count_under x t m zero (r ∷ rows) (a, b, h) le = elim (lt_tells r.at m) [ inl (_, lt) ↦ absurd (omega arith) | inr (test, _) ↦ rw test (omega arith) ]
+count_under x t m zero (r ∷ rows) (a, b, h) le = elim (nat_cases r.at m) [ inl (_, lt) ↦ absurd (omega arith) | inr (test, _) ↦ rw test (omega arith) ]
 count_under x t m (suc n) [] h le = omega arith
-count_under x t m (suc n) (r ∷ rows) h le = elim (lt_tells r.at m) [ inl (test, _) ↦ rw test (let k = count_under x t m n rows h le in omega arith) | inr (test, _) ↦ rw test (omega arith) ]
+count_under x t m (suc n) (r ∷ rows) h le = elim (nat_cases r.at m) [ inl (test, _) ↦ rw test (let k = count_under x t m n rows h le in omega arith) | inr (test, _) ↦ rw test (omega arith) ]
 
 -- the rows of a range cut at a tenth, of those from a place on
 drop_both : (x t w n : ℕ) (rows : List Row) → RowsIn x t (drop n rows) → x ≤ w → w < t → n ≤ count_before (w + 1) rows → RowsIn x (w + 1) (drop n (take (count_before (w + 1) rows) rows))
 drop_both x t w zero rows h a b le = (cut_rows x (w + 1) t rows (omega arith) (omega arith) h).0
 drop_both x t w (suc n) [] h a b le = absurd (omega arith)
-drop_both x t w (suc n) (r ∷ rows) h a b le = elim (lt_tells r.at (w + 1)) [
+drop_both x t w (suc n) (r ∷ rows) h a b le = elim (nat_cases r.at (w + 1)) [
   | inl (test, _) ↦ rw test (drop_both x t w n rows h a b (let more : suc n ≤ suc (count_before (w + 1) rows) = rw test at le in omega arith))
   | inr (test, ge) ↦ absurd (let bad : suc n ≤ 0 = rw test at le in omega arith)
 ]
@@ -43,7 +46,7 @@ place_upto f t x n w rows ss p le lt =
     let c = count_before (w + 1) rows in
     let over : n ≤ c = count_over f (x + 1) (w + 1) n rows p.count p.before (omega arith) in
     let first = p.first in
-    let size : length (take c rows) ≡ c = length-take-le c rows (count_max (w + 1) rows) in
+    let size : length (take c rows) ≡ c = length-take-le c rows (count_le (w + 1) rows) in
     record {
       stretches = upto_in f t w ss p.stretches (omega arith) lt;
       rows_in = (cut_rows f (w + 1) t rows (omega arith) (omega arith) p.rows_in).0;
@@ -72,8 +75,8 @@ from_part f g u n [] h a b le = rest n
     rest : (m : ℕ) → RowsIn u g (drop 0 (take m []))
     rest zero = b
     rest (suc m) = b
-from_part f g u zero (r ∷ rows) h a b le = elim (lt_tells r.at u) [ inl (test, _) ↦ absurd (let bad : suc (count_before u rows) ≤ 0 = rw test at le in omega arith) | inr (test, _) ↦ rw test b ]
-from_part f g u (suc n) (r ∷ rows) (p, q, h) a b le = elim (lt_tells r.at u) [
+from_part f g u zero (r ∷ rows) h a b le = elim (nat_cases r.at u) [ inl (test, _) ↦ absurd (let bad : suc (count_before u rows) ≤ 0 = rw test at le in omega arith) | inr (test, _) ↦ rw test b ]
+from_part f g u (suc n) (r ∷ rows) (p, q, h) a b le = elim (nat_cases r.at u) [
   | inl (test, lt) ↦ rw test (from_part r.at g u n rows h (omega arith) b (let more : suc (count_before u rows) ≤ suc n = rw test at le in omega arith))
   | inr (test, ge) ↦ rw test (ge, q, h)
 ]
@@ -134,14 +137,6 @@ rank_from f t x n u rows ss p low le =
     let whole : take n rows ≡ take c rows ++ drop c (take n rows) = sym (ap (λ rs. rs ++ drop c (take n rows)) (sym (take_both c n rows under)) ∙ take-append-drop c (take n rows)) in
     let parts_same : length (events_at (take n rows) x) ≡ length (events_at (drop c (take n rows)) x) = ap (λ (rs : List Row). length (events_at rs x)) whole ∙ ap (λ es. length es) (events_join (take c rows) (drop c (take n rows)) x ∙ ap (λ es. es ++ events_at (drop c (take n rows)) x) (none_after (take c rows) f u x k1 le)) in
     ap (λ (rs : List Row). length (events_at rs x)) (take_part c n rows under) ∙ sym parts_same
-
--- rows are in order
-pub sorted : (f t i m : ℕ) (rows : List Row) → RowsIn f t rows → i ≤ m → m < length rows → (get_or rows i no_row).at ≤ (get_or rows m no_row).at
-sorted f t i m [] h le lt = absurd (omega arith)
-sorted f t zero zero (r ∷ rs) h le lt = omega arith
-sorted f t zero (suc m) (r ∷ rs) (a, b, h) le lt = (rows_split r.at t m rs h (omega arith)).2
-sorted f t (suc i) zero (r ∷ rs) h le lt = absurd (omega arith)
-sorted f t (suc i) (suc m) (r ∷ rs) (a, b, h) le lt = sorted r.at t i m rs h (omega arith) (omega arith)
 
 pub rows_rise : (f t : ℕ) (rows : List Row) → RowsIn f t rows → IsNonDecreasingBy (λ (r : Row). r.at) rows
 rows_rise f t rows h = IsNonDecreasingBy-from_default (λ (r : Row). r.at) rows no_row (λ i j le lt. sorted f t i j rows h le lt)

@@ -6,18 +6,8 @@ use Rattle.std.proofs.lemmas.List.Sorted.{IsNonDecreasingBy-from_default}
 use Rattle.sig_base.specs.declared.values.Row.{Row}
 use Rattle.gap_map.specs.declared.stretch.Stretch.{Stretch}
 use Rattle.gap_map.specs.Stretches.{FollowOn, known_at}
-use Rattle.board.specs.Places.{since}
-use Rattle.board.proofs.Bridge.{known_here, known_there, lt_tells}
-
-pub since_known : (f t x y : ℕ) (ss : List Stretch) → FollowOn f t ss → f ≤ x → x < t → x ≤ y → y < t → known_at ss y ≡ known_at (since x ss) y
-since_known f t x y [] h a b c d = refl
-since_known f t x y (s ∷ ss) h a b c d = elim (lt_tells x s.to) [
-  | inl (test, lt) ↦ rw test (elim (lt_tells y s.to) [
-    | inl (_, l2) ↦ known_here s ss f t y h (omega arith) l2 ∙ sym (known_here (record { from = x; to = s.to; known = s.known }) ss x t y (refl, lt, h.2) c l2)
-    | inr (_, g2) ↦ known_there s ss y g2 ∙ sym (known_there (record { from = x; to = s.to; known = s.known }) ss y g2)
-  ])
-  | inr (test, ge) ↦ rw test (known_there s ss y (omega arith) ∙ since_known s.to t x y ss h.2 ge b c d)
-]
+use Rattle.gap_map.proofs.Cutting.{nat_cases}
+use Rattle.board.proofs.Bridge.{known_here, known_there}
 
 drop_none : (q : ℕ) (rows : List Row) → rows ≡ [] → drop q rows ≡ []
 drop_none zero rows e = e
@@ -62,7 +52,7 @@ pub known_point : (f t y i : ℕ) (ss : List Stretch) → FollowOn f t ss → f 
 known_point f t y i [] h low le at = ((λ lt. absurd (omega arith)), λ ge. refl)
 known_point f t y zero (s ∷ ss) h low le at =
     let late : leb s.to y ≡ false = at.1 0 s (omega arith) (omega arith) in
-    elim (lt_tells y s.to) [
+    elim (nat_cases y s.to) [
       | inl (_, here) ↦ ((λ lt. sym (known_here s ss f t y h low here)), λ ge. absurd (omega arith))
       | inr (_, there) ↦ absurd (let yes = le-leb s.to y there in let bad : true ≡ false = sym yes ∙ late in cc)
     ]

@@ -5,17 +5,18 @@ use Rattle.std.proofs.lemmas.List.{length-take-le, take_all, take-append-drop}
 use Rattle.sig_base.specs.declared.values.Row.{Row}
 use Rattle.gap_map.specs.declared.stretch.Stretch.{Stretch}
 use Rattle.gap_map.specs.Stretches.{FollowOn, known_at}
+use Rattle.gap_map.proofs.Cutting.{nat_cases}
 use Rattle.channel_path.specs.declared.moves.Move.{Move}
 use Rattle.board.specs.History.{Track}
 use Rattle.board.specs.Moves.{RowsIn, count_before, letter_moves, own, stretch_moves, with_letter}
 use Rattle.board.specs.Places.{IsPlace, since, upto}
-use Rattle.board.proofs.Bridge.{cut_rows, known_here, known_there, late_end, lt_tells}
-use Rattle.board.proofs.Cutting.{count_max, count_whole, own_cut, since_in, upto_in, upto_known}
-use Rattle.signal_log.proofs.Stored.{rows_low}
+use Rattle.board.proofs.Bridge.{cut_rows, known_here, known_there, late_end}
+use Rattle.board.proofs.Cutting.{count_whole, own_cut, since_in, upto_in, upto_known, since_known}
+use Rattle.board.proofs.Within.{rows_since}
+use Rattle.board.proofs.Adding.{count_le}
 use Rattle.decisive.specs.Candidates.{rows_from}
 use Rattle.decisive.specs.Cuts.{AllAre, IsCutAfter, IsCutBefore, IsCutBy, begins_before, passes, stands_before}
 use Rattle.decisive.specs.Laws.{rows_to}
-use Rattle.decisive.proofs.Since.{since_known}
 use Rattle.decisive.proofs.Slicing.{are_join}
 
 -- ---- a test of rows, and of gaps
@@ -90,7 +91,7 @@ gaps_to f x (s ∷ ss) h known =
     let e = h.0 in
     let lt = h.1 in
     let end = late_end s.to (x + 1) ss h.2 in
-    elim (lt_tells x s.to) [
+    elim (nat_cases x s.to) [
       | inl (_, here) ↦
           let is : s.known ≡ true = sym (known_here s ss f (x + 1) x h (omega arith) here) ∙ known in
           let same : s.to ≡ x + 1 = omega arith in (
@@ -123,7 +124,7 @@ upto_whole : (f t w : ℕ) (ss : List Stretch) → FollowOn f t ss → f ≤ w �
 upto_whole f t w [] h le e = refl
 upto_whole f t w (s ∷ ss) h le e =
     let end = late_end s.to t ss h.2 in
-    elim (lt_tells w s.to) [
+    elim (nat_cases w s.to) [
       | inl (test, here) ↦
           let same : w + 1 ≡ s.to = omega arith in
           let last : s.to ≡ t = omega arith in
@@ -164,7 +165,7 @@ module _ (k : Track) (f t i : ℕ) (rows : List Row) (ss : List Stretch) (h : Fo
             let there = sym (since_known f t w w ss h le lt (omega arith) lt) ∙ known in (
               ys,
               record {
-                whole = ap (λ (rs : List Row). own k i rs ss) (sym (take-append-drop c rows)) ∙ own_cut k f t w i (take c rows) (drop c rows) ss h k1 (rows_low (w + 1) w t (drop c rows) (omega arith) k2) le lt known;
+                whole = ap (λ (rs : List Row). own k i rs ss) (sym (take-append-drop c rows)) ∙ own_cut k f t w i (take c rows) (drop c rows) ss h k1 (rows_since (w + 1) w t (drop c rows) (omega arith) k2) le lt known;
                 first = first;
                 rest = own_are k (λ at r. nat_lt at (w + 1)) false (w + 1) m (drop c rows) (since w ss) (rows_late (w + 1) t (w + 1) m (drop c rows) k2 (omega arith)) (gaps_after w t (since w ss) (since_in f t w ss h le lt) lt there);
               },
@@ -190,7 +191,7 @@ module _ (k : Track) (f t i : ℕ) (rows : List Row) (ss : List Stretch) (h : Fo
       elim at [
         | inl known ↦
             let xs = own k i (take c rows) (upto u ss) in
-            let size : length (take c rows) ≡ c = length-take-le c rows (count_max u rows) in
+            let size : length (take c rows) ≡ c = length-take-le c rows (count_le u rows) in
             let there = sym (upto_known f t u u ss h le lt le (omega arith)) ∙ known in (
               xs,
               record {

@@ -1,29 +1,26 @@
 -- What a store tells of its hours.
-use Rattle.std.proofs.Common.{◌≡◌, refl, ap, sym, ◌∙◌, subst, inl, inr, ℕ, suc, zero, ◌+◌, ◌*◌, ◌<◌, ◌≤◌, Bool, ◌||◌, ◌&&◌, nat_le, nat_lt, append-nil, List, [], ◌∷◌, ◌++◌, length, length-append, take, drop, arith, Option, Some, None}
+use Rattle.std.proofs.Common.{◌≡◌, refl, ap, sym, ◌∙◌, subst, inl, inr, ℕ, suc, zero, ◌+◌, ◌*◌, ◌<◌, ◌≤◌, ◌||◌, ◌&&◌, nat_le, nat_lt, append-nil, List, [], ◌∷◌, ◌++◌, length, length-append, take, drop, arith, Option, Some, None}
 use Rattle.std.specs.Prelude.{is_some, option_map, IfSome}
 use Rattle.std.proofs.lemmas.Bool.{cases_lt}
 use Rattle.sig_base.specs.declared.values.Row.{Row}
 use Rattle.sig_base.specs.HourRows.{AreRowsOf}
 use Rattle.gap_map.specs.declared.stretch.Stretch.{Stretch}
-use Rattle.gap_map.specs.Stretches.{AreStretches, FollowOn, IsCut, known_at, known_in}
+use Rattle.gap_map.specs.Stretches.{FollowOn, IsCut, known_at, known_in}
 use Rattle.channel_tables.specs.declared.spec.Spec.{Spec}
+use Rattle.gap_map.proofs.Following.{follows}
 use Rattle.hour_store.specs.Store.{IsStore, Store, rows_at}
 use Rattle.board.specs.History.{Event, events_at}
 use Rattle.board.specs.Logs.{end_tenth, first_tenth}
 use Rattle.board.specs.Moves.{RowsIn}
 use Rattle.board.specs.Places.{IsPlace}
 use Rattle.board.proofs.Bridge.{known_late, known_there, late_end, none_at}
-use Rattle.board.proofs.Cutting.{events_join, none_after}
+use Rattle.board.proofs.Cutting.{events_join, none_after, drop_more_of, take_more_of}
+use Rattle.board.proofs.Within.{rise_rows}
 use Rattle.signal_log.specs.Log.{Log, log_of}
 use Rattle.signal_log.specs.Points.{HasHour, rows_or_none}
 use Rattle.signal_log.proofs.Hour.{hour_same}
-use Rattle.signal_log.proofs.Stored.{known_hour, rise_rows, rows_join}
+use Rattle.signal_log.proofs.Stored.{known_hour, rows_join}
 use Rattle.decisive.specs.Laws.{TellsOf}
-
--- stretches of an hour follow one another
-follows : (K : ℕ → Bool) (a b : ℕ) (ss : List Stretch) → AreStretches K a b ss → FollowOn a b ss
-follows K a b [] h = h
-follows K a b (s ∷ ss) (e, lt, h, rest) = (e, lt, follows K s.to b ss rest)
 
 pub hour_tells : (specs : List Spec) (s : Store) (hour : ℕ) (rows : List Row) (entry : Option (List Row)) (ss : List Stretch) → IsStore s → hour < length s.hours → rows_at s hour ≡ entry → rows ≡ rows_or_none entry → RowsIn (first_tenth hour) (end_tenth hour) rows → IsCut (known_in (is_some entry) s.blanks) (36000 * hour) (36000 * hour + 36000) ss → TellsOf (log_of specs s) rows ss (first_tenth hour) (first_tenth (hour + 1))
 hour_tells specs s hour rows entry ss is lt held e in_rows cut =
@@ -93,14 +90,6 @@ drop_front zero xs ys l = refl
 drop_front (suc q) [] ys l = absurd (omega arith)
 drop_front (suc q) (z ∷ xs) ys l = drop_front q xs ys (omega arith)
 
-pub take_after : (xs ys : List Row) (q : ℕ) → take (length xs + q) (xs ++ ys) ≡ xs ++ take q ys
-take_after [] ys q = let e : 0 + q ≡ q = omega arith in ap (λ z. take z ys) e
-take_after (z ∷ xs) ys q = let e : suc (length xs) + q ≡ suc (length xs + q) = omega arith in ap (λ m2. take m2 (z ∷ (xs ++ ys))) e ∙ ap (λ rs. z ∷ rs) (take_after xs ys q)
-
-drop_after : (xs ys : List Row) (q : ℕ) → drop (length xs + q) (xs ++ ys) ≡ drop q ys
-drop_after [] ys q = let e : 0 + q ≡ q = omega arith in ap (λ z. drop z ys) e
-drop_after (z ∷ xs) ys q = let e : suc (length xs) + q ≡ suc (length xs + q) = omega arith in ap (λ m2. drop m2 (z ∷ (xs ++ ys))) e ∙ drop_after xs ys q
-
 -- a place in hours that go on
 pub place_on : (f m t x n : ℕ) (rows more : List Row) (ss next : List Stretch) → IsPlace f m rows ss x n → m ≤ t → FollowOn m t next → RowsIn m t more → IsPlace f t (rows ++ more) (ss ++ next) x n
 place_on f m t x n rows more ss next p le follow in_rows =
@@ -133,6 +122,6 @@ place_back f m t x n rows more ss next p le follow in_rows =
       last = last;
       is_known = known_next f m t x ss next follow p.stretches first ∙ p.is_known;
       count = omega arith;
-      before = subst (λ rs. RowsIn f (x + 1) rs) (sym (take_after rows more n)) (rows_join f m (x + 1) rows (take n more) in_rows p.before);
-      after = subst (λ rs. RowsIn x t rs) (sym (drop_after rows more n)) p.after;
+      before = subst (λ rs. RowsIn f (x + 1) rs) (sym (take_more_of rows more n)) (rows_join f m (x + 1) rows (take n more) in_rows p.before);
+      after = subst (λ rs. RowsIn x t rs) (sym (drop_more_of rows more n)) p.after;
     }

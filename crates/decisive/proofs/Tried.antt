@@ -19,6 +19,7 @@ use Rattle.board.proofs.Cutting.{since_in, upto_in, upto_known}
 use Rattle.board.proofs.Ordering.{own_order}
 use Rattle.board.proofs.Tracks.{spec_lettered}
 use Rattle.channel_window.specs.Moves.{KeepsBy, NoneKeeps}
+use Rattle.board.proofs.Common.{renumbered}
 use Rattle.decisive.specs.declared.judge.Start.{Start}
 use Rattle.decisive.specs.declared.judge.Start.TheVariants.{Free, Kept}
 use Rattle.decisive.specs.declared.parts.Part.{Part}
@@ -26,7 +27,7 @@ use Rattle.decisive.specs.Breaks.{Breaks, PartBreaks, track_of}
 use Rattle.decisive.specs.Candidates.{rows_from}
 use Rattle.decisive.specs.Cuts.{IsCutAfter, IsCutBefore, IsCutBy, begins_before, stands_before}
 use Rattle.decisive.specs.Laws.{rows_to}
-use Rattle.decisive.proofs.Numbers.{none_from, numbers}
+use Rattle.decisive.proofs.Numbers.{none_from}
 use Rattle.decisive.proofs.Sliced.{cut_after, cut_before, cut_place}
 
 abbrev Leads : Rules → List Move → List Move → Type 0
@@ -90,8 +91,8 @@ module _ (specs : List Spec) (p : Part) (f t x n i m : ℕ) (rows : List Row) (s
   breaks_here start =
       let first = upto_in f t x ss place.stretches place.first place.last in
       let rest = since_in f t x ss place.stretches place.first place.last in
-      let a = λ (i j : ℕ) (s u : State). numbers k f (x + 1) i j (take n rows) (upto x ss) s u first place.before in
-      let b = λ (i j : ℕ) (s u : State). numbers k x t i j (drop n rows) (since x ss) s u rest place.after in (
+      let a = λ (i j : ℕ) (s u : State). renumbered k f (x + 1) i j (take n rows) (upto x ss) s u first place.before in
+      let b = λ (i j : ℕ) (s u : State). renumbered k x t i j (drop n rows) (since x ss) s u rest place.after in (
         breaks_led start specs x p to (own k 0 (take n rows) (upto x ss)) on (own k 0 (drop n rows) (since x ss)) (a 0 i) (b 0 m),
         breaks_led start specs x p (own k 0 (take n rows) (upto x ss)) to (own k 0 (drop n rows) (since x ss)) on (a i 0) (b m 0),
       )

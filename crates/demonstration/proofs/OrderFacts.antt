@@ -5,6 +5,7 @@ use Rattle.std.specs.List.Sorted.{ties}
 use Rattle.std.specs.Ordering.{is_lt, nat_cmp, ordering_then}
 use Rattle.std.specs.Prelude.{not, ◌&&◌}
 use Rattle.sig_base.specs.declared.values.Row.{Row}
+use Rattle.sig_base.proofs.Common.{filter_same}
 use Rattle.demonstration.specs.Order.{is_before, ordered, placed}
 
 -- ---- the test is an order
@@ -160,10 +161,6 @@ key_less a b = is_lt (ordering_then (ordering_then (nat_cmp a.at b.at) (nat_cmp 
 key_less-is : (a b : Row) → key_less a b ≡ is_before a b
 key_less-is a b = grind (arith, nat_tests)
 
-filter-same : (p q : Row → Bool) (xs : List Row) → ((y : Row) → p y ≡ q y) → filter p xs ≡ filter q xs
-filter-same p q [] h = refl
-filter-same p q (x ∷ xs) h = rw (h x, filter-same p q xs h) refl
-
 like_by_key : (q x : Row) → ties key_less q x ≡ Like q x
 like_by_key q x = ap₂ (λ (a b : Bool). not a && not b) (key_less-is q x) (key_less-is x q)
 
@@ -172,4 +169,4 @@ pub in-order : (xs ys : List Row) → ((k : ℕ) (d : Row) → 0 ≤ k → k + 1
 in-order xs ys sorted stable =
     let rise : Rise ys = rise-from ys (λ k d lt. sym (key_less-is (get_or ys (suc k) d) (get_or ys k d)) ∙ (rw (add-one k) at (sorted k d (omega arith) (omega arith)))) in
     same_rising ys (ordered xs) rise (ordered-rise xs)
-    (λ q. sym (filter-same _ _ ys (like_by_key q)) ∙ stable q ∙ filter-same _ _ xs (like_by_key q) ∙ sym (ordered-like q xs))
+    (λ q. sym (filter_same _ _ ys (like_by_key q)) ∙ stable q ∙ filter_same _ _ xs (like_by_key q) ∙ sym (ordered-like q xs))

@@ -1,22 +1,16 @@
 -- Services and pulses go on with each one that is added, and enough of them are looked at.
-use Rattle.std.proofs.Common.{◌≡◌, ◌≤◌, ◌<◌, ◌+◌, ◌-◌, ◌/◌, ◌%◌, ℕ, zero, suc, true, false, cond, nat_lt, List, [], ◌∷◌, ◌++◌, refl, sym, ap, ◌∙◌, arith, append_assoc, append-nil}
-use Rattle.std.proofs.lemmas.Bool.Decides.{nat_tests}
+use Rattle.std.proofs.Common.{◌≡◌, ◌≤◌, ◌<◌, ◌+◌, ◌-◌, ◌/◌, ◌%◌, ℕ, zero, suc, true, cond, nat_lt, List, [], ◌∷◌, ◌++◌, refl, sym, ap, ◌∙◌, arith, append_assoc, append-nil}
 use Rattle.sig_base.specs.declared.values.Row.{Row}
+use Rattle.sig_base.proofs.Common.{is_less, not_less}
 use Rattle.demonstration.specs.Draws.{after_two, next}
 use Rattle.demonstration.specs.Rows.{row, services, pulses, service_rows, pulse_rows, other_phase, green, ending, quiet, held}
-
-before : (a b : ℕ) → a < b → nat_lt a b ≡ true
-before a b h = grind (arith, nat_tests)
-
-not_before : (a b : ℕ) → b ≤ a → nat_lt a b ≡ false
-not_before a b h = grind (arith, nat_tests)
 
 -- where no more tenths are left than are looked at, it doesn't matter how many are
 services-enough : (k j end x at phase : ℕ) → end ≤ at + k → end ≤ at + j → services k end x at phase ≡ services j end x at phase
 unfolding services
 services-enough zero zero end x at phase h g = refl
-services-enough zero (suc j) end x at phase h g = rw (not_before at end (omega arith)) refl
-services-enough (suc k) zero end x at phase h g = rw (not_before at end (omega arith)) refl
+services-enough zero (suc j) end x at phase h g = rw (not_less at end (omega arith)) refl
+services-enough (suc k) zero end x at phase h g = rw (not_less at end (omega arith)) refl
 services-enough (suc k) (suc j) end x at phase h g =
     ap (λ (l : List Row). cond (nat_lt at end) (service_rows at phase (green x) (ending x) ++ l) [])
     (services-enough k j end (after_two x) (at + green x + 50) (other_phase phase) (omega arith) (omega arith))
@@ -27,7 +21,7 @@ pub services-next : (end x at phase : ℕ) → at < end
 unfolding services
 services-next end x at phase h =
     let k : end - at ≡ suc (end - at - 1) = omega arith in
-    let t : nat_lt at end ≡ true = before at end h in
+    let t : nat_lt at end ≡ true = is_less at end h in
     let rest : services (end - at - 1) end (after_two x) (at + green x + 50) (other_phase phase) ≡ services (end - (at + green x + 50)) end (after_two x) (at + green x + 50) (other_phase phase)
     = services-enough (end - at - 1) (end - (at + green x + 50)) end (after_two x) (at + green x + 50) (other_phase phase) (omega arith) (omega arith) in
     rw (k, t) (ap (λ (l : List Row). service_rows at phase (green x) (ending x) ++ l) rest)
@@ -39,8 +33,8 @@ services-done end x at phase h = let k : end - at ≡ zero = omega arith in rw k
 pulses-enough : (k j end x at : ℕ) → end ≤ at + k → end ≤ at + j → pulses k end x at ≡ pulses j end x at
 unfolding pulses
 pulses-enough zero zero end x at h g = refl
-pulses-enough zero (suc j) end x at h g = rw (not_before at end (omega arith)) refl
-pulses-enough (suc k) zero end x at h g = rw (not_before at end (omega arith)) refl
+pulses-enough zero (suc j) end x at h g = rw (not_less at end (omega arith)) refl
+pulses-enough (suc k) zero end x at h g = rw (not_less at end (omega arith)) refl
 pulses-enough (suc k) (suc j) end x at h g =
     ap (λ (l : List Row). cond (nat_lt at end) (pulse_rows (at + quiet x) (held x) ++ l) [])
     (pulses-enough k j end (after_two x) (at + quiet x + held x) (omega arith) (omega arith))
@@ -51,7 +45,7 @@ pub pulses-next : (end x at : ℕ) → at < end
 unfolding pulses
 pulses-next end x at h =
     let k : end - at ≡ suc (end - at - 1) = omega arith in
-    let t : nat_lt at end ≡ true = before at end h in
+    let t : nat_lt at end ≡ true = is_less at end h in
     let rest : pulses (end - at - 1) end (after_two x) (at + quiet x + held x) ≡ pulses (end - (at + quiet x + held x)) end (after_two x) (at + quiet x + held x)
     = pulses-enough (end - at - 1) (end - (at + quiet x + held x)) end (after_two x) (at + quiet x + held x) (omega arith) (omega arith) in
     rw (k, t) (ap (λ (l : List Row). pulse_rows (at + quiet x) (held x) ++ l) rest)

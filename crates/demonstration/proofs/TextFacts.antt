@@ -1,10 +1,10 @@
 -- Texts that go on part by part.
-use Rattle.std.proofs.Common.{◌≡◌, ◌≤◌, ◌<◌, ◌+◌, ◌-◌, ◌%◌, ℕ, zero, suc, Bool, true, false, List, [], ◌∷◌, ◌++◌, length, drop, get_or, add-one, Some, None, refl, sym, ap, ◌∙◌, arith, append_assoc, ◌*◌, cond, filter, decimal}
+use Rattle.std.proofs.Common.{◌≡◌, ◌≤◌, ◌<◌, ◌+◌, ◌-◌, ◌%◌, ℕ, zero, suc, Bool, true, false, List, [], ◌∷◌, ◌++◌, length, drop, get_or, Some, None, refl, sym, ap, ◌∙◌, arith, append_assoc, ◌*◌, cond, filter, decimal}
 use Rattle.std.specs.Prelude.{◌==◌, if◌then◌else◌}
 use Rattle.std.specs.Str.{bytes_eq}
 use Rattle.sig_base.specs.declared.values.Row.{Row}
-use Rattle.std.proofs.Math.Seq.{drop-cons}
 use Rattle.std.proofs.Math.ListN.{drop_of_length-le}
+use Rattle.sig_base.proofs.Common.{next_row}
 use Rattle.demonstration.specs.Rows.{all_rows, services, pulses}
 use Rattle.demonstration.specs.Order.{ordered}
 use Rattle.demonstration.specs.Texts.{config_text, demo_rows, each_hour, hour_text, record_of, records_of, script_text}
@@ -28,9 +28,6 @@ records-next p x xs = by_test (p x)
     by_test : (b : Bool) → records_of (cond b (x ∷ filter p xs) (filter p xs)) ≡ (if b then record_of x else []) ++ records_of (filter p xs)
     by_test true = refl
     by_test false = refl
-
-next_row : (rows : List Row) (i : ℕ) (d : Row) → i < length rows → drop i rows ≡ get_or rows i d ∷ drop (i + 1) rows
-next_row rows i d h = rw (add-one i) (drop-cons rows i d h)
 
 -- one record more, or none
 pub records-go : (p : Row → Bool) (rows : List Row) (i : ℕ) (d : Row) (out new whole : List ℕ) → i < length rows

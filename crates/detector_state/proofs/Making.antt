@@ -20,9 +20,9 @@ use Rattle.board.specs.History.{Event, Track, events_at, letters, put}
 use Rattle.board.specs.Logs.{IsHour, end_tenth, first_tenth, no_spec}
 use Rattle.board.proofs.Tracks.{spec_lettered}
 use Rattle.board.proofs.Within.{hour_rows}
+use Rattle.board.proofs.Plain.{agreeing_early}
 use Rattle.signal_log.specs.Log.{Log, track_at}
 use Rattle.signal_log.specs.States.{IsReached}
-use Rattle.signal_log.proofs.Runs.{agreeing_early}
 use Rattle.free_channels.specs.Free.{IsMixed}
 use Rattle.detector_state.specs.declared.part.Part.{Part}
 use Rattle.detector_state.specs.Switches.{IsChannelOf, IsSwitch, switch_track}

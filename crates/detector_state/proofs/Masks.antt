@@ -3,14 +3,12 @@ use Rattle.std.proofs.Common.{suc, zero, ◌≡◌, refl, ap, sym, subst, ◌⊎
 use Rattle.std.specs.Int.{bit_at}
 use Rattle.std.proofs.lemmas.Bool.{cases_eq}
 use Rattle.std.proofs.lemmas.Bool.Decides.{eqb_tells}
+use Rattle.sig_base.proofs.Common.{some_same}
 use Rattle.colour_machine.specs.Mask.{Has}
 use Rattle.colour_machine.specs.Rules.{Leads, Rules}
 use Rattle.colour_machine.proofs.Bits.{has_none, has_set, same_mask}
 use Rattle.board.proofs.Joining.{Small}
 use Rattle.detector_state.specs.Masks.{IsImage, all_below, image_below, with_colour}
-
-some_same : (x y : ℕ) → Some x ≡ Some y → x ≡ y
-some_same x y e = cc
 
 has_with : (o : Option ℕ) (mask d : ℕ) → ((x : ℕ) → o ≡ Some x → x < 16) → Has (with_colour o mask) d ↔ (Has mask d ⊎ (o ≡ Some d))
 has_with None mask d few = ((λ h. inl h), λ h. elim h [ inl x ↦ x | inr e ↦ absurd (cc) ])

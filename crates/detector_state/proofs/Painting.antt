@@ -1,10 +1,8 @@
 -- Loops over the colours of a machine.
-use Rattle.std.proofs.Common.{◌≡◌, subst, ◌⊎◌, inl, inr, ◌↔◌, ℕ, ◌+◌, ◌<◌, ◌≤◌, ℤ, pos, ◌≤ℤ◌, ◌<ℤ◌, IsTrue, List, [], length, Option, arith}
+use Rattle.std.proofs.Common.{◌≡◌, subst, ◌⊎◌, inl, inr, ◌↔◌, ℕ, ◌+◌, ◌<◌, ◌≤◌, ℤ, pos, ◌≤ℤ◌, ◌<ℤ◌, IsTrue, List, length, Option, arith}
 use Rattle.std.proofs.lemmas.Int.{ints}
-use Rattle.std.proofs.lemmas.Bool.{cases_eq, cases_lt}
-use Rattle.std.proofs.lemmas.List.{get_or_past}
+use Rattle.std.proofs.lemmas.Bool.{cases_eq}
 use Rattle.span_set.specs.declared.set.Span.{Span}
-use Rattle.span_set.specs.Spans.{Member}
 use Rattle.colour_machine.specs.Mask.{Has}
 use Rattle.colour_machine.specs.Rules.{Goes, Rules}
 use Rattle.reach.specs.Runs.{State}
@@ -14,6 +12,7 @@ use Rattle.reach.specs.Tests.{Sees}
 use Rattle.reach.specs.declared.seen.Test.{Test}
 use Rattle.reach.specs.declared.seen.Seen.{Seen}
 use Rattle.reach.specs.declared.seen.AgeBound.TheVariants.{Any}
+use Rattle.reach.proofs.Common.{colour_there}
 use Rattle.channel_path.specs.Walks.{EnteredBefore}
 use Rattle.detector_state.specs.Masks.{HasStates, IsImage}
 
@@ -54,17 +53,10 @@ image_whole m k mask l d new all a = ((λ h. let (c, lt, hc, g) = a.0 h in (c, h
 abbrev pub HasState : List (List Span) → ℕ → Type 0
 HasState before c = (s : State) × Holds before s × (s.colour ≡ c)
 
--- a state that is held has one of the colours
-few_colours : (before : List (List Span)) (s : State) → Holds before s → s.colour < length before
-few_colours before s h = elim (cases_lt s.colour (length before)) [
-  | inl lt ↦ lt
-  | inr ge ↦ absurd (let none : Member [] s.entry = subst (λ (set : List Span). Member set s.entry) (get_or_past before s.colour [] ge) h in none)
-]
-
 pub states_whole : (before : List (List Span)) (k mask : ℕ) → length before ≤ k → ((d : ℕ) → Has mask d ↔ Below (HasState before) k d) → HasStates before mask
 states_whole before k mask all h d = (
   (λ x. ((h d).0 x).1),
-  λ (s, held, e). (h d).1 ((let lt = few_colours before s held in omega arith), (s, held, e)),
+  λ (s, held, e). (h d).1 ((let lt = colour_there before s held in omega arith), (s, held, e)),
 )
 
 module _ (before : List (List Span)) (latest : List (Option ℤ)) (test : Test) (none colour n : ℕ) (seen : Seen) (any : test.bound ≡ Any) (empty : (c : ℕ) → Has none c → ⊥) (mask : (c : ℕ) → Has test.colours c ↔ (Has none c ⊎ (c ≡ colour))) (size : length before ≡ n) (admits : (s : State) → Admits latest s ↔ ((s.colour < n) × (s.entry <ℤ test.at))) (sees : Sees before latest test seen) (f : ℕ) (low : pos f ≤ℤ test.at) (early : EnteredBefore before f) where
@@ -73,6 +65,6 @@ module _ (before : List (List Span)) (latest : List (Option ℤ)) (test : Test) 
     (λ t. let (s, p, m) = sees.some_true.0 t in (s, p.0, elim ((mask s.colour).0 m.0) [ inl x ↦ absurd (empty s.colour x) | inr e ↦ e ])),
     λ (s, h, e).
         let e1 = early s h in
-        let few : s.colour < n = (let lt = few_colours before s h in omega arith) in
+        let few : s.colour < n = (let lt = colour_there before s h in omega arith) in
         sees.some_true.1 (s, (h, omega (arith, ints), (admits s).1 (few, omega (arith, ints))), ((mask s.colour).1 (inr e), rw any tt)),
   )

@@ -8,8 +8,9 @@ use Rattle.reach.specs.Runs.{State, state, Steps}
 use Rattle.board.specs.History.{Agree, Agreeing, Event, Track, letters}
 use Rattle.board.proofs.Bridge.{agreeing_first, agreeing_join, agreeing_none}
 use Rattle.board.proofs.Tracks.{Lettered}
+use Rattle.board.proofs.Plain.{agreeing_early}
 use Rattle.signal_log.proofs.Hour.{Reached}
-use Rattle.signal_log.proofs.Runs.{agreeing_colour, agreeing_early}
+use Rattle.signal_log.proofs.Runs.{agreeing_colour}
 use Rattle.free_channels.specs.Free.{IsFree, IsMixed}
 use Rattle.free_channels.proofs.Free.{run_is, step_goes}
 use Rattle.free_channels.proofs.Filling.{fill, fill-agrees, fill-length, fill_small, letters_small}

@@ -3,6 +3,7 @@ use Rattle.std.proofs.Common.{suc, ◌≡◌, refl, ap, sym, ◌∙◌, subst, �
 use Rattle.std.proofs.lemmas.Bool.{and_parts, cases_Bool, cases_eq, eq-eqb, eqb-true}
 use Rattle.std.proofs.lemmas.List.{append-nil, get_or_at, take_at}
 use Rattle.sig_base.specs.declared.values.Row.{Row}
+use Rattle.sig_base.proofs.Common.{not_true}
 use Rattle.event_codes.specs.declared.channels.Channel.{Channel}
 use Rattle.colour_machine.specs.Rules.{IsMachine}
 use Rattle.channel_tables.specs.declared.spec.Spec.{Spec}
@@ -176,10 +177,6 @@ faulty_is_sure c s d i before x rest sound store has at parts =
     let (v, may, e) = is.some in
     ((λ fault. is.sure fault), λ all. sym e ∙ eq-eqb v.colour 2 (all v may))
 
-not_told : (b : Bool) → not b ≡ true → b ≡ false
-not_told true e = absurd (let bad : false ≡ true = e in cc)
-not_told false e = refl
-
 pub fault_rows_are_sure : FaultRowsAreSure
 fault_rows_are_sure c s d i before x rest sound store has at parts on =
     let known = is_known s in
@@ -193,7 +190,7 @@ fault_rows_are_sure c s d i before x rest sound store has at parts on =
       ((λ fault. is.sure (sym row ∙ fault)), λ all. row ∙ (sym e ∙ eq-eqb v.colour 2 (all v may))),
       (
         (λ arrives.
-            let none : eqb v.colour 2 ≡ false = e ∙ not_told told (sym free ∙ arrives) in
+            let none : eqb v.colour 2 ≡ false = e ∙ not_true told (sym free ∙ arrives) in
             (v, may, λ bad. absurd (let two = sym (eq-eqb v.colour 2 bad) ∙ none in cc))),
         λ (u, may_u, ne). elim (cases_Bool told) [
           | inl fault ↦ absurd (ne (is.sure fault u may_u))

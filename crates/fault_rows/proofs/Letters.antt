@@ -10,8 +10,8 @@ use Rattle.event_codes.specs.declared.channels.Kind.TheVariants.{Phase, Ped, Ove
 use Rattle.event_codes.specs.Channels.{Line, channel_by, channel_in_table, channel_lines, number_of, numbered_channel}
 use Rattle.channel_tables.specs.Letters.{letter_in_table}
 use Rattle.board.specs.Channels.{is_channel}
+use Rattle.free_channels.proofs.Tables.{below_eight}
 use Rattle.stop_bar.specs.Own.{detector}
-use Rattle.fault_rows.proofs.Masks.{below_eight}
 use Rattle.arrival_measures.specs.Faults.{begins_fault, is_of, is_own}
 
 -- the letter of a channel that a code and a parameter are

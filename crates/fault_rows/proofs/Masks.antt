@@ -1,6 +1,7 @@
 -- Sets of colours of a detector against what its rows tell of a fault.
-use Rattle.std.proofs.Common.{suc, zero, ◌≡◌, refl, sym, ◌∙◌, subst, ℕ, ◌<◌, Bool, true, false, eqb, leb, List, Some, arith}
+use Rattle.std.proofs.Common.{◌≡◌, refl, sym, ◌∙◌, subst, ℕ, ◌<◌, Bool, true, false, eqb, leb, List, Some, arith}
 use Rattle.std.proofs.lemmas.Bool.{eqb-true}
+use Rattle.sig_base.proofs.Common.{some_same}
 use Rattle.event_codes.specs.declared.channels.Kind.{Kind}
 use Rattle.event_codes.specs.declared.channels.Kind.TheVariants.{Detector}
 use Rattle.colour_machine.specs.Mask.{Has}
@@ -8,6 +9,7 @@ use Rattle.colour_machine.specs.Rules.{IsMachine, Rules}
 use Rattle.channel_tables.specs.Table.{table_rules}
 use Rattle.channel_tables.specs.Tables.{table_of}
 use Rattle.channel_tables.specs.DetectorTable.{detector_table}
+use Rattle.free_channels.proofs.Tables.{below_eight, below_three}
 use Rattle.detector_state.specs.Masks.{all_below, image_below}
 use Rattle.detector_state.proofs.Masks.{has_all_below, image_is}
 
@@ -21,23 +23,6 @@ pub record IsDetector (m : Rules) : Type 0 where
   pub colours : m.colours ≡ 3
   pub letters : m.letters ≡ 8
   pub next : (c l : ℕ) → c < 3 → l < 8 → LeadsBy m c l
-
-below_three : (P : ℕ → Type 0) → P 0 → P 1 → P 2 → (n : ℕ) → n < 3 → P n
-below_three P a b c zero lt = a
-below_three P a b c (suc zero) lt = b
-below_three P a b c (suc (suc zero)) lt = c
-below_three P a b c (suc (suc (suc n))) lt = absurd (omega arith)
-
-pub below_eight : (P : ℕ → Type 0) → P 0 → P 1 → P 2 → P 3 → P 4 → P 5 → P 6 → P 7 → (n : ℕ) → n < 8 → P n
-below_eight P a b c d e f g h zero lt = a
-below_eight P a b c d e f g h (suc zero) lt = b
-below_eight P a b c d e f g h (suc (suc zero)) lt = c
-below_eight P a b c d e f g h (suc (suc (suc zero))) lt = d
-below_eight P a b c d e f g h (suc (suc (suc (suc zero)))) lt = e
-below_eight P a b c d e f g h (suc (suc (suc (suc (suc zero))))) lt = f
-below_eight P a b c d e f g h (suc (suc (suc (suc (suc (suc zero)))))) lt = g
-below_eight P a b c d e f g h (suc (suc (suc (suc (suc (suc (suc zero))))))) lt = h
-below_eight P a b c d e f g h (suc (suc (suc (suc (suc (suc (suc (suc n)))))))) lt = absurd (omega arith)
 
 table_leads : (floors : List ℕ) (c l : ℕ) → c < 3 → l < 8 → LeadsBy (table_rules detector_table floors) c l
 table_leads floors c l few lt =
@@ -65,9 +50,6 @@ pub record IsTold (told : Bool) (mask : ℕ) : Type 0 where
   pub few : (c : ℕ) → Has mask c → c < 3
   pub some : (c : ℕ) × Has mask c × (eqb c 2 ≡ told)
   pub sure : told ≡ true → (c : ℕ) → Has mask c → c ≡ 2
-
-some_same : (x y : ℕ) → Some x ≡ Some y → x ≡ y
-some_same x y e = cc
 
 module _ (m : Rules) (is : IsDetector m) (laws : IsMachine m) where
   -- all colours

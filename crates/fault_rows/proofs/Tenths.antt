@@ -1,6 +1,6 @@
 -- Tenth by tenth, the colours that are reached are as the known rows tell.
-use Rattle.std.proofs.Common.{suc, zero, ◌≡◌, refl, ap, sym, ◌∙◌, subst, inl, inr, ℕ, ◌+◌, ◌<◌, ◌≤◌, negsuc, Bool, true, false, cond, leb, nat_eq, ◌&&◌, List, [], ◌∷◌, ◌++◌, Option, Some, None, append_assoc, arith}
-use Rattle.std.specs.Prelude.{All, option_map}
+use Rattle.std.proofs.Common.{suc, zero, ◌≡◌, refl, ap, sym, ◌∙◌, subst, inl, inr, ℕ, ◌+◌, ◌<◌, ◌≤◌, negsuc, Bool, true, false, cond, leb, nat_eq, ◌&&◌, List, [], ◌∷◌, ◌++◌, Some, None, append_assoc, arith}
+use Rattle.std.specs.Prelude.{All}
 use Rattle.std.proofs.lemmas.Int.{ints}
 use Rattle.std.proofs.lemmas.Bool.{cases_Bool, cases_lt, eq-eqb}
 use Rattle.std.proofs.lemmas.List.{append-nil}
@@ -13,26 +13,21 @@ use Rattle.board.specs.Moves.{RowsIn}
 use Rattle.board.proofs.Bridge.{agreeing_none, none_at}
 use Rattle.board.proofs.Cutting.{events_join, none_after}
 use Rattle.board.proofs.Tracks.{Lettered}
-use Rattle.signal_log.proofs.Stored.{rows_join, rows_low}
+use Rattle.board.proofs.Within.{rows_since}
+use Rattle.signal_log.proofs.Stored.{rows_join}
 use Rattle.hour_sweep.specs.Rows.{last, last_with, since}
-use Rattle.hour_sweep.proofs.Known.{live_here, live_lost, live_same}
-use Rattle.hour_sweep.proofs.Places.{AllLast, last-push, last_with_all}
+use Rattle.hour_sweep.proofs.Known.{live_here}
+use Rattle.hour_sweep.proofs.Places.{last-push, last_with_all}
 use Rattle.free_channels.specs.Free.{IsMixed}
 use Rattle.detector_state.specs.Masks.{all_below, image_below}
 use Rattle.detector_state.proofs.Masks.{after, has_all_below}
 use Rattle.detector_state.proofs.Telling.{IsReachedBy, after_one, some_reached, tenth}
+use Rattle.cycle_arrivals.proofs.Counts.{and_true}
 use Rattle.arrival_measures.specs.Faults.{begins_fault, faulty, faulty_since, is_of}
+use Rattle.arrival_measures.proofs.Detecting.{lost_since, same_since}
 use Rattle.fault_rows.proofs.Masks.{IsDetector, IsTold, told_all, told_letter}
 
 -- ---- what the rows tell
-
-and_true : (b : Bool) → (b && true) ≡ b
-and_true true = refl
-and_true false = refl
-
-and_false : (b : Bool) → (b && false) ≡ false
-and_false true = refl
-and_false false = refl
 
 -- its own row tells of the detector
 told_own : (known : ℕ → Bool) (t d : ℕ) (before : List Row) (x : Row) → t ≤ x.at → is_of d x ≡ true → faulty known t (before ++ x ∷ []) d ≡ begins_fault x.code
@@ -47,20 +42,12 @@ told_other : (known : ℕ → Bool) (t d : ℕ) (before : List Row) (x : Row) �
 unfolding faulty
 told_other known t d before x other = ap (λ o. faulty_since known t o) (last-push (is_of d) before x ∙ ap (λ v. cond v (Some x) (last (is_of d) before)) other)
 
-same_since : (known : ℕ → Bool) (t u : ℕ) (o : Option Row) → since known t ≡ since known u → faulty_since known t o ≡ faulty_since known u o
-same_since known t u None e = refl
-same_since known t u (Some x) e = ap (λ v. begins_fault x.code && v) (live_same known x.at t u e)
-
 -- a known tenth changes nothing
 pub told_on : (known : ℕ → Bool) (t d : ℕ) (before : List Row) → known t ≡ true → faulty known (suc t) before d ≡ faulty known t before d
 unfolding faulty
 told_on known t d before e =
     let same : since known (suc t) ≡ since known t = rw e refl in
     same_since known (suc t) t (last (is_of d) before) same
-
-lost_since : (known : ℕ → Bool) (k u : ℕ) (o : Option (Row × List Row)) → AllLast (λ z. z.at ≤ k) o → k < u → known k ≡ false → faulty_since known u (option_map (λ f. f.0) o) ≡ false
-lost_since known k u None h lt e = refl
-lost_since known k u (Some f) h lt e = ap (λ v. begins_fault f.0.code && v) (live_lost known f.0.at k u h.0 lt e) ∙ and_false (begins_fault f.0.code)
 
 -- after an unknown one nothing is told
 told_lost : (known : ℕ → Bool) (t d : ℕ) (before : List Row) → All (λ z. z.at ≤ t) before → known t ≡ false → faulty known (suc t) before d ≡ false
@@ -114,7 +101,7 @@ module _ (k : Track) (mixed : IsMixed k.rules) (laws : IsMachine k.rules) (lette
       let low = h.0 in
       let high = h.1 in
       let here : nat_eq z.at t ≡ true = eq-eqb z.at t (omega (arith, low, high)) in
-      let later = rows_low z.at t (suc t) zs low h.2 in
+      let later = rows_since z.at t (suc t) zs low h.2 in
       elim (cases_Bool (is_of d z)) [
         | inl is ↦
             let (l, e, lt, begins) = own z is in

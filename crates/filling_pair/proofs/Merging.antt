@@ -5,12 +5,13 @@ use Rattle.std.proofs.lemmas.Bool.Decides.{eqb_tells}
 use Rattle.std.proofs.lemmas.List.{append-nil}
 use Rattle.colour_machine.specs.Rules.{Rules}
 use Rattle.sig_base.specs.declared.values.Row.{Row}
+use Rattle.gap_map.proofs.Cutting.{nat_cases}
 use Rattle.reach.specs.Runs.{State}
 use Rattle.channel_path.specs.declared.moves.Move.{Move}
 use Rattle.channel_path.specs.Walks.{Walk}
 use Rattle.board.specs.History.{Agree, Agreeing, Event, Track, event_of, events_at, letters}
 use Rattle.board.specs.Moves.{RowsIn, letter_moves, with_letter}
-use Rattle.board.proofs.Bridge.{event_not_here, lt_tells, none_at, rows_walk}
+use Rattle.board.proofs.Bridge.{event_not_here, none_at, rows_walk}
 use Rattle.board.proofs.Cutting.{events_join}
 use Rattle.signal_log.proofs.Stored.{rows_join}
 use Rattle.filling_pair.specs.declared.strands.Fill.{Fill}
@@ -50,7 +51,7 @@ walks_agree k t rows s u h =
 
 pub rows_apart : (t : ℕ) (fs : List Fill) → rows_of (before t fs) ++ rows_of (since t fs) ≡ rows_of fs
 rows_apart t [] = refl
-rows_apart t (f ∷ fs) = elim (lt_tells f.at t) [
+rows_apart t (f ∷ fs) = elim (nat_cases f.at t) [
   | inl (_, lt) ↦ rw (before_first t f fs lt, since_first t f fs lt) (ap (λ (xs : List Row). row_of f ∷ xs) (rows_apart t fs))
   | inr (_, le) ↦ rw (before_none t f fs le, since_all t f fs le) refl
 ]
@@ -60,14 +61,14 @@ events_apart t fs x = sym (events_join (rows_of (before t fs)) (rows_of (since t
 
 since_in : (t f end : ℕ) (fs : List Fill) → t ≤ end → RowsIn f end (rows_of fs) → RowsIn t end (rows_of (since t fs))
 since_in t f end [] le h = le
-since_in t f end (x ∷ fs) le h = elim (lt_tells x.at t) [
+since_in t f end (x ∷ fs) le h = elim (nat_cases x.at t) [
   | inl (_, lt) ↦ rw (since_first t x fs lt) (since_in t x.at end fs le h.2)
   | inr (_, ge) ↦ rw (since_all t x fs ge) (ge, h.1, h.2)
 ]
 
 before_in : (b m f end : ℕ) (fs : List Fill) → b ≤ m → f ≤ m → RowsIn f end (rows_of fs) → RowsIn f m (rows_of (before b fs))
 before_in b m f end [] le low h = low
-before_in b m f end (x ∷ fs) le low h = elim (lt_tells x.at b) [
+before_in b m f end (x ∷ fs) le low h = elim (nat_cases x.at b) [
   | inl (_, lt) ↦ rw (before_first b x fs lt) (h.0, omega arith, before_in b m x.at end fs le (omega arith) h.2)
   | inr (_, ge) ↦ rw (before_none b x fs ge) low
 ]

@@ -1,9 +1,10 @@
 -- What is to be judged in an hour stands at a known tenth, before a row of that tenth or at its end.
-use Rattle.std.proofs.Common.{◌≡◌, ℕ, zero, suc, pos, ◌+◌, ◌/◌, ◌<◌, ◌≤◌, inl, inr, Bool, true, false, if◌then◌else◌, nat_eq, ◌&&◌, List, [], ◌∷◌, ◌++◌, length, get_or, refl, sym, ◌∙◌, subst, arith, Option, None}
+use Rattle.std.proofs.Common.{◌≡◌, ℕ, zero, suc, pos, ◌+◌, ◌/◌, ◌<◌, ◌≤◌, inl, inr, Bool, true, false, nat_eq, ◌&&◌, List, [], ◌∷◌, length, get_or, refl, sym, ◌∙◌, subst, arith, Option, None}
 use Rattle.std.specs.Prelude.{is_some, not}
 use Rattle.std.proofs.lemmas.Bool.Decides.{eqb_tells}
 use Rattle.sig_base.specs.declared.values.Row.{Row}
 use Rattle.sig_base.specs.HourRows.{Shown}
+use Rattle.sig_base.proofs.Each.{each_join, each_if, each_where, Each}
 use Rattle.span_set.specs.Spans.{is_member}
 use Rattle.channel_tables.specs.declared.spec.Spec.{Spec}
 use Rattle.hour_store.specs.Store.{held_at, is_known}
@@ -17,22 +18,6 @@ use Rattle.rule_audit.specs.Obligations.{Obligation, end_obligations, is_due, is
 use Rattle.filling_pair.specs.Kept.{IsPlaceOf}
 use Rattle.signal_log.specs.Rows.{hour_rows}
 use Rattle.filling_pair.specs.Lines.{IsOfOne, ObligationsHaveLines, is_known_before, obligations_in}
-
-abbrev Each : {X : Type 0} → (X → Type 0) → List X → Type 0
-Each P [] = Unit {0}
-Each P (x ∷ xs) = P x × Each P xs
-
-each_join : {X : Type 0} (P : X → Type 0) (xs ys : List X) → Each P xs → Each P ys → Each P (xs ++ ys)
-each_join P [] ys p q = q
-each_join P (x ∷ xs) ys p q = (p.0, each_join P xs ys p.1 q)
-
-each_if : {X : Type 0} (P : X → Type 0) (b : Bool) (x : X) → P x → Each P (if b then x ∷ [] else [])
-each_if P true x p = (p, tt)
-each_if P false x p = tt
-
-each_where : {X : Type 0} (P : X → Type 0) (b : Bool) (xs : List X) → (b ≡ true → Each P xs) → Each P (if b then xs else [])
-each_where P true xs p = p refl
-each_where P false xs p = tt
 
 record IsJudged (known : ℕ → Bool) (rules : List Rule) (rows : List Row) (o : Obligation) : Type 0 where
   pub is_known : known o.at ≡ true
@@ -104,7 +89,7 @@ held_within [] hour e = absurd (let bad : false ≡ true = e in cc)
 held_within (o ∷ hours) zero e = omega arith
 held_within (o ∷ hours) (suc hour) e = let k = held_within hours hour e in omega arith
 
-and_left : (a b : Bool) → (a && not b) ≡ true → a ≡ true
+pub and_left : (a b : Bool) → (a && not b) ≡ true → a ≡ true
 and_left true b e = refl
 and_left false b e = e
 

@@ -5,10 +5,10 @@ use Rattle.std.proofs.lemmas.Bool.{cases_Bool}
 use Rattle.std.proofs.lemmas.List.{drop_more, drop_all}
 use Rattle.sig_base.specs.declared.values.Row.{Row}
 use Rattle.span_set.specs.declared.set.Span.{Span}
+use Rattle.gap_map.proofs.Cutting.{nat_cases}
 use Rattle.reach.specs.Runs.{State}
 use Rattle.reach.proofs.Later.{then_iff}
 use Rattle.board.specs.History.{Track}
-use Rattle.board.proofs.Bridge.{lt_tells}
 use Rattle.filling_pair.specs.declared.strands.Fill.{Fill}
 use Rattle.filling_pair.specs.declared.step.Stand.{Stand}
 use Rattle.filling_pair.specs.Strands.{row_of, rows_of}
@@ -19,16 +19,16 @@ abbrev pub Walked : Track → ℕ → Option Stand → List Fill → Option Stan
 Walked k t init all here rest = (more : List Row) (u : State) → In init (λ s. Walks k (rows_of (before t all) ++ more) s u) ↔ In here (λ s. Walks k (rows_of (before t rest) ++ more) s u)
 
 pub before_first : (t : ℕ) (f : Fill) (fs : List Fill) → f.at < t → before t (f ∷ fs) ≡ f ∷ before t fs
-before_first t f fs lt = elim (lt_tells f.at t) [ inl (e, _) ↦ rw e refl | inr (_, le) ↦ absurd (omega arith) ]
+before_first t f fs lt = elim (nat_cases f.at t) [ inl (e, _) ↦ rw e refl | inr (_, le) ↦ absurd (omega arith) ]
 
 pub before_none : (t : ℕ) (f : Fill) (fs : List Fill) → t ≤ f.at → before t (f ∷ fs) ≡ []
-before_none t f fs le = elim (lt_tells f.at t) [ inl (_, lt) ↦ absurd (omega arith) | inr (e, _) ↦ rw e refl ]
+before_none t f fs le = elim (nat_cases f.at t) [ inl (_, lt) ↦ absurd (omega arith) | inr (e, _) ↦ rw e refl ]
 
 pub since_first : (t : ℕ) (f : Fill) (fs : List Fill) → f.at < t → since t (f ∷ fs) ≡ since t fs
-since_first t f fs lt = elim (lt_tells f.at t) [ inl (e, _) ↦ rw e refl | inr (_, le) ↦ absurd (omega arith) ]
+since_first t f fs lt = elim (nat_cases f.at t) [ inl (e, _) ↦ rw e refl | inr (_, le) ↦ absurd (omega arith) ]
 
 pub since_all : (t : ℕ) (f : Fill) (fs : List Fill) → t ≤ f.at → since t (f ∷ fs) ≡ f ∷ fs
-since_all t f fs le = elim (lt_tells f.at t) [ inl (_, lt) ↦ absurd (omega arith) | inr (e, _) ↦ rw e refl ]
+since_all t f fs le = elim (nat_cases f.at t) [ inl (_, lt) ↦ absurd (omega arith) | inr (e, _) ↦ rw e refl ]
 
 pub fills_turn : (k : Track) (t : ℕ) (init here new : Option Stand) (all after : List Fill) (f : Fill) → f.at < t → Walked k t init all here (f ∷ after) → ((more : List Row) (u : State) → In here (λ s. Walks k (row_of f ∷ more) s u) ↔ In new (λ s. Walks k more s u)) → Walked k t init all new after
 fills_turn k t init here new all after f lt w m more u =

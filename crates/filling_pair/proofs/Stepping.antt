@@ -1,15 +1,13 @@
 -- Where a letter leads.
 use Rattle.std.proofs.Common.{◌≡◌, refl, sym, ap, ◌∙◌, subst, inl, inr, ◌↔◌, ℕ, ◌<◌, ◌≤◌, ℤ, pos, ◌+ℤ◌, ◌<ℤ◌, ◌≤ℤ◌, Option, Some, None, arith}
 use Rattle.std.proofs.lemmas.Int.{ints}
+use Rattle.sig_base.proofs.Common.{some_same}
 use Rattle.colour_machine.specs.Rules.{Rules, IsMachine}
 use Rattle.colour_machine.proofs.Ways.{goes_stays}
 use Rattle.reach.specs.Runs.{State, Step}
 use Rattle.reach.proofs.States.{state_same}
 use Rattle.filling_pair.specs.declared.step.Stand.{Stand}
 use Rattle.filling_pair.specs.Walking.{Fits, In, IsEnd, MovesBy, state_of}
-
-some_same : (a b : ℕ) → Some a ≡ Some b → a ≡ b
-some_same a b e = cc
 
 pub no_letter : (m : Rules) (t : ℤ) (s : State) (l : ℕ) → m.letters ≤ l → IsEnd m (Step m t s l) None
 no_letter m t s l h u (g, k) = let lt = g.1 in absurd (omega arith)

@@ -11,16 +11,19 @@ use Rattle.span_set.specs.Spans.{is_member}
 use Rattle.channel_tables.specs.declared.spec.Spec.{Spec}
 use Rattle.reach.specs.Runs.{State, Steps}
 use Rattle.hour_store.specs.Store.{IsStore, Store, held_at, is_known, known_rows, rows_at}
-use Rattle.board.specs.History.{Agreeing, Event, Track, event_of, events_at, letters, put}
+use Rattle.board.specs.History.{Agreeing, Event, Track, events_at, letters, put}
 use Rattle.board.specs.Logs.{no_row}
 use Rattle.board.specs.Moves.{RowsIn, count_before}
 use Rattle.board.proofs.Bridge.{agreeing_first, agreeing_join, agreeing_none, cut_rows, event_not_here, none_at}
 use Rattle.board.proofs.Cutting.{events_join, none_after}
 use Rattle.board.proofs.Rows.{rows_split}
+use Rattle.board.proofs.Within.{rows_since, rise_rows}
+use Rattle.board.proofs.Splitting.{more_rows}
+use Rattle.board.proofs.Common.{event_here}
 use Rattle.signal_log.specs.Log.{log_of, track_at}
 use Rattle.signal_log.specs.Points.{rows_or_none}
 use Rattle.signal_log.proofs.Contradicting.{earlier_events}
-use Rattle.signal_log.proofs.Stored.{hour_events, rise_rows, rows_join, rows_low}
+use Rattle.signal_log.proofs.Stored.{hour_events, rows_join}
 use Rattle.rule_audit.specs.declared.lines.Place.{Place}
 use Rattle.rule_audit.specs.declared.lines.Place.TheVariants.{BeforeRow, EndOfTenth}
 use Rattle.filling_pair.specs.declared.strands.Fill.{Fill}
@@ -30,6 +33,7 @@ use Rattle.filling_pair.specs.Kept.{IsPlaceOf, StandsAt}
 use Rattle.signal_log.specs.Rows.{hour_rows}
 use Rattle.filling_pair.specs.Walking.{Walks, count_to, is_own, merged, own_hours, own_of}
 use Rattle.filling_pair.proofs.Merging.{agreeing_letters, fills_there, merged_in, rows_there, walks_agree}
+use Rattle.filling_pair.proofs.Obliged.{and_left}
 
 -- ---- the channel's rows among those of an hour
 
@@ -37,7 +41,7 @@ keep_in : (p : Row → Bool) (f t : ℕ) (rs : List Row) → RowsIn f t rs → R
 keep_in p f t [] h = h
 keep_in p f t (r ∷ rs) h = elim (cases_Bool (p r)) [
   | inl e ↦ rw e (h.0, h.1, keep_in p r.at t rs h.2)
-  | inr e ↦ rw e (rows_low r.at f t (filter p rs) h.0 (keep_in p r.at t rs h.2))
+  | inr e ↦ rw e (rows_since r.at f t (filter p rs) h.0 (keep_in p r.at t rs h.2))
 ]
 
 keep_first : (p : Row → Bool) (r : Row) (rs : List Row) → p r ≡ true → filter p (r ∷ rs) ≡ r ∷ filter p rs
@@ -45,9 +49,6 @@ keep_first p r rs e = rw e refl
 
 keep_rest : (p : Row → Bool) (r : Row) (rs : List Row) → p r ≡ false → filter p (r ∷ rs) ≡ filter p rs
 keep_rest p r rs e = rw e refl
-
-here_event : (r : Row) (rs : List Row) (x : ℕ) → r.at ≡ x → events_at (r ∷ rs) x ≡ event_of r ∷ events_at rs x
-here_event r rs x e = elim (eqb_tells r.at x) [ inl (q, _) ↦ rw q refl | inr (_, ne) ↦ absurd (ne e) ]
 
 some_own : (o : Option ℕ) → (o ≡ None) ⊎ (is_some o ≡ true)
 some_own None = inl refl
@@ -68,9 +69,9 @@ own_letters k blanks [] x b = refl
 own_letters k blanks (r ∷ rs) x b =
     let rest = own_letters k blanks rs x b in
     elim (eqb_tells r.at x) [
-      | inl (_, e) ↦ rw (here_event r rs x e) (elim (some_own (k.letter r.code r.param)) [
+      | inl (_, e) ↦ rw (event_here r rs x e) (elim (some_own (k.letter r.code r.param)) [
         | inl none ↦ rw (keep_rest (is_own k blanks) r rs (own_not k blanks r none)) (rest ∙ sym (ap (λ (o : Option ℕ). put o (letters k (events_at rs x))) none))
-        | inr some ↦ rw (keep_first (is_own k blanks) r rs (own_yes k blanks r x e b some), here_event r (own_of k blanks rs) x e) (ap (λ (ls : List ℕ). put (k.letter r.code r.param) ls) rest)
+        | inr some ↦ rw (keep_first (is_own k blanks) r rs (own_yes k blanks r x e b some), event_here r (own_of k blanks rs) x e) (ap (λ (ls : List ℕ). put (k.letter r.code r.param) ls) rest)
       ])
       | inr (_, ne) ↦ rw (event_not_here r rs x ne) (elim (cases_Bool (is_own k blanks r)) [
         | inl y ↦ rw (keep_first (is_own k blanks) r rs y, event_not_here r (own_of k blanks rs) x ne) rest
@@ -90,10 +91,6 @@ own_none k blanks (r ∷ rs) x b =
         | inr n ↦ rw (keep_rest (is_own k blanks) r rs n) rest
       ]
     ]
-
-rows_high : (f m t : ℕ) (rs : List Row) → m ≤ t → RowsIn f m rs → RowsIn f t rs
-rows_high f m t [] le h = omega arith
-rows_high f m t (r ∷ rs) le h = (h.0, (let b = h.1 in omega arith), rows_high r.at m t rs le h.2)
 
 -- ---- the fills
 
@@ -129,10 +126,6 @@ and_false true true e = inr refl
 and_false true false e = absurd (cc)
 and_false false b e = inl refl
 
-and_left : (a b : Bool) → (a && not b) ≡ true → a ≡ true
-and_left true b e = refl
-and_left false b e = e
-
 -- ---- places
 
 cut_place : (rows : List Row) (f t end : ℕ) (place : Place) → IsPlaceOf rows t place → RowsIn f end rows → f ≤ t → t < end → RowsIn f (t + 1) (take (count_to rows t place) rows) × RowsIn t end (drop (count_to rows t place) rows)
@@ -141,7 +134,7 @@ cut_place rows f t end (BeforeRow n) (lt, e) h low high =
     (subst (λ (x : ℕ). RowsIn f (x + 1) (take n rows)) e a, subst (λ (x : ℕ). RowsIn x end (drop n rows)) e b)
 cut_place rows f t end EndOfTenth p h low high =
     let (a, b, c, d) = cut_rows f (t + 1) end rows (omega arith) (omega arith) h in
-    (a, rows_low (t + 1) t end (drop (count_before (t + 1) rows) rows) (omega arith) b)
+    (a, rows_since (t + 1) t end (drop (count_before (t + 1) rows) rows) (omega arith) b)
 
 one_tenth : (k : Track) (given : ℕ → List Event) (t : ℕ) (a v : State) → Agreeing k (λ x. true) given t (t + 1) a v ↔ Steps k.rules (pos t) a (letters k (given t)) v
 one_tenth k given t a v =
@@ -210,7 +203,7 @@ module _ (k : Track) (s : Store) (is : IsStore s) where
     merged_letters : (b m x : ℕ) (rs : List Row) → x < b → b ≤ m → m ≤ 36000 * length s.hours → RowsIn 0 m rs → (is_known s x ≡ true → letters k (events_at rs x) ≡ letters k (events_at (known_rows s) x)) → (is_known s x ≡ false → events_at rs x ≡ []) → letters k (events_at (merged b rs fs) x) ≡ letters k (events_with (log_of specs s) fs x)
     merged_letters b m x rs lt le high h there none = elim (cases_Bool (is_known s x)) [
       | inl known ↦ ap (letters k) (rows_there b rs fs x (none_known k (is_known s) 0 (36000 * length s.hours) fs x fills known)) ∙ (there known ∙ ap (letters k) (sym (with_known x known)))
-      | inr unknown ↦ ap (letters k) (fills_there b (36000 * length s.hours) 0 rs fs x lt (omega arith) (rows_high 0 m (36000 * length s.hours) rs high h) in_window (none unknown) ∙ sym (with_unknown x unknown))
+      | inr unknown ↦ ap (letters k) (fills_there b (36000 * length s.hours) 0 rs fs x lt (omega arith) (more_rows 0 m (36000 * length s.hours) rs high h) in_window (none unknown) ∙ sym (with_unknown x unknown))
     ]
 
     -- a walk over all rows of the channel is a run over the window

@@ -1,8 +1,6 @@
 -- Strands that keep an interval rule, and strands that break it.
-use Rattle.std.proofs.Common.{◌≡◌, refl, sym, subst, ◌⊎◌, inl, inr, ◌↔◌, ℕ, ℤ, pos, ◌+ℤ◌, Bool, true, false, List, [], ◌∷◌, get_or, arith}
+use Rattle.std.proofs.Common.{◌≡◌, refl, sym, subst, inl, inr, ◌↔◌, ℕ, ℤ, pos, Bool, true, false, List, [], ◌∷◌, get_or}
 use Rattle.std.specs.Prelude.{not}
-use Rattle.std.proofs.lemmas.Int.{ints}
-use Rattle.span_set.proofs.Sets.{int_cases}
 use Rattle.sig_base.specs.declared.values.Row.{Row}
 use Rattle.sig_base.specs.declared.values.Verdict.TheVariants.{Undecided}
 use Rattle.channel_tables.specs.declared.spec.Spec.{Spec}
@@ -10,7 +8,6 @@ use Rattle.colour_machine.specs.Mask.{Has}
 use Rattle.reach.specs.Runs.{State}
 use Rattle.reach.specs.Tests.{InBound, Meets}
 use Rattle.reach.specs.declared.seen.AgeBound.{AgeBound}
-use Rattle.reach.specs.declared.seen.AgeBound.TheVariants.{Any, AtLeast, AtMost}
 use Rattle.reach.specs.declared.seen.Test.{Test}
 use Rattle.ring_config.specs.declared.items.IntervalItem.{IntervalItem}
 use Rattle.hour_store.specs.Store.{Store}
@@ -29,12 +26,8 @@ use Rattle.filling_pair.specs.declared.strands.Strand.{Strand}
 use Rattle.filling_pair.specs.Asks.{HasAsk, IsAmong, IsOpenRule, LacksReply, MayStand, NoneStands, Replies, ReplyAll, Shows, states_over}
 use Rattle.filling_pair.specs.Kept.{IsAsSaid, IsPlaceOf, KeepsAt, StandsAt, line_rows}
 use Rattle.signal_log.specs.Rows.{rows_before}
+use Rattle.rule_audit.proofs.Judging.{in_or_out}
 use Rattle.filling_pair.proofs.Showing.{KeepHere, are_strands, have_few, kept_never, kept_with, stands_once}
-
-in_or_not : (b : AgeBound) (t e : ℤ) → InBound b t e ⊎ (InBound b t e → ⊥)
-in_or_not Any t e = inl tt
-in_or_not (AtLeast n) t e = elim (int_cases t (e +ℤ pos n)) [ inl x ↦ let y = x.1 in inr (λ h. omega (arith, ints)) | inr x ↦ let y = x.1 in inl (omega (arith, ints)) ]
-in_or_not (AtMost n) t e = elim (int_cases (e +ℤ pos n) t) [ inl x ↦ let y = x.1 in inr (λ h. omega (arith, ints)) | inr x ↦ let y = x.1 in inl (omega (arith, ints)) ]
 
 module _ (specs : List Spec) (log : Log) (same : log.specs ≡ specs) (rows : List Row) (t : ℕ) (item : IntervalItem) (colours : ℕ) (opposite : AgeBound) (only : (x : ℕ) → Has colours x ↔ (x ≡ item.colour)) (other : (t e : ℤ) → InBound opposite t e ↔ (InBound item.bound t e → ⊥)) where
   abbrev asked : Test
@@ -45,7 +38,7 @@ module _ (specs : List Spec) (log : Log) (same : log.specs ≡ specs) (rows : Li
 
   -- no state but one of the rule's colour at an age outside the bound breaks the rule
   keeps_unmet : (n : ℕ) (v : State) → IsPlaceOf rows t (BeforeRow n) → (Meets asked v → ⊥) → KeepsInterval (get_or specs item.spec no_spec) (get_or rows n no_row) item v
-  keeps_unmet n v placed none (is, leaves) = elim (in_or_not item.bound (pos t) v.entry) [
+  keeps_unmet n v placed none (is, leaves) = elim (in_or_out item.bound (pos t) v.entry) [
     | inl fits ↦ rw placed.1 fits
     | inr unfit ↦ absurd (none ((only v.colour).1 is, (other (pos t) v.entry).1 unfit))
   ]

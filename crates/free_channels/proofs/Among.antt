@@ -8,9 +8,10 @@ use Rattle.board.specs.Channels.{AreSpecs}
 use Rattle.board.specs.History.{events_at}
 use Rattle.board.specs.Logs.{no_spec}
 use Rattle.board.proofs.Tracks.{spec_lettered}
+use Rattle.board.proofs.Plain.{agreeing_early}
 use Rattle.signal_log.specs.Log.{Log, track_at, window_end}
 use Rattle.signal_log.proofs.Joined.{IsCompletedPlace, IsReachedPlace, after_events, events_after}
-use Rattle.signal_log.proofs.Runs.{agreeing_colour, agreeing_early, from_place, to_place, upto_place}
+use Rattle.signal_log.proofs.Runs.{agreeing_colour, from_place, to_place, upto_place}
 use Rattle.free_channels.specs.Free.{IsFree}
 use Rattle.free_channels.specs.Tells.{LooksBackAmongRows}
 use Rattle.free_channels.proofs.Free.{run_is}

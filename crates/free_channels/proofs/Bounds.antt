@@ -43,7 +43,7 @@ numbers_reached log i o are has lt is =
       (g, top.agrees, λ a b n inside c. counts_same (IsColourReached log i o.on) (HasColour log g i o.on) a b n (λ x l u. ((λ r. top.wherever x (omega arith) ((tell x (omega arith)).0.1 r)), λ p. (tell x (omega arith)).0.0 (g, top.agrees, p))) c),
     )
 
-sooner : (a b : Log) (t x : ℕ) → x ≤ t → TellSameUpto a b t → TellSameUpto a b x
+pub sooner : (a b : Log) (t x : ℕ) → x ≤ t → TellSameUpto a b t → TellSameUpto a b x
 sooner a b t x le same = record { specs = same.specs; known = λ y l. same.known y (omega arith); events = λ y l there. same.events y (omega arith) there }
 
 pub numbers_stay : NumbersStay

@@ -4,6 +4,7 @@ use Rattle.std.specs.Int.{int_max, int_min}
 use Rattle.std.proofs.lemmas.Int.{ints, clamps}
 use Rattle.std.proofs.lemmas.Bool.Decides.{nat_tests}
 use Rattle.std.proofs.lemmas.Bool.{false≢true}
+use Rattle.sig_base.proofs.Common.{is_less}
 use Rattle.span_set.proofs.Sets.{int_cases}
 use Rattle.span_set.specs.declared.set.Span.{Span}
 use Rattle.span_set.specs.Spans.{Above, AreRanges, is_member}
@@ -32,9 +33,6 @@ after s ss e a = let q : int_lt e s.to ≡ false = grind (arith, ints) in elim (
 none_below : (low : ℤ) (ss : List Span) (e : ℤ) → Above low ss → e ≤ℤ low → is_member ss e ≡ false
 none_below low [] e p h = refl
 none_below low (s ∷ ss) e p h = before s ss e (omega (arith, ints)) ∙ none_below s.to ss e p.3 (omega (arith, ints))
-
-is_less : (a b : ℕ) → a < b → nat_lt a b ≡ true
-is_less a b h = grind (arith, nat_tests)
 
 known_then : (a f t : ℕ) (rest : List Stretch) → Alternate (stretch f t false ∷ rest) → Alternate (known_part a f ++ (stretch f t false ∷ rest))
 known_then a f t rest h = elim (nat_cases a f) as (λ _. Alternate (known_part a f ++ (stretch f t false ∷ rest))) [
@@ -109,7 +107,7 @@ all_unknown ss a b h = record { stretches = (refl, h, λ t x y. refl, refl); alt
 pub held_cut : (ss : List Span) (a b : ℕ) → a ≤ b → AreRanges ss → IsCut (known_in true ss) a b (cut_of a b ss)
 held_cut ss a b h p = record { stretches = cut_stretches (known_in true ss) _ a b ss h p (λ t x y. refl); alternate = cut_alternates _ a b ss h p }
 
-ends_within : (known : ℕ → Bool) (a b : ℕ) (ss : List Stretch) → AreStretches known a b ss → a ≤ b
+pub ends_within : (known : ℕ → Bool) (a b : ℕ) (ss : List Stretch) → AreStretches known a b ss → a ≤ b
 ends_within known a b [] e = omega arith
 ends_within known a b (s ∷ ss) (e, l, k, r) = let i = ends_within known s.to b ss r in omega arith
 

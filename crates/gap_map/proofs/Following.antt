@@ -6,9 +6,9 @@ use Rattle.gap_map.specs.Stretches.{AreStretches, FollowOn, known_at}
 use Rattle.gap_map.proofs.Cutting.{stretches_same}
 
 -- stretches that are cut by what is known follow one another
-pub follow : (known : ℕ → Bool) (a b : ℕ) (ss : List Stretch) → AreStretches known a b ss → FollowOn a b ss
-follow known a b [] e = e
-follow known a b (s ∷ ss) (e, l, k, r) = (e, l, follow known s.to b ss r)
+pub follows : (known : ℕ → Bool) (a b : ℕ) (ss : List Stretch) → AreStretches known a b ss → FollowOn a b ss
+follows known a b [] e = e
+follows known a b (s ∷ ss) (e, l, k, r) = (e, l, follows known s.to b ss r)
 
 both_false : (k r : Bool) → r ≡ false → (k && false) || r ≡ false
 both_false true r e = e
@@ -48,6 +48,6 @@ tenth_cases a b = grind arith
 pub known_at_is : (known : ℕ → Bool) (a b t : ℕ) (ss : List Stretch) → AreStretches known a b ss → a ≤ t → t < b → known_at ss t ≡ known t
 known_at_is known a b t [] e x y = absurd (omega arith)
 known_at_is known a b t (s ∷ ss) (e, l, k, r) x y = elim (tenth_cases t s.to) [
-  | inl q ↦ (own_known a b (s ∷ ss) (e, l, follow known s.to b ss r)).2 t x q ∙ sym (k t x q)
+  | inl q ↦ (own_known a b (s ∷ ss) (e, l, follows known s.to b ss r)).2 t x q ∙ sym (k t x q)
   | inr q ↦ sym (in_rest s t (known_at ss t) q) ∙ known_at_is known s.to b t ss r q y
 ]

@@ -2,8 +2,10 @@
 use Rattle.std.proofs.Common.{suc, zero, ◌≡◌, ◌∙◌, sym, ap, refl, ◌⊎◌, inl, inr, ℕ, ℤ, pos, ◌<◌, ◌≤◌, ◌<ℤ◌, ◌≤ℤ◌, true, false, int_le, int_lt, List, [], ◌∷◌, ◌++◌, length, take, drop, get_or, arith}
 use Rattle.std.proofs.lemmas.Int.{ints, clamps}
 use Rattle.std.specs.List.Sorted.{IsPartitionedBy}
+use Rattle.sig_base.proofs.Common.{le_said}
 use Rattle.span_set.specs.declared.set.Span.{Span}
 use Rattle.span_set.specs.Spans.{Above}
+use Rattle.span_set.proofs.Sets.{not_over}
 use Rattle.gap_map.specs.Cuts.{stretch, clip, known_part, cut_of}
 use Rattle.gap_map.proofs.Cutting.{nat_cases, clip_is}
 
@@ -63,29 +65,20 @@ rise_from low (s ∷ ss) zero (suc j) d p le lt = let x = later s.to ss j d p.3 
 rise_from low (s ∷ ss) (suc i) zero d p le lt = absurd (omega arith)
 rise_from low (s ∷ ss) (suc i) (suc j) d p le lt = rise_from s.to ss i j d p.3 (omega arith) (omega arith)
 
-le_is : (a b : ℤ) → int_le a b ≡ true → a ≤ℤ b
-le_is a b e = grind (arith, ints)
-
-is_le : (a b : ℤ) → a ≤ℤ b → int_le a b ≡ true
+pub is_le : (a b : ℤ) → a ≤ℤ b → int_le a b ≡ true
 is_le a b e = grind (arith, ints)
 
-lt_is : (a b : ℤ) → int_lt a b ≡ true → a <ℤ b
+pub lt_is : (a b : ℤ) → int_lt a b ≡ true → a <ℤ b
 lt_is a b e = grind (arith, ints)
-
-is_lt : (a b : ℤ) → a <ℤ b → int_lt a b ≡ true
-is_lt a b e = grind (arith, ints)
 
 pub lt_not : (a b : ℤ) → int_lt a b ≡ false → b ≤ℤ a
 lt_not a b e = grind (arith, ints)
 
-pub le_so : (a b : ℤ) → int_le a b ≡ true → a ≤ℤ b
-le_so a b e = le_is a b e
-
 pub parted_to : (t low : ℤ) (ss : List Span) → Above low ss → IsPartitionedBy (λ s. int_le s.to t) ss
-parted_to t low ss p i j d le lt e = let a = rise_to low ss i j d p le lt in let b = le_is (get_or ss j d).to t e in is_le (get_or ss i d).to t (omega (arith, ints))
+parted_to t low ss p i j d le lt e = let a = rise_to low ss i j d p le lt in let b = le_said (get_or ss j d).to t e in is_le (get_or ss i d).to t (omega (arith, ints))
 
 pub parted_from : (t low : ℤ) (ss : List Span) → Above low ss → IsPartitionedBy (λ s. int_lt s.from t) ss
-parted_from t low ss p i j d le lt e = let a = rise_from low ss i j d p le lt in let b = lt_is (get_or ss j d).from t e in is_lt (get_or ss i d).from t (omega (arith, ints))
+parted_from t low ss p i j d le lt e = let a = rise_from low ss i j d p le lt in let b = lt_is (get_or ss j d).from t e in not_over (get_or ss i d).from t (omega (arith, ints))
 
 -- the ranges from the n-th on are in order too
 pub drop_above : (n : ℕ) (low : ℤ) (ss : List Span) → Above low ss → (x : ℤ) × Above x (drop n ss)

@@ -16,6 +16,7 @@ use Rattle.reach.specs.Sets.{set_of}
 use Rattle.reach.specs.Arrivals.{IsFirst}
 use Rattle.reach.proofs.States.{in_sets, state_same}
 use Rattle.std.proofs.lemmas.Bool.{cases_eq}
+use Rattle.reach.proofs.Common.{not_later}
 use Rattle.gap_ways.specs.Ways.{NoneOlder}
 use Rattle.gap_ways.specs.Choices.{IsAnswer, IsOutside, EntryAnswers, IsAsked}
 
@@ -72,10 +73,6 @@ module _ (sets : List (List Span)) (c floor : ℕ) (f t x : ℤ) (older : NoneOl
       let l = first_least y xt q e m in
       let same : e ≡ y = omega (arith, ints) in
       subst (λ (z : ℤ). Member (set_of sets c) z) same m
-
-pub not_later : (latest : Option ℤ) (a b : ℤ) → a ≤ℤ b → NotLater latest b → NotLater latest a
-not_later None a b h n = n
-not_later (Some x) a b h n = omega (arith, ints)
 
 -- ---- the states that are entered before a tenth
 pub early_none : (sets : List (List Span)) (f : ℤ) (s : State) → Holds sets s ↔ (Holds sets s × (s.colour < 0 → s.entry <ℤ f))

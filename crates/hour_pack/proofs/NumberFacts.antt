@@ -57,15 +57,15 @@ pub record NumberTakes (bytes : List ℕ) (n : ℕ) (rest : List ℕ) : Type 0 w
 taken : (bytes : List ℕ) (p q : ℕ × List ℕ) → p ≡ q → NumberTakes bytes p.0 p.1 → NumberTakes bytes q.0 q.1
 taken bytes p q e h = rw (← e) h
 
-not_ok : (e : PackError) (x : ℕ × List ℕ) → Err e ≡ Ok x → ⊥
-not_ok e x h = cc
+pub not_count : (e : PackError) (x : ℕ × List ℕ) → Err e ≡ Ok x → ⊥
+not_count e x h = cc
 
 third-takes : (row a b : ℕ) (bytes : List ℕ) (n : ℕ) (rest : List ℕ) → 128 ≤ a → a < 256 → 128 ≤ b → b < 256 → AreBytes bytes
     → third_byte row a b bytes ≡ Ok (n, rest) → NumberTakes (a ∷ b ∷ bytes) n rest
 third-takes row a b [] n rest la ha lb hb fits e = absurd cc
 third-takes row a b (c ∷ bytes) n rest la ha lb hb fits e =
     elim (chosen ((c == 0) || nat_le 128 c) (Err (BadRow row)) (Ok ((a - 128) + 128 * (b - 128) + 16384 * c, bytes)) (Ok (n, rest)) e) [
-      | inl p ↦ absurd (not_ok (BadRow row) (n, rest) p.1)
+      | inl p ↦ absurd (not_count (BadRow row) (n, rest) p.1)
       | inr p ↦
           let lc : 0 < c = grind (arith, nat_tests, p.0) in
           let hc : c < 128 = grind (arith, nat_tests, p.0) in
@@ -80,7 +80,7 @@ second-takes : (row a : ℕ) (bytes : List ℕ) (n : ℕ) (rest : List ℕ) → 
 second-takes row a [] n rest la ha fits e = absurd cc
 second-takes row a (b ∷ bytes) n rest la ha fits e =
     elim (chosen (b == 0) (Err (BadRow row)) (if nat_lt b 128 then Ok ((a - 128) + 128 * b, bytes) else third_byte row a b bytes) (Ok (n, rest)) e) [
-      | inl p ↦ absurd (not_ok (BadRow row) (n, rest) p.1)
+      | inl p ↦ absurd (not_count (BadRow row) (n, rest) p.1)
       | inr p ↦ elim (chosen (nat_lt b 128) (Ok ((a - 128) + 128 * b, bytes)) (third_byte row a b bytes) (Ok (n, rest)) p.1) [
         | inl q ↦
             let lb : 0 < b = grind (arith, nat_tests, p.0) in

@@ -1,12 +1,12 @@
 -- Rows that are written one after the other.
-use Rattle.std.proofs.Common.{◌≡◌, ◌≤◌, ◌<◌, ◌+◌, ◌*◌, ℕ, List, [], ◌∷◌, ◌++◌, length, drop, get_or, Ok, sym, ap, ◌∙◌, arith, add-one, append_assoc, append-nil}
+use Rattle.std.proofs.Common.{◌≡◌, ◌≤◌, ◌<◌, ◌+◌, ◌*◌, ℕ, List, [], ◌∷◌, ◌++◌, length, drop, get_or, Ok, sym, ap, ◌∙◌, arith, append_assoc, append-nil}
 use Rattle.std.specs.List.{AllByRecursion}
 use Rattle.std.specs.Int.{w32, to_be_bytes}
-use Rattle.std.proofs.Math.Seq.{drop-cons}
 use Rattle.std.proofs.Math.ListN.{drop_of_length-le}
 use Rattle.sig_base.specs.declared.values.Row.{Row}
 use Rattle.sig_base.specs.HourRows.{AreRowsOf, RiseIn}
 use Rattle.sig_base.specs.Window.{Span}
+use Rattle.sig_base.proofs.Common.{next_row}
 use Rattle.row_reader.specs.Repeats.{HasNoRepeat}
 use Rattle.hour_pack.specs.Grammar.{IsEvent, head_bytes, packed, row_bytes, rows_bytes}
 use Rattle.hour_pack.specs.Reading.{reading}
@@ -19,14 +19,11 @@ pub record IsPut (to : ℕ) (whole : List ℕ) (rows : List Row) (out : List ℕ
   pub near : to ≤ last + 36000
   pub events : AllByRecursion IsEvent rest → AllByRecursion IsEvent rows
 
-next-row : (rows : List Row) (i : ℕ) (d : Row) → i < length rows → drop i rows ≡ get_or rows i d ∷ drop (i + 1) rows
-next-row rows i d h = rw (add-one i) (drop-cons rows i d h)
-
 -- the next row is no earlier than the last one, and less than an hour later
 pub put-near : (to : ℕ) (whole : List ℕ) (rows : List Row) (out : List ℕ) (last i : ℕ) (d : Row) → i < length rows
     → IsPut to whole rows out last (drop i rows) → (last ≤ (get_or rows i d).at) × ((get_or rows i d).at < last + 36000)
 put-near to whole rows out last i d within h =
-    let k : IsPut to whole rows out last (get_or rows i d ∷ drop (i + 1) rows) = rw (next-row rows i d within) at h in
+    let k : IsPut to whole rows out last (get_or rows i d ∷ drop (i + 1) rows) = rw (next_row rows i d within) at h in
     (k.rise.0, omega (arith, k.rise.1, k.near))
 
 pub put-on : (to : ℕ) (whole : List ℕ) (rows : List Row) (out new : List ℕ) (last i : ℕ) (d : Row) → i < length rows
@@ -34,7 +31,7 @@ pub put-on : (to : ℕ) (whole : List ℕ) (rows : List Row) (out new : List ℕ
     → IsPut to whole rows new (get_or rows i d).at (drop (i + 1) rows)
 put-on to whole rows out new last i d within h e event =
     let row : Row = get_or rows i d in
-    let k : IsPut to whole rows out last (row ∷ drop (i + 1) rows) = rw (next-row rows i d within) at h in
+    let k : IsPut to whole rows out last (row ∷ drop (i + 1) rows) = rw (next_row rows i d within) at h in
     record {
       told = ap (λ (xs : List ℕ). xs ++ rows_bytes row.at (drop (i + 1) rows)) e
           ∙ append_assoc out (row_bytes last row) (rows_bytes row.at (drop (i + 1) rows)) ∙ k.told;

@@ -13,6 +13,7 @@ use Rattle.hour_pack.specs.declared.pack_error.PackError.TheVariants.{NotPacked,
 use Rattle.hour_pack.specs.Grammar.{AreBytes, mark, signal_part, hour_part, head_bytes}
 use Rattle.hour_pack.specs.Reading.{◌>>=◌, after_mark, after_part, after_head, count_at, few_rows}
 use Rattle.hour_pack.proofs.Bytes.{chosen, bind_is, bind_ok, ok_is, bytes-drop, bytes-at, Takes, takes-then}
+use Rattle.hour_pack.proofs.NumberFacts.{not_count}
 
 -- ---- the mark and a part
 
@@ -93,9 +94,6 @@ head-again signal window hour rest =
 pub record CountTakes (bytes : List ℕ) (count : ℕ) (rest : List ℕ) : Type 0 where
   pub takes : Takes bytes (to_be_bytes w32 count) rest
   pub few : count ≤ 400000
-
-not_count : (e : PackError) (x : ℕ × List ℕ) → Err e ≡ Ok x → ⊥
-not_count e x h = cc
 
 counted : (bytes : List ℕ) (p q : ℕ × List ℕ) → p ≡ q → CountTakes bytes p.0 p.1 → CountTakes bytes q.0 q.1
 counted bytes p q e h = rw (← e) h

@@ -1,5 +1,5 @@
 -- Each fault comes exactly where it has its cause.
-use Rattle.std.proofs.Common.{◌≡◌, ◌≢◌, ◌≤◌, ◌<◌, ◌*◌, ℕ, true, false, List, [], ◌∷◌, ◌++◌, length, take, drop, Result, Ok, Err, refl, sym, ap, ◌∙◌, arith, inl, inr, nat_lt, nat_eq, append_assoc}
+use Rattle.std.proofs.Common.{◌≡◌, ◌≢◌, ◌≤◌, ◌<◌, ◌*◌, ℕ, true, false, List, [], ◌∷◌, ◌++◌, length, take, drop, Ok, Err, refl, sym, ap, ◌∙◌, arith, inl, inr, nat_lt, nat_eq, append_assoc}
 use Rattle.std.specs.Prelude.{◌==◌}
 use Rattle.std.specs.List.{starts_with}
 use Rattle.std.specs.Int.{w32, from_be_bytes, to_be_bytes}
@@ -16,14 +16,8 @@ use Rattle.hour_pack.proofs.Bytes.{chosen, bind_err, takes-then}
 use Rattle.hour_pack.proofs.PartFacts.{mark-takes, part-takes, head-takes, four, four-small, count-takes}
 use Rattle.hour_pack.proofs.PartFaults.{PartFails, part-fails, differs-front, differs-behind, ends-front, ends-behind}
 use Rattle.hour_pack.proofs.RowFacts.{rows-take}
-use Rattle.hour_pack.proofs.RowFaults.{RowFails, rows-fail}
+use Rattle.hour_pack.proofs.RowFaults.{RowFails, rows-fail, failed, not_failed}
 use Rattle.hour_pack.proofs.ReadingFacts.{packed-parts, body_bytes}
-
-failed : {A : Type 0} (r : Result A PackError) (d e : PackError) → r ≡ Err d → r ≡ Err e → e ≡ d
-failed r d e h k = let f : Err d ≡ Err e = sym h ∙ k in cc
-
-not_failed : {A : Type 0} (r : Result A PackError) (x : A) (e : PackError) → r ≡ Ok x → r ≡ Err e → ⊥
-not_failed r x e h k = let f : Ok x ≡ Err e = sym h ∙ k in cc
 
 -- ---- a fault of the head has its cause
 

@@ -1,5 +1,5 @@
 -- A repeat is found from the last row on.
-use Rattle.std.proofs.Common.{◌≡◌, ◌≤◌, ◌<◌, ◌+◌, ◌-◌, ℕ, Bool, true, false, List, [], ◌∷◌, ◌++◌, length, take, get_or, refl, sym, ap, ◌∙◌, arith, append_assoc, append-nil, if◌then◌else◌}
+use Rattle.std.proofs.Common.{◌≡◌, ◌≤◌, ◌<◌, ◌+◌, ◌-◌, ℕ, Bool, true, false, List, [], ◌∷◌, ◌++◌, length, take, get_or, refl, ap, ◌∙◌, arith, append_assoc, append-nil, if◌then◌else◌}
 use Rattle.std.specs.Prelude.{◌==◌, ◌&&◌, ◌≢◌, Option, Some, None}
 use Rattle.std.specs.Option.{option_or}
 use Rattle.std.proofs.lemmas.Bool.Decides.{nat_tests}
@@ -7,27 +7,13 @@ use Rattle.std.proofs.lemmas.List.{take_all, take_more}
 use Rattle.sig_base.specs.declared.values.Row.{Row}
 use Rattle.sig_base.specs.HourRows.{RiseIn}
 use Rattle.row_reader.specs.Repeats.{same_group, group_of_row, last_where, is_event_of, is_repeat, same_event, HasNoRepeat}
+use Rattle.row_reader.proofs.RepeatFacts.{no_repeat-more, last_where-more}
 use Rattle.hour_pack.specs.Repeats.{HasRepeat}
 use Rattle.hour_pack.proofs.OrderFacts.{split_last, split_at, rise-front}
 
 -- the row is of the other's group and tenth
 abbrev is_near : Row → Row → Bool
 is_near row r = (r.at == row.at) && same_group (group_of_row row) (group_of_row r)
-
-or-none : (o : Option Row) → option_or o None ≡ o
-or-none None = refl
-or-none (Some r) = refl
-
-or-assoc : (a b c : Option Row) → option_or (option_or a b) c ≡ option_or a (option_or b c)
-or-assoc None b c = refl
-or-assoc (Some r) b c = refl
-
-last_where-more : (test : Row → Bool) (xs : List Row) (y : Row)
-    → last_where test (xs ++ y ∷ []) ≡ option_or (if test y then Some y else None) (last_where test xs)
-last_where-more test [] y = sym (or-none (if test y then Some y else None))
-last_where-more test (x ∷ xs) y =
-    ap (λ (o : Option Row). option_or o (if test x then Some x else None)) (last_where-more test xs y)
-    ∙ or-assoc (if test y then Some y else None) (last_where test xs) (if test x then Some x else None)
 
 no-one : (b : Bool) (x : Row) → b ≡ false → option_or None (if b then Some x else None) ≡ None
 no-one true x e = cc
@@ -120,12 +106,6 @@ pub repeat-not : (rows : List Row) → HasRepeat rows → HasNoRepeat [] rows �
 repeat-not rows (before, row, after, e, yes_it_is) none =
     let no_it_isnt : is_repeat before row ≡ false = no_repeat-front [] before row after (rw e at none) in
     cc
-
--- no row of those up to a place was a repeat, nor is the next one
-pub no_repeat-more : (before xs : List Row) (row : Row) → HasNoRepeat before xs → is_repeat (before ++ xs) row ≡ false → HasNoRepeat before (xs ++ row ∷ [])
-no_repeat-more before [] row h e = (rw (append-nil before) at e, tt)
-no_repeat-more before (x ∷ xs) row h e =
-    (h.0, no_repeat-more (before ++ x ∷ []) xs row h.1 (rw (append_assoc before (x ∷ []) xs) e))
 
 pub event-param : (last row : Row) → last.code ≡ row.code → same_event last row ≡ (last.param == row.param)
 event-param last row e = let f : (last.code == row.code) ≡ true = grind (arith, nat_tests) in rw f refl

@@ -11,7 +11,7 @@ use Rattle.hour_pack.specs.Grammar.{AreBytes, IsEvent, row_bytes, rows_bytes}
 use Rattle.hour_pack.specs.Number.{number_bytes}
 use Rattle.hour_pack.specs.Reading.{◌>>=◌, number_at, tenth_at, tenth_by, code_at, param_at, param_by, fresh, row_at, rows_at}
 use Rattle.hour_pack.proofs.Bytes.{chosen, bind_ok, ok_is, Takes, takes-then}
-use Rattle.hour_pack.proofs.NumberFacts.{number_takes, number_again}
+use Rattle.hour_pack.proofs.NumberFacts.{number_takes, number_again, not_count}
 
 -- ---- the tenth
 
@@ -19,9 +19,6 @@ pub record TenthTakes (to last : ℕ) (bytes : List ℕ) (at : ℕ) (rest : List
   pub takes : Takes bytes (number_bytes (at - last)) rest
   pub low : last ≤ at
   pub high : at < to
-
-not_pair : (e : PackError) (x : ℕ × List ℕ) → Err e ≡ Ok x → ⊥
-not_pair e x h = cc
 
 tenth-is : (to last : ℕ) (bytes : List ℕ) (p q : ℕ × List ℕ) → p ≡ q → TenthTakes to last bytes p.0 p.1 → TenthTakes to last bytes q.0 q.1
 tenth-is to last bytes p q e h = rw (← e) h
@@ -39,7 +36,7 @@ tenth-takes row to last bytes at rest fits e =
             low = omega arith;
             high = ltb-true _ _ p.0;
           })
-      | inr p ↦ absurd (not_pair (BadRow row) (at, rest) p.1)
+      | inr p ↦ absurd (not_count (BadRow row) (at, rest) p.1)
     ]
 
 pub tenth-again : (row to last at : ℕ) (rest : List ℕ) → last ≤ at → at < to → at < last + 2 ^ 21
@@ -69,7 +66,7 @@ param-takes row bytes param rest fits e =
     let n = number_takes row bytes a.0.0 a.0.1 fits a.1 in
     elim (chosen (nat_lt a.0.0 65536) (Ok a.0) (Err (BadRow row)) (Ok (param, rest)) a.2) [
       | inl p ↦ param-is bytes a.0 (param, rest) (ok_is a.0 (param, rest) p.1) (n.takes, ltb-true _ _ p.0)
-      | inr p ↦ absurd (not_pair (BadRow row) (param, rest) p.1)
+      | inr p ↦ absurd (not_count (BadRow row) (param, rest) p.1)
     ]
   where
     param-is : (all : List ℕ) (p q : ℕ × List ℕ) → p ≡ q → Takes all (number_bytes p.0) p.1 × (p.0 < 65536) → Takes all (number_bytes q.0) q.1 × (q.0 < 65536)

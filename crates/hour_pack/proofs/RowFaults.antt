@@ -22,10 +22,10 @@ use Rattle.hour_pack.proofs.RowFacts.{made_row, TenthTakes, tenth-takes, tenth-a
 abbrev pub RowFails : ℕ → ℕ → List Row → List ℕ → PackError → Type 0
 RowFails to last kept bytes e = ((e ≡ Short) × IsCutRow to last bytes) ⊎ ((e ≡ BadRow (length kept + 1)) × IsBadRow to last kept bytes)
 
-failed : {A : Type 0} (r : Result A PackError) (d e : PackError) → r ≡ Err d → r ≡ Err e → e ≡ d
+pub failed : {A : Type 0} (r : Result A PackError) (d e : PackError) → r ≡ Err d → r ≡ Err e → e ≡ d
 failed r d e h k = let f : Err d ≡ Err e = sym h ∙ k in cc
 
-not_failed : {A : Type 0} (r : Result A PackError) (x : A) (e : PackError) → r ≡ Ok x → r ≡ Err e → ⊥
+pub not_failed : {A : Type 0} (r : Result A PackError) (x : A) (e : PackError) → r ≡ Ok x → r ≡ Err e → ⊥
 not_failed r x e h k = let f : Ok x ≡ Err e = sym h ∙ k in cc
 
 -- ---- the tenth

@@ -14,6 +14,7 @@ use Rattle.hour_pack.proofs.Bytes.{ok_is}
 use Rattle.hour_pack.proofs.ReadingFacts.{reading-again}
 use Rattle.hour_pack.proofs.ReadingFaults.{reading-fails}
 use Rattle.hour_pack.proofs.CauseFacts.{cause-fault}
+use Rattle.hour_pack.proofs.RowFaults.{failed}
 
 not_read : {A : Type 0} (read : Result A PackError) (x : A) (e : PackError) → read ≡ Ok x → read ≡ Err e → e ≡ Memory
 not_read read x e h k = let f : Ok x ≡ Err e = sym h ∙ k in absurd cc
@@ -55,18 +56,14 @@ fault-cause signal window hour bytes (BadRow n) in_range fits h = inr (reading-f
 fault-cause signal window hour bytes Extra in_range fits h = inr (reading-fails signal window hour bytes Extra in_range fits h)
 fault-cause signal window hour bytes Memory in_range fits h = inl refl
 
--- a fault that was read is that of the cause
-fault-of : {A : Type 0} (read : Result A PackError) (d e : PackError) → read ≡ Err d → read ≡ Err e → e ≡ d
-fault-of read d e h k = let f : Err d ≡ Err e = sym h ∙ k in cc
-
 by-fault : {A : Type 0} (read : Result A PackError) (d e : PackError) → read ≡ Err d → IsFault read e → (e ≡ Memory) ⊎ (e ≡ d)
-by-fault read d NotPacked h k = inr (fault-of read d NotPacked h k)
-by-fault read d Short h k = inr (fault-of read d Short h k)
-by-fault read d WrongSignal h k = inr (fault-of read d WrongSignal h k)
-by-fault read d WrongHour h k = inr (fault-of read d WrongHour h k)
-by-fault read d TooManyRows h k = inr (fault-of read d TooManyRows h k)
-by-fault read d (BadRow n) h k = inr (fault-of read d (BadRow n) h k)
-by-fault read d Extra h k = inr (fault-of read d Extra h k)
+by-fault read d NotPacked h k = inr (failed read d NotPacked h k)
+by-fault read d Short h k = inr (failed read d Short h k)
+by-fault read d WrongSignal h k = inr (failed read d WrongSignal h k)
+by-fault read d WrongHour h k = inr (failed read d WrongHour h k)
+by-fault read d TooManyRows h k = inr (failed read d TooManyRows h k)
+by-fault read d (BadRow n) h k = inr (failed read d (BadRow n) h k)
+by-fault read d Extra h k = inr (failed read d Extra h k)
 by-fault read d Memory h k = inl refl
 
 pub cause-answered : (signal : List ℕ) (window : Span) (hour : ℕ) (bytes : List ℕ) (d e : PackError) → HasCause signal window hour bytes d

@@ -1,13 +1,12 @@
 -- Hours in their places, and how many rows they have.
-use Rattle.std.proofs.Common.{◌≡◌, ◌≢◌, ◌∙◌, ℕ, zero, suc, ◌+◌, ◌-◌, ◌*◌, ◌<◌, ◌≤◌, IfSome, List, [], ◌∷◌, length, get_or, set, Option, Some, None, refl, sym, subst, arith, inl, inr, replicate, get_or-set_same, get_or-set_other, length-set}
+use Rattle.std.proofs.Common.{◌≡◌, ◌∙◌, ℕ, zero, suc, ◌+◌, ◌-◌, ◌*◌, ◌<◌, ◌≤◌, IfSome, List, [], ◌∷◌, length, get_or, set, Option, Some, None, refl, sym, subst, arith, inl, inr, replicate, get_or-set_same, get_or-set_other, length-set}
 use Rattle.std.specs.List.{sum_by}
 use Rattle.std.proofs.lemmas.List.{get_or_default, length-replicate}
 use Rattle.std.proofs.lemmas.List.Sums.{sum_by-cons, sum_by-set}
 use Rattle.std.proofs.lemmas.List.Folds.{sum_by-replicate}
 use Rattle.std.proofs.lemmas.Bool.{cases_eq}
-use Rattle.sig_base.specs.HourRows.{AreRowsOf, Shown}
-use Rattle.span_set.specs.declared.set.Span.{Span}
-use Rattle.hour_store.specs.Store.{Store, AreInPlace, IsOfHour, IsStore, LieWithin, count_in, nothing_held, with_hour}
+use Rattle.sig_base.specs.HourRows.{Shown}
+use Rattle.hour_store.specs.Store.{Store, AreInPlace, IsOfHour, IsStore, count_in, nothing_held, with_hour}
 
 abbrev pub nothing : Option Shown
 nothing = None

@@ -1,5 +1,5 @@
 -- What is held of each hour, which tenths are blanked, and what is known.
-use Rattle.std.specs.Prelude.{◌≡◌, ◌≤◌, ◌<◌, ◌+◌, ◌*◌, ◌/◌, ℕ, ℤ, pos, ◌≤ℤ◌, ◌<ℤ◌, Bool, ◌&&◌, not, IsTrue, List, [], ◌∷◌, ◌++◌, length, replicate, filter, sum_by, slice_set, slice_index_or, Option, Some, None, is_some, option_map}
+use Rattle.std.specs.Prelude.{◌≡◌, ◌≤◌, ◌*◌, ◌/◌, ℕ, ℤ, pos, ◌≤ℤ◌, ◌<ℤ◌, Bool, ◌&&◌, not, IsTrue, List, [], ◌∷◌, ◌++◌, length, replicate, filter, sum_by, slice_set, slice_index_or, Option, Some, None, is_some, option_map}
 use Rattle.sig_base.specs.declared.values.Row.{Row}
 use Rattle.sig_base.specs.HourRows.{AreRowsOf, Shown}
 use Rattle.span_set.specs.declared.set.Span.{Span}

@@ -6,6 +6,7 @@ use Rattle.std.proofs.lemmas.List.{append-nil}
 use Rattle.std.proofs.lemmas.List.Elements.{All-nil, All-cons, All-head, All-tail, All-push, All-weaker, filter-append}
 use Rattle.std.proofs.lemmas.Bool.{le-leb, lt-leb, lt-ltb, le-ltb}
 use Rattle.sig_base.specs.declared.values.Row.{Row}
+use Rattle.sig_base.proofs.Common.{and_false}
 use Rattle.hour_sweep.specs.Hours.{AreOrdered}
 use Rattle.hour_sweep.specs.Numbers.{given, outs_from}
 use Rattle.hour_sweep.proofs.Orders.{below_end, end_of, ordered-append}
@@ -56,10 +57,6 @@ HasTenth tenth out_at = (p : ℕ) (before : List Row) (x : Row) (rest : List Row
 -- it has its tenth from a up to b
 abbrev pub is_between : {O : Type 0} → (O → ℕ) → ℕ → ℕ → O → Bool
 is_between tenth a b o = nat_le a (tenth o) && nat_lt (tenth o) b
-
-and_false : (v : Bool) → (v && false) ≡ false
-and_false true = refl
-and_false false = refl
 
 module _ {O : Type 0} (tenth : O → ℕ) where
   abbrev pub AreBetween : ℕ → ℕ → List O → Type 0

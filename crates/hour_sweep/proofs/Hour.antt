@@ -6,10 +6,11 @@ use Rattle.std.proofs.lemmas.List.Elements.{All-append, All-weaker, All-push, Al
 use Rattle.sig_base.specs.declared.values.Row.{Row}
 use Rattle.gap_map.specs.declared.stretch.Stretch.{Stretch}
 use Rattle.gap_map.specs.Stretches.{AreStretches}
+use Rattle.gap_map.proofs.Cutting.{ends_within}
 use Rattle.hour_sweep.specs.Rows.{known_rows}
 use Rattle.hour_sweep.specs.Hours.{AreOrdered}
 use Rattle.hour_sweep.specs.Passes.{front, back, swept_rows, swept_stretch, swept, AreLaws}
-use Rattle.hour_sweep.proofs.Orders.{Knows, split_rows, filter_all, filter_none, filter_ordered, below_end, none_within, stretches_end}
+use Rattle.hour_sweep.proofs.Orders.{Knows, split_rows, filter_all, filter_none, filter_ordered, below_end, none_within}
 
 module _ {S : Type 0} (known : ℕ → Bool) (after : S → Row → S) (cleared : S → S) (Keeps : ℕ → List Row → List Row → S → Type 0) (laws : AreLaws known after cleared Keeps) where
   rows_kept : (a t b : ℕ) (before f more : List Row) (s : S) → AreOrdered a t f → Knows known true a t → AreOrdered t b more → All (λ z. z.at ≤ a) before → Keeps a before (f ++ more) s → Keeps t (before ++ f) more (swept_rows after f s)
@@ -37,7 +38,7 @@ module _ {S : Type 0} (known : ℕ → Bool) (after : S → Row → S) (cleared 
       let f = front t.to xs in
       let g = back t.to xs in
       let kn = st.2 in
-      let sp = split_rows a t.to b xs (omega arith) (stretches_end known t.to b ts st.3) h in
+      let sp = split_rows a t.to b xs (omega arith) (ends_within known t.to b ts st.3) h in
       let rows : known_rows known f ++ known_rows known g ≡ known_rows known xs = sym (filter-append (λ (x : Row). known x.at) f g) ∙ ap (λ zs. known_rows known zs) sp.joined in
       let here = subst (λ (zs : List Row). Keeps a before zs s) (sym rows) i in
       let past = stretch_kept t.known a t.to b before f (known_rows known g) s st.1 sp.first st.2 (filter_ordered known t.to b t.to g (omega arith) sp.rest) low here in

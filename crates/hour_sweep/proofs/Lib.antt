@@ -6,3 +6,4 @@ pub mod Hour
 pub mod Tables
 pub mod Laws
 pub mod Counted
+pub mod Common

@@ -6,8 +6,6 @@ use Rattle.std.proofs.lemmas.List.Sums.{take_while-cons}
 use Rattle.std.proofs.lemmas.Bool.{cases_Bool, ltb-true, ltb-false, cond-true, cond-false}
 use Rattle.sig_base.specs.declared.values.Row.{Row}
 use Rattle.sig_base.specs.HourRows.{RiseIn}
-use Rattle.gap_map.specs.declared.stretch.Stretch.{Stretch}
-use Rattle.gap_map.specs.Stretches.{AreStretches}
 use Rattle.hour_sweep.specs.Rows.{known_rows}
 use Rattle.hour_sweep.specs.Hours.{AreOrdered}
 use Rattle.hour_sweep.specs.Passes.{front, back}
@@ -61,10 +59,6 @@ filter_ordered known a b c (x ∷ xs) le h =
     let lo = h.0 in
     elim (known x.at) as (λ v. AreOrdered c b (cond v (x ∷ known_rows known xs) (known_rows known xs)))
     [ true ↦ (omega arith, h.1, filter_ordered known x.at b x.at xs (omega arith) h.2) | false ↦ filter_ordered known x.at b c xs (omega arith) h.2 ]
-
-pub stretches_end : (known : ℕ → Bool) (a b : ℕ) (ss : List Stretch) → AreStretches known a b ss → a ≤ b
-stretches_end known a b [] h = omega arith
-stretches_end known a b (s ∷ ss) h = let lt = h.1 in omega (arith, stretches_end known s.to b ss h.3)
 
 pub ordered_from : (a t b : ℕ) (ys : List Row) → a ≤ t → AreOrdered t b ys → AreOrdered a b ys
 ordered_from a t b [] le k = omega arith

@@ -4,6 +4,7 @@ use Rattle.std.specs.Prelude.{All, option_map}
 use Rattle.std.specs.Option.{option_or}
 use Rattle.std.proofs.lemmas.List.Elements.{All-head, All-tail}
 use Rattle.sig_base.specs.declared.values.Row.{Row}
+use Rattle.sig_base.proofs.Common.{or_none}
 use Rattle.hour_sweep.specs.Rows.{kept_last, last_with, last}
 
 abbrev pub pushed_last : {X : Type 0} → Bool → X → Option (X × List X) → Option (X × List X)
@@ -58,10 +59,6 @@ last-cons p x xs = last_kept (last_with p xs) (p x) x xs
 or_assoc : (a b c : Option Row) → option_or a (option_or b c) ≡ option_or (option_or a b) c
 or_assoc (Some x) b c = refl
 or_assoc None b c = refl
-
-pub or_none : (a : Option Row) → option_or a None ≡ a
-or_none (Some x) = refl
-or_none None = refl
 
 pub last-append : (p : Row → Bool) (xs ys : List Row) → last p (xs ++ ys) ≡ option_or (last p ys) (last p xs)
 last-append p [] ys = sym (or_none (last p ys))

@@ -1,8 +1,8 @@
 -- A way, and the lists of its letters by tenth.
-use Rattle.std.proofs.Common.{suc, zero, ◌≡◌, refl, sym, ◌∙◌, subst, inl, inr, ◌⊎◌, ◌↔◌, ℕ, ℤ, pos, ◌+ℤ◌, ◌<ℤ◌, ◌≤ℤ◌, List, [], ◌∷◌, Bool, true, false, cond, arith}
+use Rattle.std.proofs.Common.{suc, zero, ◌≡◌, refl, sym, ◌∙◌, subst, inl, inr, ◌↔◌, ℕ, ℤ, pos, ◌+ℤ◌, ◌<ℤ◌, ◌≤ℤ◌, List, [], ◌∷◌, cond, arith}
 use Rattle.std.specs.Ordering.{int_eq}
-use Rattle.std.proofs.lemmas.Bool.Decides.{Decides-int_eq}
 use Rattle.std.proofs.lemmas.Int.{ints}
+use Rattle.sig_base.proofs.Common.{same_cases}
 use Rattle.colour_machine.specs.Rules.{Rules}
 use Rattle.gap_ways.specs.declared.states.Fill.{Fill}
 use Rattle.reach.specs.Runs.{State, Step, Steps, Run}
@@ -22,13 +22,6 @@ lists_in fs f (suc n) = letters_in fs f ∷ lists_in fs (f +ℤ pos 1) n
 abbrev pub Ordered : ℤ → ℤ → List Fill → Type 0
 Ordered f t [] = Unit {0}
 Ordered f t (x ∷ xs) = (f ≤ℤ x.at) × (x.at <ℤ t) × Ordered x.at t xs
-
-same_by : (b : Bool) (x y : ℤ) → int_eq x y ≡ b → ((int_eq x y ≡ true) × (x ≡ y)) ⊎ ((int_eq x y ≡ false) × (x ≡ y → ⊥))
-same_by true x y e = inl (e, (Decides-int_eq x y).0 e)
-same_by false x y e = inr (e, λ q. let t = (Decides-int_eq x y).1 q in absurd (cc))
-
-same_cases : (x y : ℤ) → ((int_eq x y ≡ true) × (x ≡ y)) ⊎ ((int_eq x y ≡ false) × (x ≡ y → ⊥))
-same_cases x y = same_by (int_eq x y) x y refl
 
 -- one letter after another, each at its tenth
 abbrev pub Chain : Rules → State → List Fill → State → Type 0

@@ -6,6 +6,7 @@ use Rattle.std.proofs.lemmas.Bool.{and_parts, leb-true, ltb-true}
 use Rattle.std.proofs.lemmas.Grind.{flat_map-append}
 use Rattle.sig_base.specs.declared.values.Row.{Row}
 use Rattle.sig_base.specs.HourRows.{RiseIn}
+use Rattle.sig_base.proofs.Each.{Each}
 use Rattle.reach.specs.Runs.{State}
 use Rattle.hour_sweep.specs.Rows.{known_rows}
 use Rattle.hour_sweep.specs.Hours.{point}
@@ -19,7 +20,7 @@ use Rattle.arrival_measures.specs.Travel.{arrivals_at}
 use Rattle.arrival_measures.specs.Hours.{AreAllJudged, HasActuations, HasArrivals, counts_in, due_in, is_last, is_seen}
 use Rattle.arrival_measures.specs.Points.{points_at, points_from}
 use Rattle.arrival_measures.proofs.Travels.{passing-append}
-use Rattle.hour_work.proofs.PlacedLaws.{Each, each_weaker}
+use Rattle.hour_work.proofs.PlacedLaws.{each_weaker}
 
 -- ---- rows
 

@@ -1,23 +1,20 @@
 -- What rows tell of a channel's colour, tenth by tenth.
-use Rattle.std.proofs.Common.{◌≡◌, ◌≢◌, ◌∙◌, inl, inr, ℕ, ◌+◌, ◌<◌, ◌≤◌, ℤ, pos, ◌+ℤ◌, nat_eq, nat_le, nat_lt, Bool, true, false, ◌&&◌, List, [], ◌∷◌, ◌++◌, length, take, drop, map, Option, Some, None, refl, sym, ap, ap₂, subst, arith, take-append-drop, length-drop}
+use Rattle.std.proofs.Common.{◌≡◌, ◌≢◌, ◌∙◌, inl, inr, ℕ, ◌+◌, ◌<◌, ◌≤◌, ℤ, pos, ◌+ℤ◌, nat_eq, nat_le, Bool, true, false, List, [], ◌∷◌, ◌++◌, length, take, drop, map, Option, Some, None, refl, sym, ap, ap₂, subst, arith, take-append-drop, length-drop}
 use Rattle.std.proofs.lemmas.Int.{ints}
 use Rattle.std.proofs.lemmas.Bool.{cases_lt, le-leb, le-ltb, lt-leb, lt-ltb}
 use Rattle.std.proofs.lemmas.Bool.Decides.{eqb_tells}
-use Rattle.std.proofs.lemmas.List.Elements.{filter-append}
 use Rattle.std.proofs.lemmas.List.{length-map, length-take-le, map-append, take-take}
 use Rattle.sig_base.specs.declared.values.Row.{Row}
+use Rattle.sig_base.proofs.Common.{and_false}
 use Rattle.reach.specs.Runs.{Run, State, Step, Steps}
 use Rattle.hour_sweep.specs.Hours.{AreOrdered}
 use Rattle.cycle_arrivals.specs.Arrivals.{rows_within}
-use Rattle.board.specs.History.{Agree, Event, History, Track, event_of, events_at, letters, put, start_of}
-use Rattle.board.proofs.Bridge.{agree_join, run_join}
+use Rattle.board.specs.History.{Agree, Event, History, Track, events_at, letters, put, start_of}
+use Rattle.board.proofs.Bridge.{agree_join, run_join, event_here}
 use Rattle.signal_log.specs.Log.{AgreesWith, Log, track_at, window_end}
+use Rattle.cycle_arrivals.proofs.Within.{within_empty}
 
 -- ---- the rows of some tenths
-
-and_false : (v : Bool) → (v && false) ≡ false
-and_false true = refl
-and_false false = refl
 
 pub within_here : (a c : ℕ) (r : Row) (rs : List Row) → a ≤ r.at → r.at < c → rows_within a c (r ∷ rs) ≡ r ∷ rows_within a c rs
 within_here a c r rs le lt = rw (le-leb a r.at le, lt-ltb r.at c lt) refl
@@ -27,17 +24,6 @@ within_low a c r rs lt = rw (lt-leb a r.at lt) refl
 
 pub within_high : (a c : ℕ) (r : Row) (rs : List Row) → c ≤ r.at → rows_within a c (r ∷ rs) ≡ rows_within a c rs
 within_high a c r rs le = rw (le-ltb r.at c le, and_false (nat_le a r.at)) refl
-
-pub within_both : (a c : ℕ) (xs ys : List Row) → rows_within a c (xs ++ ys) ≡ rows_within a c xs ++ rows_within a c ys
-within_both a c xs ys = filter-append (λ (x : Row). nat_le a x.at && nat_lt x.at c) xs ys
-
--- no tenth
-nothing_within : (a c : ℕ) (rows : List Row) → c ≤ a → rows_within a c rows ≡ []
-nothing_within a c [] le = refl
-nothing_within a c (r ∷ rs) le = elim (cases_lt r.at a) [
-  | inl lt ↦ within_low a c r rs lt ∙ nothing_within a c rs le
-  | inr ge ↦ within_high a c r rs (omega arith) ∙ nothing_within a c rs le
-]
 
 -- only later rows
 pub none_within : (a c low end : ℕ) (rows : List Row) → c ≤ low → AreOrdered low end rows → rows_within a c rows ≡ []
@@ -71,9 +57,6 @@ within_elsewhere t r rs ne = elim (cases_lt r.at t) [
   | inl lt ↦ within_low t (t + 1) r rs lt
   | inr ge ↦ within_high t (t + 1) r rs (omega arith)
 ]
-
-event_here : (r : Row) (rs : List Row) (t : ℕ) → nat_eq r.at t ≡ true → events_at (r ∷ rs) t ≡ event_of r ∷ events_at rs t
-event_here r rs t e = rw e refl
 
 event_elsewhere : (r : Row) (rs : List Row) (t : ℕ) → nat_eq r.at t ≡ false → events_at (r ∷ rs) t ≡ events_at rs t
 event_elsewhere r rs t e = rw e refl
@@ -115,7 +98,7 @@ module _ {A : Type 0} (k : Track) (after : Row → A → A) (R : A → ℕ → T
   -- over tenths that are all known
   run_told : (known : ℕ → Bool) (rows : List Row) (low end : ℕ) → AreOrdered low end rows → (es : List (List Event)) (a c : ℕ) (b : A) (v u : State) → a + length es ≡ c → ((t : ℕ) → a ≤ t → t < c → known t ≡ true) → Agree known (events_at rows) a es → Run k.rules (pos a) v (map (letters k) es) u → R b v.colour → R (told after b (rows_within a c rows)) u.colour
   run_told known rows low end order [] a c b v u e all agree run h =
-      let none : rows_within a c rows ≡ [] = nothing_within a c rows (omega arith) in
+      let none : rows_within a c rows ≡ [] = within_empty a c rows (omega arith) in
       subst (λ (zs : List Row). R (told after b zs) u.colour) (sym none) (subst (λ (z : State). R b z.colour) (sym run) h)
   run_told known rows low end order (x ∷ es) a c b v u e all agree run h =
       let (z, steps, rest) = run in

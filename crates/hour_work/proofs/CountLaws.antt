@@ -4,6 +4,7 @@ use Rattle.std.specs.List.{All, sum_by}
 use Rattle.std.proofs.lemmas.List.Sums.{sum_by-cons}
 use Rattle.gap_map.specs.declared.stretch.Stretch.{Stretch}
 use Rattle.gap_map.specs.Stretches.{AreStretches, IsCut}
+use Rattle.gap_map.proofs.Cutting.{ends_within}
 use Rattle.hour_work.specs.Numbers.{count_from, count_in_hour}
 use Rattle.hour_sums.specs.Numbers.{one_if}
 use Rattle.hour_work.specs.Known.{known_len}
@@ -48,10 +49,6 @@ count_all p from (suc n) false e =
     let rest = count_all p (from + 1) n false (λ t low high. e t (omega arith) (omega arith)) in
     rw (here, rest) refl
 
-pub stretches_rise : (known : ℕ → Bool) (a b : ℕ) (ss : List Stretch) → AreStretches known a b ss → a ≤ b
-stretches_rise known a b [] e = omega arith
-stretches_rise known a b (s ∷ ss) p = let i = stretches_rise known s.to b ss p.3 in let j = p.1 in omega arith
-
 pub stretches_order : (known : ℕ → Bool) (a b : ℕ) (ss : List Stretch) → AreStretches known a b ss → All (λ s. s.from ≤ s.to) ss
 stretches_order known a b [] e k d lt = absurd (omega arith)
 stretches_order known a b (s ∷ ss) p zero d lt = let e = p.0 in let l = p.1 in omega arith
@@ -64,7 +61,7 @@ stretches_count known a b n [] e m = let z : n ≡ 0 = omega arith in rw z refl
 stretches_count known a b n (s ∷ ss) p m =
     let e : s.from ≡ a = p.0 in
     let up : a < s.to = p.1 in
-    let rise = stretches_rise known s.to b ss p.3 in
+    let rise = ends_within known s.to b ss p.3 in
     let rest = stretches_count known s.to b (b - s.to) ss p.3 (omega arith) in
     let first = count_all known a (s.to - a) s.known (λ t low high. p.2 t low (omega arith)) in
     let cut : n ≡ (s.to - a) + (b - s.to) = omega arith in

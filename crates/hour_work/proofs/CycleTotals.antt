@@ -7,6 +7,7 @@ use Rattle.std.proofs.lemmas.List.{append-nil, map-append}
 use Rattle.std.proofs.lemmas.List.Elements.{filter-append}
 use Rattle.std.proofs.lemmas.List.Sums.{sum_by-cons}
 use Rattle.sig_base.specs.declared.values.Row.{Row}
+use Rattle.sig_base.proofs.Each.{Each}
 use Rattle.hour_sums.specs.Numbers.{capped, merged, own}
 use Rattle.hour_sums.proofs.Adding.{sum-add}
 use Rattle.hour_sweep.specs.Hours.{AreOrdered}
@@ -15,6 +16,7 @@ use Rattle.ring_config.specs.declared.items.Approach.{Approach}
 use Rattle.service_cut.specs.declared.items.Cycle.{Cycle}
 use Rattle.service_cut.specs.Cut.{cycle_is_in, cycles_from}
 use Rattle.service_cut.proofs.HourLists.{cycles_add, cycles_count}
+use Rattle.hour_sums.proofs.Common.{capped_none}
 use Rattle.cycle_arrivals.specs.Arrivals.{is_on, ons_of, rows_within}
 use Rattle.cycle_arrivals.specs.Own.{turns_green}
 use Rattle.cycle_arrivals.specs.Green.{arrivals_in, green_arrivals_in, green_tenths_in, greens, shows_green, tenths_with}
@@ -23,9 +25,10 @@ use Rattle.arrival_measures.specs.Cycles.{CycleNumbers, cycle_tenths, numbers_of
 use Rattle.arrival_measures.specs.Travel.{arrivals_at, told}
 use Rattle.arrival_measures.proofs.Travels.{arrivals_in as arrivals_in_hour, arrivals_more, in_ordered, kept_ordered}
 use Rattle.arrival_measures.specs.Hours.{HaveCycles, added, cycle_numbers, cycle_part, cycles_of, no_cycles}
-use Rattle.hour_work.proofs.PlacedLaws.{Each, each_weaker}
+use Rattle.arrival_measures.proofs.Telling.{within-append}
+use Rattle.hour_work.proofs.PlacedLaws.{each_weaker}
 use Rattle.hour_work.proofs.ArrivalLaws.{each_filter, each_kept}
-use Rattle.hour_work.proofs.ColourLaws.{none_within, within_both}
+use Rattle.hour_work.proofs.ColourLaws.{none_within}
 
 -- ---- lists
 
@@ -94,17 +97,17 @@ told_cut known p d v t end before rows order a b le =
     let new = arrivals_in_hour known d v before rows in
     let turns : rows_within a b (filter F (before ++ rows)) ≡ rows_within a b (filter F before) =
     ap (λ zs. rows_within a b zs) (filter-append F before rows)
-    ∙ (within_both a b (filter F before) (filter F rows)
+    ∙ (within-append a b (filter F before) (filter F rows)
     ∙ (ap (λ zs. rows_within a b (filter F before) ++ zs) (none_within a b t end (filter F rows) le (kept_ordered F t end t rows (omega arith) order))
     ∙ append-nil (rows_within a b (filter F before)))) in
     let ons : rows_within a b (arrivals_at known d v (before ++ rows)) ≡ rows_within a b old =
     ap (λ zs. rows_within a b zs) (arrivals_more known d v before rows)
-    ∙ (within_both a b old new
+    ∙ (within-append a b old new
     ∙ (ap (λ zs. rows_within a b old ++ zs) (none_within a b (t + v) (end + v) new (omega arith) (in_ordered known d v before t end rows order))
     ∙ append-nil (rows_within a b old))) in
-    within_both a b (filter F (before ++ rows)) (arrivals_at known d v (before ++ rows))
+    within-append a b (filter F (before ++ rows)) (arrivals_at known d v (before ++ rows))
     ∙ (ap₂ (λ us vs. us ++ vs) turns ons
-    ∙ sym (within_both a b (filter F before) old))
+    ∙ sym (within-append a b (filter F before) old))
 
 -- ---- both parts
 
@@ -132,10 +135,6 @@ numbers_join p d rows cs ds =
     ∙ (ap (λ (n : ℕ). make (parts f1) n (all f3) (all cycle_tenths)) (sums_join f2 cs ds)
     ∙ (ap (λ (n : ℕ). make (parts f1) (parts f2) n (all cycle_tenths)) (sums_join f3 cs ds)
     ∙ ap (λ (n : ℕ). make (parts f1) (parts f2) (parts f3) n) (sums_join cycle_tenths cs ds)))
-
-capped_none : capped 0 ≡ 0
-unfolding capped
-capped_none = omega arith
 
 none_twice : both no_cycles no_cycles ≡ no_cycles
 none_twice = rw capped_none refl

@@ -8,6 +8,7 @@ use Rattle.std.proofs.lemmas.List.Elements.{All-filter, All-head, All-tail, filt
 use Rattle.std.proofs.lemmas.List.Quantifiers.{position-Some}
 use Rattle.sig_base.specs.declared.values.Row.{Row}
 use Rattle.sig_base.specs.Numbers.{has_phase}
+use Rattle.sig_base.proofs.Each.{Each}
 use Rattle.event_codes.specs.declared.channels.Channel.{Channel}
 use Rattle.event_codes.specs.declared.channels.Kind.{Kind}
 use Rattle.event_codes.specs.declared.channels.Kind.TheVariants.{Phase, Ped, Overlap, Detector, PedDetector, PreemptInput, PreemptService, Coordination}
@@ -27,31 +28,25 @@ use Rattle.service_cut.specs.declared.items.Cycle.{Cycle}
 use Rattle.service_cut.specs.Signs.{is_end, is_yellow, sign}
 use Rattle.service_cut.specs.Cycles.{cycle_at}
 use Rattle.service_cut.specs.Whole.{AllKnown, IsCycle}
-use Rattle.service_cut.proofs.WholeCycles.{cycle_is_whole}
+use Rattle.service_cut.proofs.WholeCycles.{cycle_is_whole, front_ordered}
+use Rattle.service_cut.proofs.Fitting.{row_late}
 use Rattle.cycle_arrivals.specs.Arrivals.{rows_within}
 use Rattle.cycle_arrivals.specs.Green.{green_after, greens, shows_green}
 use Rattle.arrival_measures.specs.Judged.{is_green, phase_channel}
+use Rattle.arrival_measures.proofs.Telling.{within-append}
 use Rattle.hour_work.specs.Rows.{earlier_rows, own_rows}
 use Rattle.hour_work.specs.Measures.{MayBeIn, cycles_in}
-use Rattle.hour_work.proofs.PlacedLaws.{Each, each_all}
+use Rattle.hour_work.proofs.PlacedLaws.{each_all}
 use Rattle.hour_work.proofs.ArrivalLaws.{each_known}
 use Rattle.hour_work.proofs.WholeLog.{all_rows, earlier_ordered, hour_within, own_ordered}
-use Rattle.hour_work.proofs.ColourLaws.{cut_at, none_within, told, told_join, told_since, within_both, within_here}
+use Rattle.hour_work.proofs.ColourLaws.{cut_at, none_within, told, told_join, told_since, within_here}
 use Rattle.hour_work.proofs.PhaseLaws.{green_tells, greens_told, yellow_after, yellow_ends, yellow_tells}
 
 -- ---- rows in order
 
-pub front_ordered : (a b : ℕ) (xs : List Row) (f : Row) (ys : List Row) → AreOrdered a b (xs ++ f ∷ ys) → AreOrdered a b xs
-front_ordered a b [] f ys h = let l = h.0 in let u = h.1 in omega arith
-front_ordered a b (x ∷ xs) f ys h = (h.0, h.1, front_ordered x.at b xs f ys h.2)
-
 pub tail_ordered : (a b : ℕ) (xs : List Row) (f : Row) (ys : List Row) → AreOrdered a b (xs ++ f ∷ ys) → AreOrdered f.at b (f ∷ ys)
 tail_ordered a b [] f ys h = (omega arith, h.1, h.2)
 tail_ordered a b (x ∷ xs) f ys h = tail_ordered x.at b xs f ys h.2
-
-pub row_after : (a b : ℕ) (xs : List Row) (f : Row) (ys : List Row) → AreOrdered a b (xs ++ f ∷ ys) → a ≤ f.at
-row_after a b [] f ys h = h.0
-row_after a b (x ∷ xs) f ys h = let l = h.0 in let m = row_after x.at b xs f ys h.2 in omega arith
 
 pub row_below : (a b : ℕ) (xs : List Row) (f : Row) (ys : List Row) → AreOrdered a b (xs ++ f ∷ ys) → f.at < b
 row_below a b [] f ys h = h.1
@@ -115,7 +110,7 @@ module _ (p low end : ℕ) (rows : List Row) (order : AreOrdered low end rows) (
   from_yellow = (tail_ordered low end b.to_y b.y (b.from_y ++ b.f ∷ b.later) parted).2
 
   pub begun_after : b.y.at ≤ b.f.at
-  begun_after = row_after b.y.at end b.from_y b.f b.later from_yellow
+  begun_after = row_late b.y.at end b.from_y b.f b.later from_yellow
 
   -- up to the tenth at which the cycle begins
   pub yellow_told : b.y.at < b.f.at → told (yellow_after p) false (rows_within b.y.at b.f.at rows) ≡ true
@@ -124,7 +119,7 @@ module _ (p low end : ℕ) (rows : List Row) (order : AreOrdered low end rows) (
       let c = b.f.at in
       let rest : rows_within a c (b.f ∷ b.later) ≡ [] = none_within a c c end (b.f ∷ b.later) (omega arith) (tail_ordered b.y.at end b.from_y b.f b.later from_yellow) in
       let mine : rows_within a c (b.from_y ++ b.f ∷ b.later) ≡ rows_within a c b.from_y =
-      within_both a c b.from_y (b.f ∷ b.later) ∙ (ap (λ zs. rows_within a c b.from_y ++ zs) rest ∙ append-nil (rows_within a c b.from_y)) in
+      within-append a c b.from_y (b.f ∷ b.later) ∙ (ap (λ zs. rows_within a c b.from_y ++ zs) rest ∙ append-nil (rows_within a c b.from_y)) in
       let all : rows_within a c rows ≡ rows_within a c b.to_y ++ b.y ∷ rows_within a c b.from_y =
       ap (λ zs. rows_within a c zs) b.joined ∙ (within_split a c b.to_y b.y (b.from_y ++ b.f ∷ b.later) (omega arith) lt ∙ ap (λ zs. rows_within a c b.to_y ++ b.y ∷ zs) mine) in
       ap (λ zs. told (yellow_after p) false zs) all
@@ -143,7 +138,7 @@ module _ (p low end : ℕ) (rows : List Row) (order : AreOrdered low end rows) (
 
 -- ---- in a history
 
-phase_told : (log : Log) (h : History) (agrees : AgreesWith log h) (i p low end : ℕ) → (get_or log.specs i no_spec).channel ≡ phase_channel p → 1 ≤ p → p ≤ 16 → (order : AreOrdered low end log.rows) (b : IsBegun p log.rows) (t : ℕ) (v : State) → b.f.at ≤ t → t < window_end log → AllKnown log.known b.y.at t → IsAtEndOf log h i t v → is_green v.colour ≡ greens p false (rows_within b.f.at (t + 1) log.rows)
+pub phase_told : (log : Log) (h : History) (agrees : AgreesWith log h) (i p low end : ℕ) → (get_or log.specs i no_spec).channel ≡ phase_channel p → 1 ≤ p → p ≤ 16 → (order : AreOrdered low end log.rows) (b : IsBegun p log.rows) (t : ℕ) (v : State) → b.f.at ≤ t → t < window_end log → AllKnown log.known b.y.at t → IsAtEndOf log h i t v → is_green v.colour ≡ greens p false (rows_within b.f.at (t + 1) log.rows)
 phase_told log h agrees i p low end channel few many order b t v le lt all at =
     let spec = get_or log.specs i no_spec in
     let rows = log.rows in
@@ -228,7 +223,7 @@ place_within c p i at = (position-Some (λ (z : Spec). is_same_channel z.channel
 pub place_channel : (c : Settings) (p i : ℕ) → spec_place c.specs (phase_channel p) ≡ Some i → (get_or c.specs i no_spec).channel ≡ phase_channel p
 place_channel c p i at = channel_is (get_or c.specs i no_spec).channel p (position-Some (λ (z : Spec). is_same_channel z.channel (phase_channel p)) c.specs i no_spec at).1
 
-regroup : (us : List Row) (y : Row) (vs : List Row) (f : Row) (ws zs : List Row) → ((us ++ y ∷ vs) ++ f ∷ ws) ++ zs ≡ us ++ y ∷ (vs ++ f ∷ (ws ++ zs))
+pub regroup : (us : List Row) (y : Row) (vs : List Row) (f : Row) (ws zs : List Row) → ((us ++ y ∷ vs) ++ f ∷ ws) ++ zs ≡ us ++ y ∷ (vs ++ f ∷ (ws ++ zs))
 regroup us y vs f ws zs = simp append_assoc
 
 -- a cycle that ends with row r, among all rows
@@ -278,7 +273,7 @@ greens_by p q a b t low end all before own later e order lt same from =
     let both = before ++ own in
     let only : rows_within a (t + 1) all ≡ rows_within a (t + 1) both =
     ap (λ zs. rows_within a (t + 1) zs) (e ∙ sym (append_assoc before own later))
-    ∙ (within_both a (t + 1) both later
+    ∙ (within-append a (t + 1) both later
     ∙ (ap (λ zs. rows_within a (t + 1) both ++ zs) (none_within a (t + 1) low end later (omega arith) order)
     ∙ append-nil (rows_within a (t + 1) both))) in
     ap (λ zs. greens p false zs) only

@@ -1,11 +1,13 @@
 -- A phase doesn't begin green while it is yellow: the last begin of green of a whole cycle isn't after its last begin of yellow.
-use Rattle.std.proofs.Common.{◌≡◌, ◌∙◌, inl, inr, ℕ, ◌+◌, ◌-◌, ◌<◌, ◌≤◌, Bool, true, false, not, ◌&&◌, ◌||◌, cond, if◌then◌else◌, List, [], ◌∷◌, ◌++◌, length, get_or, Option, Some, None, refl, sym, ap, subst, append_assoc, arith}
+use Rattle.std.proofs.Common.{◌≡◌, ◌∙◌, inl, inr, ℕ, ◌+◌, ◌-◌, ◌<◌, ◌≤◌, Bool, true, false, not, ◌&&◌, ◌||◌, if◌then◌else◌, List, [], ◌∷◌, ◌++◌, length, get_or, Option, Some, None, refl, sym, ap, subst, append_assoc, arith}
 use Rattle.std.specs.Prelude.{◌==◌, All, filter, is_some, nat_le, nat_lt, option_map}
 use Rattle.std.specs.Option.{option_or}
 use Rattle.std.proofs.lemmas.Bool.{cases_Bool, eq-eqb, eqb-true}
 use Rattle.std.proofs.lemmas.List.Elements.{All-nil, All-cons, All-filter, All-head, All-map, All-tail}
 use Rattle.sig_base.specs.declared.values.Row.{Row}
 use Rattle.sig_base.specs.Numbers.{has_phase}
+use Rattle.sig_base.proofs.Common.{clash}
+use Rattle.sig_base.proofs.Each.{Each}
 use Rattle.event_codes.specs.declared.channels.Channel.{Channel}
 use Rattle.channel_tables.specs.declared.spec.Spec.{Spec}
 use Rattle.channel_tables.specs.Letters.{IsNumber}
@@ -26,19 +28,21 @@ use Rattle.service_cut.specs.Signs.{code_sign, is_begin, is_end, is_yellow, sign
 use Rattle.service_cut.specs.Cut.{cycles_from}
 use Rattle.service_cut.specs.Cycles.{cycle_at, offset_of}
 use Rattle.service_cut.specs.Whole.{AllKnown, IsCycle}
-use Rattle.service_cut.proofs.Fitting.{begin_only, offset_in, yellow_only}
-use Rattle.service_cut.proofs.WholeCycles.{cycle_is_whole}
+use Rattle.service_cut.proofs.Fitting.{begin_only, offset_in, yellow_only, row_late, earlier_low}
+use Rattle.service_cut.proofs.WholeCycles.{cycle_is_whole, front_ordered, if_true}
+use Rattle.service_cut.proofs.YellowEnds.{from_first}
+use Rattle.service_cut.proofs.WholeServices.{kept_none}
 use Rattle.cycle_arrivals.specs.Arrivals.{rows_within}
 use Rattle.arrival_measures.specs.declared.points.Diagram.{Diagram}
 use Rattle.arrival_measures.specs.Judged.{phase_channel}
 use Rattle.arrival_measures.specs.Points.{diagram_of, diagrams_of, points_from}
-use Rattle.hour_work.proofs.PlacedLaws.{Each, each_all}
+use Rattle.hour_work.proofs.PlacedLaws.{each_all}
 use Rattle.hour_work.proofs.ArrivalLaws.{each_known}
 use Rattle.hour_work.proofs.WholeLog.{all_rows, earlier_ordered}
 use Rattle.hour_work.proofs.OneLaws.{end_state}
 use Rattle.hour_work.proofs.ColourLaws.{Tells, cut_at, told, told_join, told_since}
 use Rattle.hour_work.proofs.PhaseLaws.{all_ok, in_phase, no_code, sign_other, sign_own, step_ok, yellow_code, yellow_lines, yellow_ok}
-use Rattle.hour_work.proofs.GreenLaws.{each_at, each_front, front_ordered, given_by, place_channel, place_within, row_after, row_below, tail_ordered, within_split}
+use Rattle.hour_work.proofs.GreenLaws.{each_at, each_front, given_by, place_channel, place_within, row_below, tail_ordered, within_split}
 
 -- ---- what rows tell: None at first; Some true from a row 8 up to an end of yellow; Some false once a row 1 has come between
 
@@ -173,7 +177,7 @@ never log h agrees i p low end lt channel few many order within us y vs z ws par
     let rows = log.rows in
     let order_by = subst (λ (zs : List Row). AreOrdered low end zs) parts order in
     let since : AreOrdered a end (vs ++ z ∷ ws) = (tail_ordered low end us y (vs ++ z ∷ ws) order_by).2 in
-    let up : a ≤ t = row_after a end vs z ws since in
+    let up : a ≤ t = row_late a end vs z ws since in
     let below : t < end = row_below a end vs z ws since in
     let (v, ends) = end_state log h t i agrees lt in
     let last = cut_at log h agrees i a (t + 1) v (omega (arith, up)) (omega (arith, below, within)) ends in
@@ -198,10 +202,6 @@ all_front : {X : Type 0} (P : X → Type 0) (xs : List X) (y : X) (ys : List X) 
 all_front P [] y ys h = All-nil P
 all_front P (x ∷ xs) y ys h = All-cons P x xs (All-head P x (xs ++ y ∷ ys) h) (all_front P xs y ys (All-tail P x (xs ++ y ∷ ys) h))
 
-both_not : (b : Bool) → b ≡ true → b ≡ false → ⊥
-both_not true t f = cc
-both_not false t f = cc
-
 -- a row 8 with no end of yellow after it stands after each end of yellow
 record IsAfter (ys : List Row) (y : Row) (vs : List Row) : Type 0 where
   pub front : List Row
@@ -210,11 +210,11 @@ record IsAfter (ys : List Row) (y : Row) (vs : List Row) : Type 0 where
 after_end : (p : ℕ) (xs : List Row) (f : Row) (ys us : List Row) (y : Row) (vs : List Row) → xs ++ f ∷ ys ≡ us ++ y ∷ vs → is_end (sign p f) ≡ true → is_yellow (sign p y) ≡ true → All (λ z. is_end (sign p z) ≡ false) vs → IsAfter ys y vs
 after_end p [] f ys [] y vs e f_is y_is none =
     let same : f ≡ y = cc in
-    absurd (both_not (is_end (sign p y)) (subst (λ (z : Row). is_end (sign p z) ≡ true) same f_is) (yellow_only (sign p y) y_is).1)
+    absurd (clash (is_end (sign p y)) (subst (λ (z : Row). is_end (sign p z) ≡ true) same f_is) (yellow_only (sign p y) y_is).1)
 after_end p [] f ys (u ∷ us) y vs e f_is y_is none = let more : ys ≡ us ++ y ∷ vs = cc in record { front = us; joined = more }
 after_end p (x ∷ xs) f ys [] y vs e f_is y_is none =
     let more : vs ≡ xs ++ f ∷ ys = cc in
-    absurd (both_not (is_end (sign p f)) f_is (all_at (λ (z : Row). is_end (sign p z) ≡ false) xs f ys (subst (λ (zs : List Row). All (λ z. is_end (sign p z) ≡ false) zs) more none)))
+    absurd (clash (is_end (sign p f)) f_is (all_at (λ (z : Row). is_end (sign p z) ≡ false) xs f ys (subst (λ (zs : List Row). All (λ z. is_end (sign p z) ≡ false) zs) more none)))
 after_end p (x ∷ xs) f ys (u ∷ us) y vs e f_is y_is none = let more : xs ++ f ∷ ys ≡ us ++ y ∷ vs = cc in after_end p xs f ys us y vs more f_is y_is none
 
 -- no row passes, where each that passes is one too many
@@ -227,22 +227,10 @@ none_passes q (x ∷ xs) h =
       | inr f ↦ All-cons (λ z. q z ≡ false) x xs f rest
     ]
 
-last_none : (q : Row → Bool) (xs : List Row) → All (λ z. q z ≡ false) xs → last_with q xs ≡ None
-last_none q [] h = refl
-last_none q (x ∷ xs) h = rw (last_none q xs (All-tail (λ (z : Row). q z ≡ false) x xs h), All-head (λ (z : Row). q z ≡ false) x xs h) refl
-
 late_in : (from : ℕ) (y : Row) (ys : List Row) (b : Bool) (o : Option (Row × List Row)) (more : Option Row) → b ≡ true → AllLast (λ z. y.at ≤ z.at) o → y.at - from ≤ offset_of from (option_or (option_map (λ f. f.0) (kept_last o b y ys)) more)
 late_in from y ys true None more e h = omega arith
 late_in from y ys b (Some f) more e h = let up : y.at ≤ f.0.at = h.0 in omega (arith, up)
 late_in from y ys false None more e h = absurd (cc)
-
-high_from : (a b c : ℕ) (xs : List Row) → c ≤ a → AreOrdered a b xs → All (λ z. c ≤ z.at) xs
-high_from a b c [] le h = All-nil (λ z. c ≤ z.at)
-high_from a b c (x ∷ xs) le h = let l = h.0 in All-cons (λ z. c ≤ z.at) x xs (omega (arith, l)) (high_from x.at b c xs (omega (arith, l)) h.2)
-
-low_to : (a b : ℕ) (xs : List Row) (y : Row) (ys : List Row) → AreOrdered a b (xs ++ y ∷ ys) → All (λ z. z.at ≤ y.at) xs
-low_to a b [] y ys h = All-nil (λ z. z.at ≤ y.at)
-low_to a b (x ∷ xs) y ys h = All-cons (λ z. z.at ≤ y.at) x xs (row_after x.at b xs y ys h.2) (low_to x.at b xs y ys h.2)
 
 -- between two ends of yellow, with no row 1 after this row 8
 green_first : (p from low end : ℕ) (us : List Row) (y : Row) (vs : List Row) → AreOrdered low end (us ++ y ∷ vs) → is_yellow (sign p y) ≡ true → All (λ z. is_begin (sign p z) ≡ false) vs
@@ -250,18 +238,14 @@ green_first : (p from low end : ℕ) (us : List Row) (y : Row) (vs : List Row) �
 green_first p from low end us y vs order y_is none =
     let begins = λ (z : Row). is_begin (sign p z) in
     let yellows = λ (z : Row). is_yellow (sign p z) in
-    let no_begin : last_with begins (y ∷ vs) ≡ None = last_none begins (y ∷ vs) (All-cons (λ (z : Row). is_begin (sign p z) ≡ false) y vs (yellow_only (sign p y) y_is).0 none) in
+    let no_begin : last_with begins (y ∷ vs) ≡ None = kept_none begins (y ∷ vs) (All-cons (λ (z : Row). is_begin (sign p z) ≡ false) y vs (yellow_only (sign p y) y_is).0 none) in
     let green : last begins (us ++ y ∷ vs) ≡ last begins us = last-append begins us (y ∷ vs) ∙ ap (λ (o : Option (Row × List Row)). option_or (option_map (λ f. f.0) o) (last begins us)) no_begin in
-    let up = offset_in from y.at begins us (low_to low end us y vs order) in
+    let up = offset_in from y.at begins us (earlier_low low end us y vs order) in
     let since = (tail_ordered low end us y vs order).2 in
-    let late = late_in from y vs (yellows y) (last_with yellows vs) (last yellows us) y_is (last_with_all (λ (z : Row). y.at ≤ z.at) yellows vs (high_from y.at end y.at vs (omega arith) since)) in
+    let late = late_in from y vs (yellows y) (last_with yellows vs) (last yellows us) y_is (last_with_all (λ (z : Row). y.at ≤ z.at) yellows vs (from_first y.at end y.at vs (omega arith) since)) in
     rw (green, last-append yellows us (y ∷ vs)) (omega (arith, up, late))
 
 -- ---- a cycle of a store
-
-if_some : (v : Bool) (o : Option Cycle) (c : Cycle) → cond v o None ≡ Some c → (v ≡ true) × (o ≡ Some c)
-if_some true o c e = (refl, e)
-if_some false o c e = absurd (cc)
 
 record IsPlace (c : Settings) (p : ℕ) : Type 0 where
   pub place : ℕ
@@ -297,7 +281,7 @@ cycle_in_order c s h i p front r rest x sound agrees order at parts cycle =
     let none = all_front (λ (q : Row). is_end (sign p q) ≡ false) vs z ws (subst (λ (zs : List Row). All (λ q. is_end (sign p q) ≡ false) zs) e w.none) in
     let since : AreOrdered w.y.at end (vs ++ z ∷ (ws ++ r ∷ rest)) = (tail_ordered 0 end w.to_y w.y (vs ++ z ∷ (ws ++ r ∷ rest)) (subst (λ (zs : List Row). AreOrdered 0 end zs) whole order)).2 in
     let to_end : AreOrdered z.at end (ws ++ r ∷ rest) = (tail_ordered w.y.at end vs z (ws ++ r ∷ rest) since).2 in
-    let up : z.at ≤ r.at = row_after z.at end ws r rest to_end in
+    let up : z.at ≤ r.at = row_late z.at end ws r rest to_end in
     never log h agrees i p 0 end lt channel number.0 number.1 order (omega arith) w.to_y w.y vs z (ws ++ r ∷ rest) whole w.y_is none z_is (λ u lo hi. w.all_known u lo (omega (arith, hi, up)))) in
     let between_order : AreOrdered from.at end (after.front ++ w.y ∷ w.from_y) =
     subst (λ (zs : List Row). AreOrdered from.at end zs) after.joined (tail_ordered 0 end cycle.to_from from cycle.between (subst (λ (zs : List Row). AreOrdered 0 end zs) cycle.joined to_r)).2 in
@@ -313,7 +297,7 @@ green_before_yellow c s sound store (h, agrees) n d some =
     let order : AreOrdered 0 end (known_rows s) = subst (λ (zs : List Row). AreOrdered 0 end zs) (all_rows s) (earlier_ordered s (length s.hours) store (omega arith)) in
     let x = get_or (cycles_from known c.phases [] (known_rows s)) n d in
     let g = given_by (λ p earlier r rest. cycle_at known p earlier r) (has_phase c.phases) [] (known_rows s) n d some in
-    let is = if_some (has_phase c.phases g.row.param) (cycle_at known g.row.param g.front g.row) x g.gives in
+    let is = if_true (has_phase c.phases g.row.param) (cycle_at known g.row.param g.front g.row) x g.gives in
     let at = place_of_phase c g.row.param sound is.0 in
     let seen = subst (λ (zs : List Row). Each (λ z. known z.at ≡ true) zs) g.joined (each_known known (rows_of s.hours)) in
     let order_by = subst (λ (zs : List Row). AreOrdered 0 end zs) g.joined order in

@@ -4,10 +4,13 @@ use Rattle.std.specs.Prelude.{◌==◌}
 use Rattle.std.specs.List.{list_any}
 use Rattle.std.proofs.lemmas.Bool.{and_parts, cases_Bool, eq-eqb, eqb-true, ltb-true, not-true}
 use Rattle.sig_base.specs.declared.values.Row.{Row}
+use Rattle.sig_base.proofs.Common.{some_same}
+use Rattle.sig_base.proofs.Each.{Each}
 use Rattle.event_codes.specs.declared.channels.Channel.{Channel}
 use Rattle.event_codes.specs.declared.channels.Kind.{Kind}
 use Rattle.event_codes.specs.declared.channels.Kind.TheVariants.{Phase}
 use Rattle.event_codes.specs.Channels.{Line as CodeLine, channel_by, channel_in_table, channel_lines, number_of, numbered_channel}
+use Rattle.event_codes.proofs.Common.{numbered}
 use Rattle.channel_tables.specs.declared.spec.Spec.{Spec}
 use Rattle.channel_tables.specs.Spec.{rules_of}
 use Rattle.channel_tables.specs.Table.{Line, is_letter, next_by, place_from, place_of}
@@ -20,7 +23,6 @@ use Rattle.board.proofs.Tracks.{letter_here, spec_letter}
 use Rattle.service_cut.specs.Signs.{code_sign, is_end, is_yellow, sign}
 use Rattle.cycle_arrivals.specs.Green.{green_after, greens}
 use Rattle.arrival_measures.specs.Judged.{is_green, phase_channel}
-use Rattle.hour_work.proofs.PlacedLaws.{Each}
 use Rattle.hour_work.proofs.ColourLaws.{Tells, told}
 
 -- ---- the table
@@ -60,9 +62,6 @@ line_of Q signs (x ∷ xs) c l d q e = elim (cases_Bool (is_letter (place_of x.s
   | inr f ↦ line_of Q signs xs c l d q.1 (rw f at e)
 ]
 
-some_same : (x y : ℕ) → Some x ≡ Some y → x ≡ y
-some_same x y e = cc
-
 place_low : (k n : ℕ) (xs : List ℕ) (l : ℕ) → place_from k n xs ≡ Some l → k ≤ l
 place_low k n [] l e = absurd (cc)
 place_low k n (x ∷ xs) l e = elim (cases_Bool (nat_eq x n)) [
@@ -88,23 +87,10 @@ place_one k n m (x ∷ xs) l e f = elim (cases_Bool (nat_eq x n)) [
 
 -- ---- the phase of a row
 
-numbered_is : (kind : Kind) (least most param : ℕ) (channel : Channel) → numbered_channel kind least most param ≡ Some channel → channel.number ≡ number_of channel.kind param
-numbered_is kind least most param channel e = elim (cases_Bool (nat_lt param least)) [
-  | inl t ↦ let k = rw t at e in absurd (cc)
-  | inr f ↦ let k = rw f at e in elim (cases_Bool (nat_lt most param)) [
-    | inl u ↦ let j = rw u at k in absurd (cc)
-    | inr v ↦
-        let made : Channel = record { kind = kind; number = number_of kind param } in
-        let j : Some made ≡ Some channel = rw v at k in
-        let same : made ≡ channel = cc in
-        subst (λ (x : Channel). x.number ≡ number_of x.kind param) same refl
-  ]
-]
-
 channel_number : (xs : List CodeLine) (code param : ℕ) (channel : Channel) → channel_by xs code param ≡ Some channel → channel.number ≡ number_of channel.kind param
 channel_number [] code param channel e = absurd (cc)
 channel_number (x ∷ xs) code param channel e = elim (cases_Bool (list_any (λ c. nat_eq c code) x.codes_of)) [
-  | inl t ↦ numbered_is x.kind x.least x.most param channel (rw t at e)
+  | inl t ↦ numbered x.kind x.least x.most param channel (rw t at e)
   | inr f ↦ channel_number xs code param channel (rw f at e)
 ]
 

@@ -1,12 +1,13 @@
 -- The arrivals that the view of an hour tells are those that the known rows tell.
-use Rattle.std.proofs.Common.{◌≡◌, ◌↔◌, inl, inr, refl, ap, sym, ◌∙◌, subst, ℕ, ◌+◌, ◌*◌, ◌<◌, ◌≤◌, pos, Bool, true, false, not, ◌&&◌, ◌||◌, cond, eqb, List, [], ◌∷◌, ◌++◌, length, length-append, get_or, take, Option, Some, None, append_assoc, arith}
+use Rattle.std.proofs.Common.{◌≡◌, ◌↔◌, inl, inr, refl, ap, sym, ◌∙◌, subst, ℕ, ◌+◌, ◌*◌, ◌<◌, ◌≤◌, pos, Bool, true, false, not, ◌&&◌, cond, eqb, List, [], ◌∷◌, ◌++◌, length, length-append, get_or, take, Option, Some, None, append_assoc, arith}
 use Rattle.std.specs.Prelude.{flat_map, is_some}
 use Rattle.std.specs.List.{list_any}
-use Rattle.std.proofs.lemmas.Bool.{and_parts, cases_Bool, eq-eqb, eqb-true, not-true}
+use Rattle.std.proofs.lemmas.Bool.{and_parts, cases_Bool, eq-eqb, eqb-true, not-true, or_left, or_right}
 use Rattle.std.proofs.lemmas.List.{append-nil, get_or_at, take_at}
 use Rattle.std.proofs.lemmas.List.Elements.{filter-append}
 use Rattle.std.proofs.lemmas.List.Quantifiers.{position-Some}
 use Rattle.sig_base.specs.declared.values.Row.{Row}
+use Rattle.sig_base.proofs.Common.{clash}
 use Rattle.gap_map.specs.declared.stretch.Stretch.{Stretch}
 use Rattle.gap_map.specs.Stretches.{IsCut, known_at, known_in}
 use Rattle.span_set.specs.declared.set.Span.{Span}
@@ -28,16 +29,15 @@ use Rattle.ring_config.specs.declared.items.Approach.{Approach}
 use Rattle.hour_sweep.specs.Rows.{known_rows}
 use Rattle.hour_sweep.specs.Hours.{AreOrdered, point}
 use Rattle.hour_sweep.proofs.Orders.{below_end, rise_ordered}
+use Rattle.service_cut.proofs.YellowEnds.{from_first}
 use Rattle.stop_bar.specs.Own.{detector}
 use Rattle.arrival_measures.specs.declared.points.Point.{Point}
 use Rattle.arrival_measures.specs.Faults.{arrivals_from, faulty, is_arrival}
 use Rattle.arrival_measures.specs.Judged.{AllPass}
 use Rattle.arrival_measures.specs.Points.{ArePicked, ArePointsOf, IsArrival, is_ahead, is_fault, is_on_at, points_at, points_from}
 use Rattle.arrival_measures.specs.Views.{IsSeen}
-use Rattle.arrival_measures.proofs.Between.{ordered_low}
 use Rattle.arrival_measures.proofs.Carried.{points_same}
 use Rattle.arrival_measures.proofs.Each.{length_push}
-use Rattle.arrival_measures.proofs.Filters.{clash}
 use Rattle.arrival_measures.proofs.RowPoints.{has_of, on_has}
 use Rattle.fault_rows.specs.Sure.{IsInFault}
 use Rattle.fault_rows.proofs.Before.{faulty_is_sure}
@@ -50,14 +50,6 @@ use Rattle.hour_work.proofs.SeenLaws.{seen_log, seen_rows, seen_shown, tells}
 use Rattle.hour_work.proofs.WholeLog.{earlier_ordered, hour_within}
 
 -- ---- a row with a detector ahead
-
-or_left : (a b : Bool) → a ≡ true → (a || b) ≡ true
-or_left true b e = refl
-or_left false b e = absurd (cc)
-
-or_right : (a b : Bool) → b ≡ true → (a || b) ≡ true
-or_right true b e = refl
-or_right false b e = e
 
 on_code : (o : Option ℕ) (x : Row) → is_on_at o x ≡ true → eqb x.code 82 ≡ true
 on_code None x e = absurd (let bad : false ≡ true = e in cc)
@@ -218,7 +210,7 @@ module _ (c : Settings) (s : Store) (hour : ℕ) (carry : Carried) (rows : List 
     order = rise_ordered (first_tenth hour) (end_tenth hour) rows (omega arith) seen.is_view.is_log.is_hour.are_rows.rise
 
     low : first_tenth hour ≤ x.at
-    low = subst (λ (z : Row). first_tenth hour ≤ z.at) here (ordered_low (first_tenth hour) (end_tenth hour) (first_tenth hour) rows (omega arith) order n no_row within)
+    low = subst (λ (z : Row). first_tenth hour ≤ z.at) here (from_first (first_tenth hour) (end_tenth hour) (first_tenth hour) rows (omega arith) order n no_row within)
 
     high : x.at < end_tenth hour
     high = subst (λ (z : Row). z.at < end_tenth hour) here (below_end (first_tenth hour) (end_tenth hour) rows order n no_row within)

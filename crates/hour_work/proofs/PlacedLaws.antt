@@ -4,6 +4,7 @@ use Rattle.std.specs.List.{All, range_with_len}
 use Rattle.std.proofs.lemmas.Bool.Decides.{nat_tests}
 use Rattle.sig_base.specs.declared.values.Row.{Row}
 use Rattle.sig_base.specs.Numbers.{has_number}
+use Rattle.sig_base.proofs.Each.{each_join, each_if, each_where, Each}
 use Rattle.channel_tables.specs.declared.spec.Spec.{Spec}
 use Rattle.board.specs.Logs.{no_row}
 use Rattle.ring_config.specs.declared.items.IntervalItem.{IntervalItem}
@@ -15,23 +16,6 @@ use Rattle.rule_audit.specs.declared.lines.Place.{Place}
 use Rattle.rule_audit.specs.declared.lines.Place.TheVariants.{BeforeRow, EndOfTenth}
 use Rattle.rule_audit.specs.Rules.{companion_rule, companion_rules, companion_terms, conflict_rule, conflict_rules, conflict_terms, each_number, is_conflict, parents_rule, parents_rule_of, parents_rules, parents_terms, rules_for}
 use Rattle.rule_audit.specs.Obligations.{Obligation, end_obligations, is_due, is_timed_by, obligation, obligations_from, row_obligations, rows_obligations, tenth_obligations}
-
--- each of the list
-abbrev pub Each : {X : Type 0} → (X → Type 0) → List X → Type 0
-Each P [] = Unit {0}
-Each P (x ∷ xs) = P x × Each P xs
-
-each_join : {X : Type 0} (P : X → Type 0) (xs ys : List X) → Each P xs → Each P ys → Each P (xs ++ ys)
-each_join P [] ys p q = q
-each_join P (x ∷ xs) ys p q = (p.0, each_join P xs ys p.1 q)
-
-each_if : {X : Type 0} (P : X → Type 0) (b : Bool) (x : X) → P x → Each P (if b then x ∷ [] else [])
-each_if P true x p = (p, tt)
-each_if P false x p = tt
-
-each_where : {X : Type 0} (P : X → Type 0) (b : Bool) (xs : List X) → (b ≡ true → Each P xs) → Each P (if b then xs else [])
-each_where P true xs p = p refl
-each_where P false xs p = tt
 
 each_flat : {X Y : Type 0} (P : Y → Type 0) (f : X → List Y) (xs : List X) → ((x : X) → Each P (f x)) → Each P (flat_map f xs)
 each_flat P f [] p = tt

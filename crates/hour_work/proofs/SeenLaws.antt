@@ -5,6 +5,7 @@ use Rattle.std.proofs.lemmas.List.Quantifiers.{position-Some}
 use Rattle.channel_tables.specs.declared.spec.Spec.{Spec}
 use Rattle.reach.specs.Runs.{State}
 use Rattle.sig_base.specs.declared.values.Row.{Row}
+use Rattle.sig_base.proofs.Each.{Each}
 use Rattle.event_codes.specs.declared.channels.Channel.{Channel}
 use Rattle.gap_map.specs.declared.stretch.Stretch.{Stretch}
 use Rattle.gap_map.specs.Stretches.{known_at}
@@ -49,7 +50,7 @@ use Rattle.hour_work.specs.Rows.{earlier_rows, own_rows}
 use Rattle.hour_work.specs.Measures.{AreMeasures, MayBeIn, MeetsIn, cycles_in, services_in}
 use Rattle.hour_work.specs.Reports.{IsHourCut, IsHourSeen}
 use Rattle.hour_work.proofs.MeasureLaws.{hour_is, meets_as, own_known}
-use Rattle.hour_work.proofs.PlacedLaws.{Each, each_weaker}
+use Rattle.hour_work.proofs.PlacedLaws.{each_weaker}
 use Rattle.hour_work.proofs.ArrivalLaws.{HaveSameColours, IsSeenFrom, IsSeenIn, all_judged_as, known_within}
 use Rattle.hour_work.proofs.PointLaws.{audited, between_hour, lines_done}
 use Rattle.rule_audit.proofs.Tracked.{channels_are}

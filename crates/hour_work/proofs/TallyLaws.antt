@@ -9,6 +9,8 @@ use Rattle.std.proofs.lemmas.List.Sums.{count_by_more_no, count_by_more_yes, sum
 use Rattle.sig_base.specs.declared.values.Row.{Row}
 use Rattle.sig_base.specs.declared.values.Verdict.{Verdict}
 use Rattle.sig_base.specs.declared.values.Verdict.TheVariants.{Idle, Kept, Broken, Undecided}
+use Rattle.sig_base.proofs.Common.{and_first}
+use Rattle.sig_base.proofs.Each.{Each}
 use Rattle.channel_tables.specs.declared.spec.Spec.{Spec}
 use Rattle.rule_audit.specs.declared.rules.Rule.{Rule}
 use Rattle.rule_audit.specs.declared.lines.Place.TheVariants.{BeforeRow, EndOfTenth}
@@ -18,8 +20,8 @@ use Rattle.rule_audit.specs.Lines.{AreLinesOf, line_of, lines_of}
 use Rattle.hour_work.specs.declared.counts.RuleCount.{RuleCount}
 use Rattle.hour_work.specs.Numbers.{FitsCount}
 use Rattle.hour_sums.specs.Numbers.{one_if}
+use Rattle.arrival_measures.proofs.Counting.{one_low}
 use Rattle.hour_work.specs.Counts.{count_of_rule, counted, counts_of, is_broken, is_kept, is_undecided}
-use Rattle.hour_work.proofs.PlacedLaws.{Each}
 
 -- how many of them are of the rule with this number
 many : ℕ → List Obligation → ℕ
@@ -30,10 +32,6 @@ many_join : (k : ℕ) (xs ys : List Obligation) → many k (xs ++ ys) ≡ many k
 unfolding many
 many_join k [] ys = let z : 0 + many k ys ≡ many k ys = omega arith in sym z
 many_join k (x ∷ xs) ys = rw (many_join k xs ys) (omega arith)
-
-pub one_most : (b : Bool) → one_if b ≤ 1
-one_most true = omega arith
-one_most false = omega arith
 
 -- one obligation, where there is one
 many_if : (k : ℕ) (b : Bool) (o : Obligation) → many k (if b then o ∷ [] else []) ≤ one_if (o.number == k)
@@ -67,7 +65,7 @@ row_one specs i r k n (x ∷ xs) =
     let first = many_if k (is_timed_by specs r x) (obligation n x r.at (BeforeRow i)) in
     let joined = many_join k (if is_timed_by specs r x then obligation n x r.at (BeforeRow i) ∷ [] else []) (row_obligations specs i r (n + 1) xs) in
     elim (cases_eq n k) [
-      | inl same ↦ let most = one_most (n == k) in let rest = row_none specs i r k (n + 1) xs (omega arith) in omega (arith, joined)
+      | inl same ↦ let most = one_low (n == k) in let rest = row_none specs i r k (n + 1) xs (omega arith) in omega (arith, joined)
       | inr other ↦ let zero_first : one_if (n == k) ≡ 0 = ap one_if (differ n k other) in let rest = row_one specs i r k (n + 1) xs in omega (arith, joined)
     ]
 
@@ -89,7 +87,7 @@ end_one specs rows before t k n (x ∷ xs) =
     let first = many_if k (is_due specs rows before t x) (obligation n x t EndOfTenth) in
     let joined = many_join k (if is_due specs rows before t x then obligation n x t EndOfTenth ∷ [] else []) (end_obligations specs rows before t (n + 1) xs) in
     elim (cases_eq n k) [
-      | inl same ↦ let most = one_most (n == k) in let rest = end_none specs rows before t k (n + 1) xs (omega arith) in omega (arith, joined)
+      | inl same ↦ let most = one_low (n == k) in let rest = end_none specs rows before t k (n + 1) xs (omega arith) in omega (arith, joined)
       | inr other ↦ let zero_first : one_if (n == k) ≡ 0 = ap one_if (differ n k other) in let rest = end_one specs rows before t k (n + 1) xs in omega (arith, joined)
     ]
 
@@ -111,8 +109,8 @@ one_row t a = elim (cases_lt a t) [
   | inr from ↦
       let g : nat_le t a ≡ true = grind (arith, nat_tests) in
       elim (cases_eq a t) [
-        | inl same ↦ let f : nat_le (t + 1) a ≡ false = grind (arith, nat_tests) in let m = one_most (nat_eq a t) in rw (f, g) (omega arith)
-        | inr other ↦ let e : nat_eq a t ≡ false = grind (arith, nat_tests) in let m = one_most (nat_le (t + 1) a) in rw (e, g) (omega arith)
+        | inl same ↦ let f : nat_le (t + 1) a ≡ false = grind (arith, nat_tests) in let m = one_low (nat_eq a t) in rw (f, g) (omega arith)
+        | inr other ↦ let e : nat_eq a t ≡ false = grind (arith, nat_tests) in let m = one_low (nat_le (t + 1) a) in rw (e, g) (omega arith)
       ]
 ]
 
@@ -124,7 +122,7 @@ rows_split t (r ∷ rs) = let here = one_row t r.at in let rest = rows_split t r
 from_most : (t : ℕ) (rs : List Row) → from_tenth t rs ≤ length rs
 unfolding from_tenth
 from_most t [] = omega arith
-from_most t (r ∷ rs) = let here = one_most (nat_le t r.at) in let rest = from_most t rs in omega arith
+from_most t (r ∷ rs) = let here = one_low (nat_le t r.at) in let rest = from_most t rs in omega arith
 
 rows_most : (specs : List Spec) (rules : List Rule) (t k i : ℕ) (rs : List Row) → many k (rows_obligations specs rules t i rs) ≤ at_tenth t rs
 unfolding many rows_obligations at_tenth
@@ -185,10 +183,6 @@ lines_most Has p k (o ∷ os) lines h (x, has, (rest, are, e)) = rw e (of x (lin
     of Broken more = line Broken more
     of Undecided more = line Undecided more
 
-first_true : (a b : Bool) → (a && b) ≡ true → a ≡ true
-first_true true b e = refl
-first_true false b e = e
-
 -- the counts of an hour with so many rows
 pub counts_fit : (Has : Obligation → Verdict → Type 0) (known : ℕ → Bool) (specs : List Spec) (rules : List Rule) (rows : List Row) (before : Bool) (t n : ℕ) (lines : List AuditLine) → length rows ≤ 400000 → AreLinesOf Has (obligations_from known specs rules rows before t 36000) lines → All (FitsCount 1) (counts_of n lines)
 unfolding counts_of
@@ -198,9 +192,9 @@ counts_fit Has known specs rules rows before t n lines few are j d lt =
     let k = 1 + j in
     let most = hour_most known specs rules rows before t k 36000 in
     let rs = from_most t rows in
-    let a = lines_most Has (λ l. l.rule == k && is_kept l.verdict) k (obligations_from known specs rules rows before t 36000) lines (λ l e. first_true (l.rule == k) (is_kept l.verdict) e) are in
-    let b = lines_most Has (λ l. l.rule == k && is_broken l.verdict) k (obligations_from known specs rules rows before t 36000) lines (λ l e. first_true (l.rule == k) (is_broken l.verdict) e) are in
-    let u = lines_most Has (λ l. l.rule == k && is_undecided l.verdict) k (obligations_from known specs rules rows before t 36000) lines (λ l e. first_true (l.rule == k) (is_undecided l.verdict) e) are in
+    let a = lines_most Has (λ l. l.rule == k && is_kept l.verdict) k (obligations_from known specs rules rows before t 36000) lines (λ l e. and_first (l.rule == k) (is_kept l.verdict) e) are in
+    let b = lines_most Has (λ l. l.rule == k && is_broken l.verdict) k (obligations_from known specs rules rows before t 36000) lines (λ l e. and_first (l.rule == k) (is_broken l.verdict) e) are in
+    let u = lines_most Has (λ l. l.rule == k && is_undecided l.verdict) k (obligations_from known specs rules rows before t 36000) lines (λ l e. and_first (l.rule == k) (is_undecided l.verdict) e) are in
     rw at (record { kept = omega arith; broken = omega arith; undecided = omega arith })
 
 -- lines have the numbers of their obligations

@@ -16,7 +16,7 @@ use Rattle.sig_base.specs.declared.values.PhaseItem.{PhaseItem}
 use Rattle.sig_base.specs.Numbers.{has_phase}
 use Rattle.other_measures.specs.Hours.{AreNumbers}
 use Rattle.arrival_measures.specs.Hours.{HaveCycles}
-use Rattle.other_measures.proofs.Stores.{delays_total, first_total}
+use Rattle.other_measures.proofs.Stores.{delays_total, first_total, merged-push}
 use Rattle.hour_work.specs.Numbers.{Numbers, numbers_sum, total_of}
 use Rattle.hour_work.specs.Rows.{earlier_rows, own_rows}
 use Rattle.hour_work.specs.Measures.{cycles_in, services_in}
@@ -26,12 +26,6 @@ use Rattle.hour_work.proofs.CycleTotals.{cycles_total}
 use Rattle.hour_work.proofs.WholeLog.{all_rows, earlier_ordered, more_rows, own_ordered}
 
 -- ---- what each number has, added number by number
-
-merged-push : {A : Type 0} (put : A → A → A) (us vs : List A) (u v : A) → length us ≡ length vs → merged put (us ++ u ∷ []) (vs ++ v ∷ []) ≡ merged put us vs ++ put u v ∷ []
-merged-push put [] [] u v e = refl
-merged-push put [] (y ∷ ys) u v e = absurd (omega arith)
-merged-push put (x ∷ xs) [] u v e = absurd (omega arith)
-merged-push put (x ∷ xs) (y ∷ ys) u v e = ap (λ zs. put x y ∷ zs) (merged-push put xs ys u v (omega arith))
 
 push_length : {A : Type 0} (v : Bool) (us vs : List A) (x y : A) → length us ≡ length vs → length (cond v (us ++ x ∷ []) us) ≡ length (cond v (vs ++ y ∷ []) vs)
 push_length true us vs x y e = length-append us (x ∷ []) ∙ (ap (λ (n : ℕ). n + 1) e ∙ sym (length-append vs (y ∷ [])))
@@ -87,7 +81,7 @@ hour_more c s hour t p store lt so is =
       arrivals = cycles_total known c (point hour) (point (hour + 1)) before own ob or t.arrivals p.arrivals so.arrivals is.measures.whole_cycles;
     }
 
-next_total : (all : List Numbers) (n : ℕ) (d : Numbers) → n < length all → total_of (take (suc n) all) ≡ numbers_sum (total_of (take n all)) (get_or all n d)
+pub next_total : (all : List Numbers) (n : ℕ) (d : Numbers) → n < length all → total_of (take (suc n) all) ≡ numbers_sum (total_of (take n all)) (get_or all n d)
 next_total all n d lt =
     let next : suc n ≡ n + 1 = omega arith in
     ap (λ k. total_of (take k all)) next ∙ (ap total_of (take_more all n d lt) ∙ total_push (take n all) (get_or all n d))

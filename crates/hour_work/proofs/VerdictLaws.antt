@@ -6,6 +6,7 @@ use Rattle.span_set.specs.declared.set.Span.{Span}
 use Rattle.reach.specs.Runs.{State}
 use Rattle.sig_base.specs.declared.values.Row.{Row}
 use Rattle.sig_base.specs.declared.values.Verdict.{Verdict}
+use Rattle.sig_base.proofs.Each.{Each}
 use Rattle.gap_map.specs.declared.stretch.Stretch.{Stretch}
 use Rattle.gap_map.specs.Stretches.{known_at}
 use Rattle.hour_store.specs.Store.{Store, is_known, rows_at}
@@ -34,7 +35,7 @@ use Rattle.hour_work.specs.Points.{is_known_before}
 use Rattle.hour_work.specs.Verdicts.{AreAuditLines, HasStoreVerdict, obligations_in, states_in}
 use Rattle.signal_log.specs.Rows.{hour_rows}
 use Rattle.hour_work.proofs.LinkLaws.{Leads, Local, clause_as, closes_alike, interval_as, keeps_alike}
-use Rattle.hour_work.proofs.PlacedLaws.{Each, FitPlace, FitRule, IsPlaced, all_placed, each_weaker, known_same, none_known, rules_fit}
+use Rattle.hour_work.proofs.PlacedLaws.{FitPlace, FitRule, IsPlaced, all_placed, each_weaker, known_same, none_known, rules_fit}
 
 -- the lines by one kind of verdicts are those by another that follow from them
 pub lines_as : (A B : Obligation → Verdict → Type 0) (os : List Obligation) (lines : List AuditLine) → Each (λ o. (x : Verdict) → A o x → B o x) os → AreLinesOf A os lines → AreLinesOf B os lines

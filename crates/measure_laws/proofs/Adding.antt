@@ -19,12 +19,15 @@ use Rattle.hour_sweep.specs.Numbers.{given, outs_from}
 use Rattle.service_cut.specs.declared.items.Service.{Service}
 use Rattle.service_cut.specs.Cut.{services_from}
 use Rattle.service_cut.specs.Services.{service_at}
+use Rattle.hour_sums.proofs.Adding.{capped_small}
 use Rattle.ring_config.specs.Settings.{Settings, is_same_channel, spec_place}
 use Rattle.ring_config.specs.declared.items.Approach.{Approach}
 use Rattle.signal_log.specs.Log.{HasHistory, log_of}
 use Rattle.split_windows.specs.Windows.{left}
+use Rattle.ring_config.proofs.SpecLaws.{length_filter}
 use Rattle.stop_bar.specs.Bars.{ending, services_upto}
 use Rattle.stop_bar.specs.Lists.{Each}
+use Rattle.stop_bar.proofs.Common.{each_long}
 use Rattle.split_measures.specs.declared.verdict.SplitVerdict.{SplitVerdict}
 use Rattle.split_measures.specs.declared.verdict.SplitVerdict.TheVariants.{Fail, Pass, Undecided, Open, Fault}
 use Rattle.split_measures.specs.Failures.{is_verdict, split_sum_of}
@@ -40,10 +43,6 @@ use Rattle.hour_work.specs.Rows.{earlier_rows, own_rows}
 use Rattle.hour_work.specs.Measures.{MayBeIn}
 use Rattle.hour_work.proofs.OneLaws.{end_state}
 use Rattle.measure_laws.specs.Sums.{AddsUp, AreCountable, ArrivalsAddUp, SplitsAddUp, SumsKeepAddingUp, all_verdicts}
-
-pub uncapped : (n : ℕ) → n < 2 ^ 64 → capped n ≡ n
-unfolding capped
-uncapped n lt = omega arith
 
 -- ---- services
 
@@ -76,21 +75,12 @@ pub verdicts_add : (vs : List SplitVerdict) → length vs < 2 ^ 64 → all_verdi
 unfolding split_sum_of
 verdicts_add vs lt =
     let all = all_counted vs in
-    let a = uncapped (how_often Fail vs) (omega (arith, all)) in
-    let b = uncapped (how_often Pass vs) (omega (arith, all)) in
-    let c = uncapped (how_often Undecided vs) (omega (arith, all)) in
-    let d = uncapped (how_often Open vs) (omega (arith, all)) in
-    let e = uncapped (how_often Fault vs) (omega (arith, all)) in
+    let a = capped_small (how_often Fail vs) (omega (arith, all)) in
+    let b = capped_small (how_often Pass vs) (omega (arith, all)) in
+    let c = capped_small (how_often Undecided vs) (omega (arith, all)) in
+    let d = capped_small (how_often Open vs) (omega (arith, all)) in
+    let e = capped_small (how_often Fault vs) (omega (arith, all)) in
     rw (a, b, c, d, e) all
-
-pub each_long : {A B : Type 0} (R : A → B → Type 0) (xs : List A) (ys : List B) → Each R xs ys → length ys ≡ length xs
-each_long R [] [] h = refl
-each_long R [] (y ∷ ys) h = absurd h
-each_long R (x ∷ xs) [] h = absurd h
-each_long R (x ∷ xs) (y ∷ ys) h = ap suc (each_long R xs ys h.1)
-
-pub filter_few : {X : Type 0} (f : X → Bool) (xs : List X) → length (filter f xs) ≤ length xs
-filter_few f xs = let both = length-filter_both f (λ x. not (f x)) (λ x. refl) xs in omega (arith, both)
 
 pub cons_few : {X : Type 0} (o : Option X) (xs : List X) → length (cons_option o xs) ≤ suc (length xs)
 cons_few None xs = omega arith
@@ -127,7 +117,7 @@ open_few hours hour ss = elim (cases_Bool (nat_le hours (hour + 1))) [
 
 pub all_few : (known : ℕ → Bool) (phases : List PhaseItem) (p : ℕ) (upto : List Row) → length (services_upto known phases p upto) ≤ length upto
 all_few known phases p upto =
-    let a = filter_few (λ (s : Service). eqb s.phase p) (services_from known phases [] upto) in
+    let a = length_filter (λ (s : Service). eqb s.phase p) (services_from known phases [] upto) in
     let b = outs_few (service_at known) (has_phase phases) [] upto in
     omega (arith, a, b)
 
@@ -178,7 +168,7 @@ pub arrivals_few : (known : ℕ → Bool) (d v : ℕ) (rows : List Row) → leng
 unfolding arrivals_at
 arrivals_few known d v rows =
     let a : length (map (shifted v) (ons_of d (arrivals_from known [] rows))) ≡ length (ons_of d (arrivals_from known [] rows)) = length-map (ons_of d (arrivals_from known [] rows)) (shifted v) in
-    let b = filter_few (is_on d) (arrivals_from known [] rows) in
+    let b = length_filter (is_on d) (arrivals_from known [] rows) in
     let c = passing_few (is_arrival known) [] rows in
     omega (arith, a, b, c)
 
@@ -200,11 +190,11 @@ module _ (c : Settings) (s : Store) (hour : ℕ) (has : HasHistory (log_of c.spe
       let j = are.judged in
       let three = three_add is_green (λ (x : Row). MayBeIn c s j.place x.at) seen sum.green sum.not_green sum.undecided (each_own (λ (x : Row). (v : State) × MayBeIn c s j.place x.at v) seen (shows a.phase j.place j.is_place)) j.all_pass j.none_pass j.some_pass in
       let both = length-filter_both (is_seen (is_known s) hour) (λ x. not (is_seen (is_known s) hour x)) (λ x. refl) due in
-      let m = filter_few (counts_in c hour) (arrivals_at (is_known s) d a.travel rows) in
+      let m = length_filter (counts_in c hour) (arrivals_at (is_known s) d a.travel rows) in
       let n = arrivals_few (is_known s) d a.travel rows in
       let unseen = filter (λ x. not (is_seen (is_known s) hour x)) due in
-      let all : capped (length due) ≡ length due = uncapped (length due) (omega (arith, m, n, few)) in
-      let rest : capped (length unseen) ≡ length unseen = uncapped (length unseen) (omega (arith, m, n, few, both)) in
+      let all : capped (length due) ≡ length due = capped_small (length due) (omega (arith, m, n, few)) in
+      let rest : capped (length unseen) ≡ length unseen = capped_small (length unseen) (omega (arith, m, n, few, both)) in
       let e = are.arrivals in
       let f = are.unseen in
       omega (arith, three, both, all, rest, e, f)
@@ -227,17 +217,17 @@ arrivals_add_up c s hour sums i d has few are lt =
 pub sums_keep_adding_up : SumsKeepAddingUp
 sums_keep_adding_up = (
   λ a b lt x y.
-      let e = uncapped (a.arrivals + b.arrivals) lt in
-      let g = uncapped (a.green + b.green) (omega (arith, lt, x, y)) in
-      let n = uncapped (a.not_green + b.not_green) (omega (arith, lt, x, y)) in
-      let u = uncapped (a.undecided + b.undecided) (omega (arith, lt, x, y)) in
-      let w = uncapped (a.unseen + b.unseen) (omega (arith, lt, x, y)) in
+      let e = capped_small (a.arrivals + b.arrivals) lt in
+      let g = capped_small (a.green + b.green) (omega (arith, lt, x, y)) in
+      let n = capped_small (a.not_green + b.not_green) (omega (arith, lt, x, y)) in
+      let u = capped_small (a.undecided + b.undecided) (omega (arith, lt, x, y)) in
+      let w = capped_small (a.unseen + b.unseen) (omega (arith, lt, x, y)) in
       rw (e, g, n, u, w) (omega (arith, x, y)),
   λ a b lt.
-      let f = uncapped (a.fail + b.fail) (omega (arith, lt)) in
-      let p = uncapped (a.pass + b.pass) (omega (arith, lt)) in
-      let u = uncapped (a.undecided + b.undecided) (omega (arith, lt)) in
-      let o = uncapped (a.left_open + b.left_open) (omega (arith, lt)) in
-      let x = uncapped (a.fault + b.fault) (omega (arith, lt)) in
+      let f = capped_small (a.fail + b.fail) (omega (arith, lt)) in
+      let p = capped_small (a.pass + b.pass) (omega (arith, lt)) in
+      let u = capped_small (a.undecided + b.undecided) (omega (arith, lt)) in
+      let o = capped_small (a.left_open + b.left_open) (omega (arith, lt)) in
+      let x = capped_small (a.fault + b.fault) (omega (arith, lt)) in
       rw (f, p, u, o, x) (omega arith),
 )

@@ -9,13 +9,16 @@ use Rattle.sig_base.specs.declared.values.Row.{Row}
 use Rattle.reach.specs.Runs.{State}
 use Rattle.hour_store.specs.Store.{IsStore, Store, held_at, is_known, known_rows}
 use Rattle.hour_sums.specs.Numbers.{capped}
-use Rattle.hour_sums.proofs.Adding.{length-add}
+use Rattle.hour_sums.proofs.Adding.{length-add, capped_small}
 use Rattle.hour_sweep.specs.Hours.{AreOrdered, point}
 use Rattle.hour_sweep.proofs.Orders.{ordered-append}
+use Rattle.service_cut.proofs.YellowEnds.{from_first}
 use Rattle.ring_config.specs.Settings.{Settings}
 use Rattle.ring_config.specs.declared.items.Approach.{Approach}
+use Rattle.ring_config.proofs.SpecLaws.{length_filter}
 use Rattle.stop_bar.specs.Lists.{Each}
 use Rattle.cycle_arrivals.specs.Arrivals.{is_on, ons_of}
+use Rattle.cycle_arrivals.proofs.Counts.{and_true}
 use Rattle.arrival_measures.specs.declared.sums.ArrivalSum.{ArrivalSum}
 use Rattle.arrival_measures.specs.Faults.{arrivals_from, faults_from, is_arrival, is_fault_row, passing_from}
 use Rattle.arrival_measures.specs.Judged.{AllPass, AreJudged, CountOf, NonePass, OnlySomePass, is_green, is_red}
@@ -24,7 +27,6 @@ use Rattle.arrival_measures.specs.Steps.{due_of}
 use Rattle.arrival_measures.specs.Hours.{AreActuations, AreArrivals, HasActuations, HasArrivals, HasJudged, added, counts_in, due_in, is_last, is_seen, no_arrivals}
 use Rattle.arrival_measures.proofs.Counting.{count_low}
 use Rattle.arrival_measures.proofs.Filters.{filter_none, filter_same}
-use Rattle.arrival_measures.proofs.Between.{ordered_low}
 use Rattle.arrival_measures.proofs.Travels.{arrivals_in, arrivals_more, at_ordered, early_late, in_ordered, passing-append}
 use Rattle.hour_work.specs.Numbers.{Numbers, total_of}
 use Rattle.hour_work.specs.Rows.{earlier_rows, own_rows}
@@ -32,7 +34,7 @@ use Rattle.hour_work.specs.Measures.{MayBeIn}
 use Rattle.hour_work.proofs.WholeLog.{all_rows, earlier_ordered, more_rows, own_ordered}
 use Rattle.measure_laws.specs.Sums.{AreCountable}
 use Rattle.measure_laws.specs.Totals.{AreNumbersOf, AreTotalsOf, ArrivalTotals, HaveTotals}
-use Rattle.measure_laws.proofs.Adding.{arrivals_few, filter_few, passing_few, uncapped}
+use Rattle.measure_laws.proofs.Adding.{arrivals_few, passing_few}
 use Rattle.measure_laws.proofs.Totals.{all_total, each_as, each_of_places, few_upto, filter_all}
 
 -- ---- two parts of a list
@@ -55,7 +57,7 @@ count_both : {X : Type 0} (P : X → Type 0) (xs ys : List X) (m n : ℕ) → le
 count_both P xs ys m n few h k =
     let both = count_join P xs ys m n h k in
     let low = count_low P (xs ++ ys) (m + n) both in
-    subst (λ (j : ℕ). CountOf P (xs ++ ys) j) (sym (uncapped (m + n) (omega (arith, low, few)))) both
+    subst (λ (j : ℕ). CountOf P (xs ++ ys) j) (sym (capped_small (m + n) (omega (arith, low, few)))) both
 
 module _ (May : ℕ → ℕ → State → Type 0) (c : Settings) (p : ℕ) (test : ℕ → Bool) where
   judged_both : (xs ys : List Row) (a b d e f g : ℕ) → length (xs ++ ys) < 2 ^ 64 → AreJudged May c p test xs a b d → AreJudged May c p test ys e f g → AreJudged May c p test (xs ++ ys) (capped (a + e)) (capped (b + f)) (capped (d + g))
@@ -74,7 +76,7 @@ module _ (May : ℕ → ℕ → State → Type 0) (c : Settings) (p : ℕ) (test
 lengths_both : {X : Type 0} (xs ys : List X) (m n : ℕ) → length (xs ++ ys) < 2 ^ 64 → m ≡ length xs → n ≡ length ys → capped (m + n) ≡ length (xs ++ ys)
 lengths_both xs ys m n few e f =
     let both = length-append xs ys in
-    uncapped (m + n) (omega (arith, both, few)) ∙ omega (arith, both)
+    capped_small (m + n) (omega (arith, both, few)) ∙ omega (arith, both)
 
 -- the numbers of two lists of arrivals, and of fault rows
 numbers_both : (c : Settings) (s : Store) (a : Approach) (xs ys fs gs : List Row) (t p : ArrivalSum) → AreCountable (xs ++ ys) → AreCountable (fs ++ gs) → AreNumbersOf c s a xs fs t → AreNumbersOf c s a ys gs p → AreNumbersOf c s a (xs ++ ys) (fs ++ gs) (added t p)
@@ -83,8 +85,8 @@ numbers_both c s a xs ys fs gs t p few few_faults h k =
     let hidden : Row → Bool = λ x. not (is_known s x.at) in
     let seen : filter sees (xs ++ ys) ≡ filter sees xs ++ filter sees ys = filter-append sees xs ys in
     let other : filter hidden (xs ++ ys) ≡ filter hidden xs ++ filter hidden ys = filter-append hidden xs ys in
-    let some = filter_few sees (xs ++ ys) in
-    let rest = filter_few hidden (xs ++ ys) in
+    let some = length_filter sees (xs ++ ys) in
+    let rest = length_filter hidden (xs ++ ys) in
     let few_seen : length (filter sees xs ++ filter sees ys) < 2 ^ 64 = subst (λ (zs : List Row). length zs < 2 ^ 64) seen (omega (arith, some, few)) in
     let few_other : length (filter hidden xs ++ filter hidden ys) < 2 ^ 64 = subst (λ (zs : List Row). length zs < 2 ^ 64) other (omega (arith, rest, few)) in
     record {
@@ -101,7 +103,7 @@ ons_both : (test : List Row → Row → Bool) (d : ℕ) (before rows : List Row)
 ons_both test d before rows = ap (λ zs. ons_of d zs) (passing-append test [] before rows) ∙ filter-append (is_on d) (passing_from test [] before) (passing_from test before rows)
 
 pub ons_few : (test : List Row → Row → Bool) (d : ℕ) (before rows : List Row) → length (ons_of d (passing_from test before rows)) ≤ length rows
-ons_few test d before rows = let a = filter_few (is_on d) (passing_from test before rows) in let b = passing_few test before rows in omega (arith, a, b)
+ons_few test d before rows = let a = length_filter (is_on d) (passing_from test before rows) in let b = passing_few test before rows in omega (arith, a, b)
 
 -- ---- the arrivals that count before a point
 
@@ -111,10 +113,6 @@ past_unknown s t le =
     let past : length s.hours ≤ t / 36000 = omega arith in
     let none : held_at s (t / 36000) ≡ None = get_or_past s.hours (t / 36000) None past in
     rw none refl
-
-and_true : (v : Bool) → (v && true) ≡ v
-and_true true = refl
-and_true false = refl
 
 none_both : (m n : ℕ) → m ≡ 0 → n ≡ 0 → capped (m + n) ≡ 0
 unfolding capped
@@ -160,7 +158,7 @@ module _ (c : Settings) (s : Store) (n : ℕ) (store : IsStore s) (size : length
     early_same =
         let old = arrivals_at known d v (earlier_rows s n) in
         let new = arrivals_in known d v (earlier_rows s n) (own_rows s n) in
-        let late : All (λ (z : Row). point n ≤ z.at) new = ordered_low (point n + v) (point (n + 1) + v) (point n) new (omega arith) (in_ordered known d v (earlier_rows s n) (point n) (point (n + 1)) (own_rows s n) (own_ordered s n store)) in
+        let late : All (λ (z : Row). point n ≤ z.at) new = from_first (point n + v) (point (n + 1) + v) (point n) new (omega arith) (in_ordered known d v (earlier_rows s n) (point n) (point (n + 1)) (own_rows s n) (own_ordered s n store)) in
         let none : filter before_hour new ≡ [] = filter_none before_hour new (All-weaker (λ (z : Row). point n ≤ z.at) (λ z. before_hour z ≡ false) (λ z le. le-ltb z.at (point n) le) new late) in
         let all : filter before_hour all_rows_at ≡ filter before_hour old =
         ap (λ zs. filter before_hour zs) (arrivals_more known d v (earlier_rows s n) (own_rows s n))
@@ -213,12 +211,12 @@ module _ (c : Settings) (s : Store) (n : ℕ) (store : IsStore s) (size : length
     due_unseen = filter_same (λ (x : Row). not (is_seen known n x)) (λ x. not (known x.at)) due (All-weaker (λ (x : Row). is_seen known n x ≡ known x.at) (λ x. not (is_seen known n x) ≡ not (known x.at)) (λ x e. ap (λ b. not b) e) due all_known)
 
     due_few : length due ≤ length whole
-    due_few = let a = filter_few (counts_in c n) all_rows_at in let b = arrivals_few known d v whole in omega (arith, a, b)
+    due_few = let a = length_filter (counts_in c n) all_rows_at in let b = arrivals_few known d v whole in omega (arith, a, b)
 
     upto_few : length (upto c s d v n ++ due) ≤ length whole
     upto_few =
         let q : Row → Bool = λ x. nat_le c.window.hours (suc n) || nat_lt x.at (point (suc n)) in
-        let a = filter_few q (arrivals_at known d v (earlier_rows s (suc n))) in
+        let a = length_filter q (arrivals_at known d v (earlier_rows s (suc n))) in
         let b = arrivals_few known d v (earlier_rows s (suc n)) in
         let e = ap (λ (zs : List Row). length zs) upto_more in
         let f = ap (λ (zs : List Row). length zs) next in
@@ -230,15 +228,15 @@ module _ (c : Settings) (s : Store) (n : ℕ) (store : IsStore s) (size : length
       let v = a.travel in
       let few_due = due_few d v in
       let hidden = filter (λ (x : Row). not (is_seen (is_known s) n x)) (due d v) in
-      let few_hidden = filter_few (λ (x : Row). not (is_seen (is_known s) n x)) (due d v) in
+      let few_hidden = length_filter (λ (x : Row). not (is_seen (is_known s) n x)) (due d v) in
       let faults = ons_of d (faults_from (is_known s) (earlier_rows s n) (own_rows s n)) in
       let few_faults = ons_few (is_fault_row (is_known s)) d (earlier_rows s n) (own_rows s n) in
       let size_is = length-append (earlier_rows s n) (own_rows s n) in
       record {
-        arrivals = is.arrivals ∙ uncapped (length (due d v)) (omega (arith, few_due, few));
+        arrivals = is.arrivals ∙ capped_small (length (due d v)) (omega (arith, few_due, few));
         judged = subst (λ (zs : List Row). AreJudged (MayBeIn c s) c a.phase is_green zs p.green p.not_green p.undecided) (due_seen d v) is.judged;
-        unseen = is.unseen ∙ (uncapped (length hidden) (omega (arith, few_due, few_hidden, few)) ∙ ap (λ (zs : List Row). length zs) (due_unseen d v));
-        fault = is.fault ∙ uncapped (length faults) (omega (arith, few_faults, size_is, few));
+        unseen = is.unseen ∙ (capped_small (length hidden) (omega (arith, few_due, few_hidden, few)) ∙ ap (λ (zs : List Row). length zs) (due_unseen d v));
+        fault = is.fault ∙ capped_small (length faults) (omega (arith, few_faults, size_is, few));
       }
 
 -- ---- hour by hour

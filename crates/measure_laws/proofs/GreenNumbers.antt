@@ -5,6 +5,7 @@ use Rattle.std.proofs.lemmas.Bool.{and_parts, cases_Bool, leb-true, ltb-true}
 use Rattle.std.proofs.lemmas.List.Sums.{sum_by-cons}
 use Rattle.sig_base.specs.declared.values.Row.{Row}
 use Rattle.sig_base.specs.Numbers.{has_phase}
+use Rattle.sig_base.proofs.Each.{Each}
 use Rattle.board.specs.Channels.{AreSpecs}
 use Rattle.hour_store.specs.Store.{IsStore, Store, is_known}
 use Rattle.hour_sums.specs.Numbers.{one_if}
@@ -20,7 +21,6 @@ use Rattle.cycle_arrivals.specs.Green.{shows_green, tenths_with}
 use Rattle.arrival_measures.specs.Judged.{CountOf, phase_channel}
 use Rattle.hour_work.specs.Rows.{earlier_rows, own_rows}
 use Rattle.hour_work.specs.Measures.{cycles_in}
-use Rattle.hour_work.proofs.PlacedLaws.{Each}
 use Rattle.hour_work.proofs.ArrivalLaws.{each_kept}
 use Rattle.hour_work.proofs.GreenLaws.{cycle_shows, place_within}
 use Rattle.hour_work.proofs.OneLaws.{end_state}

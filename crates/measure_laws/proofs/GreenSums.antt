@@ -24,11 +24,12 @@ use Rattle.arrival_measures.specs.Judged.{CountOf, phase_channel}
 use Rattle.arrival_measures.specs.Hours.{HasArrivals, HaveCycles, cycle_numbers, cycle_part, cycles_of, no_sum}
 use Rattle.arrival_measures.specs.Travel.{told}
 use Rattle.state_tenths.specs.Ranges.{Counts}
+use Rattle.arrival_measures.proofs.Telling.{within-append}
 use Rattle.hour_work.specs.Rows.{earlier_rows, own_rows}
 use Rattle.hour_work.specs.Measures.{MayBeIn, cycles_in, over_hours}
 use Rattle.hour_work.specs.Numbers.{Numbers, total_of}
 use Rattle.hour_work.specs.Reports.{IsReport}
-use Rattle.hour_work.proofs.ColourLaws.{none_within, within_both}
+use Rattle.hour_work.proofs.ColourLaws.{none_within}
 use Rattle.hour_work.proofs.Totals.{log_total}
 use Rattle.hour_work.proofs.WholeLog.{earlier_ordered, hour_within, over_log, own_ordered}
 use Rattle.measure_laws.specs.Green.{AreCycleSums, HaveCycleSums, HourGreen, IsGreenAt, TotalGreen}
@@ -60,7 +61,7 @@ module _ (c : Settings) (s : Store) (specs : AreSpecs c.specs) (store : IsStore 
       let both = earlier_rows s hour ++ own_rows s hour in
       ap (λ zs. greens p false zs)
       (ap (λ zs. rows_within a (t + 1) zs) (w.parts ∙ sym (append_assoc (earlier_rows s hour) (own_rows s hour) w.later))
-      ∙ (within_both a (t + 1) both w.later
+      ∙ (within-append a (t + 1) both w.later
       ∙ (ap (λ zs. rows_within a (t + 1) both ++ zs) (none_within a (t + 1) (point (hour + 1)) (point (length s.hours)) w.later (omega arith) w.order)
       ∙ append-nil (rows_within a (t + 1) both))))
 

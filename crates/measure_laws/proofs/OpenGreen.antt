@@ -1,10 +1,11 @@
 -- In a cycle that has begun the rows say whether the phase is green.
-use Rattle.std.proofs.Common.{◌≡◌, ◌∙◌, refl, ap, sym, subst, inl, inr, ℕ, ◌+◌, ◌<◌, ◌≤◌, Bool, true, false, cond, ◌&&◌, ◌||◌, nat_le, nat_lt, Option, Some, None, List, [], ◌∷◌, ◌++◌, length, get_or, take, append_assoc, arith}
+use Rattle.std.proofs.Common.{◌≡◌, ◌∙◌, ap, sym, subst, inl, inr, ℕ, ◌+◌, ◌<◌, ◌≤◌, Bool, true, false, ◌&&◌, nat_le, nat_lt, Option, Some, None, List, [], ◌∷◌, ◌++◌, length, take, arith}
 use Rattle.std.specs.List.{filter}
 use Rattle.std.proofs.lemmas.Bool.{cases_Bool, cases_lt}
 use Rattle.std.proofs.lemmas.List.{append-nil}
 use Rattle.std.proofs.lemmas.List.Elements.{filter-append}
 use Rattle.sig_base.specs.declared.values.Row.{Row}
+use Rattle.sig_base.proofs.Each.{Each}
 use Rattle.event_codes.specs.declared.channels.Channel.{Channel}
 use Rattle.channel_tables.specs.Letters.{IsNumber}
 use Rattle.board.specs.Channels.{AreSpecs}
@@ -15,52 +16,32 @@ use Rattle.hour_sweep.specs.Rows.{live}
 use Rattle.hour_sweep.proofs.Known.{live_lost}
 use Rattle.hour_sweep.proofs.Orders.{ordered-append}
 use Rattle.reach.specs.Runs.{State}
-use Rattle.board.specs.History.{History}
 use Rattle.ring_config.specs.Settings.{Settings, spec_place}
-use Rattle.signal_log.specs.Log.{AgreesWith, Log, log_of, window_end}
-use Rattle.signal_log.specs.States.{IsAtEndOf}
+use Rattle.signal_log.specs.Log.{log_of, window_end}
 use Rattle.service_cut.specs.declared.items.OpenCycle.{OpenCycle}
 use Rattle.service_cut.specs.Cycles.{cycle_begun_in, cycle_begun_of, last_end_from}
 use Rattle.service_cut.specs.Parts.{open_cycle_of}
-use Rattle.service_cut.specs.Whole.{AllKnown, IsYellowEnd}
+use Rattle.service_cut.specs.Whole.{IsYellowEnd}
 use Rattle.service_cut.proofs.WholeCycles.{EndIs, end_is}
 use Rattle.service_cut.proofs.YellowEnds.{yellow_is}
 use Rattle.cycle_arrivals.specs.Arrivals.{rows_within}
-use Rattle.cycle_arrivals.specs.Green.{green_after, greens, shows_green}
+use Rattle.cycle_arrivals.specs.Green.{greens, shows_green}
 use Rattle.cycle_arrivals.specs.Own.{turns_green}
 use Rattle.cycle_arrivals.proofs.Own.{filter_less, filter_swap}
+use Rattle.cycle_arrivals.proofs.Parts.{greens_turns}
 use Rattle.arrival_measures.specs.Judged.{is_green, phase_channel}
 use Rattle.arrival_measures.specs.Travel.{arrivals_at, told}
 use Rattle.arrival_measures.proofs.Travels.{at_on, no_turns}
+use Rattle.arrival_measures.proofs.Telling.{within-append}
 use Rattle.hour_work.specs.Rows.{earlier_rows, own_rows}
 use Rattle.hour_work.specs.Measures.{MayBeIn}
-use Rattle.hour_work.proofs.PlacedLaws.{Each}
 use Rattle.hour_work.proofs.ArrivalLaws.{each_known}
-use Rattle.hour_work.proofs.ColourLaws.{cut_at, none_within, told as told_by, told_since, within_both}
-use Rattle.hour_work.proofs.GreenLaws.{IsBegun, begun_after, each_at, green_told, place_channel, place_within, yellow_told}
-use Rattle.hour_work.proofs.PhaseLaws.{green_tells, greens_told, yellow_after, yellow_tells}
+use Rattle.hour_work.proofs.ColourLaws.{none_within}
+use Rattle.hour_work.proofs.GreenLaws.{IsBegun, each_at, place_channel, place_within, regroup, phase_told}
 use Rattle.hour_work.proofs.WholeLog.{all_rows, earlier_ordered, hour_within, own_ordered}
 use Rattle.measure_laws.specs.Green.{AreTold}
 
 -- ---- rows that tell the same of a phase
-
-quiet : (b e g : Bool) → (b || e) ≡ false → cond b true (cond e false g) ≡ g
-quiet true e g h = absurd (cc)
-quiet false true g h = absurd (cc)
-quiet false false g h = refl
-
-other_green : (p : ℕ) (x : Row) (g : Bool) → turns_green p x ≡ false → green_after p x g ≡ g
-other_green p x g e = quiet _ _ g e
-
-greens_turns : (p : ℕ) (g : Bool) (xs : List Row) → greens p g (filter (turns_green p) xs) ≡ greens p g xs
-greens_turns p g [] = refl
-greens_turns p g (x ∷ xs) = elim (cases_Bool (turns_green p x)) [
-  | inl e ↦ ap (λ v. greens p g (cond v (x ∷ filter (turns_green p) xs) (filter (turns_green p) xs))) e ∙ greens_turns p (green_after p x g) xs
-  | inr e ↦
-      ap (λ v. greens p g (cond v (x ∷ filter (turns_green p) xs) (filter (turns_green p) xs))) e
-      ∙ (greens_turns p g xs
-      ∙ ap (λ v. greens p v xs) (sym (other_green p x g e)))
-]
 
 told_turns : (known : ℕ → Bool) (p d v : ℕ) (rows : List Row) → filter (turns_green p) (told known p d v rows) ≡ filter (turns_green p) rows
 unfolding told
@@ -85,29 +66,6 @@ told_shows known p a t rows ts (inl e) = ap (λ zs. greens p false (rows_within 
 told_shows known p a t rows ts (inr (d, v, e)) = within_turns p a (t + 1) ts rows (ap (λ zs. filter (turns_green p) zs) e ∙ told_turns known p d v rows)
 
 -- ---- in a history
-
--- from the row at which a cycle begins on, its rows say whether the phase is green
-phase_told : (log : Log) (h : History) (agrees : AgreesWith log h) (i p low end : ℕ) → (get_or log.specs i no_spec).channel ≡ phase_channel p → 1 ≤ p → p ≤ 16 → (order : AreOrdered low end log.rows) (b : IsBegun p log.rows) (t : ℕ) (v : State) → b.f.at ≤ t → t < window_end log → AllKnown log.known b.y.at t → IsAtEndOf log h i t v → is_green v.colour ≡ greens p false (rows_within b.f.at (t + 1) log.rows)
-phase_told log h agrees i p low end channel few many order b t v le lt all at =
-    let spec = get_or log.specs i no_spec in
-    let rows = log.rows in
-    let after = begun_after p low end rows order b in
-    let last = cut_at log h agrees i b.f.at (t + 1) v (omega arith) (omega arith) at in
-    let z = last.between in
-    let seen = rows_within b.f.at (t + 1) rows in
-    let told_here : is_green v.colour ≡ told_by (green_after p) (is_green z.colour) seen =
-    told_since log h agrees i b.f.at (t + 1) low end (green_after p) (λ d c. is_green c ≡ d) (green_tells spec p channel few many) order (omega arith) (omega arith) (λ u lo hi. all u (omega arith) (omega arith)) (is_green z.colour) v last refl in
-    let begin : told_by (green_after p) (is_green z.colour) seen ≡ told_by (green_after p) false seen = elim (cases_lt b.y.at b.f.at) [
-      | inl earlier ↦
-          let first = cut_at log h agrees i b.y.at b.f.at z (omega arith) (omega arith) last.first in
-          let shown = told_since log h agrees i b.y.at b.f.at low end (yellow_after p) (λ d c. d ≡ true → c ≡ 4) (yellow_tells spec p channel few many) order (omega arith) (omega arith) (λ u lo hi. all u (omega arith) (omega arith)) false z first (λ e. absurd (cc)) (yellow_told p low end rows order b earlier) in
-          ap (λ (c : ℕ). told_by (green_after p) (is_green c) seen) shown
-      | inr same ↦ green_told p low end rows order b t (is_green z.colour) same le
-    ] in
-    told_here ∙ (begin ∙ sym (greens_told p false seen))
-
-regroup : (us : List Row) (y : Row) (vs : List Row) (f : Row) (ws zs : List Row) → ((us ++ y ∷ vs) ++ f ∷ ws) ++ zs ≡ us ++ y ∷ (vs ++ f ∷ (ws ++ zs))
-regroup us y vs f ws zs = simp append_assoc
 
 -- ---- the rows before an hour point, and those after it
 
@@ -197,7 +155,7 @@ open_shows c s k p i t x specs store le place is_open low high v (h, agrees, end
     let all_known : (u : ℕ) → y.y.at ≤ u → u ≤ t → known u ≡ true = λ u lo hi. elim (cases_lt u f.at) [ inl less ↦ y.all_known u lo (omega arith) | inr more ↦ is.all_known u more (omega arith) ] in
     let only : rows_within f.at (t + 1) (known_rows s) ≡ rows_within f.at (t + 1) before =
     ap (λ zs. rows_within f.at (t + 1) zs) w.parts
-    ∙ (within_both f.at (t + 1) before w.later
+    ∙ (within-append f.at (t + 1) before w.later
     ∙ (ap (λ zs. rows_within f.at (t + 1) before ++ zs) (none_within f.at (t + 1) (point k) end w.later (omega arith) w.order)
     ∙ append-nil (rows_within f.at (t + 1) before))) in
     phase_told log h agrees i p 0 end channel number.0 number.1 order begun t v from within all_known ends

@@ -31,7 +31,10 @@ use Rattle.service_cut.specs.Cut.{cycle_is_in, cycles_from, service_is_in, servi
 use Rattle.service_cut.specs.Cycles.{cycle_at}
 use Rattle.service_cut.specs.Services.{service_at}
 use Rattle.service_cut.proofs.HourLists.{cycles_count, services_count}
+use Rattle.hour_sums.proofs.Adding.{capped_small}
 use Rattle.split_windows.specs.Windows.{due, left}
+use Rattle.ring_config.proofs.SpecLaws.{length_filter}
+use Rattle.stop_bar.proofs.Common.{each_long}
 use Rattle.split_measures.specs.declared.failures.SplitSum.{SplitSum}
 use Rattle.split_measures.specs.declared.sums.PhaseSum.{PhaseSum}
 use Rattle.split_measures.specs.declared.verdict.SplitVerdict.{SplitVerdict}
@@ -40,6 +43,7 @@ use Rattle.split_measures.specs.Failures.{how_many, is_verdict, split_sum_of}
 use Rattle.split_measures.specs.Hours.{IsApproachSum, open_in, opens_of}
 use Rattle.split_measures.specs.Verdicts.{IsVerdict}
 use Rattle.split_measures.specs.Phases.{cycle_length, cycles_of as cycles_of_phase, is_end, phase_sum, phase_sum_of, phase_sums, services_of, split}
+use Rattle.split_measures.proofs.Opening.{all_open, none_else}
 use Rattle.other_measures.specs.declared.sums.CoordSum.{CoordSum}
 use Rattle.other_measures.specs.declared.sums.PedSum.{PedSum}
 use Rattle.other_measures.specs.declared.sums.PreemptSum.{PreemptSum}
@@ -49,6 +53,7 @@ use Rattle.other_measures.specs.Peds.{delay_at, is_call, is_walk}
 use Rattle.other_measures.specs.Preempts.{call_of, delay_of, event_at, is_dwell, is_entry, is_exit}
 use Rattle.other_measures.specs.States.{EachOf}
 use Rattle.other_measures.specs.Sums.{delay_in, dwell_in, is_entry_event, is_late_entry, is_late_exit, is_not_begun, is_partial, ped_sum_of, preempt_sum_of, ran}
+use Rattle.other_measures.proofs.Stores.{each_as}
 use Rattle.cycle_arrivals.specs.Arrivals.{is_on, ons_of, rows_within}
 use Rattle.cycle_arrivals.specs.Green.{arrivals_in, green_arrivals_in, green_tenths_in, shows_green}
 use Rattle.cycle_arrivals.specs.Own.{turns_green}
@@ -67,8 +72,8 @@ use Rattle.hour_work.proofs.WholeLog.{all_rows, earlier_ordered, hour_within, ow
 use Rattle.measure_laws.specs.Plain.{ArePlain, ArePlainCycles, ArePlainVerdicts, HasPlainRows, HavePlainActuations, HavePlainArrivals, HavePlainCycles, HavePlainVerdicts, IsPlainHour, IsPlainPed, IsPlainPhase, IsPlainPreempt, IsPlainTotal, SumsArePlain, no_verdicts}
 use Rattle.measure_laws.specs.Sums.{AreCountable}
 use Rattle.measure_laws.specs.Totals.{AreTotalsOf, HaveTotals, IsApproachTotal}
-use Rattle.measure_laws.proofs.Adding.{all_few, arrivals_few, cons_few, each_long, filter_few, open_few, outs_few, two_few, uncapped}
-use Rattle.measure_laws.proofs.States.{each_as, state_totals}
+use Rattle.measure_laws.proofs.Adding.{all_few, arrivals_few, cons_few, open_few, outs_few, two_few}
+use Rattle.measure_laws.proofs.States.{state_totals}
 use Rattle.measure_laws.proofs.Arrivals.{arrival_totals, ons_few}
 use Rattle.measure_laws.proofs.Splits.{split_totals}
 use Rattle.measure_laws.proofs.Totals.{each_as as each_of, each_of_places}
@@ -96,7 +101,7 @@ rows_few (Some h ∷ hs) f =
 known_few : (s : Store) → IsStore s → length (known_rows s) ≤ 297600000
 known_few s store =
     let all = rows_few s.hours (λ j h e. (store.in_place j h e).rows_are.few) in
-    let kept = filter_few (λ (r : Row). is_known s r.at) (rows_of s.hours) in
+    let kept = length_filter (λ (r : Row). is_known s r.at) (rows_of s.hours) in
     let most = store.few in
     omega (arith, all, kept, most)
 
@@ -139,13 +144,13 @@ part_few before rows part = let both = length-append before rows in let few = pa
 sum_plain : {X : Type 0} (f : X → ℕ) (xs : List X) → length xs ≤ 297600000 → All (λ x. f x ≤ 600000000) xs → capped (sum (map f xs)) ≡ sum_by f xs
 sum_plain f xs few small =
     let most = sum_by-le f 600000000 xs small in
-    ap (λ (n : ℕ). capped n) (sum-map f xs) ∙ uncapped (sum_by f xs) (omega (arith, most, few))
+    ap (λ (n : ℕ). capped n) (sum-map f xs) ∙ capped_small (sum_by f xs) (omega (arith, most, few))
 
 count_plain : {X : Type 0} (test : X → Bool) (xs : List X) → length xs ≤ 297600000 → capped (count_by test xs) ≡ count_by test xs
-count_plain test xs few = let most = count_by-le-length test xs in uncapped (count_by test xs) (omega (arith, most, few))
+count_plain test xs few = let most = count_by-le-length test xs in capped_small (count_by test xs) (omega (arith, most, few))
 
 length_plain : {X : Type 0} (xs : List X) → length xs ≤ 297600000 → capped (length xs) ≡ length xs
-length_plain xs few = uncapped (length xs) (omega (arith, few))
+length_plain xs few = capped_small (length xs) (omega (arith, few))
 
 -- ---- phases
 
@@ -188,8 +193,8 @@ phase_plain ss cs p few some short_ss short_cs =
     let is_its : Cycle → Bool = λ c. eqb c.phase p in
     let own = services_of p ss in
     let its = cycles_of_phase p cs in
-    let a = filter_few is_own ss in
-    let b = filter_few is_its cs in
+    let a = length_filter is_own ss in
+    let b = length_filter is_its cs in
     let few_own : length own ≤ 297600000 = omega (arith, a, few) in
     let few_its : length its ≤ 297600000 = omega (arith, b, some) in
     record {
@@ -250,7 +255,7 @@ IsShort n = n ≤ 600000000
 -- what is given of one number
 module _ {X : Type 0} (xs : List X) (p : ℕ) (few : length xs ≤ 297600000) where
   own_few : (number : X → ℕ) → length (own number p xs) ≤ 297600000
-  own_few number = let a = filter_few (λ x. eqb (number x) p) xs in omega (arith, a, few)
+  own_few number = let a = length_filter (λ x. eqb (number x) p) xs in omega (arith, a, few)
 
   own_length : (number : X → ℕ) → capped (length (own number p xs)) ≡ length (own number p xs)
   own_length number = length_plain (own number p xs) (own_few number)
@@ -262,7 +267,7 @@ module _ {X : Type 0} (xs : List X) (p : ℕ) (few : length xs ≤ 297600000) wh
   own_kept number h =
       let less = kept_few h (own number p xs) in
       let most = own_few number in
-      uncapped (length (filter_map h (own number p xs))) (omega (arith, less, most))
+      capped_small (length (filter_map h (own number p xs))) (omega (arith, less, most))
 
   own_sum : (number : X → ℕ) (h : X → Option ℕ) → All (λ x. IfSome (h x) IsShort) xs → capped (sum (filter_map h (own number p xs))) ≡ sum (filter_map h (own number p xs))
   own_sum number h all =
@@ -271,7 +276,7 @@ module _ {X : Type 0} (xs : List X) (p : ℕ) (few : length xs ≤ 297600000) wh
       let low = own_few number in
       let short = All-filter (λ x. eqb (number x) p) (λ x. IfSome (h x) IsShort) xs all in
       let most = sum_by-le (λ (n : ℕ). n) 600000000 (filter_map h mine) (kept_so IsShort h mine short) in
-      uncapped (sum (filter_map h mine)) (omega (arith, less, most, low))
+      capped_small (sum (filter_map h mine)) (omega (arith, less, most, low))
 
 -- ---- pedestrian signals
 
@@ -363,7 +368,7 @@ rows_plain rows n few h = record {
 told_few : (known : ℕ → Bool) (p d v : ℕ) (rows : List Row) → length (told known p d v rows) ≤ length rows + length rows
 unfolding told
 told_few known p d v rows =
-    let a = filter_few (turns_green p) rows in
+    let a = length_filter (turns_green p) rows in
     let b = arrivals_few known d v rows in
     let both = length-append (filter (turns_green p) rows) (arrivals_at known d v rows) in
     omega (arith, a, b, both)
@@ -371,14 +376,14 @@ told_few known p d v rows =
 -- in any tenths there are no more rows than in all
 within_few : (d a b : ℕ) (rows : List Row) → arrivals_in d a b rows ≤ length rows
 within_few d a b rows =
-    let x = filter_few (is_on d) (rows_within a b rows) in
-    let y = filter_few (λ (r : Row). nat_le a r.at && nat_lt r.at b) rows in
+    let x = length_filter (is_on d) (rows_within a b rows) in
+    let y = length_filter (λ (r : Row). nat_le a r.at && nat_lt r.at b) rows in
     omega (arith, x, y)
 
 within_green : (p d a b : ℕ) (rows : List Row) → green_arrivals_in p d a b rows ≤ length rows
 within_green p d a b rows =
     let x = count_by-le-length (λ (r : Row). is_on d r && shows_green p a rows r.at) (rows_within a b rows) in
-    let y = filter_few (λ (r : Row). nat_le a r.at && nat_lt r.at b) rows in
+    let y = length_filter (λ (r : Row). nat_le a r.at && nat_lt r.at b) rows in
     omega (arith, x, y)
 
 cycles_plain : (p d : ℕ) (rows : List Row) (cs : List Cycle) → length rows ≤ 595200000 → length cs ≤ 297600000 → All (λ (x : Cycle). cycle_length x ≤ 600000000) cs → ArePlainCycles p d rows cs (numbers_of p d rows cs)
@@ -401,7 +406,7 @@ have_plain known c before rows a n (Some d) part e =
     let most = part.few in
     let few = part_few before rows part in
     let outs = outs_few (λ p earlier r rest. cycle_at known p earlier r) (has_phase c.phases) before rows in
-    let kept = filter_few is_its all in
+    let kept = length_filter is_its all in
     subst (λ (m : CycleNumbers). ArePlainCycles a.phase d seen its m) (sym e)
     (cycles_plain a.phase d seen its (omega (arith, less, most)) (omega (arith, outs, kept, few)) (All-filter is_its (λ (x : Cycle). cycle_length x ≤ 600000000) all (cycles_short known c before rows part)))
 
@@ -422,18 +427,6 @@ count_both v xs ys = sum_by-append (λ (x : SplitVerdict). cond (is_verdict v x)
 
 count_more : (v w : SplitVerdict) (vs : List SplitVerdict) → count_by (is_verdict v) (w ∷ vs) ≡ one_if (is_verdict v w) + count_by (is_verdict v) vs
 count_more v w vs = sum_by-cons (λ (x : SplitVerdict). cond (is_verdict v x) 1 0) w vs
-
--- those that are open have no other verdict
-not_counted : (v : SplitVerdict) (ws : List Service) → is_verdict v Open ≡ false → count_by (is_verdict v) (opens_of ws) ≡ 0
-not_counted v [] e = refl
-not_counted v (w ∷ ws) e =
-    let one = count_more v Open (opens_of ws) ∙ ap (λ (t : Bool). one_if t + count_by (is_verdict v) (opens_of ws)) e in
-    let rest = not_counted v ws e in
-    omega (arith, one, rest)
-
-open_counted : (ws : List Service) → count_by (is_verdict Open) (opens_of ws) ≡ length ws
-open_counted [] = refl
-open_counted (w ∷ ws) = let one = count_more Open Open (opens_of ws) in let rest = open_counted ws in omega (arith, one, rest)
 
 -- and of those that are judged none is open
 none_open : (log : Log) (i : ℕ) (high : Frac) (ss : List Service) (vs : List SplitVerdict) → Each (λ s v. IsVerdict log i high s v) ss vs → count_by (is_verdict Open) vs ≡ 0
@@ -456,7 +449,7 @@ module _ (vs : List SplitVerdict) (ws : List Service) (few : length vs + length 
       count_plain (is_verdict v) xs (omega (arith, opens, size, few)) ∙ count_both v vs (opens_of ws)
 
   judged_counted : (v : SplitVerdict) → is_verdict v Open ≡ false → how_many v (vs ++ opens_of ws) ≡ count_by (is_verdict v) vs
-  judged_counted v e = let both = counted v in let none = not_counted v ws e in omega (arith, both, none)
+  judged_counted v e = let both = counted v in let none = none_else v ws e in omega (arith, both, none)
 
 verdicts_plain : (log : Log) (i : ℕ) (b : StopBar) (judged waiting : List Service) (n : SplitSum) (vs : List SplitVerdict) → length judged + length waiting ≤ 297600000 → Each (λ s v. IsVerdict log i b.high s v) judged vs → n ≡ split_sum_of (vs ++ opens_of waiting) → ArePlainVerdicts log i b judged waiting n
 unfolding split_sum_of
@@ -465,7 +458,7 @@ verdicts_plain log i b judged waiting n vs few each e =
     let low : length vs + length waiting ≤ 297600000 = omega (arith, long, few) in
     let all = counted vs waiting low Open in
     let none = none_open log i b.high judged vs each in
-    let opens = open_counted waiting in
+    let opens = all_open waiting in
     let kept : how_many Open (vs ++ opens_of waiting) ≡ length waiting = omega (arith, all, none, opens) in
     record {
       verdicts = vs;
@@ -513,9 +506,9 @@ hour_arrivals c s hour a x (Some d) part is =
     let upto = earlier_rows s hour ++ own_rows s hour in
     let ons = due_in (is_known s) c hour d a.travel upto in
     let hidden : Row → Bool = λ z. not (is_seen (is_known s) hour z) in
-    let p = filter_few (counts_in c hour) (arrivals_at (is_known s) d a.travel upto) in
+    let p = length_filter (counts_in c hour) (arrivals_at (is_known s) d a.travel upto) in
     let q = arrivals_few (is_known s) d a.travel upto in
-    let r = filter_few hidden ons in
+    let r = length_filter hidden ons in
     let f = ons_few (is_fault_row (is_known s)) d (earlier_rows s hour) (own_rows s hour) in
     let few = part.few in
     let low = part_few (earlier_rows s hour) (own_rows s hour) part in

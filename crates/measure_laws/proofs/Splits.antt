@@ -8,7 +8,6 @@ use Rattle.sig_base.specs.declared.values.PhaseItem.{PhaseItem}
 use Rattle.sig_base.specs.declared.values.Row.{Row}
 use Rattle.board.specs.Logs.{end_tenth, first_tenth}
 use Rattle.hour_store.specs.Store.{IsStore, Store, is_known, known_rows}
-use Rattle.hour_sums.proofs.Adding.{count-add}
 use Rattle.hour_sweep.specs.Hours.{AreOrdered, point}
 use Rattle.hour_sweep.specs.Passes.{back, front}
 use Rattle.hour_sweep.proofs.Orders.{ordered-append, split_rows}
@@ -26,10 +25,10 @@ use Rattle.stop_bar.specs.Lists.{Each}
 use Rattle.stop_bar.proofs.Listing.{ends_between, services_split}
 use Rattle.split_measures.specs.declared.failures.SplitSum.{SplitSum}
 use Rattle.split_measures.specs.declared.verdict.SplitVerdict.{SplitVerdict}
-use Rattle.split_measures.specs.declared.verdict.SplitVerdict.TheVariants.{Fail, Pass, Undecided, Open, Fault}
-use Rattle.split_measures.specs.Failures.{both_sums, is_verdict, split_sum_of}
+use Rattle.split_measures.specs.Failures.{both_sums, split_sum_of}
 use Rattle.split_measures.specs.Hours.{IsApproachSum, IsSplitSum, open_in, opens_of}
 use Rattle.split_measures.specs.Verdicts.{IsVerdict}
+use Rattle.split_measures.proofs.Failing.{sums_append}
 use Rattle.arrival_measures.proofs.Filters.{filter_none, filter_same}
 use Rattle.hour_work.specs.Numbers.{Numbers, total_of}
 use Rattle.hour_work.specs.Rows.{earlier_rows, own_rows}
@@ -38,10 +37,6 @@ use Rattle.measure_laws.specs.Totals.{IsApproachTotal, SplitTotals}
 use Rattle.measure_laws.proofs.Totals.{all_total, each_as, filter_all}
 
 -- ---- sums of two lists of verdicts
-
-pub sums_join : (us vs : List SplitVerdict) → split_sum_of (us ++ vs) ≡ both_sums (split_sum_of us) (split_sum_of vs)
-unfolding split_sum_of
-sums_join us vs = rw (count-add (is_verdict Fail) us vs, count-add (is_verdict Pass) us vs, count-add (is_verdict Undecided) us vs, count-add (is_verdict Open) us vs, count-add (is_verdict Fault) us vs) refl
 
 each_join : {A B : Type 0} (R : A → B → Type 0) (xs us : List A) (ys vs : List B) → Each R xs ys → Each R us vs → Each R (xs ++ us) (ys ++ vs)
 each_join R [] us [] vs h k = k
@@ -174,7 +169,7 @@ module _ (c : Settings) (s : Store) where
         record {
           verdicts = us ++ vs;
           each = subst (λ ss. Each R ss (us ++ vs)) (over_more b) (each_join R (due (point n) (of_bar b (earlier_rows s n))) (ending (first_tenth n) (end_tenth n) (of_bar b whole)) us vs over is.each);
-          sums = e ∙ (ap (λ x. both_sums (split_sum_of us) x) is.sums ∙ (sym (sums_join us (vs ++ here)) ∙ (ap (λ xs. split_sum_of xs) (sym (append_assoc us vs here)) ∙ ap (λ xs. split_sum_of ((us ++ vs) ++ xs)) same)));
+          sums = e ∙ (ap (λ x. both_sums (split_sum_of us) x) is.sums ∙ (sym (sums_append us (vs ++ here)) ∙ (ap (λ xs. split_sum_of xs) (sym (append_assoc us vs here)) ∙ ap (λ xs. split_sum_of ((us ++ vs) ++ xs)) same)));
         }
 
   first : (store : IsStore s) (o : Option StopBar) (p : SplitSum) → IsPartOf 0 p o → IsTotalUpto 1 p o
@@ -182,7 +177,7 @@ module _ (c : Settings) (s : Store) where
   first store (Some b) p (i, at, is) =
       let xs = is.verdicts ++ opens_of (open_in c.window.hours 0 (of_bar b (own_rows s 0))) in
       let some = store.some in
-      let alone : p ≡ both_sums (split_sum_of []) p = is.sums ∙ (sums_join [] xs ∙ ap (λ x. both_sums (split_sum_of []) x) (sym is.sums)) in
+      let alone : p ≡ both_sums (split_sum_of []) p = is.sums ∙ (sums_append [] xs ∙ ap (λ x. both_sums (split_sum_of []) x) (sym is.sums)) in
       (i, at, with_hour 0 store (omega arith) i b [] p p tt is alone)
 
   -- before the last hour none is left open
@@ -193,7 +188,7 @@ module _ (c : Settings) (s : Store) where
       so.sums ∙ (ap (λ zs. split_sum_of (so.verdicts ++ opens_of zs)) none ∙ ap (λ zs. split_sum_of zs) (append-nil so.verdicts))
 
   more : (n : ℕ) → IsStore s → length s.hours ≡ c.window.hours → n < length s.hours → (o : Option StopBar) (t p : SplitSum) → IsTotalUpto n t o → IsPartOf n p o → IsTotalUpto (suc n) (both_sums t p) o
-  more n store size within None t p so is = ap₂ (λ x y. both_sums x y) so is ∙ sym (sums_join [] [])
+  more n store size within None t p so is = ap₂ (λ x y. both_sums x y) so is ∙ sym (sums_append [] [])
   more n store size within (Some b) t p (i, at, so) (j, there, is) =
       let one = subst (λ (k : ℕ). IsSplitSum (log_of c.specs s) c k b n (whole n store within) p) (one_place b i j at there) is in
       let e = none_open n i b t (omega arith) so in

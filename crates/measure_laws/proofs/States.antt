@@ -1,10 +1,11 @@
 -- Tenths in states, over all hours.
-use Rattle.std.proofs.Common.{◌≡◌, ◌∙◌, refl, ap, sym, subst, inl, inr, ℕ, zero, suc, ◌+◌, ◌<◌, Bool, true, false, Some, List, [], ◌∷◌, ◌++◌, length, get_or, length-append, arith}
+use Rattle.std.proofs.Common.{◌≡◌, ◌∙◌, refl, sym, subst, ℕ, zero, suc, ◌+◌, ◌<◌, Some, get_or, arith}
 use Rattle.event_codes.specs.declared.channels.Channel.{Channel}
-use Rattle.hour_sums.specs.Numbers.{capped, merged}
+use Rattle.hour_sums.specs.Numbers.{capped}
 use Rattle.hour_sweep.specs.Hours.{point}
 use Rattle.ring_config.specs.Settings.{Settings}
 use Rattle.sig_base.specs.Numbers.{has_number}
+use Rattle.hour_sums.proofs.Adding.{capped_small}
 use Rattle.state_tenths.specs.declared.asked.Asked.{Asked}
 use Rattle.state_tenths.specs.declared.asked.Asked.TheVariants.{Colour, NoneOf}
 use Rattle.state_tenths.specs.Ranges.{Counts}
@@ -13,46 +14,15 @@ use Rattle.other_measures.specs.declared.sums.CoordSum.{CoordSum}
 use Rattle.other_measures.specs.declared.sums.PedSum.{PedSum}
 use Rattle.other_measures.specs.declared.sums.PreemptSum.{PreemptSum}
 use Rattle.other_measures.specs.Hours.{AreStates, OtherNumbers, no_coordination, no_numbers, others_added}
-use Rattle.other_measures.specs.States.{EachOf, HasCoordination, HasDetector, HasStates, HasTenths, coordination, input, ped_detector, service}
+use Rattle.other_measures.specs.States.{HasCoordination, HasDetector, HasStates, HasTenths, coordination, input, ped_detector, service}
 use Rattle.other_measures.specs.Sums.{coord_added, ped_added, preempt_added}
+use Rattle.other_measures.proofs.Stores.{each_merged, each_as}
 use Rattle.hour_work.specs.Measures.{MeetsIn}
 use Rattle.hour_work.specs.Numbers.{Numbers, total_of}
 use Rattle.measure_laws.specs.States.{AreStatesUpto, HasCoordinationUpto, HasDetectorUpto, HasStatesUpto, HasTenthsUpto, StateTotals}
-use Rattle.measure_laws.proofs.Adding.{uncapped}
 use Rattle.measure_laws.proofs.Totals.{all_sums}
 
 -- ---- number by number
-
-pub each_as : {A : Type 0} (has : ℕ → Bool) (Is As : ℕ → A → Type 0) (n : ℕ) (xs : List A) → ((p : ℕ) (x : A) → Is p x → As p x) → EachOf has Is n xs → EachOf has As n xs
-unfolding EachOf
-each_as has Is As zero xs f h = h
-each_as has Is As (suc n) xs f (inl (e, (ys, y, rest, is, join))) = inl (e, (ys, y, each_as has Is As n ys f rest, f n y is, join))
-each_as has Is As (suc n) xs f (inr (e, rest)) = inr (e, each_as has Is As n xs f rest)
-
-each_length : {A : Type 0} (has : ℕ → Bool) (Is As : ℕ → A → Type 0) (n : ℕ) (xs ys : List A) → EachOf has Is n xs → EachOf has As n ys → length xs ≡ length ys
-unfolding EachOf
-each_length has Is As zero xs ys h g = ap (λ zs. length zs) (h ∙ sym g)
-each_length has Is As (suc n) xs ys (inl (e, (us, u, rest, is, join))) (inl (f, (vs, v, more, also, joined))) =
-    ap (λ zs. length zs) join ∙ (length-append us (u ∷ []) ∙ (ap (λ (m : ℕ). m + 1) (each_length has Is As n us vs rest more) ∙ (sym (length-append vs (v ∷ [])) ∙ sym (ap (λ zs. length zs) joined))))
-each_length has Is As (suc n) xs ys (inl (e, rest)) (inr (f, more)) = absurd (let bad : true ≡ false = sym e ∙ f in cc)
-each_length has Is As (suc n) xs ys (inr (e, rest)) (inl (f, more)) = absurd (let bad : true ≡ false = sym f ∙ e in cc)
-each_length has Is As (suc n) xs ys (inr (e, rest)) (inr (f, more)) = each_length has Is As n xs ys rest more
-
-merged-push : {A : Type 0} (put : A → A → A) (us vs : List A) (u v : A) → length us ≡ length vs → merged put (us ++ u ∷ []) (vs ++ v ∷ []) ≡ merged put us vs ++ put u v ∷ []
-merged-push put [] [] u v e = refl
-merged-push put [] (y ∷ ys) u v e = absurd (omega arith)
-merged-push put (x ∷ xs) [] u v e = absurd (omega arith)
-merged-push put (x ∷ xs) (y ∷ ys) u v e = ap (λ zs. put x y ∷ zs) (merged-push put xs ys u v (omega arith))
-
-each_merged : {A : Type 0} (put : A → A → A) (has : ℕ → Bool) (Is As Both : ℕ → A → Type 0) (n : ℕ) (xs ys : List A) → ((p : ℕ) (x y : A) → Is p x → As p y → Both p (put x y)) → EachOf has Is n xs → EachOf has As n ys → EachOf has Both n (merged put xs ys)
-unfolding EachOf
-each_merged put has Is As Both zero xs ys both h g = rw (h, g) refl
-each_merged put has Is As Both (suc n) xs ys both (inl (e, (us, u, rest, is, join))) (inl (f, (vs, v, more, also, joined))) =
-    let long : length us ≡ length vs = each_length has Is As n us vs rest more in
-    inl (e, (merged put us vs, put u v, each_merged put has Is As Both n us vs both rest more, both n u v is also, ap (λ zs. merged put zs ys) join ∙ (ap (λ zs. merged put (us ++ u ∷ []) zs) joined ∙ merged-push put us vs u v long)))
-each_merged put has Is As Both (suc n) xs ys both (inl (e, rest)) (inr (f, more)) = absurd (let bad : true ≡ false = sym e ∙ f in cc)
-each_merged put has Is As Both (suc n) xs ys both (inr (e, rest)) (inl (f, more)) = absurd (let bad : true ≡ false = sym f ∙ e in cc)
-each_merged put has Is As Both (suc n) xs ys both (inr (e, rest)) (inr (f, more)) = inr (e, each_merged put has Is As Both n xs ys both rest more)
 
 -- ---- the seven states of the coordination
 
@@ -83,7 +53,7 @@ module _ (At : ℕ → Asked → ℕ → Type 0) (c : Settings) (n : ℕ) (few :
   own_tenths P k j h g =
       let both = counts_join P 0 (point n) (point (suc n)) k j h g in
       let most = counts_most P 0 (point (suc n)) (k + j) both in
-      subst (λ (m : ℕ). Counts P 0 (point (suc n)) m) (sym (uncapped (k + j) (omega (arith, most, few)))) both
+      subst (λ (m : ℕ). Counts P 0 (point (suc n)) m) (sym (capped_small (k + j) (omega (arith, most, few)))) both
 
   tenths_both : (channel : Channel) (asked : Asked) (k j : ℕ) → HasTenthsUpto At (point n) c channel asked k → HasTenths At (point n) c channel asked j → HasTenthsUpto At (point (suc n)) c channel asked (capped (k + j))
   tenths_both channel asked k j (i, at, h) (l, bt, g) =

@@ -1,8 +1,8 @@
 -- The sums over the hours of a report, approach by approach.
-use Rattle.std.proofs.Common.{◌≡◌, ◌∙◌, refl, ap, sym, subst, ℕ, zero, suc, ◌+◌, ◌<◌, Bool, true, List, [], ◌∷◌, ◌++◌, length, take, get_or, length-append, arith}
+use Rattle.std.proofs.Common.{◌≡◌, ◌∙◌, refl, ap, sym, subst, ℕ, zero, suc, ◌<◌, Bool, true, List, [], ◌∷◌, ◌++◌, length, take, get_or, length-append, arith}
 use Rattle.std.specs.Prelude.{All}
 use Rattle.std.specs.List.{filter}
-use Rattle.std.proofs.lemmas.List.{take_all, take_more}
+use Rattle.std.proofs.lemmas.List.{take_all}
 use Rattle.std.proofs.lemmas.List.Elements.{All-head, All-tail}
 use Rattle.sig_base.specs.declared.values.Row.{Row}
 use Rattle.hour_store.specs.Store.{IsStore, Store, known_rows}
@@ -11,8 +11,8 @@ use Rattle.ring_config.specs.declared.items.Approach.{Approach}
 use Rattle.stop_bar.specs.Lists.{Each}
 use Rattle.hour_work.specs.Numbers.{Numbers, numbers_sum, total_of}
 use Rattle.hour_work.specs.Rows.{earlier_rows, own_rows}
-use Rattle.hour_work.proofs.NumberLaws.{total_push}
 use Rattle.hour_work.proofs.WholeLog.{hour_within}
+use Rattle.hour_work.proofs.Totals.{next_total}
 use Rattle.measure_laws.specs.Sums.{AreCountable}
 
 -- ---- place by place
@@ -43,11 +43,6 @@ filter_all p [] h = refl
 filter_all p (x ∷ xs) h = rw (All-head (λ z. p z ≡ true) x xs h) (ap (λ zs. x ∷ zs) (filter_all p xs (All-tail (λ z. p z ≡ true) x xs h)))
 
 -- ---- hour by hour
-
-next_total : (all : List Numbers) (n : ℕ) (d : Numbers) → n < length all → total_of (take (suc n) all) ≡ numbers_sum (total_of (take n all)) (get_or all n d)
-next_total all n d lt =
-    let next : suc n ≡ n + 1 = omega arith in
-    ap (λ k. total_of (take k all)) next ∙ (ap total_of (take_more all n d lt) ∙ total_push (take n all) (get_or all n d))
 
 -- what is so of the first hour's numbers, and of the sums with one hour more, is so of the sums over all hours
 module _ (Total : ℕ → Numbers → Type 0) (all : List Numbers) (first : (d : Numbers) → 0 < length all → Total 1 (numbers_sum (total_of []) (get_or all 0 d)))

@@ -5,7 +5,7 @@ use Rattle.sig_base.specs.declared.values.Row.{Row}
 use Rattle.sig_base.specs.Numbers.{has_number}
 use Rattle.gap_map.specs.declared.stretch.Stretch.{Stretch}
 use Rattle.gap_map.specs.Stretches.{FollowOn}
-use Rattle.hour_sums.specs.Numbers.{AreSums, capped}
+use Rattle.hour_sums.specs.Numbers.{AreSums}
 use Rattle.hour_sweep.specs.Rows.{known_rows}
 use Rattle.hour_sweep.specs.Hours.{AreOrdered, IsHour, point}
 use Rattle.hour_sweep.specs.Passes.{swept}
@@ -14,6 +14,8 @@ use Rattle.hour_sweep.proofs.Orders.{rise_ordered, below_end}
 use Rattle.hour_sweep.proofs.Laws.{hour_tracked}
 use Rattle.hour_sweep.proofs.Counted.{outs_from-append}
 use Rattle.board.specs.Logs.{HourLog, first_tenth, end_tenth}
+use Rattle.hour_sweep.proofs.Common.{next_point}
+use Rattle.hour_sums.proofs.Common.{capped_zero}
 use Rattle.ring_config.specs.Settings.{Settings}
 use Rattle.other_measures.specs.declared.peds.Delay.{Delay}
 use Rattle.other_measures.specs.declared.peds.PedPart.{PedPart}
@@ -33,9 +35,6 @@ use Rattle.other_measures.specs.States.{EachOf, IsSeen, IsSeenOf}
 use Rattle.other_measures.proofs.PedLaws.{ped_tracks}
 use Rattle.other_measures.proofs.PreemptLaws.{preempt_tracks}
 use Rattle.other_measures.proofs.Starts.{number_low}
-
-next_point : (k : ℕ) → point k + 36000 ≡ point (k + 1)
-next_point k = omega arith
 
 pub peds_tracked : (known : ℕ → Bool) (c : Settings) (before : List Row) (hour : ℕ) (rows : List Row) (ss : List Stretch) (carry : Crossing) (start : List (Option PedPart)) (end : Tracking PedPart Delay) → carry.peds ≡ start → end ≡ swept (tracking_after ped_after delay_by) (tracking_cleared ped_cleared) ss rows (record { parts = start; outs = [] }) → IsHour known hour rows ss → IsCarry known c before hour carry → IsTracked known (ped_of known) (delay_at known) (has_number c.peds) (places c.peds) before rows (point hour + 36000) end.outs end.parts
 peds_tracked known c before hour rows ss carry start end same e h is =
@@ -90,12 +89,8 @@ numbers_are known c before rows ds es peds preempts coordination ed ee p q r off
 
 -- of no row
 
-no_rows : 0 ≡ capped 0
-unfolding capped
-no_rows = omega arith
-
 pub has_no_rows : (s : CoordSum) → s ≡ no_coordination → HasRows [] s
-has_no_rows s e = subst (λ (z : CoordSum). HasRows [] z) (sym e) (record { patterns = no_rows; cycle_changes = no_rows; yields = no_rows; begins = no_rows })
+has_no_rows s e = subst (λ (z : CoordSum). HasRows [] z) (sym e) (record { patterns = capped_zero; cycle_changes = capped_zero; yields = capped_zero; begins = capped_zero })
 
 -- the first tenth of the hour
 

@@ -2,6 +2,7 @@
 use Rattle.std.proofs.Common.{◌≡◌, ℕ, ◌^◌, ◌<◌, [], ◌∷◌, Option, Some, None, sum, refl, ap, arith}
 use Rattle.hour_sums.specs.Numbers.{capped}
 use Rattle.hour_sums.proofs.Adding.{capped_small}
+use Rattle.hour_sums.proofs.Common.{capped_none, capped_one}
 use Rattle.other_measures.specs.declared.peds.Delay.{Delay}
 use Rattle.other_measures.specs.declared.preempts.PreemptEvent.{PreemptEvent}
 use Rattle.other_measures.specs.declared.sums.PedSum.{PedSum}
@@ -10,14 +11,6 @@ use Rattle.other_measures.specs.declared.last_rows.Lapse.{Lapse}
 use Rattle.other_measures.specs.declared.last_rows.Lapse.TheVariants.{Ran, NotBegun, Partial}
 use Rattle.other_measures.specs.declared.preempts.Event.TheVariants.{Entry, Exit}
 use Rattle.other_measures.specs.Sums.{ped_sum_of, preempt_sum_of, no_ped_sum, no_preempt_sum, entry_sum, exit_sum}
-
-capped_none : capped 0 ≡ 0
-unfolding capped
-capped_none = omega arith
-
-capped_one : capped 1 ≡ 1
-unfolding capped
-capped_one = omega arith
 
 sum_one : (n : ℕ) → capped (sum (n ∷ [])) ≡ capped n
 sum_one n = ap (λ m. capped m) (omega arith)

@@ -1,7 +1,7 @@
 -- What the part of one preempt owes to the pass over an hour.
 use Rattle.std.proofs.Common.{◌≡◌, ◌≢◌, ℕ, ◌<◌, ◌≤◌, Bool, true, false, ◌||◌, cond, List, [], ◌∷◌, ◌++◌, Option, Some, None, refl, ◌∙◌, arith}
 use Rattle.std.specs.Prelude.{All, option_map}
-use Rattle.std.proofs.lemmas.Bool.{ne_eqb}
+use Rattle.std.proofs.lemmas.Bool.{ne_eqb, or_from}
 use Rattle.sig_base.specs.declared.values.Row.{Row}
 use Rattle.hour_sweep.specs.Rows.{last_with, last, since, live}
 use Rattle.hour_sweep.specs.Numbers.{AreTracks}
@@ -32,9 +32,6 @@ call_passed : (a b : Bool) (x : Row) (o : Option Row) → a ≡ false → b ≡ 
 call_passed false false x o e f = refl
 call_passed true b x o e f = absurd (cc)
 call_passed false true x o e f = absurd (cc)
-
-or_false : (a b : Bool) → a ≡ false → b ≡ false → (a || b) ≡ false
-or_false a b e f = rw (e, f) refl
 
 -- one more row
 
@@ -77,7 +74,7 @@ preempt_passed : (x : Row) (a : PreemptPart) → x.param ≢ a.number → preemp
 preempt_passed x a ne =
     rw (
       call_passed (is_input a.number x) (is_entry a.number x) x a.call (other_input a.number x ne) (other_entry a.number x ne),
-      row_passed (is_entry a.number x || is_exit a.number x) (is_dwell a.number x) x a.service (or_false (is_entry a.number x) (is_exit a.number x) (other_entry a.number x ne) (other_exit a.number x ne)) (other_dwell a.number x ne),
+      row_passed (is_entry a.number x || is_exit a.number x) (is_dwell a.number x) x a.service (or_from (is_entry a.number x) (is_exit a.number x) (other_entry a.number x ne) (other_exit a.number x ne)) (other_dwell a.number x ne),
     ) refl
 
 pub preempt_tracks : (known : ℕ → Bool) → AreTracks known (preempt_of known) preempt_after preempt_cleared (event_at known) event_by

@@ -1,11 +1,9 @@
 -- Channels that are tracked, and the tenths of states.
-use Rattle.std.proofs.Common.{◌≡◌, refl, inl, inr, ℕ, zero, suc, ◌+◌, ◌<◌, true, false, List, [], ◌∷◌, Option, Some, None, length, get_or, set, ap, sym, subst, ◌∙◌, arith}
-use Rattle.std.specs.Prelude.{is_some, slice_get}
-use Rattle.gap_map.specs.Stretches.{FollowOn}
+use Rattle.std.proofs.Common.{◌≡◌, refl, inl, inr, ℕ, zero, suc, ◌+◌, ◌<◌, true, false, List, Option, Some, None, length, get_or, set, ap, sym, subst, ◌∙◌, arith}
+use Rattle.std.specs.Prelude.{is_some}
 use Rattle.std.proofs.lemmas.Bool.{cases_eq}
 use Rattle.std.proofs.lemmas.List.{get_or-set_same, get_or-set_other}
 use Rattle.event_codes.specs.declared.channels.Channel.{Channel}
-use Rattle.gap_map.specs.declared.stretch.Stretch.{Stretch}
 use Rattle.board.specs.Logs.{HourLog, first_tenth}
 use Rattle.ring_config.specs.Settings.{Settings, is_tracked}
 use Rattle.state_tenths.specs.declared.asked.Asked.{Asked}

@@ -1,20 +1,17 @@
 -- Parts before any row, and the places of numbers.
-use Rattle.std.proofs.Common.{◌≡◌, ◌⊎◌, inl, inr, ℕ, ◌+◌, ◌<◌, ◌≤◌, max, Bool, true, false, eqb, ◌||◌, List, [], ◌∷◌, length, get_or, drop, None, map, refl, add-one, drop-cons, arith}
+use Rattle.std.proofs.Common.{◌≡◌, inl, inr, ℕ, ◌+◌, ◌<◌, ◌≤◌, max, Bool, true, eqb, ◌||◌, List, [], ◌∷◌, length, get_or, drop, None, map, refl, add-one, drop-cons, arith}
 use Rattle.std.specs.List.{range_with_len}
 use Rattle.std.proofs.Math.ListN.{drop_of_length-le}
 use Rattle.std.proofs.lemmas.Bool.{eqb-true}
 use Rattle.sig_base.specs.declared.values.Row.{Row}
 use Rattle.sig_base.specs.Numbers.{has_number}
+use Rattle.sig_base.proofs.Common.{or_cases}
 use Rattle.hour_sweep.proofs.Tables.{table_same}
 use Rattle.ring_config.specs.Settings.{Settings}
 use Rattle.other_measures.specs.LastRows.{last_row_of}
 use Rattle.other_measures.specs.Peds.{is_walk, is_call, ped_of}
 use Rattle.other_measures.specs.Preempts.{is_entry, is_exit, is_dwell, call_of, preempt_of}
 use Rattle.other_measures.specs.Crossing.{peds_of, preempts_of, no_ped, no_preempt, places}
-
-or_cases : (a b : Bool) → (a || b) ≡ true → (a ≡ true) ⊎ (b ≡ true)
-or_cases true b h = inl refl
-or_cases false b h = inr h
 
 -- a number has its place in their table
 pub number_low : (ns : List ℕ) (n : ℕ) → has_number ns n ≡ true → n < places ns

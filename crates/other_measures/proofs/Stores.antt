@@ -7,6 +7,7 @@ use Rattle.event_codes.specs.declared.channels.Channel.{Channel}
 use Rattle.hour_sums.specs.Numbers.{capped, merged}
 use Rattle.hour_sums.proofs.Adding.{count-add}
 use Rattle.hour_sweep.specs.Hours.{AreOrdered}
+use Rattle.hour_sums.proofs.Common.{capped_none}
 use Rattle.ring_config.specs.Settings.{Settings, spec_place}
 use Rattle.state_tenths.specs.declared.asked.Asked.{Asked}
 use Rattle.state_tenths.specs.declared.asked.Asked.TheVariants.{Colour, NoneOf}
@@ -30,7 +31,7 @@ count_as P Q a zero k same h = h
 count_as P Q a (suc n) k same (inl (p, (j, e, rest))) = inl ((same a (omega arith) (omega arith)).0 p, (j, e, count_as P Q (a + 1) n j (λ t le lt. same t (omega arith) (omega arith)) rest))
 count_as P Q a (suc n) k same (inr (never, rest)) = inr (λ q. never ((same a (omega arith) (omega arith)).1 q), count_as P Q (a + 1) n k (λ t le lt. same t (omega arith) (omega arith)) rest)
 
-each_as : {A : Type 0} (has : ℕ → Bool) (Is As : ℕ → A → Type 0) (n : ℕ) (xs : List A) → ((p : ℕ) (x : A) → Is p x → As p x) → EachOf has Is n xs → EachOf has As n xs
+pub each_as : {A : Type 0} (has : ℕ → Bool) (Is As : ℕ → A → Type 0) (n : ℕ) (xs : List A) → ((p : ℕ) (x : A) → Is p x → As p x) → EachOf has Is n xs → EachOf has As n xs
 unfolding EachOf
 each_as has Is As zero xs f h = h
 each_as has Is As (suc n) xs f (inl (e, (ys, y, rest, is, join))) = inl (e, (ys, y, each_as has Is As n ys f rest, f n y is, join))
@@ -166,13 +167,13 @@ each_length has Is As (suc n) xs ys (inl (e, rest)) (inr (f, more)) = absurd (le
 each_length has Is As (suc n) xs ys (inr (e, rest)) (inl (f, more)) = absurd (let bad : true ≡ false = sym f ∙ e in cc)
 each_length has Is As (suc n) xs ys (inr (e, rest)) (inr (f, more)) = each_length has Is As n xs ys rest more
 
-merged-push : {A : Type 0} (put : A → A → A) (us vs : List A) (u v : A) → length us ≡ length vs → merged put (us ++ u ∷ []) (vs ++ v ∷ []) ≡ merged put us vs ++ put u v ∷ []
+pub merged-push : {A : Type 0} (put : A → A → A) (us vs : List A) (u v : A) → length us ≡ length vs → merged put (us ++ u ∷ []) (vs ++ v ∷ []) ≡ merged put us vs ++ put u v ∷ []
 merged-push put [] [] u v e = refl
 merged-push put [] (y ∷ ys) u v e = absurd (omega arith)
 merged-push put (x ∷ xs) [] u v e = absurd (omega arith)
 merged-push put (x ∷ xs) (y ∷ ys) u v e = ap (λ zs. put x y ∷ zs) (merged-push put xs ys u v (omega arith))
 
-each_merged : {A : Type 0} (put : A → A → A) (has : ℕ → Bool) (Is As Both : ℕ → A → Type 0) (n : ℕ) (xs ys : List A) → ((p : ℕ) (x y : A) → Is p x → As p y → Both p (put x y)) → EachOf has Is n xs → EachOf has As n ys → EachOf has Both n (merged put xs ys)
+pub each_merged : {A : Type 0} (put : A → A → A) (has : ℕ → Bool) (Is As Both : ℕ → A → Type 0) (n : ℕ) (xs ys : List A) → ((p : ℕ) (x y : A) → Is p x → As p y → Both p (put x y)) → EachOf has Is n xs → EachOf has As n ys → EachOf has Both n (merged put xs ys)
 unfolding EachOf
 each_merged put has Is As Both zero xs ys both h g = rw (h, g) refl
 each_merged put has Is As Both (suc n) xs ys both (inl (e, (us, u, rest, is, join))) (inl (f, (vs, v, more, also, joined))) =
@@ -207,10 +208,6 @@ coord_total before rows x y h g = record {
   yields = rows_total 151 x.yields y.yields before rows h.yields g.yields;
   begins = rows_total 152 x.begins y.begins before rows h.begins g.begins;
 }
-
-capped_none : capped 0 ≡ 0
-unfolding capped
-capped_none = omega arith
 
 none_twice : coord_added no_coordination no_coordination ≡ no_coordination
 none_twice = rw capped_none refl

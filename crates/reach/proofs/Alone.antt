@@ -152,7 +152,7 @@ tenth_alone e x old new none h = (
 pub single_one : (x : Option Single) (o : Single) → x ≡ Some o → AreSingle x → IsSingle o
 single_one x o e are = subst AreSingle e are
 
-goes_once : (m : Rules) (c l d e : ℕ) → Goes m c l d → Goes m c l e → d ≡ e
+pub goes_once : (m : Rules) (c l d e : ℕ) → Goes m c l d → Goes m c l e → d ≡ e
 goes_once m c l d e a b = let same : Some d ≡ Some e = sym a.2 ∙ b.2 in cc
 
 -- ---- the one state after a row

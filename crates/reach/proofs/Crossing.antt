@@ -199,9 +199,6 @@ hole_order low (h ∷ hs) (suc i) (suc j) d a le lt = hole_order h.to hs i j d a
 pub le_below : (a b n : ℤ) → a ≤ℤ b → int_le b n ≡ true → int_le a n ≡ true
 le_below a b n h e = grind (arith, ints)
 
-pub ended_at : (a n : ℤ) → int_le a n ≡ true → a ≤ℤ n
-ended_at a n e = grind (arith, ints)
-
 pub not_ended : (a n : ℤ) → int_le a n ≡ false → n <ℤ a
 not_ended a n e = grind (arith, ints)
 

@@ -4,6 +4,7 @@ use Rattle.std.proofs.lemmas.Int.{ints}
 use Rattle.std.proofs.lemmas.Bool.{cases_eq, cases_lt}
 use Rattle.std.proofs.lemmas.List.{get_or_past}
 use Rattle.std.proofs.lemmas.Grind.{common_steps}
+use Rattle.sig_base.proofs.Common.{some_same}
 use Rattle.colour_machine.specs.Rules.{Rules, Goes}
 use Rattle.reach.specs.Runs.{State, state, Steps, Run}
 use Rattle.reach.specs.Ahead.{NotLater, Admits, BeforeRow, BeforeGap}
@@ -12,9 +13,6 @@ use Rattle.reach.proofs.States.{state_same}
 
 pub then_iff : {A B C : Type 0} → (A ↔ B) → (B ↔ C) → A ↔ C
 then_iff a b = (λ x. b.0 (a.0 x), λ z. a.1 (b.1 z))
-
-some_same : (x y : ℕ) → Some x ≡ Some y → x ≡ y
-some_same x y h = cc
 
 -- a letter that keeps the colour
 pub row_same : (m : Rules) (old : List (Option ℤ)) (t : ℤ) (l c : ℕ) (e : ℤ) → Goes m c l c → NotLater (entry_of old c) e ↔ BeforeRow m old t l (state c e)

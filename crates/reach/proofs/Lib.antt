@@ -9,3 +9,4 @@ pub mod Alone
 pub mod Crossing
 pub mod Returning
 pub mod Filling
+pub mod Common

@@ -14,7 +14,7 @@ use Rattle.ring_config.specs.declared.items.FloorItem.{FloorItem}
 use Rattle.ring_config.specs.declared.items.IntervalItem.{IntervalItem}
 use Rattle.ring_config.specs.Reading.{◌>>=◌, EntryData, required, defaulted, only}
 use Rattle.ring_config.specs.Values as values
-use Rattle.ring_config.specs.Values.{whole, configured, has_pair}
+use Rattle.ring_config.specs.Values.{has_pair}
 use Rattle.ring_config.specs.Walk.{NoneRepeats, entries_of}
 use Rattle.ring_config.specs.Tables.{Top, LayoutArrays, DetailArrays, top_keys, top_of, layout_arrays_of, detail_arrays_of, phase_rules, ped_rules, overlap_rules, preempt_rules, conflict_rules, allow_rules, floor_rules, interval_rules, approach_rules}
 use Rattle.ring_config.specs.Settings.{Layout, Details, Parts, layout_of, details_of, parts_of, settings_of, specs_of, signal_channels, all_channels}

@@ -54,7 +54,7 @@ kept : {X : Type 0} (b : Bool) (x : X) (xs ys : List X) → length ys ≤ length
 kept true x xs ys le = omega arith
 kept false x xs ys le = omega arith
 
-length_filter : {X : Type 0} (p : X → Bool) (xs : List X) → length (filter p xs) ≤ length xs
+pub length_filter : {X : Type 0} (p : X → Bool) (xs : List X) → length (filter p xs) ≤ length xs
 length_filter p [] = omega arith
 length_filter p (x ∷ xs) = kept (p x) x xs (filter p xs) (length_filter p xs)
 

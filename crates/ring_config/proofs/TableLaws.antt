@@ -9,6 +9,7 @@ use Rattle.toml.specs.Data.{Data, Items, no_items, item, as_str, as_array, as_in
 use Rattle.sig_base.specs.declared.values.PhaseItem.{PhaseItem}
 use Rattle.sig_base.specs.declared.values.Frac.{Frac}
 use Rattle.sig_base.specs.Numbers.{has_number, has_phase}
+use Rattle.sig_base.proofs.Common.{not_true}
 use Rattle.event_codes.specs.declared.channels.Kind.{Kind}
 use Rattle.event_codes.specs.declared.channels.Kind.TheVariants as kinds
 use Rattle.event_codes.specs.declared.channels.Channel.{Channel}
@@ -125,10 +126,6 @@ overlap_is phases e o h =
     })
 
 -- ---- pairs
-
-not_true : (b : Bool) → not b ≡ true → b ≡ false
-not_true true e = absurd cc
-not_true false e = refl
 
 -- a pair of configured phases that differ and isn't barred
 pub record IsUnbarred (phases : List PhaseItem) (barred : List Pair) (p : Pair) : Type 0 where

@@ -29,7 +29,7 @@ any_flat_map f p (x ∷ xs) = list_any-append p (f x) (flat_map f xs) ∙ ap (λ
 true_or : (b : Bool) → (true || b) ≡ true
 true_or b = refl
 
-or_true : (b : Bool) → (b || true) ≡ true
+pub or_true : (b : Bool) → (b || true) ≡ true
 or_true true = refl
 or_true false = refl
 
@@ -292,7 +292,7 @@ ranked kinds.Coordination = refl
 same_kind : (a b : Kind) → (kind_rank a == kind_rank b) ≡ true → a ≡ b
 same_kind a b e = sym (ranked a) ∙ ap kind_of (eqb-true (kind_rank a) (kind_rank b) e) ∙ ranked b
 
-same_both : (a b : Bool) → (a ≡ true → b ≡ true) → (b ≡ true → a ≡ true) → a ≡ b
+pub same_both : (a b : Bool) → (a ≡ true → b ≡ true) → (b ≡ true → a ≡ true) → a ≡ b
 same_both true true f g = refl
 same_both true false f g = sym (f refl)
 same_both false true f g = g refl

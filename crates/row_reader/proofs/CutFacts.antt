@@ -6,6 +6,7 @@ use Rattle.std.proofs.lemmas.Bool.Decides.{nat_tests}
 use Rattle.std.proofs.lemmas.List.{length-append, take-append-drop}
 use Rattle.std.proofs.lemmas.List.Quantifiers.{position-Some}
 use Rattle.std.proofs.Math.Seq.{drop-cons, take-append_seam, drop-append-add}
+use Rattle.sig_base.proofs.Common.{and_first, and_last}
 use Rattle.row_reader.specs.Number.{is_digit, all_digits, number_from, number_of}
 use Rattle.row_reader.specs.Stamp.{cut}
 
@@ -68,21 +69,13 @@ cut-splits mark t a b e = go (position (λ x. x == mark) t) refl e
 
 -- ---- digits
 
-and-left : (a b : Bool) → (a && b) ≡ true → a ≡ true
-and-left true b h = refl
-and-left false b h = h
-
-and-right : (a b : Bool) → (a && b) ≡ true → b ≡ true
-and-right true b h = h
-and-right false b h = cc
-
 no-digit : (b mark : ℕ) → is_digit b ≡ true → is_digit mark ≡ false → b ≢ mark
 no-digit b mark t f e = let q : true ≡ false = sym t ∙ ap is_digit e ∙ f in cc
 
 digits-lack : (mark : ℕ) (t : List ℕ) → is_digit mark ≡ false → all_digits t ≡ true → Lacks mark t
 digits-lack mark [] f h = tt
 digits-lack mark (b ∷ bs) f h =
-    (no-digit b mark (and-left (is_digit b) (all_digits bs) h) f, digits-lack mark bs f (and-right (is_digit b) (all_digits bs) h))
+    (no-digit b mark (and_first (is_digit b) (all_digits bs) h) f, digits-lack mark bs f (and_last (is_digit b) (all_digits bs) h))
 
 if-some : (b : Bool) (x n : ℕ) → (if b then Some x else None) ≡ Some n → b ≡ true
 if-some true x n e = refl
@@ -91,4 +84,4 @@ if-some false x n e = cc
 pub number-lacks : (mark least most limit n : ℕ) (t : List ℕ) → is_digit mark ≡ false → number_of least most limit t ≡ Some n → Lacks mark t
 number-lacks mark least most limit n t f e =
     let all = if-some (nat_le least (length t) && nat_le (length t) most && all_digits t && nat_le (number_from 0 t) limit) (number_from 0 t) n e in
-    digits-lack mark t f (and-right _ _ (and-left _ _ all))
+    digits-lack mark t f (and_last _ _ (and_first _ _ all))

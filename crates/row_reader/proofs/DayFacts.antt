@@ -4,9 +4,7 @@ use Rattle.jiff_core.specs.Calendar.{days_from_civil, day_count, day_of_year}
 use Rattle.jiff_core.proofs.CalendarLemmas.{day_count-day_of_year, day_count-later_year}
 use Rattle.jiff_core.proofs.MarchLemmas.{day_count-early}
 use Rattle.jiff_core.proofs.SignedLemmas.{signed_arith}
-
-year_0 : day_count (pos 0) 1 1 ≡ 3652425
-year_0 = day_count-early (pos 0) 9999 1 1 refl (omega arith) (omega arith) (omega arith)
+use Rattle.sig_base.proofs.Years.{year_0}
 
 year_1970 : day_count (pos 1970) 1 1 ≡ 4371953
 year_1970 = day_count-early (pos 1970) 11969 1 1 refl (omega arith) (omega arith) (omega arith)

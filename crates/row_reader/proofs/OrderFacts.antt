@@ -1,13 +1,14 @@
 -- A stable sort by the tenth gives the rows tenth by tenth.
-use Rattle.std.proofs.Common.{◌≡◌, ◌≤◌, ◌<◌, ◌+◌, ℕ, suc, zero, Bool, true, false, List, [], ◌∷◌, ◌++◌, length, refl, sym, ap, ◌∙◌, arith, get_or, cond, filter, append-nil}
+use Rattle.std.proofs.Common.{◌≡◌, ◌≤◌, ◌<◌, ◌+◌, ℕ, suc, zero, Bool, true, false, List, [], ◌∷◌, ◌++◌, length, refl, sym, ap, ◌∙◌, arith, get_or, cond, append-nil}
 use Rattle.std.proofs.Common.{inl, inr}
 use Rattle.std.proofs.lemmas.Bool.{cases_lt}
 use Rattle.std.proofs.lemmas.Bool.Decides.{nat_tests}
 use Rattle.std.specs.List.Sorted.{IsNonDecreasingBy, IsStableByKey, ties}
-use Rattle.std.specs.Prelude.{not, ◌&&◌, ◌==◌}
+use Rattle.std.specs.Prelude.{◌==◌}
 use Rattle.std.specs.Ordering.{nat_cmp, is_lt}
 use Rattle.sig_base.specs.declared.values.Row.{Row}
 use Rattle.sig_base.specs.HourRows.{RiseIn}
+use Rattle.sig_base.proofs.Common.{filter_same, tie_is}
 use Rattle.row_reader.specs.Order.{rows_at, rows_from, AreWithin}
 
 -- no row is before this tenth or the row in front of it
@@ -160,21 +161,14 @@ rise-from a [] h k = tt
 rise-from a (x ∷ xs) h k =
     (h x (omega arith), rise-from x.at xs (λ d lt. k 0 d (omega arith)) (λ i d lt. k (suc i) d (omega arith)))
 
-filter-same : (p q : Row → Bool) (xs : List Row) → ((y : Row) → p y ≡ q y) → filter p xs ≡ filter q xs
-filter-same p q [] h = refl
-filter-same p q (x ∷ xs) h = rw (h x, filter-same p q xs h) refl
-
-tie-is : (a b : ℕ) → (not (is_lt (nat_cmp a b)) && not (is_lt (nat_cmp b a))) ≡ (b == a)
-tie-is a b = grind (arith, nat_tests)
-
 pub in-order : (n t : ℕ) (xs ys : List Row) → AreWithin t (t + n) xs → IsNonDecreasingBy (λ (r : Row). r.at) ys → IsStableByKey (λ (r : Row). r.at) nat_cmp xs ys
     → ys ≡ rows_from n t xs
 in-order n t xs ys h sorted stable =
     same-rising 0 ys (rows_from n t xs) (rise-from 0 ys (λ d lt. omega arith) (λ k d lt. sorted k (suc k) d (omega arith) lt))
     (rise-lower 0 t _ (omega arith) (rows_from-rise n t xs))
     (λ s. let x : Row = record { at = s; code = 0; param = 0 } in
-    let same : (y : Row) → ties (λ (a b : Row). is_lt (nat_cmp a.at b.at)) x y ≡ (y.at == s) = λ y. tie-is s y.at in
-    sym (filter-same _ _ ys same) ∙ stable x ∙ filter-same _ _ xs same ∙ sym (rows_from-at n t s xs h))
+    let same : (y : Row) → ties (λ (a b : Row). is_lt (nat_cmp a.at b.at)) x y ≡ (y.at == s) = λ y. tie_is s y.at in
+    sym (filter_same _ _ ys same) ∙ stable x ∙ filter_same _ _ xs same ∙ sym (rows_from-at n t s xs h))
 
 within-append : (from to : ℕ) (xs ys : List Row) → AreWithin from to xs → AreWithin from to ys → AreWithin from to (xs ++ ys)
 within-append from to [] ys h k = k

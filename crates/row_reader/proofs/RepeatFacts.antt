@@ -1,16 +1,16 @@
 -- Dropping the repeats of rows in order, with a look-up of the last row of each group.
-use Rattle.std.proofs.Common.{◌≡◌, ◌≤◌, ◌<◌, ◌+◌, ℕ, Bool, true, false, List, [], ◌∷◌, ◌++◌, length, refl, sym, ap, ◌∙◌, arith, add-one, drop, get_or, append_assoc, append-nil, if◌then◌else◌, inl, inr}
+use Rattle.std.proofs.Common.{◌≡◌, ◌≤◌, ◌<◌, ◌+◌, ℕ, Bool, true, false, List, [], ◌∷◌, ◌++◌, length, refl, sym, ap, ◌∙◌, arith, drop, get_or, append_assoc, append-nil, if◌then◌else◌, inl, inr}
 use Rattle.std.specs.Prelude.{◌==◌, ◌&&◌, Option, Some, None}
 use Rattle.std.specs.Option.{option_or}
 use Rattle.std.specs.Cmp.{IsEquivalence}
 use Rattle.std.proofs.lemmas.Bool.Decides.{nat_tests}
 use Rattle.std.proofs.lemmas.List.{length-append}
-use Rattle.std.proofs.Math.Seq.{drop-cons}
 use Rattle.std.proofs.Math.ListN.{drop_of_length-le}
 use Rattle.event_codes.specs.declared.channels.Group.{Group}
 use Rattle.event_codes.specs.contracts.channels.GroupEq.TheImpl.Laws.{laws-law}
 use Rattle.sig_base.specs.declared.values.Row.{Row}
 use Rattle.sig_base.specs.HourRows.{RiseIn}
+use Rattle.sig_base.proofs.Common.{next_row, or_none}
 use Rattle.row_reader.specs.Repeats.{same_group, group_of_row, last_where, is_event_of, is_repeat, kept_after, without_repeats, repeats_of, HasNoRepeat, IsPartOf}
 use Rattle.row_reader.specs.Last.{is_row, last_of, GivesLast, IsWithLast}
 
@@ -20,17 +20,13 @@ pub same_group-laws : IsEquivalence same_group
 unfolding same_group
 same_group-laws = laws-law
 
-or-none : (o : Option Row) → option_or o None ≡ o
-or-none None = refl
-or-none (Some r) = refl
-
-or-assoc : (a b c : Option Row) → option_or (option_or a b) c ≡ option_or a (option_or b c)
+pub or-assoc : (a b c : Option Row) → option_or (option_or a b) c ≡ option_or a (option_or b c)
 or-assoc None b c = refl
 or-assoc (Some r) b c = refl
 
-last_where-more : (test : Row → Bool) (xs : List Row) (y : Row)
+pub last_where-more : (test : Row → Bool) (xs : List Row) (y : Row)
     → last_where test (xs ++ y ∷ []) ≡ option_or (if test y then Some y else None) (last_where test xs)
-last_where-more test [] y = sym (or-none (if test y then Some y else None))
+last_where-more test [] y = sym (or_none (if test y then Some y else None))
 last_where-more test (x ∷ xs) y =
     ap (λ (o : Option Row). option_or o (if test x then Some x else None)) (last_where-more test xs y)
     ∙ or-assoc (if test y then Some y else None) (last_where test xs) (if test x then Some x else None)
@@ -134,9 +130,6 @@ rise-without : (from to : ℕ) (xs : List Row) (row : Row) (rest : List Row) →
 rise-without from to [] row rest h = rise-lower from row.at to rest h.0 h.2
 rise-without from to (x ∷ xs) row rest h = (h.0, h.1, rise-without x.at to xs row rest h.2)
 
-next-row : (rows : List Row) (i : ℕ) (d : Row) → i < length rows → drop i rows ≡ get_or rows i d ∷ drop (i + 1) rows
-next-row rows i d h = rw (add-one i) (drop-cons rows i d h)
-
 -- these rows are kept so far, and those are left
 pub record IsKept (from to : ℕ) (rows : List Row) (look_up : Group → Option Row) (kept rest : List Row) : Type 0 where
   pub same : without_repeats rows ≡ kept_after kept rest
@@ -152,7 +145,7 @@ pub kept-dropped : (from to : ℕ) (rows : List Row) (look_up : Group → Option
     → IsKept from to rows look_up kept (drop i rows) → is_row (get_or rows i d) (look_up (group_of_row (get_or rows i d))) ≡ true → IsKept from to rows look_up kept (drop (i + 1) rows)
 kept-dropped from to rows look_up kept i d within h e =
     let row : Row = get_or rows i d in
-    let rest : drop i rows ≡ row ∷ drop (i + 1) rows = next-row rows i d within in
+    let rest : drop i rows ≡ row ∷ drop (i + 1) rows = next_row rows i d within in
     let k : IsKept from to rows look_up kept (row ∷ drop (i + 1) rows) = rw rest at h in
     let r : is_repeat kept row ≡ true = repeat-is from to kept row (drop (i + 1) rows) look_up k.rise k.last ∙ e in
     record {
@@ -176,7 +169,7 @@ pub kept-added : (from to : ℕ) (rows : List Row) (look_up new : Group → Opti
     → IsKept from to rows new (kept ++ get_or rows i d ∷ []) (drop (i + 1) rows)
 kept-added from to rows look_up new kept i d within h e w =
     let row : Row = get_or rows i d in
-    let rest : drop i rows ≡ row ∷ drop (i + 1) rows = next-row rows i d within in
+    let rest : drop i rows ≡ row ∷ drop (i + 1) rows = next_row rows i d within in
     let k : IsKept from to rows look_up kept (row ∷ drop (i + 1) rows) = rw rest at h in
     let r : is_repeat kept row ≡ false = repeat-is from to kept row (drop (i + 1) rows) look_up k.rise k.last ∙ e in
     record {
@@ -239,7 +232,7 @@ part-length xs (y ∷ ys) h =
 pub kept-count : (rows : List Row) → length (without_repeats rows) + repeats_of rows ≡ length rows
 kept-count rows = omega (arith, part-length (without_repeats rows) rows (kept-part rows))
 
-no_repeat-more : (before xs : List Row) (row : Row) → HasNoRepeat before xs → is_repeat (before ++ xs) row ≡ false → HasNoRepeat before (xs ++ row ∷ [])
+pub no_repeat-more : (before xs : List Row) (row : Row) → HasNoRepeat before xs → is_repeat (before ++ xs) row ≡ false → HasNoRepeat before (xs ++ row ∷ [])
 no_repeat-more before [] row h e = (rw (append-nil before) at e, tt)
 no_repeat-more before (x ∷ xs) row h e =
     (h.0, no_repeat-more (before ++ x ∷ []) xs row h.1 (rw (append_assoc before (x ∷ []) xs) e))

@@ -1,10 +1,11 @@
 -- Which rule comes next, and which are passed over.
-use Rattle.std.proofs.Common.{suc, zero, ◌⊎◌, ◌≡◌, ◌≢◌, refl, ap, sym, ◌∙◌, subst, inl, inr, ℕ, ◌+◌, ◌-◌, ◌<◌, ◌≤◌, Bool, true, false, ◌&&◌, ◌||◌, nat_eq, Option, Some, List, [], ◌∷◌, ◌++◌, length, get_or, drop, arith}
+use Rattle.std.proofs.Common.{suc, zero, ◌⊎◌, ◌≡◌, ◌≢◌, refl, ap, sym, ◌∙◌, subst, inl, inr, ℕ, ◌+◌, ◌-◌, ◌<◌, ◌≤◌, Bool, true, false, ◌&&◌, nat_eq, Option, Some, List, [], ◌∷◌, ◌++◌, length, get_or, drop, arith}
 use Rattle.std.specs.List.{list_any, All}
 use Rattle.std.proofs.lemmas.Bool.{cases_lt, cases_Bool, eq-eqb, ne_eqb}
 use Rattle.std.proofs.lemmas.List.{get_or_append_left, get_or-append_right, length-append}
 use Rattle.std.proofs.lemmas.List.Elements.{All-get_or}
 use Rattle.sig_base.specs.declared.values.Row.{Row}
+use Rattle.sig_base.proofs.Common.{and_first, and_last, and_false}
 use Rattle.event_codes.specs.declared.channels.Channel.{Channel}
 use Rattle.event_codes.specs.Channels.{channel_in_table}
 use Rattle.channel_tables.specs.declared.spec.Spec.{Spec}
@@ -13,6 +14,7 @@ use Rattle.board.specs.Channels.{is_channel}
 use Rattle.board.specs.Logs.{no_row, no_spec}
 use Rattle.board.specs.Verdicts.{AreWithin}
 use Rattle.board.proofs.Tracks.{found_channel}
+use Rattle.ring_config.proofs.TrackLaws.{or_true}
 use Rattle.rule_audit.specs.declared.rules.Rule.{Rule}
 use Rattle.rule_audit.specs.declared.rules.Rule.TheVariants.{Interval, Conflict, Companion, Parents}
 use Rattle.rule_audit.specs.Obligations.{has_row_at, is_clause, is_due, is_row_of_some, is_timed_by, terms_of, row_obligations, end_obligations}
@@ -140,26 +142,10 @@ any_none : {X : Type 0} → (p : X → Bool) (xs : List X) (d : X) → ((k : ℕ
 any_none p [] d none = refl
 any_none p (x ∷ xs) d none = rw (none 0 (omega arith)) (any_none p xs d (λ k lt. none (suc k) (omega arith)))
 
-or_true : (b : Bool) → (b || true) ≡ true
-or_true true = refl
-or_true false = refl
-
 any_some : {X : Type 0} → (p : X → Bool) (xs : List X) (d : X) (k : ℕ) → k < length xs → p (get_or xs k d) ≡ true → list_any p xs ≡ true
 any_some p [] d k lt is = absurd (omega arith)
 any_some p (x ∷ xs) d zero lt is = rw is refl
 any_some p (x ∷ xs) d (suc k) lt is = rw (any_some p xs d k (omega arith) is) (or_true (p x))
-
-and_false : (b : Bool) → (b && false) ≡ false
-and_false true = refl
-and_false false = refl
-
-and_first : (a b : Bool) → (a && b) ≡ true → a ≡ true
-and_first true b e = refl
-and_first false b e = e
-
-and_last : (a b : Bool) → (a && b) ≡ true → b ≡ true
-and_last true b e = e
-and_last false b e = absurd (let bad : false ≡ true = e in cc)
 
 off_by : (a b : Bool) → (a && b) ≡ false → a ≡ true → b ≡ false
 off_by true b e is = e

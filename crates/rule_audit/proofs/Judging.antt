@@ -1,11 +1,12 @@
 -- Verdicts on interval rules.
-use Rattle.std.proofs.Common.{◌≡◌, ◌≢◌, refl, sym, ◌∙◌, subst, ◌⊎◌, inl, inr, ◌↔◌, ℕ, ◌+◌, ◌-◌, ◌≤◌, ℤ, pos, ◌+ℤ◌, Bool, true, false, not, IsTrue, Some, None, arith}
+use Rattle.std.proofs.Common.{◌≡◌, ◌≢◌, sym, ◌∙◌, subst, ◌⊎◌, inl, inr, ◌↔◌, ℕ, ◌+◌, ◌-◌, ◌≤◌, ℤ, pos, ◌+ℤ◌, Bool, true, false, IsTrue, Some, None, arith}
 use Rattle.std.proofs.lemmas.Bool.{cases_eq}
 use Rattle.std.proofs.lemmas.Int.{ints}
 use Rattle.span_set.proofs.Sets.{int_cases}
 use Rattle.sig_base.specs.declared.values.Verdict.{Verdict}
 use Rattle.colour_machine.specs.Mask.{Has}
 use Rattle.sig_base.specs.declared.values.Row.{Row}
+use Rattle.sig_base.proofs.Common.{some_same}
 use Rattle.sig_base.specs.declared.values.Verdict.TheVariants as verdicts
 use Rattle.channel_tables.specs.declared.spec.Spec.{Spec}
 use Rattle.channel_tables.specs.Spec.{rules_of}
@@ -20,19 +21,9 @@ use Rattle.reach.proofs.Later.{then_iff}
 use Rattle.ring_config.specs.declared.items.IntervalItem.{IntervalItem}
 use Rattle.board.specs.Logs.{HourLog}
 use Rattle.board.specs.Verdicts.{MayPassRow, SeesRow}
+use Rattle.board.proofs.Verdicts.{clash}
 use Rattle.rule_audit.specs.Judged.{Closes, IsIntervalVerdict, KeepsInterval, Leaves}
 use Rattle.rule_audit.specs.Pass.{SeesColour}
-
-pub clash : (b : Bool) → IsTrue b → b ≡ false → ⊥
-clash b t f = let bad : true ≡ false = sym t ∙ f in absurd (cc)
-
-pub not_true : (b : Bool) → not b ≡ true → b ≡ false
-not_true true e = let bad : false ≡ true = e in absurd (cc)
-not_true false e = refl
-
-pub not_false : (b : Bool) → not b ≡ false → b ≡ true
-not_false true e = refl
-not_false false e = let bad : true ≡ false = e in absurd (cc)
 
 -- the opposites of bounds
 pub least_opposite : (n : ℕ) → 1 ≤ n → (t e : ℤ) → InBound (AtMost (n - 1)) t e ↔ (InBound (AtLeast n) t e → ⊥)
@@ -42,7 +33,7 @@ pub most_opposite : (n : ℕ) → (t e : ℤ) → InBound (AtLeast (n + 1)) t e 
 most_opposite n t e = ((λ h k. omega (arith, ints)), λ h. elim (int_cases (e +ℤ pos n) t) [ inl q ↦ let lt = q.1 in omega (arith, ints) | inr q ↦ absurd (h q.1) ])
 
 -- a bound is met or not
-in_or_out : (b : AgeBound) (t e : ℤ) → InBound b t e ⊎ (InBound b t e → ⊥)
+pub in_or_out : (b : AgeBound) (t e : ℤ) → InBound b t e ⊎ (InBound b t e → ⊥)
 in_or_out Any t e = inl tt
 in_or_out (AtLeast n) t e = elim (int_cases t (e +ℤ pos n)) [ inl h ↦ inr (λ k. let lt = h.1 in omega (arith, ints)) | inr h ↦ inl h.1 ]
 in_or_out (AtMost n) t e = elim (int_cases (e +ℤ pos n) t) [ inl h ↦ inr (λ k. let lt = h.1 in omega (arith, ints)) | inr h ↦ inl h.1 ]
@@ -112,14 +103,11 @@ verdict_closes P s r item verdicts.Undecided l ((v, p, k), (w, q, nope)) = ((v, 
 pub verdict_stays : (P : State → Type 0) (s : Spec) (r : Row) (item : IntervalItem) → (Leaves s r item.colour → ⊥) → IsIntervalVerdict verdicts.Idle P (Closes s r item) (KeepsInterval s r item)
 verdict_stays P s r item nope = λ v p k. nope k.1
 
-some_once : (x y : ℕ) → Some x ≡ Some y → x ≡ y
-some_once x y e = cc
-
 -- the letter of the row
 pub leaves_by : (s : Spec) (r : Row) (colour l : ℕ) (b : Bool) → Some l ≡ letter_in_table r.code r.param → (IsTrue b ↔ ((d : ℕ) × ((rules_of s).next colour l ≡ Some d) × (d ≢ colour))) → IsTrue b ↔ Leaves s r colour
 leaves_by s r colour l b e h = (
   (λ t. (l, sym e, h.0 t)),
-  λ (k, f, q). h.1 (let same : k ≡ l = some_once k l (sym f ∙ sym e) in subst (λ (m : ℕ). (d : ℕ) × ((rules_of s).next colour m ≡ Some d) × (d ≢ colour)) same q),
+  λ (k, f, q). h.1 (let same : k ≡ l = some_same k l (sym f ∙ sym e) in subst (λ (m : ℕ). (d : ℕ) × ((rules_of s).next colour m ≡ Some d) × (d ≢ colour)) same q),
 )
 
 pub no_letter : (s : Spec) (r : Row) (colour : ℕ) → None ≡ letter_in_table r.code r.param → Leaves s r colour → ⊥

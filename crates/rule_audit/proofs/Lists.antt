@@ -1,7 +1,7 @@
 -- What the numbers 1 to 16 and the items of a list give, one after another.
 use Rattle.std.proofs.Common.{suc, zero, ◌≡◌, refl, subst, inl, inr, ℕ, ◌+◌, ◌*◌, ◌≤◌, Bool, true, false, ◌||◌, ◌==◌, if◌then◌else◌, List, [], ◌∷◌, length, get_or, flat_map, Some, length-append, arith}
 use Rattle.std.specs.List.{All, list_any, range_with_len, slice_get}
-use Rattle.std.proofs.lemmas.Bool.{cases_Bool, eqb-true}
+use Rattle.std.proofs.lemmas.Bool.{cases_Bool, eqb-true, or_right}
 use Rattle.std.proofs.lemmas.List.Elements.{All-nil, All-cons, All-append, All-head, All-tail, All-weaker}
 use Rattle.sig_base.specs.Numbers.{has_number}
 use Rattle.rule_audit.specs.Rules.{each_number}
@@ -45,10 +45,6 @@ among P n (x ∷ xs) a e = elim (cases_Bool (x == n)) [
   | inl is ↦ subst P (eqb-true x n is) (All-head P x xs a)
   | inr other ↦ among P n xs (All-tail P x xs a) (rw other at e)
 ]
-
-or_right : (a b : Bool) → b ≡ true → (a || b) ≡ true
-or_right true b e = refl
-or_right false b e = e
 
 pub any_here : {X : Type 0} (p : X → Bool) (xs : List X) → All (λ x. p x ≡ true → list_any p xs ≡ true) xs
 any_here {X} p [] = All-nil (λ (y : X). p y ≡ true → list_any p [] ≡ true)

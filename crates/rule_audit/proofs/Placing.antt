@@ -20,6 +20,7 @@ use Rattle.ring_config.specs.declared.items.OverlapItem.{OverlapItem}
 use Rattle.ring_config.specs.Settings.{Settings, in_conflict, is_same_channel, is_tracked_as, kind_rank, spec_place}
 use Rattle.ring_config.specs.Sound.{IsBefore, IsConfigured, IsIntervalOf, IsOverlap, IsSound}
 use Rattle.sig_base.specs.Numbers.{has_number, has_phase}
+use Rattle.sig_base.proofs.Common.{clash}
 use Rattle.ring_config.specs.Values.{phases_in}
 use Rattle.rule_audit.specs.declared.rules.Rule.{Rule}
 use Rattle.rule_audit.specs.declared.rules.Rule.TheVariants.{Interval, Conflict, Companion, Parents}
@@ -52,9 +53,6 @@ not_before a b e h =
     let rank = eqb-true (kind_rank a.kind) (kind_rank b.kind) p.0 in
     let number = eqb-true a.number b.number p.1 in
     elim h [ inl lt ↦ absurd (omega arith) | inr (same, lt) ↦ absurd (omega arith) ]
-
-clash : (b : Bool) → b ≡ true → b ≡ false → ⊥
-clash b is isnt = let bad : true ≡ false = sym is ∙ isnt in absurd (cc)
 
 -- no channel of the list is this one
 abbrev NotAmong : Channel → List Channel → Type 0

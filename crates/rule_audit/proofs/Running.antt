@@ -1,30 +1,18 @@
 -- Where the states after an hour are found, and all are admitted there, some history of the hour agrees.
-use Rattle.std.proofs.Common.{◌≡◌, refl, inl, inr, ℕ, ◌<◌, ℤ, pos, ◌-ℤ◌, List, [], length, get_or, Option, arith}
-use Rattle.std.proofs.lemmas.Bool.{cases_lt}
+use Rattle.std.proofs.Common.{refl, inl, inr, ℕ, ℤ, pos, ◌-ℤ◌, List, [], length, get_or, Option, arith}
 use Rattle.std.proofs.lemmas.Int.{ints}
-use Rattle.std.proofs.lemmas.List.{get_or_past}
 use Rattle.span_set.specs.declared.set.Span.{Span}
-use Rattle.span_set.specs.Spans.{Member}
 use Rattle.span_set.proofs.Sets.{int_cases}
-use Rattle.reach.specs.Runs.{State, state}
-use Rattle.reach.specs.Past.{Holds}
+use Rattle.reach.specs.Runs.{state}
 use Rattle.sig_base.specs.declared.values.Row.{Row}
 use Rattle.gap_map.specs.declared.stretch.Stretch.{Stretch}
 use Rattle.channel_tables.specs.declared.spec.Spec.{Spec}
+use Rattle.reach.proofs.Common.{colour_there}
 use Rattle.board.specs.Hours.{AreEnds, ArePastsOf}
 use Rattle.board.specs.Logs.{IsHour, end_tenth, hour_log, no_spec}
 use Rattle.board.specs.Places.{AllEarly}
 use Rattle.board.specs.Stops.{AreBefore}
 use Rattle.rule_audit.specs.Judged.{HasRuns}
-
-not_member : (s : State) → Member [] s.entry → ⊥
-not_member s h = absurd h
-
-colour_there : (sets : List (List Span)) (s : State) → Holds sets s → s.colour < length sets
-colour_there sets s h = elim (cases_lt s.colour (length sets)) [
-  | inl lt ↦ lt
-  | inr ge ↦ let none : get_or sets s.colour [] ≡ [] = get_or_past sets s.colour [] (omega arith) in absurd (not_member s (rw none at h))
-]
 
 pub runs_there : (h : ℕ) (specs : List Spec) (rows : List Row) (ss : List Stretch) (before pasts : List (List (List Span))) (after : List (List (Option ℤ))) → IsHour h rows ss → ArePastsOf specs rows ss before pasts → AreBefore specs pasts → AllEarly (end_tenth h) pasts → AreEnds specs (pos (end_tenth h)) (length specs) after → HasRuns (hour_log h specs rows ss before after)
 runs_there h specs rows ss before pasts after is are shape early ends i lt =

@@ -4,6 +4,7 @@ use Rattle.std.specs.List.{list_any}
 use Rattle.std.proofs.lemmas.Bool.{cases_lt, eq-eqb, ne_eqb}
 use Rattle.std.proofs.lemmas.List.{drop_more}
 use Rattle.sig_base.specs.declared.values.Row.{Row}
+use Rattle.sig_base.proofs.Common.{and_false}
 use Rattle.channel_tables.specs.declared.spec.Spec.{Spec}
 use Rattle.board.specs.declared.clause.Term.{Term}
 use Rattle.board.specs.Logs.{no_row}
@@ -102,10 +103,6 @@ pub no_row_at : (specs : List Spec) (rows : List Row) (t : ℕ) (terms : List Te
 no_row_at specs rows t terms h = any_elsewhere (λ (r : Row). is_row_of_some specs r terms) t rows h
 
 -- ---- tenths
-
-and_false : (b : Bool) → (b && false) ≡ false
-and_false true = refl
-and_false false = refl
 
 end_none : (specs : List Spec) (rows : List Row) (t n : ℕ) (rules : List Rule) → Elsewhere t rows → end_obligations specs rows true t n rules ≡ []
 unfolding end_obligations

@@ -10,12 +10,12 @@ use Rattle.sig_base.specs.declared.values.PhaseItem.{PhaseItem}
 use Rattle.sig_base.specs.Numbers.{has_number, has_phase}
 use Rattle.channel_tables.specs.declared.spec.Spec.{Spec}
 use Rattle.channel_tables.specs.Letters.{IsNumber}
+use Rattle.gap_map.proofs.Cutting.{nat_cases}
 use Rattle.ring_config.specs.declared.items.Approach.{Approach}
 use Rattle.ring_config.specs.declared.items.OverlapItem.{OverlapItem}
 use Rattle.ring_config.specs.Settings.{Settings, detectors, is_same_channel, is_tracked, kind_rank, some_number, spec_place}
 use Rattle.ring_config.specs.Sound.{IsApproach, IsBefore, IsBetween, IsConfigured, IsOverlap, IsPhase, IsSound}
 use Rattle.board.specs.Channels.{AreSpecs}
-use Rattle.board.proofs.Bridge.{lt_tells}
 use Rattle.rule_audit.proofs.Lists.{among}
 
 -- what each that passes a test shows
@@ -37,7 +37,7 @@ module _ {X : Type 0} (p : X → Bool) where
   ]
 
   pub place_there : (xs : List X) (i : ℕ) (d : X) → i < length xs → p (get_or xs i d) ≡ true → is_some (position p xs) ≡ true
-  place_there xs i d lt e = elim (lt_tells (position_or_len p xs) (length xs)) [
+  place_there xs i d lt e = elim (nat_cases (position_or_len p xs) (length xs)) [
     | inl (is, _) ↦ rw is refl
     | inr (_, le) ↦ absurd (let k = place_early xs i d lt e in omega arith)
   ]

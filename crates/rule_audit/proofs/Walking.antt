@@ -27,15 +27,15 @@ rows_low f t k [] h lt = absurd (omega arith)
 rows_low f t zero (r ∷ rs) h lt = h.0
 rows_low f t (suc k) (r ∷ rs) h lt = let a = h.0 in let b = rows_low r.at t k rs h.2 (omega arith) in omega arith
 
-rows_rise : (f t j k : ℕ) (rows : List Row) → RowsIn f t rows → j ≤ k → k < length rows → (get_or rows j no_row).at ≤ (get_or rows k no_row).at
-rows_rise f t j k [] h le lt = absurd (omega arith)
-rows_rise f t zero zero (r ∷ rs) h le lt = omega arith
-rows_rise f t zero (suc k) (r ∷ rs) h le lt = rows_low r.at t k rs h.2 (omega arith)
-rows_rise f t (suc j) zero (r ∷ rs) h le lt = absurd (omega arith)
-rows_rise f t (suc j) (suc k) (r ∷ rs) h le lt = rows_rise r.at t j k rs h.2 (omega arith) (omega arith)
+pub sorted : (f t j k : ℕ) (rows : List Row) → RowsIn f t rows → j ≤ k → k < length rows → (get_or rows j no_row).at ≤ (get_or rows k no_row).at
+sorted f t j k [] h le lt = absurd (omega arith)
+sorted f t zero zero (r ∷ rs) h le lt = omega arith
+sorted f t zero (suc k) (r ∷ rs) h le lt = rows_low r.at t k rs h.2 (omega arith)
+sorted f t (suc j) zero (r ∷ rs) h le lt = absurd (omega arith)
+sorted f t (suc j) (suc k) (r ∷ rs) h le lt = sorted r.at t j k rs h.2 (omega arith) (omega arith)
 
 pub hour_rises : (h : ℕ) (rows : List Row) (ss : List Stretch) → IsHour h rows ss → Rises rows
-hour_rises h rows ss is j k le lt = rows_rise (first_tenth h) (end_tenth h) j k rows (hour_rows h rows ss is) le lt
+hour_rises h rows ss is j k le lt = sorted (first_tenth h) (end_tenth h) j k rows (hour_rows h rows ss is) le lt
 
 pub cut_first : (h : ℕ) (rows : List Row) (ss : List Stretch) → IsHour h rows ss → IsCutAt rows (first_tenth h) 0
 cut_first h rows ss is = (omega arith, (λ k lt. absurd (omega arith)), λ k le lt. rows_low (first_tenth h) (end_tenth h) k rows (hour_rows h rows ss is) lt)

@@ -29,7 +29,7 @@ offset_low from to (Some f) h = let low : f.0.at ≤ to = h.0 in omega (arith, l
 pub offset_in : (from to : ℕ) (p : Row → Bool) (after : List Row) → All (λ z. z.at ≤ to) after → offset_of from (last p after) ≤ to - from
 offset_in from to p after h = offset_low from to (last_with p after) (last_with_all (λ z. z.at ≤ to) p after h)
 
-end_all : (P : Row → Type 0) (known : ℕ → Bool) (p : ℕ) (seen rows : List Row) → All P rows → AllLast P (last_end_from known p seen rows)
+pub end_all : (P : Row → Type 0) (known : ℕ → Bool) (p : ℕ) (seen rows : List Row) → All P rows → AllLast P (last_end_from known p seen rows)
 end_all P known p seen [] h = tt
 end_all P known p seen (x ∷ xs) h =
     kept_all P (last_end_from known p (seen ++ x ∷ []) xs) (is_yellow_end known p seen x) x xs (end_all P known p (seen ++ x ∷ []) xs (All-tail P x xs h)) (All-head P x xs h) (All-tail P x xs h)
@@ -58,11 +58,11 @@ row_fits known p before r h = elim (cases_Bool (is_yellow_end known p before r))
 
 -- ---- in a log
 
-row_late : (a b : ℕ) (xs : List Row) (r : Row) (ys : List Row) → AreOrdered a b (xs ++ r ∷ ys) → a ≤ r.at
+pub row_late : (a b : ℕ) (xs : List Row) (r : Row) (ys : List Row) → AreOrdered a b (xs ++ r ∷ ys) → a ≤ r.at
 row_late a b [] r ys h = h.0
 row_late a b (x ∷ xs) r ys h = let l = h.0 in let m = row_late x.at b xs r ys h.2 in omega (arith, l, m)
 
-earlier_low : (a b : ℕ) (xs : List Row) (r : Row) (ys : List Row) → AreOrdered a b (xs ++ r ∷ ys) → All (λ z. z.at ≤ r.at) xs
+pub earlier_low : (a b : ℕ) (xs : List Row) (r : Row) (ys : List Row) → AreOrdered a b (xs ++ r ∷ ys) → All (λ z. z.at ≤ r.at) xs
 earlier_low a b [] r ys h = All-nil (λ z. z.at ≤ r.at)
 earlier_low a b (x ∷ xs) r ys h = All-cons (λ z. z.at ≤ r.at) x xs (row_late x.at b xs r ys h.2) (earlier_low x.at b xs r ys h.2)
 

@@ -14,6 +14,7 @@ use Rattle.hour_sweep.specs.Numbers.{Tracking, tracking_after, tracking_cleared,
 use Rattle.hour_sweep.proofs.Orders.{rise_ordered, below_end, filter_ordered}
 use Rattle.hour_sweep.proofs.Laws.{hour_tracked}
 use Rattle.hour_sweep.proofs.Counted.{outs_from-part, outs_from-append, hour_part, IsCutOff, HasTenth, IsGivenAt}
+use Rattle.hour_sweep.proofs.Common.{next_point}
 use Rattle.service_cut.specs.declared.items.Service.{Service}
 use Rattle.service_cut.specs.declared.items.Cycle.{Cycle}
 use Rattle.service_cut.specs.declared.services.ServiceBegun.{ServiceBegun}
@@ -36,9 +37,6 @@ pub tracked : (known : ℕ → Bool) (phases : List PhaseItem) (before : List Ro
 tracked known phases before hour rows ss carry end e h c =
     let or = rise_ordered (point hour) (point hour + 36000) rows (omega arith) h.are_rows.rise in
     hour_tracked known (part_of known) part_after part_cleared (told_at known) told_by (part_tracks known) (has_phase phases) (room phases) (has_room phases) before (point hour) (point hour + 36000) rows ss carry end e h.are_stretches or c.earlier c.parts_are
-
-next_point : (k : ℕ) → point k + 36000 ≡ point (k + 1)
-next_point k = omega arith
 
 pub lists_are : (known : ℕ → Bool) (phases : List PhaseItem) (before : List Row) (hour : ℕ) (rows : List Row) (ss : List Stretch) (carry : List (Option Part)) (end : Tracking Part Told) (cuts : CutLists) → end ≡ swept (tracking_after part_after told_by) (tracking_cleared part_cleared) ss rows (record { parts = carry; outs = [] })
     → cuts ≡ record { services = services_told (length end.parts) end.outs; cycles = filter_map cycle_told end.outs; open_services = filter_map open_service end.parts; open_cycles = filter_map open_cycle end.parts }
@@ -89,11 +87,11 @@ whole_given : (p : ℕ) (o : Option ServiceBegun) (r : Row) (rest : List Row) �
 whole_given p None r rest = tt
 whole_given p (Some s) r rest = service_given p s r rest s.g s.y
 
-service_given_if : (v : Bool) (t : ℕ) (o : Option Service) → IsGivenAt (λ (s : Service). s.r) t o → IsGivenAt (λ (s : Service). s.r) t (cond v o None)
+pub service_given_if : (v : Bool) (t : ℕ) (o : Option Service) → IsGivenAt (λ (s : Service). s.r) t o → IsGivenAt (λ (s : Service). s.r) t (cond v o None)
 service_given_if true t o h = h
 service_given_if false t o h = tt
 
-service_tenth : (known : ℕ → Bool) → HasTenth (λ (s : Service). s.r) (service_at known)
+pub service_tenth : (known : ℕ → Bool) → HasTenth (λ (s : Service). s.r) (service_at known)
 unfolding service_at
 service_tenth known p before r rest = service_given_if (is_end (sign p r)) r.at (whole_service p (service_begun_of known r.at p before) r rest) (whole_given p (service_begun_of known r.at p before) r rest)
 

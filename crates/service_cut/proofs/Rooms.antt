@@ -1,20 +1,17 @@
 -- The places of the phases in a table.
-use Rattle.std.proofs.Common.{◌≡◌, ℕ, ◌+◌, ◌<◌, ◌≤◌, Bool, true, false, eqb, ◌||◌, List, [], ◌∷◌, None, map, length, get_or, drop, refl, ap, sym, ◌∙◌, arith, inl, inr, ◌⊎◌}
+use Rattle.std.proofs.Common.{◌≡◌, ℕ, ◌+◌, ◌<◌, ◌≤◌, Bool, true, eqb, List, [], ◌∷◌, None, map, length, get_or, drop, refl, ap, sym, ◌∙◌, arith, inl, inr}
 use Rattle.std.specs.Prelude.{max}
 use Rattle.std.specs.List.{range_with_len}
 use Rattle.std.proofs.lemmas.Bool.{eqb-true}
 use Rattle.std.proofs.lemmas.List.{drop_more, drop_all}
 use Rattle.sig_base.specs.declared.values.PhaseItem.{PhaseItem}
 use Rattle.sig_base.specs.Numbers.{has_phase}
+use Rattle.sig_base.proofs.Common.{or_cases}
 use Rattle.hour_sweep.proofs.Tables.{table_same}
 use Rattle.service_cut.specs.Services.{service_begun_of}
 use Rattle.service_cut.specs.Cycles.{yellow_of, cycle_begun_of}
 use Rattle.service_cut.specs.Parts.{room, part_of, parts_of}
 use Rattle.service_cut.specs.Steps.{no_part}
-
-or_cases : (a b : Bool) → (a || b) ≡ true → (a ≡ true) ⊎ (b ≡ true)
-or_cases true b h = inl refl
-or_cases false b h = inr h
 
 -- each phase has a place
 pub has_room : (phases : List PhaseItem) (p : ℕ) → has_phase phases p ≡ true → p < room phases
@@ -33,7 +30,7 @@ yellow_at_start : (known : ℕ → Bool) (p : ℕ) → yellow_of known 0 p [] �
 unfolding yellow_of
 yellow_at_start known p = refl
 
-cycle_at_start : (known : ℕ → Bool) (p : ℕ) → cycle_begun_of known 0 p [] ≡ None
+pub cycle_at_start : (known : ℕ → Bool) (p : ℕ) → cycle_begun_of known 0 p [] ≡ None
 unfolding cycle_begun_of
 cycle_at_start known p = refl
 

@@ -5,6 +5,7 @@ use Rattle.std.proofs.lemmas.List.{append-nil}
 use Rattle.std.proofs.lemmas.List.Elements.{All-head, All-tail}
 use Rattle.std.proofs.lemmas.Bool.{cases_Bool, false_from_ne_true}
 use Rattle.sig_base.specs.declared.values.Row.{Row}
+use Rattle.sig_base.proofs.Common.{clash}
 use Rattle.hour_sweep.specs.Rows.{kept_last, last, live}
 use Rattle.hour_sweep.specs.Hours.{AreOrdered}
 use Rattle.service_cut.specs.declared.items.Cycle.{Cycle}
@@ -54,10 +55,6 @@ end_is known p before (x ∷ rows) = kept_end known p before x rows (last_end_fr
 
 -- small facts
 
-both_not : (b : Bool) → b ≡ true → b ≡ false → ⊥
-both_not true t f = cc
-both_not false t f = cc
-
 front_known : (known : ℕ → Bool) (front : List Row) (x : Row) (back : List Row) → All (λ z. known z.at ≡ true) (front ++ x ∷ back) → known x.at ≡ true
 front_known known [] x back h = All-head (λ z. known z.at ≡ true) x back h
 front_known known (z ∷ front) x back h = front_known known front x back (All-tail (λ z. known z.at ≡ true) z (front ++ x ∷ back) h)
@@ -65,7 +62,7 @@ front_known known (z ∷ front) x back h = front_known known front x back (All-t
 member_known : (known : ℕ → Bool) (before front : List Row) (x : Row) (back : List Row) → before ≡ front ++ x ∷ back → All (λ z. known z.at ≡ true) before → known x.at ≡ true
 member_known known before front x back e h = front_known known front x back (subst (λ (zs : List Row). All (λ z. known z.at ≡ true) zs) e h)
 
-front_ordered : (a b : ℕ) (front : List Row) (x : Row) (back : List Row) → AreOrdered a b (front ++ x ∷ back) → AreOrdered a b front
+pub front_ordered : (a b : ℕ) (front : List Row) (x : Row) (back : List Row) → AreOrdered a b (front ++ x ∷ back) → AreOrdered a b front
 front_ordered a b [] x back h = let l = h.0 in let u = h.1 in omega arith
 front_ordered a b (z ∷ front) x back h = (h.0, h.1, front_ordered z.at b front x back h.2)
 
@@ -85,7 +82,7 @@ cycle_in known p a b before r c (Some f) or kb k ye h e =
             joined = h.1;
             first = yellow_is known p h.0 f.0 (member_known known before h.0 f.0 f.1 h.1 kb) h.2;
             second = yellow_is known p before r k ye;
-            none = λ xs x ys s w. both_not (is_yellow_end known p (h.0 ++ f.0 ∷ xs) x)
+            none = λ xs x ys s w. clash (is_yellow_end known p (h.0 ++ f.0 ∷ xs) x)
                 (is_yellow_at known p a b (h.0 ++ f.0 ∷ xs) x (front_ordered a b (h.0 ++ f.0 ∷ xs) x ys (subst (λ (zs : List Row). AreOrdered a b zs) (h.1 ∙ ap (λ zs. h.0 ++ f.0 ∷ zs) s ∙ sym (append_assoc h.0 (f.0 ∷ xs) (x ∷ ys))) or)) w)
                 (subst (λ (zs : List Row). is_yellow_end known p zs x ≡ false) (append_assoc h.0 (f.0 ∷ []) xs) (h.3 xs x ys s));
             all_known = live_all_known known f.0.at r.at l k;
@@ -94,7 +91,7 @@ cycle_in known p a b before r c (Some f) or kb k ye h e =
       | inr l ↦ absurd (let e1 : None ≡ Some c = rw l at e in cc)
     ]
 
-if_true : (b : Bool) (o : Option Cycle) (c : Cycle) → cond b o None ≡ Some c → (b ≡ true) × (o ≡ Some c)
+pub if_true : (b : Bool) (o : Option Cycle) (c : Cycle) → cond b o None ≡ Some c → (b ≡ true) × (o ≡ Some c)
 if_true true o c e = (refl, e)
 if_true false o c e = cc
 

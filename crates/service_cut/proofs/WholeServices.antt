@@ -6,8 +6,9 @@ use Rattle.std.specs.Option.{option_or}
 use Rattle.std.proofs.lemmas.List.Elements.{All-nil, All-cons, All-head, All-tail}
 use Rattle.std.proofs.lemmas.Bool.{cases_Bool, cases_eq, cases_lt, and_parts, le-leb, not-true, or_parts}
 use Rattle.sig_base.specs.declared.values.Row.{Row}
+use Rattle.sig_base.proofs.Common.{or_none}
 use Rattle.hour_sweep.specs.Rows.{kept_last, last_with, last, since, live}
-use Rattle.hour_sweep.proofs.Places.{last-append, last-cons, or_none}
+use Rattle.hour_sweep.proofs.Places.{last-append, last-cons}
 use Rattle.hour_sweep.proofs.Known.{since_le, since_known, live_here, live_lost}
 use Rattle.service_cut.specs.declared.items.Service.{Service}
 use Rattle.service_cut.specs.declared.signs.Sign.{Sign}
@@ -36,7 +37,7 @@ find_split p (z ∷ xs) x e =
 
 -- last
 
-kept_none : (p : Row → Bool) (xs : List Row) → All (λ z. p z ≡ false) xs → last_with p xs ≡ None
+pub kept_none : (p : Row → Bool) (xs : List Row) → All (λ z. p z ≡ false) xs → last_with p xs ≡ None
 kept_none p [] n = refl
 kept_none p (x ∷ xs) n = rw (kept_none p xs (All-tail (λ z. p z ≡ false) x xs n), All-head (λ z. p z ≡ false) x xs n) refl
 

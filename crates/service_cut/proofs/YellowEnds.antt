@@ -48,7 +48,7 @@ yellow_no_end End e = cc
 yellow_no_end Cause e = refl
 yellow_no_end Other e = refl
 
-from_first : (a b c : ℕ) (xs : List Row) → c ≤ a → AreOrdered a b xs → All (λ z. c ≤ z.at) xs
+pub from_first : (a b c : ℕ) (xs : List Row) → c ≤ a → AreOrdered a b xs → All (λ z. c ≤ z.at) xs
 from_first a b c [] le h = All-nil (λ z. c ≤ z.at)
 from_first a b c (x ∷ xs) le h = let l = h.0 in All-cons (λ z. c ≤ z.at) x xs (omega arith) (from_first x.at b c xs (omega arith) h.2)
 

@@ -1,6 +1,5 @@
 -- What crosses a point between two hours.
-use Rattle.std.specs.Prelude.{ℕ, ◌≡◌, ◌+◌, ◌<◌, ◌==◌, max, Bool, List, [], ◌∷◌, Option, Some, None, option_map, All}
-use Rattle.std.specs.List.{list_any}
+use Rattle.std.specs.Prelude.{ℕ, ◌≡◌, ◌+◌, ◌<◌, max, Bool, List, [], ◌∷◌, Option, Some, None, option_map, All}
 use Rattle.sig_base.specs.declared.values.Row.{Row}
 use Rattle.sig_base.specs.declared.values.PhaseItem.{PhaseItem}
 use Rattle.sig_base.specs.Numbers.{has_phase}

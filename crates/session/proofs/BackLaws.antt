@@ -3,11 +3,12 @@ use Rattle.std.proofs.Common.{◌≡◌, ◌∙◌, ◌⊎◌, inl, inr, ℕ, �
 use Rattle.std.proofs.lemmas.Bool.{cases_lt}
 use Rattle.hour_store.specs.Store.{IsStore, Store, rows_at}
 use Rattle.ring_config.specs.Settings.{Settings}
+use Rattle.strand_search.proofs.Told.{has}
 use Rattle.hour_work.specs.Numbers.{patched}
 use Rattle.hour_work.specs.Points.{IsFutureAt}
 use Rattle.session.specs.Links.{Ahead, AreFuturesBut, Backs, BacksAt}
 use Rattle.session.specs.Renewed.{AreNewFutures}
-use Rattle.session.proofs.KeptLaws.{backs_as, backs_same, future_down, has}
+use Rattle.session.proofs.KeptLaws.{backs_as, backs_same, future_down}
 use Rattle.hour_work.proofs.PatchLaws.{length-patched, patched-below, patched-first, patched-front, patched-none, patched-past}
 
 -- the way back from the hour `last` has come to the point `from`

@@ -3,12 +3,13 @@ use Rattle.std.proofs.Common.{◌≡◌, ◌∙◌, ◌⊎◌, inl, inr, ℕ, �
 use Rattle.std.proofs.lemmas.Bool.{cases_lt}
 use Rattle.hour_store.specs.Store.{IsStore, Store, rows_at}
 use Rattle.ring_config.specs.Settings.{Settings}
+use Rattle.strand_search.proofs.Told.{has}
 use Rattle.hour_work.specs.Moved.{SaySame}
 use Rattle.hour_work.specs.Numbers.{patched}
 use Rattle.hour_work.specs.Points.{Carried, IsCarryAt}
 use Rattle.session.specs.Links.{AreCarriesBut, Leads, LeadsAt}
 use Rattle.session.specs.Renewed.{AreNewCarries}
-use Rattle.session.proofs.KeptLaws.{carry_up, has, leads_as, leads_same}
+use Rattle.session.proofs.KeptLaws.{carry_up, leads_as, leads_same}
 use Rattle.hour_work.proofs.PatchLaws.{length-patched, patched-below, patched-last, patched-more, patched-none, patched-past}
 
 -- the way from the hour `first` has come to the point before the hour `hour`

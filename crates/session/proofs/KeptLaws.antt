@@ -9,6 +9,7 @@ use Rattle.signal_log.specs.Log.{HasHistory, log_of}
 use Rattle.signal_log.specs.Points.{HasHour}
 use Rattle.signal_log.proofs.Stored.{known_hour}
 use Rattle.signal_log.proofs.Suiting.{all_count}
+use Rattle.strand_search.proofs.Told.{has}
 use Rattle.hour_work.specs.Numbers.{Numbers}
 use Rattle.hour_work.specs.Points.{Carried, IsCarryAt, IsFutureAt}
 use Rattle.hour_work.specs.Reports.{IsHourBetween, IsReport}
@@ -21,9 +22,6 @@ has_hour s hour rows blanks is lt e b = record {
   held = sym e;
   known = λ t low high. ap (λ (bs : List Span). known_in (is_some rows) bs t) b ∙ sym (known_hour s hour t rows (sym e) low (omega arith));
 }
-
-pub has : (s : Store) (k : ℕ) → IsStore s → k < length s.hours → HasHour s k (rows_at s k) s.blanks
-has s k is lt = has_hour s k (rows_at s k) s.blanks is lt refl refl
 
 -- ---- from point to point
 

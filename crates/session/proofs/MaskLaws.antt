@@ -1,5 +1,5 @@
 -- A store, once other tenths of a range are blanked.
-use Rattle.std.proofs.Common.{◌≡◌, inl, inr, ℕ, ◌+◌, ◌*◌, ◌<◌, ◌≤◌, ℤ, pos, ◌-ℤ◌, ◌≤ℤ◌, ◌<ℤ◌, Bool, true, false, List, refl, sym, arith, rules, w64}
+use Rattle.std.proofs.Common.{◌≡◌, inl, inr, ℕ, ◌+◌, ◌*◌, ◌<◌, ◌≤◌, ℤ, pos, ◌-ℤ◌, ◌≤ℤ◌, ◌<ℤ◌, List, refl, arith, rules, w64}
 use Rattle.std.proofs.lemmas.Int.{ints}
 use Rattle.std.specs.Prelude.{FitsSigned}
 use Rattle.span_set.specs.declared.set.Span.{Span}
@@ -7,6 +7,7 @@ use Rattle.span_set.specs.Spans.{Within, is_member}
 use Rattle.span_set.specs.Changes.{span}
 use Rattle.span_set.proofs.Sets.{member_test}
 use Rattle.hour_store.specs.Store.{Store, with_blanks}
+use Rattle.ring_config.proofs.TrackLaws.{same_both}
 use Rattle.session.specs.Moved.{IsIn}
 use Rattle.session.specs.Puts.{AreSameBut, SameHour}
 use Rattle.session.specs.Ranges.{SameApart, With, Without}
@@ -17,17 +18,12 @@ with_same old new f t w e out = (λ m. elim ((w e).0 m) [ inl o ↦ o | inr r �
 pub without_same : (old new : List Span) (f t : ℤ) → Without old f t new → SameApart old f t new
 without_same old new f t w e out = (λ m. ((w e).0 m).0, λ o. (w e).1 (o, out))
 
-same_bool : (a b : Bool) → (a ≡ true → b ≡ true) → (b ≡ true → a ≡ true) → a ≡ b
-same_bool true b p q = sym (p refl)
-same_bool false true p q = q refl
-same_bool false false p q = refl
-
 same_test : (old new : List Span) (f t : ℤ) (x : ℕ) → SameApart old f t new → (Within (span f t) (pos x) → ⊥) → is_member old (pos x) ≡ is_member new (pos x)
 same_test old new f t x same out =
     let s = same (pos x) out in
     let a = member_test old (pos x) in
     let b = member_test new (pos x) in
-    same_bool (is_member old (pos x)) (is_member new (pos x)) (λ h. b.1 (s.1 (a.0 h))) (λ h. a.1 (s.0 (b.0 h)))
+    same_both (is_member old (pos x)) (is_member new (pos x)) (λ h. b.1 (s.1 (a.0 h))) (λ h. a.1 (s.0 (b.0 h)))
 
 -- an hour without a tenth of the range
 same_out : (s : Store) (new : List Span) (f t : ℤ) (k : ℕ) → SameApart s.blanks f t new → ((x : ℕ) → 36000 * k ≤ x → x < 36000 * (k + 1) → Within (span f t) (pos x) → ⊥) → SameHour s (with_blanks s new) k

@@ -2,28 +2,20 @@
 use Rattle.std.proofs.Common.{◌≡◌, ◌≢◌, ◌∙◌, ◌⊎◌, inl, inr, ℕ, zero, suc, ℤ, pos, negsuc, ◌+◌, ◌*◌, ◌^◌, ◌<◌, ◌≤◌, ◌<ℤ◌, ◌≤ℤ◌, ◌↔◌, Bool, true, false, not, int_le, int_lt, List, [], ◌∷◌, refl, sym, ap, subst, arith}
 use Rattle.std.proofs.lemmas.Int.{ints}
 use Rattle.std.proofs.lemmas.Bool.{cases_eq, false≢true, or_left, or_right, or_cases, and_parts, and_from, false_from_ne_true}
-use Rattle.std.proofs.lemmas.Bool.Decides.{Decides-int_eq}
-use Rattle.std.specs.Ordering.{int_eq}
+use Rattle.sig_base.proofs.Common.{same_cases, le_said}
 use Rattle.span_set.specs.declared.set.Span.{Span}
 use Rattle.span_set.specs.Spans.{Above, AreRanges, Member, Within}
 use Rattle.span_set.specs.Changes.{span}
-use Rattle.span_set.proofs.Sets.{member_test, same_ranges}
+use Rattle.span_set.proofs.Sets.{member_test, same_ranges, not_over}
+use Rattle.gap_map.proofs.Reaching.{is_le, lt_is}
 use Rattle.hour_store.specs.Store.{LieWithin, Store}
 use Rattle.session.specs.Ranges.{With, Without, blanked_with, blanked_without, is_between, is_blanked, ranges_from, ranges_of, with_first}
-
--- a test of two tenths, and what it says
-same_or_not : (a b : ℤ) → ((int_eq a b ≡ true) × (a ≡ b)) ⊎ ((int_eq a b ≡ false) × (a ≡ b → ⊥))
-same_or_not a b = by (int_eq a b) refl
-  where
-    by : (t : Bool) → int_eq a b ≡ t → ((int_eq a b ≡ true) × (a ≡ b)) ⊎ ((int_eq a b ≡ false) × (a ≡ b → ⊥))
-    by true e = inl (e, (Decides-int_eq a b).0 e)
-    by false e = inr (e, λ q. false≢true (sym e ∙ (Decides-int_eq a b).1 q))
 
 first_above : (t : ℕ) (low : ℤ) (ss : List Span) → low <ℤ pos t → t ≤ 2 ^ 40 → Above (pos t) ss → Above low (with_first t ss)
 first_above t low [] l h p = (l, omega (arith, ints), omega (arith, ints), tt)
 first_above t low (s ∷ ss) l h p =
     let a = p.0 in let b = p.1 in
-    elim (same_or_not s.from (pos (t + 1))) as (λ _. Above low (with_first t (s ∷ ss))) [
+    elim (same_cases s.from (pos (t + 1))) as (λ _. Above low (with_first t (s ∷ ss))) [
       | inl x ↦ rw x.0 (l, omega (arith, ints), p.2, p.3)
       | inr x ↦ let n = x.1 in rw x.0 (l, omega (arith, ints), omega (arith, ints), (grind (arith, ints), b, p.2, p.3))
     ]
@@ -44,7 +36,7 @@ first_members : (t : ℕ) (ss : List Span) (e : ℤ) → Above (pos t) ss → Me
 first_members t [] e p = (λ m. elim m [ inl w ↦ inl (let a = w.0 in let b = w.1 in omega (arith, ints)) | inr n ↦ absurd n ], λ m. elim m [ inl w ↦ inl (omega (arith, ints), omega (arith, ints)) | inr n ↦ absurd n ])
 first_members t (s ∷ ss) e p =
     let a = p.0 in let b = p.1 in
-    elim (same_or_not s.from (pos (t + 1))) as (λ _. Member (with_first t (s ∷ ss)) e ↔ ((e ≡ pos t) ⊎ Member (s ∷ ss) e)) [
+    elim (same_cases s.from (pos (t + 1))) as (λ _. Member (with_first t (s ∷ ss)) e ↔ ((e ≡ pos t) ⊎ Member (s ∷ ss) e)) [
       | inl x ↦ let at = x.1 in rw x.0 (
         λ m. elim m [
           | inl w ↦ let c = w.0 in let d = w.1 in elim (below (pos t) e c) [ inl same ↦ inl same | inr more ↦ inr (inl (omega (arith, ints), d)) ]
@@ -118,30 +110,12 @@ ranges_members test from (suc n) h e =
       ],
     )
 
-le_cases : (a b : ℤ) → ((int_le a b ≡ true) × (a ≤ℤ b)) ⊎ ((int_le a b ≡ false) × (b <ℤ a))
-le_cases a b = grind (arith, ints)
-
-lt_cases : (a b : ℤ) → ((int_lt a b ≡ true) × (a <ℤ b)) ⊎ ((int_lt a b ≡ false) × (b ≤ℤ a))
-lt_cases a b = grind (arith, ints)
-
-le_said : (a b : ℤ) → int_le a b ≡ true → a ≤ℤ b
-le_said a b e = elim (le_cases a b) [ inl x ↦ x.1 | inr x ↦ absurd (false≢true (sym x.0 ∙ e)) ]
-
-lt_said : (a b : ℤ) → int_lt a b ≡ true → a <ℤ b
-lt_said a b e = elim (lt_cases a b) [ inl x ↦ x.1 | inr x ↦ absurd (false≢true (sym x.0 ∙ e)) ]
-
-said_le : (a b : ℤ) → a ≤ℤ b → int_le a b ≡ true
-said_le a b h = elim (le_cases a b) [ inl x ↦ x.0 | inr x ↦ let n = x.1 in absurd (omega (arith, ints)) ]
-
-said_lt : (a b : ℤ) → a <ℤ b → int_lt a b ≡ true
-said_lt a b h = elim (lt_cases a b) [ inl x ↦ x.0 | inr x ↦ let n = x.1 in absurd (omega (arith, ints)) ]
-
 -- the test of a range, and what it says
 in_range : (f t : ℤ) (k : ℕ) → is_between f t k ≡ true → Within (span f t) (pos k)
-in_range f t k e = let p = and_parts (int_le f (pos k)) (int_lt (pos k) t) e in (le_said f (pos k) p.0, lt_said (pos k) t p.1)
+in_range f t k e = let p = and_parts (int_le f (pos k)) (int_lt (pos k) t) e in (le_said f (pos k) p.0, lt_is (pos k) t p.1)
 
 range_test : (f t : ℤ) (k : ℕ) → Within (span f t) (pos k) → is_between f t k ≡ true
-range_test f t k w = and_from (int_le f (pos k)) (int_lt (pos k) t) (said_le f (pos k) w.0) (said_lt (pos k) t w.1)
+range_test f t k w = and_from (int_le f (pos k)) (int_lt (pos k) t) (is_le f (pos k) w.0) (not_over (pos k) t w.1)
 
 out_test : (f t : ℤ) (k : ℕ) → (Within (span f t) (pos k) → ⊥) → not (is_between f t k) ≡ true
 out_test f t k n = ap not (false_from_ne_true (is_between f t k) (λ e. n (in_range f t k e)))

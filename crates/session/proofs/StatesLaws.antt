@@ -17,11 +17,12 @@ use Rattle.signal_log.specs.Points.{ArePastsAt}
 use Rattle.signal_log.proofs.Hour.{pasts_at}
 use Rattle.signal_log.proofs.Lawful.{some_history}
 use Rattle.rule_audit.proofs.Tracked.{channels_are}
+use Rattle.strand_search.proofs.Told.{has}
 use Rattle.hour_work.specs.Points.{Carried}
 use Rattle.hour_work.proofs.PatchLaws.{patched-at, patched-below, patched-last, patched-more, patched-past}
 use Rattle.session.specs.Links.{AreCarriesBut, LeadsAt, States, StatesLead, StatesLeadAt}
 use Rattle.session.specs.Renewed.{AreCarriesTo, AreNewPasts, states_with}
-use Rattle.session.proofs.KeptLaws.{carry_up, has}
+use Rattle.session.proofs.KeptLaws.{carry_up}
 
 -- ---- each hour has its cut
 

@@ -6,6 +6,7 @@ use Rattle.std.proofs.lemmas.List.{take_more}
 use Rattle.sig_base.specs.declared.values.Row.{Row}
 use Rattle.sig_base.specs.declared.values.Verdict.{Verdict}
 use Rattle.sig_base.specs.declared.values.Verdict.TheVariants.{Idle, Kept, Broken, Undecided}
+use Rattle.sig_base.proofs.Each.{each_join, each_if, Each}
 use Rattle.channel_tables.specs.declared.spec.Spec.{Spec}
 use Rattle.span_set.specs.declared.set.Span.{Span}
 use Rattle.hour_store.specs.Store.{Store, is_known}
@@ -29,19 +30,11 @@ use Rattle.filling_pair.specs.Kept.{IsLineOf, IsPlaceOf}
 use Rattle.hour_work.specs.Points.{is_known_before}
 use Rattle.signal_log.specs.Rows.{hour_rows}
 use Rattle.hour_work.specs.Verdicts.{AreAuditLines, HasStoreVerdict, obligations_in, states_in}
-use Rattle.hour_work.proofs.PlacedLaws.{Each, FitPlace, IsPlaced, all_placed, each_all, rules_fit}
+use Rattle.hour_work.proofs.PlacedLaws.{FitPlace, IsPlaced, all_placed, each_all, rules_fit}
 use Rattle.session.specs.HourLines.{AreLinesIn, HasOwnWindow, IsLineAfter, IsLineIn}
 use Rattle.session.specs.Windows.{AreHourLines, AreWithWindows, HasWindow, is_broken, with_window}
 
-join : {X : Type 0} (P : X → Type 0) (xs ys : List X) → Each P xs → Each P ys → Each P (xs ++ ys)
-join P [] ys p q = q
-join P (x ∷ xs) ys p q = (p.0, join P xs ys p.1 q)
-
-one_if : {X : Type 0} (P : X → Type 0) (b : Bool) (x : X) → P x → Each P (if b then x ∷ [] else [])
-one_if P true x p = (p, tt)
-one_if P false x p = tt
-
-all_if : {X : Type 0} (P : X → Type 0) (b : Bool) (xs : List X) → Each P xs → Each P (if b then xs else [])
+pub all_if : {X : Type 0} (P : X → Type 0) (b : Bool) (xs : List X) → Each P xs → Each P (if b then xs else [])
 all_if P true xs p = p
 all_if P false xs p = tt
 
@@ -75,15 +68,15 @@ own_row : (specs : List Spec) (all : List Rule) (i : ℕ) (r : Row) (m : ℕ) (x
 unfolding row_obligations
 own_row specs all i r m [] h = tt
 own_row specs all i r m (x ∷ xs) h =
-    join (IsOwn all) (if is_timed_by specs r x then obligation (m + 1) x r.at (BeforeRow i) ∷ [] else []) (row_obligations specs i r (m + 1 + 1) xs)
-    (one_if (IsOwn all) (is_timed_by specs r x) (obligation (m + 1) x r.at (BeforeRow i)) (first_from all m x xs h))
+    each_join (IsOwn all) (if is_timed_by specs r x then obligation (m + 1) x r.at (BeforeRow i) ∷ [] else []) (row_obligations specs i r (m + 1 + 1) xs)
+    (each_if (IsOwn all) (is_timed_by specs r x) (obligation (m + 1) x r.at (BeforeRow i)) (first_from all m x xs h))
     (own_row specs all i r (m + 1) xs (next_from all m x xs h))
 
 own_rows : (specs : List Spec) (all : List Rule) (t i : ℕ) (rs : List Row) → Each (IsOwn all) (rows_obligations specs all t i rs)
 unfolding rows_obligations
 own_rows specs all t i [] = tt
 own_rows specs all t i (r ∷ rs) =
-    join (IsOwn all) (if nat_eq r.at t then row_obligations specs i r 1 all else []) (rows_obligations specs all t (i + 1) rs)
+    each_join (IsOwn all) (if nat_eq r.at t then row_obligations specs i r 1 all else []) (rows_obligations specs all t (i + 1) rs)
     (all_if (IsOwn all) (nat_eq r.at t) (row_obligations specs i r 1 all) (own_row specs all i r 0 all (all_from all)))
     (own_rows specs all t (i + 1) rs)
 
@@ -91,17 +84,17 @@ own_end : (specs : List Spec) (all : List Rule) (rows : List Row) (before : Bool
 unfolding end_obligations
 own_end specs all rows before t m [] h = tt
 own_end specs all rows before t m (x ∷ xs) h =
-    join (IsOwn all) (if is_due specs rows before t x then obligation (m + 1) x t EndOfTenth ∷ [] else []) (end_obligations specs rows before t (m + 1 + 1) xs)
-    (one_if (IsOwn all) (is_due specs rows before t x) (obligation (m + 1) x t EndOfTenth) (first_from all m x xs h))
+    each_join (IsOwn all) (if is_due specs rows before t x then obligation (m + 1) x t EndOfTenth ∷ [] else []) (end_obligations specs rows before t (m + 1 + 1) xs)
+    (each_if (IsOwn all) (is_due specs rows before t x) (obligation (m + 1) x t EndOfTenth) (first_from all m x xs h))
     (own_end specs all rows before t (m + 1) xs (next_from all m x xs h))
 
 all_own : (known : ℕ → Bool) (specs : List Spec) (all : List Rule) (rows : List Row) (before : Bool) (t n : ℕ) → Each (IsOwn all) (obligations_from known specs all rows before t n)
 unfolding obligations_from
 all_own known specs all rows before t zero = tt
 all_own known specs all rows before t (suc n) =
-    join (IsOwn all) (if known t then tenth_obligations specs all rows before t else []) (obligations_from known specs all rows (known t) (t + 1) n)
+    each_join (IsOwn all) (if known t then tenth_obligations specs all rows before t else []) (obligations_from known specs all rows (known t) (t + 1) n)
     (all_if (IsOwn all) (known t) (tenth_obligations specs all rows before t)
-    (join (IsOwn all) (rows_obligations specs all t 0 rows) (end_obligations specs rows before t 1 all) (own_rows specs all t 0 rows) (own_end specs all rows before t 0 all (all_from all))))
+    (each_join (IsOwn all) (rows_obligations specs all t 0 rows) (end_obligations specs rows before t 1 all) (own_rows specs all t 0 rows) (own_end specs all rows before t 0 all (all_from all))))
     (all_own known specs all rows (known t) (t + 1) n)
 
 -- ---- lines
@@ -161,7 +154,7 @@ module _ (c : Settings) (s : Store) (hour : ℕ) (within : hour < length s.hours
   all_are : (os : List Obligation) (lines : List AuditLine) → Each (λ o. Placed o × IsOwn (rules_for c) o) os → AreLinesOf (HasStoreVerdict c s hour) os lines → Each (IsLineIn c s hour) lines
   all_are [] lines h e = subst (λ ls. Each (IsLineIn c s hour) ls) (sym e) tt
   all_are (o ∷ os) lines (h, hs) (x, is, (rest, are, e)) =
-      subst (λ ls. Each (IsLineIn c s hour) ls) (sym e) (join (IsLineIn c s hour) (lines_of o x) rest (lines_are o x h.0 h.1 is) (all_are os rest hs are))
+      subst (λ ls. Each (IsLineIn c s hour) ls) (sym e) (each_join (IsLineIn c s hour) (lines_of o x) rest (lines_are o x h.0 h.1 is) (all_are os rest hs are))
 
   -- the lines of the audit of an hour are at its tenths, and those that say broken are of broken obligations
   pub lines_in : (lines : List AuditLine) → IsSound c → AreAuditLines c s hour lines → All (IsLineIn c s hour) lines

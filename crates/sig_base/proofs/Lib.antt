@@ -1,3 +1,5 @@
-mod Years
+pub mod Years
 mod Dates
 pub mod Growing
+pub mod Common
+pub mod Each

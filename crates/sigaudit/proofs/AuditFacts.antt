@@ -1,11 +1,9 @@
 -- The lines of an audit, one hour after another.
-use Rattle.std.proofs.Common.{◌≡◌, ◌<◌, ◌≤◌, ◌+◌, ◌-◌, ◌*◌, ◌++◌, ◌∙◌, ℕ, zero, suc, Bool, true, false, List, [], ◌∷◌, length, drop, Option, Some, None, Result, Ok, Err, refl, sym, ap, subst, inl, inr, nat_lt, nat_eq, arith, append_assoc, append-nil, get_or, add-one}
+use Rattle.std.proofs.Common.{◌≡◌, ◌<◌, ◌≤◌, ◌+◌, ◌-◌, ◌*◌, ◌++◌, ◌∙◌, ℕ, zero, suc, Bool, true, false, List, [], ◌∷◌, length, Option, Some, None, Result, Ok, Err, refl, sym, ap, subst, inl, inr, nat_lt, nat_eq, arith, append_assoc, append-nil, get_or}
 use Rattle.std.specs.List.{All}
 use Rattle.std.specs.Prelude.{if◌then◌else◌}
-use Rattle.std.proofs.Math.Seq.{drop-cons}
 use Rattle.std.proofs.lemmas.Bool.{cases_Bool, eqb-true, lt-ltb, le-ltb}
 use Rattle.std.proofs.lemmas.List.Elements.{All-append, All-cons, All-get_or, All-head, All-nil, All-same, All-tail, All-weaker, filter_passes}
-use Rattle.std.proofs.lemmas.List.{drop_all}
 use Rattle.outside.specs.Sink.{Stops, Taken, Writes}
 use Rattle.sig_base.specs.Window.{Span}
 use Rattle.sig_base.specs.declared.values.Row.{Row}
@@ -29,14 +27,13 @@ use Rattle.hour_work.specs.Points.{is_known_before}
 use Rattle.hour_work.specs.Verdicts.{AreAuditLines, HasStoreVerdict, obligations_in}
 use Rattle.signal_log.specs.Rows.{hour_rows}
 use Rattle.sig_base.specs.declared.values.EditError.TheVariants.{OutOfWindow}
+use Rattle.decisive.proofs.Concluded.{known_within}
 use Rattle.report_text.specs.declared.refusal.Refusal.TheVariants.{Edit}
 use Rattle.sigaudit.specs.Turns.{refuses, writes}
-use Rattle.report_text.specs.Audit.{EndIn, IsLineIn, audit_line_text, audit_start, lines_text}
+use Rattle.report_text.specs.Audit.{EndIn, IsLineIn, audit_start, lines_text}
 use Rattle.report_text.specs.Heads.{verdicts_head}
-use Rattle.report_text.proofs.VerdictLines.{no_line}
 use Rattle.sigaudit.specs.Audit.{AddsHour, AreFailing, AreVerdicts, IsAudited, IsReportOf, failing_at, failing_of, is_kept}
 use Rattle.sigaudit.specs.Run.{TakesBy, TakesPut}
-use Rattle.sigaudit.proofs.EditFacts.{known_within}
 use Rattle.sigaudit.proofs.TakeFacts.{by_refusal}
 use Rattle.sigaudit.specs.declared.status.Stopped.{Stopped}
 use Rattle.sigaudit.specs.declared.status.Stopped.TheVariants as stopped

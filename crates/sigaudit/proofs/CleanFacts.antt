@@ -1,6 +1,6 @@
 -- An hour of which all verdicts are kept has no broken or undecided line.
-use Rattle.std.proofs.Common.{◌≡◌, ◌∙◌, refl, ap, sym, subst, inl, inr, ℕ, zero, suc, ◌+◌, ◌-◌, ◌<◌, ◌≤◌, ◌==◌, ◌&&◌, Bool, true, false, cond, None, List, [], ◌∷◌, ◌++◌, length, map, get_or, arith, nat_eq}
-use Rattle.std.specs.List.{All, count_by, sum_by}
+use Rattle.std.proofs.Common.{◌≡◌, refl, sym, subst, inl, inr, ℕ, zero, suc, ◌+◌, ◌-◌, ◌<◌, ◌≤◌, ◌==◌, ◌&&◌, Bool, true, false, cond, None, List, [], ◌∷◌, ◌++◌, length, map, get_or, arith}
+use Rattle.std.specs.List.{All, count_by}
 use Rattle.std.proofs.lemmas.Bool.{cases_Bool, eq-eqb}
 use Rattle.std.proofs.lemmas.List.Elements.{All-append, All-cons, All-nil, All-same}
 use Rattle.std.proofs.lemmas.List.FromFn.{get_or-map-range_with_len, length-map-range_with_len}
@@ -17,7 +17,7 @@ use Rattle.hour_work.specs.declared.counts.RuleCount.{RuleCount}
 use Rattle.hour_work.specs.Counts.{HasKeptAlone, count_of_rule, counts_of, is_broken, is_undecided}
 use Rattle.hour_work.specs.Numbers.{Numbers}
 use Rattle.hour_work.specs.Reports.{IsHourPart}
-use Rattle.hour_work.specs.Verdicts.{AreAuditLines, HasStoreVerdict, obligations_in}
+use Rattle.hour_work.specs.Verdicts.{HasStoreVerdict, obligations_in}
 use Rattle.hour_work.proofs.PointLaws.{lines_numbered}
 use Rattle.signal_log.specs.Rows.{hour_rows}
 use Rattle.signal_log.specs.Log.{Log, log_of}

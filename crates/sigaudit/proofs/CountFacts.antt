@@ -1,6 +1,6 @@
 -- How the lines of a script open hours.
-use Rattle.std.proofs.Common.{◌≡◌, ◌<◌, ◌≤◌, ◌+◌, ◌*◌, ◌/◌, ◌^◌, ◌++◌, ◌∙◌, ◌⊎◌, ℕ, List, [], ◌∷◌, length, Bool, true, false, Option, Some, None, Result, Ok, Err, refl, sym, ap, subst, inl, inr, arith, append_assoc, append-nil, nat_lt, IfSome}
-use Rattle.std.specs.Prelude.{OnOk, slice_index, if◌then◌else◌}
+use Rattle.std.proofs.Common.{◌≡◌, ◌<◌, ◌≤◌, ◌+◌, ◌*◌, ◌/◌, ◌++◌, ◌∙◌, ◌⊎◌, ℕ, List, [], ◌∷◌, length, Bool, true, false, Option, Some, Result, Ok, Err, refl, sym, ap, subst, inl, inr, arith, append_assoc, append-nil}
+use Rattle.std.specs.Prelude.{OnOk, slice_index}
 use Rattle.std.proofs.lemmas.Bool.{cases_lt, lt-ltb, le-ltb}
 use Rattle.std.proofs.lemmas.List.{length-append}
 use Rattle.outside.specs.Shelf.{Files}
@@ -11,13 +11,13 @@ use Rattle.sig_base.specs.declared.values.Applied.{Applied}
 use Rattle.sig_base.specs.declared.values.EditError.{EditError}
 use Rattle.sig_base.specs.declared.values.EditError.TheVariants.{OutOfWindow, AlreadyHeld, NotHeld, EmptyRange, TooManyRows, TooManyBlanks, Contradiction, Memory}
 use Rattle.hour_store.specs.Store.{Store, nothing_held}
-use Rattle.ring_config.specs.Reading.{Fails, Read}
-use Rattle.ring_config.specs.Settings.{Settings, config_of}
+use Rattle.ring_config.specs.Reading.{Read}
+use Rattle.ring_config.specs.Settings.{Settings}
 use Rattle.ring_config.specs.declared.error.ConfigError.{ConfigError}
 use Rattle.session.specs.Edits.{Change, hour_change, step_of}
 use Rattle.session.specs.Edits as change
 use Rattle.session.specs.Moved.{Moves}
-use Rattle.session.specs.Opens.{AreOpened, IsOpened, OpensBy}
+use Rattle.session.specs.Opens.{AreOpened, OpensBy}
 use Rattle.session.specs.Sessions.{Kept, Steps}
 use Rattle.session.proofs.OpenLaws.{opened_not, opened_on, opened_wider}
 use Rattle.command_line.specs.Words.{Asked, for_run}
@@ -29,7 +29,6 @@ use Rattle.report_text.specs.declared.refusal.Refusal.TheVariants.{Edit}
 use Rattle.sigaudit.specs.declared.hour_file.Unread.{Unread}
 use Rattle.sigaudit.specs.declared.status.Status.{Status}
 use Rattle.sigaudit.specs.declared.status.Status.TheVariants as outer
-use Rattle.sigaudit.specs.declared.status.Ended.{Ended}
 use Rattle.sigaudit.specs.declared.status.Ended.TheVariants as ended
 use Rattle.sigaudit.specs.declared.status.Stopped.{Stopped}
 use Rattle.sigaudit.specs.declared.status.Stopped.TheVariants as stopped

@@ -1,8 +1,7 @@
 -- Edits: those that are refused, and those that are made.
-use Rattle.std.proofs.Common.{◌≡◌, ◌<◌, ◌*◌, ◌/◌, ◌∙◌, ℕ, Bool, true, false, Option, Some, None, Result, Ok, Err, refl, ap, inl, inr, nat_le, nat_lt, List, length, pos, not, arith}
+use Rattle.std.proofs.Common.{◌≡◌, ◌<◌, ◌*◌, ◌∙◌, ℕ, Bool, true, false, Option, Some, None, Result, Ok, Err, refl, ap, inl, inr, nat_le, nat_lt, List, length}
 use Rattle.std.specs.Prelude.{is_some, int_lt, slice_index_or}
-use Rattle.std.proofs.Math.ListN.{get_or-eq_default}
-use Rattle.std.proofs.lemmas.Bool.{cases_Bool, cases_lt, and_parts}
+use Rattle.std.proofs.lemmas.Bool.{cases_Bool}
 use Rattle.std.proofs.lemmas.List.{length-set}
 use Rattle.std.proofs.lemmas.List.Elements.{All-get_or, filter_passes}
 use Rattle.outside.specs.Sink.{Stops, Taken, Writes}
@@ -12,12 +11,12 @@ use Rattle.sig_base.specs.declared.values.Applied.{Applied}
 use Rattle.sig_base.specs.declared.values.EditError.{EditError}
 use Rattle.sig_base.specs.declared.values.EditError.TheVariants.{OutOfWindow, AlreadyHeld, NotHeld, EmptyRange, TooManyRows, TooManyBlanks, Contradiction, Memory}
 use Rattle.sig_base.specs.Window.{Span}
-use Rattle.span_set.specs.Spans.{is_member}
 use Rattle.hour_store.specs.Store.{Store, held_at, is_known, known_rows, rows_held, rows_of as all_rows_of, with_hour, with_blanks}
 use Rattle.board.specs.Logs.{no_row}
 use Rattle.channel_tables.specs.declared.spec.Spec.{Spec}
 use Rattle.ring_config.specs.Settings.{Settings}
 use Rattle.signal_log.specs.Log.{HasHistory, IsContradiction, log_of}
+use Rattle.decisive.proofs.Concluded.{known_within}
 use Rattle.report_text.specs.declared.refusal.Refusal.TheVariants.{Edit}
 use Rattle.report_text.specs.Refusals.{NamesRowIn}
 use Rattle.report_text.specs.Applied.{applied_text}
@@ -69,18 +68,6 @@ step_hours s (unblank from to) t e = elim (cases_Bool (reaches_out (length s.hou
 ]
 
 -- ---- the row of a contradiction is in the window
-
-held_within : (s : Store) (hour : ℕ) → is_some (held_at s hour) ≡ true → hour < length s.hours
-held_within s hour h = elim (cases_lt hour (length s.hours)) [
-  | inl within ↦ within
-  | inr past ↦ let none : held_at s hour ≡ None = get_or-eq_default s.hours None past in let k = rw none at h in absurd (cc)
-]
-
-pub known_within : (s : Store) (t : ℕ) → is_known s t ≡ true → t < 36000 * length s.hours
-known_within s t h =
-    let p = and_parts (is_some (held_at s (t / 36000))) (not (is_member s.blanks (pos t))) h in
-    let q = held_within s (t / 36000) p.0 in
-    omega arith
 
 pub row_within : (specs : List Spec) (s : Store) (row : Row) → IsContradiction (log_of specs s) row → row.at < 36000 * length s.hours
 row_within specs s row h =

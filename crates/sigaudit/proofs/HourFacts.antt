@@ -1,11 +1,11 @@
 -- The rows of a file are of the hour that was asked for.
-use Rattle.std.proofs.Common.{◌≡◌, ℕ, List, Bool, true, false, Result, Ok, Err, sym, ap, inl, inr, nat_eq}
+use Rattle.std.proofs.Common.{◌≡◌, ℕ, List, Result, Ok, Err, sym, ap, inl, inr, nat_eq}
 use Rattle.std.specs.List.{starts_with}
 use Rattle.std.proofs.lemmas.Bool.{cases_Bool}
 use Rattle.sig_base.specs.HourRows.{Shown}
 use Rattle.sig_base.specs.declared.values.Row.{Row}
 use Rattle.row_reader.specs.declared.row_error.RowError.{RowError}
-use Rattle.row_reader.specs.Rows.{Wanted, good_rows, on_rows, rows_of}
+use Rattle.row_reader.specs.Rows.{Wanted, good_rows, on_rows}
 use Rattle.hour_pack.specs.declared.pack_error.PackError.{PackError}
 use Rattle.hour_pack.specs.Grammar.{mark}
 use Rattle.hour_pack.specs.Reading.{reading}

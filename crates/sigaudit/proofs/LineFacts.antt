@@ -1,5 +1,5 @@
 -- What single lines of a script tell.
-use Rattle.std.proofs.Common.{◌≡◌, ◌<◌, ◌≤◌, ◌++◌, ◌∙◌, ℕ, List, [], length, Bool, true, false, Option, Some, None, Result, Ok, Err, refl, subst, nat_lt, IfSome}
+use Rattle.std.proofs.Common.{◌≡◌, ◌<◌, ◌≤◌, ◌++◌, ℕ, List, [], length, Bool, true, false, Option, Some, None, Result, Ok, Err, refl, subst, nat_lt, IfSome}
 use Rattle.std.proofs.lemmas.Bool.{lt-ltb, le-ltb}
 use Rattle.std.specs.Prelude.{slice_get}
 use Rattle.outside.specs.Shelf.{Counts, Files}

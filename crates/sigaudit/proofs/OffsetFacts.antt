@@ -1,5 +1,5 @@
 -- The shifts of an approach: what is handed on, and the line's turn.
-use Rattle.std.proofs.Common.{◌≡◌, ◌≤◌, ◌-◌, ◌∙◌, ℕ, Bool, true, false, List, [], ◌∷◌, ◌++◌, length, Option, Some, None, Result, Ok, Err, refl, sym, ap, subst, inl, inr, arith, nat_le, get_or, take, append_assoc, append-nil, ◌+◌, ◌<◌}
+use Rattle.std.proofs.Common.{◌≡◌, ◌≤◌, ◌-◌, ◌∙◌, ℕ, Bool, true, false, List, [], ◌∷◌, ◌++◌, length, Option, Some, None, Result, Ok, Err, refl, sym, ap, subst, inl, inr, nat_le, get_or, take, append_assoc, append-nil, ◌+◌, ◌<◌}
 use Rattle.std.specs.Prelude.{◌==◌, ◌&&◌, All, flat_map}
 use Rattle.std.proofs.lemmas.Bool.{and_parts, cases_Bool, leb-true}
 use Rattle.std.proofs.lemmas.List.{take_all, take_more}

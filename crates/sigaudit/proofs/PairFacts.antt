@@ -1,6 +1,5 @@
 -- How what a rule leaves undecided is written.
 use Rattle.std.proofs.Common.{◌≡◌, ◌<◌, ◌≤◌, ◌*◌, ℕ, List, [], ◌∷◌, length, Bool, true, false, Option, Some, None, Result, Ok, Err, refl, ap, subst, inl, inr, arith}
-use Rattle.std.specs.Prelude.{flat_map}
 use Rattle.std.specs.List.{All}
 use Rattle.std.proofs.lemmas.List.Elements.{All-cons, All-nil}
 use Rattle.outside.specs.Sink.{Stops, Taken}

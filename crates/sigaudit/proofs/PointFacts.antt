@@ -11,11 +11,12 @@ use Rattle.hour_store.specs.Store.{Store, is_known, known_rows, rows_of}
 use Rattle.service_cut.specs.declared.items.Cycle.{Cycle}
 use Rattle.service_cut.specs.Cut.{cycles_from}
 use Rattle.service_cut.specs.Cycles.{cycle_at, cycle_begun, cycle_begun_in, cycle_begun_of, cycle_of, is_yellow_end, last_end_from}
-use Rattle.service_cut.proofs.WholeCycles.{EndIs, end_is}
+use Rattle.service_cut.proofs.WholeCycles.{EndIs, end_is, if_true}
 use Rattle.ring_config.specs.Settings.{Settings}
 use Rattle.arrival_measures.specs.declared.points.Diagram.{Diagram}
 use Rattle.arrival_measures.specs.Hours.{cycles_of}
 use Rattle.arrival_measures.specs.Points.{diagram_of, diagrams_of, points_from}
+use Rattle.decisive.proofs.Concluded.{known_within}
 use Rattle.report_text.specs.Approaches.{diagrams_text}
 use Rattle.report_text.specs.declared.refusal.Refusal.TheVariants.{BadLine}
 use Rattle.sigaudit.specs.Turns.{refuses}
@@ -23,7 +24,6 @@ use Rattle.report_text.specs.Heads.{points_head}
 use Rattle.sigaudit.specs.Points.{points_of_phase, points_turn}
 use Rattle.sigaudit.specs.Run.{TakesBy, TakesPut}
 use Rattle.sigaudit.proofs.TakeFacts.{by_refusal}
-use Rattle.sigaudit.proofs.EditFacts.{known_within}
 use Rattle.sigaudit.specs.declared.status.Stopped.{Stopped}
 use Rattle.sigaudit.specs.declared.status.Stopped.TheVariants as stopped
 
@@ -55,10 +55,6 @@ begun_early known p t before r c None early h e = absurd (cc)
 begun_early known p t before r c (Some f) early h e =
     let same : f.0.at ≡ c.from = begun_if _ p f.0 f.1 r c e in
     subst (λ (n : ℕ). n < t) same (between t h.0 f.0 f.1 (All-same (IsEarly t) (h.0 ++ f.0 ∷ f.1) before (sym h.1) early))
-
-if_true : (b : Bool) (o : Option Cycle) (c : Cycle) → cond b o None ≡ Some c → (b ≡ true) × (o ≡ Some c)
-if_true true o c e = (refl, e)
-if_true false o c e = absurd (cc)
 
 cycle_early : (known : ℕ → Bool) (p t : ℕ) (before : List Row) (r : Row) (c : Cycle) → All (IsEarly t) before → cycle_at known p before r ≡ Some c → c.from < t
 unfolding cycle_at cycle_begun_of

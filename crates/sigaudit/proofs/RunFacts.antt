@@ -35,7 +35,7 @@ use Rattle.sigaudit.specs.declared.status.Ended.TheVariants as ended
 use Rattle.sigaudit.specs.declared.status.Stopped.{Stopped}
 use Rattle.sigaudit.specs.declared.status.Stopped.TheVariants as stopped
 
-still : (w w' : Taken) → w' ≡ w → Appends w.written w'.written []
+pub still : (w w' : Taken) → w' ≡ w → Appends w.written w'.written []
 still w w' e = rw e (appends-nothing w.written)
 
 -- a call that wrote an outcome that a script's lines don't matter to, in a run that did nothing else

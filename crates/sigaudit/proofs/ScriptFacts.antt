@@ -1,5 +1,5 @@
 -- How the lines of a script follow one another.
-use Rattle.std.proofs.Common.{◌≡◌, ◌<◌, ◌++◌, ◌||◌, ◌+◌, ◌∙◌, ℕ, List, [], ◌∷◌, length, take, Bool, true, false, Option, Ok, Err, refl, ap, inl, inr, arith, append_assoc, append-nil}
+use Rattle.std.proofs.Common.{◌≡◌, ◌<◌, ◌++◌, ◌||◌, ◌+◌, ◌∙◌, ℕ, List, [], ◌∷◌, length, take, Bool, true, false, Ok, Err, refl, ap, inl, inr, arith, append_assoc, append-nil}
 use Rattle.std.proofs.Math.Seq.{take-append_seam}
 use Rattle.std.proofs.lemmas.List.{length-append}
 use Rattle.std.specs.Io.KnownBytes.{Appends}
@@ -7,6 +7,7 @@ use Rattle.outside.specs.Shelf.{Files}
 use Rattle.outside.proofs.PutsFacts.{appends-nothing, appends-then}
 use Rattle.hour_store.specs.Store.{Store}
 use Rattle.ring_config.specs.Settings.{Settings}
+use Rattle.decisive.proofs.Decided.{or_false}
 use Rattle.script_lines.specs.Words.{said}
 use Rattle.script_lines.specs.Lines.{first_line, after_line, lines_of}
 use Rattle.script_lines.proofs.LineLaws.{lines_step}
@@ -15,10 +16,6 @@ use Rattle.sigaudit.specs.Script.{Told, followed, nothing_told, IsTold, IsTurn}
 use Rattle.sigaudit.specs.Run.{World, BeginsTurn, IsCaused, Takes, TellsAll, TellsFirst}
 use Rattle.sigaudit.specs.declared.status.Stopped.{Stopped}
 use Rattle.sigaudit.specs.declared.status.Stopped.TheVariants as stopped
-
-or_false : (b : Bool) → (b || false) ≡ b
-or_false true = refl
-or_false false = refl
 
 or_assoc : (a b c : Bool) → ((a || b) || c) ≡ (a || (b || c))
 or_assoc true b c = refl

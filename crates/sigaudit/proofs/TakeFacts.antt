@@ -1,6 +1,5 @@
 -- How a line's turn follows from what it wrote.
-use Rattle.std.proofs.Common.{◌≡◌, ◌≤◌, ℕ, List, [], Bool, Option, Result, Ok, Err, refl, ap, inl, inr, arith}
-use Rattle.std.specs.Io.KnownBytes.{Appends}
+use Rattle.std.proofs.Common.{◌≡◌, ◌≤◌, ℕ, List, Bool, Option, Result, Ok, Err, refl, ap, inl, inr, arith}
 use Rattle.outside.specs.Sink.{Taken}
 use Rattle.outside.specs.Shelf.{Counts}
 use Rattle.outside.proofs.PutsFacts.{appends-nothing}
@@ -10,10 +9,8 @@ use Rattle.report_text.specs.declared.refusal.Refusal.{Refusal}
 use Rattle.sigaudit.specs.Turns.{Turn, refuses}
 use Rattle.sigaudit.specs.Run.{World, world, BeginsTurn, IsCaused, NeverFall, Takes, TakesBy, TakesPut}
 use Rattle.sigaudit.specs.declared.status.Stopped.{Stopped}
+use Rattle.sigaudit.proofs.RunFacts.{still}
 use Rattle.sigaudit.specs.declared.status.Stopped.TheVariants as stopped
-
-unwritten : (w w' : Taken) → w' ≡ w → Appends w.written w'.written []
-unwritten w w' e = rw e (appends-nothing w.written)
 
 -- nothing was done of a line
 pub by_nothing : (Is : Turn → Type 0) (w : Taken) (s : Store) → TakesBy Is w w s (Err stopped.Memory)
@@ -23,7 +20,7 @@ by_nothing Is w s = (refl, inl (appends-nothing w.written))
 pub by_put : (Is : Turn → Type 0) (t : Turn) (w w' : Taken) (s : Store) (r : Result Bool Stopped) → Is t → TakesPut t w w' s r → TakesBy Is w w' s r
 by_put Is t w w' s (Ok b) i h = (t, i, h.0, h.1, h.2)
 by_put Is t w w' s (Err stopped.Fault) i h = (t, i, h)
-by_put Is t w w' s (Err stopped.Memory) i h = (ap (λ (x : Taken). x.faults) h, inl (unwritten w w' h))
+by_put Is t w w' s (Err stopped.Memory) i h = (ap (λ (x : Taken). x.faults) h, inl (still w w' h))
 
 -- a line that is refused, told in the words of the configuration before it
 pub by_refusal : (Is : Turn → Type 0) (c c' : Settings) (n : ℕ) (refusal : Refusal) (s : Store) (w w' : Taken) (r : Result Bool Stopped)

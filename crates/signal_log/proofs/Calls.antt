@@ -8,8 +8,8 @@ use Rattle.sig_base.specs.declared.values.Row.{Row}
 use Rattle.sig_base.specs.HourRows.{AreRowsOf}
 use Rattle.gap_map.specs.declared.stretch.Stretch.{Stretch}
 use Rattle.gap_map.specs.Stretches.{AreStretches, IsCut, known_in}
-use Rattle.gap_map.proofs.Following.{follow}
 use Rattle.channel_tables.specs.declared.spec.Spec.{Spec}
+use Rattle.gap_map.proofs.Following.{follows}
 use Rattle.hour_store.specs.Store.{Store}
 use Rattle.board.specs.declared.pasts.PastsError.{PastsError}
 use Rattle.board.specs.declared.pasts.PastsError.TheVariants.{NoState, Memory}
@@ -42,7 +42,7 @@ pub one_as : (hour : ℕ) (rows : Option (List Row)) (held : Bool) (blanks : Lis
 one_as hour rows held blanks ss e one = subst (λ (b : Bool). (zs : List Stretch) → IsCut (known_in b blanks) (36000 * hour) (36000 * hour + 36000) zs → zs ≡ ss) e one
 
 pub hour_told : (hour : ℕ) (rows : Option (List Row)) (blanks : List Span) (ss : List Stretch) → AreRowsOf hour (rows_or_none rows) → IsCutOf hour rows blanks ss → IsHour hour (rows_or_none rows) ss
-hour_told hour rows blanks ss are cut = record { are_rows = are; follow = follow (known_in (is_some rows) blanks) (36000 * hour) (36000 * hour + 36000) ss cut.stretches }
+hour_told hour rows blanks ss are cut = record { are_rows = are; follows = follows (known_in (is_some rows) blanks) (36000 * hour) (36000 * hour + 36000) ss cut.stretches }
 
 -- what the answer is, where there is one
 pub ok_both : {X E : Type 0} (r : Result X E) (P Q S : X → Type 0) → ((x : X) → P x → Q x → S x) → IfOk r P → IfOk r Q → IfOk r S

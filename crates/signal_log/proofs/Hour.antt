@@ -23,9 +23,10 @@ use Rattle.board.specs.Places.{AllEarly, AreAheadsOf}
 use Rattle.board.specs.Stops.{AreBefore}
 use Rattle.board.proofs.Alike.{Alike, agreeing_alike}
 use Rattle.board.proofs.Bridge.{agreeing_join}
+use Rattle.board.proofs.Plain.{agreeing_early}
 use Rattle.signal_log.specs.Log.{IsBeforeWindow, log_of}
 use Rattle.signal_log.specs.Points.{AreAheadsAt, ArePastsAt, HasHour, rows_or_none}
-use Rattle.signal_log.proofs.Runs.{agreeing_colour, agreeing_early, agreeing_known}
+use Rattle.signal_log.proofs.Runs.{agreeing_colour, agreeing_known}
 use Rattle.signal_log.proofs.Stored.{cut_known, hour_events, known_cut}
 
 -- a run of the channel from before the window leads to the state at tenth t

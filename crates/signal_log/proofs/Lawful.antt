@@ -197,7 +197,7 @@ combine log x v are has lt = (
 least_far : (p at e : ℤ) (n : ℕ) → (e +ℤ pos 36001) ≤ℤ p → p ≤ℤ at → n ≤ 36000 → (e +ℤ pos n) ≤ℤ at
 least_far p at e n h le few = omega (arith, ints)
 
-most_far : (p at e : ℤ) (n : ℕ) → (e +ℤ pos 36001) ≤ℤ p → p ≤ℤ at → n ≤ 36000 → at ≤ℤ (e +ℤ pos n) → ⊥
+pub most_far : (p at e : ℤ) (n : ℕ) → (e +ℤ pos 36001) ≤ℤ p → p ≤ℤ at → n ≤ 36000 → at ≤ℤ (e +ℤ pos n) → ⊥
 most_far p at e n h le few most = omega (arith, ints)
 
 ages : (p at e x : ℤ) (bound : AgeBound) → (e ≡ x) ⊎ (((x +ℤ pos 36001) ≤ℤ p) × ((e +ℤ pos 36001) ≤ℤ p)) → p ≤ℤ at → IsWithinHour bound → InBound bound at x → InBound bound at e

@@ -1,20 +1,16 @@
 -- Runs of one channel: where they lead, how they are cut, and what of the log they depend on.
-use Rattle.std.proofs.Common.{◌≡◌, ◌≢◌, refl, ap, sym, ◌∙◌, subst, inl, inr, ◌↔◌, ℕ, ◌+◌, ◌<◌, ◌≤◌, ℤ, pos, ◌+ℤ◌, ◌≤ℤ◌, ◌<ℤ◌, Bool, true, nat_eq, if◌then◌else◌, List, [], ◌∷◌, ◌++◌, length, take, drop, take-append-drop, arith, Some}
+use Rattle.std.proofs.Common.{◌≡◌, ◌≢◌, refl, ap, sym, ◌∙◌, subst, inl, inr, ◌↔◌, ℕ, ◌+◌, ◌<◌, ◌≤◌, ℤ, pos, ◌+ℤ◌, ◌≤ℤ◌, Bool, true, nat_eq, if◌then◌else◌, List, [], ◌∷◌, ◌++◌, length, take, drop, take-append-drop, arith}
 use Rattle.std.proofs.lemmas.Int.{ints}
 use Rattle.std.proofs.lemmas.Bool.{eq-eqb}
 use Rattle.std.proofs.lemmas.Bool.Decides.{eqb_tells}
+use Rattle.sig_base.proofs.Common.{some_same}
 use Rattle.colour_machine.specs.Rules.{Rules, IsMachine}
 use Rattle.reach.specs.Runs.{State, Step, Steps, Run}
 use Rattle.reach.proofs.States.{state_same}
-use Rattle.channel_path.specs.declared.moves.Move.TheVariants.{Gap}
-use Rattle.channel_path.proofs.Moving.{taken_early}
 use Rattle.board.specs.History.{Agree, Agreeing, Event, Track, letters}
 use Rattle.board.proofs.Bridge.{agreeing_join, agreeing_first, agreeing_none}
 use Rattle.board.proofs.Joining.{letters_join}
 use Rattle.board.proofs.Alike.{Alike}
-
-some_same : (x y : ℕ) → Some x ≡ Some y → x ≡ y
-some_same x y e = cc
 
 -- letters lead to one state
 step_once : (m : Rules) (t : ℤ) (s u v : State) (l : ℕ) → Step m t s l u → Step m t s l v → u ≡ v
@@ -70,9 +66,6 @@ run_colour m t (ls ∷ lists) s u laws (v, a, r) =
 
 pub agreeing_colour : (k : Track) (known : ℕ → Bool) (given : ℕ → List Event) (f t : ℕ) (s u : State) → IsMachine k.rules → Agreeing k known given f t s u → (s.colour < k.rules.colours) ↔ (u.colour < k.rules.colours)
 agreeing_colour k known given f t s u laws (lists, len, (a, r)) = run_colour k.rules (pos f) lists s u laws r
-
-pub agreeing_early : (k : Track) (known : ℕ → Bool) (given : ℕ → List Event) (f t : ℕ) (s u : State) → Agreeing k known given f t s u → s.entry <ℤ pos f → u.entry <ℤ pos t
-agreeing_early k known given f t s u (lists, len, (a, r)) e = taken_early k.rules (Gap f t) s u (lists, omega (arith, ints), r) e
 
 agree_known : (known known2 : ℕ → Bool) (given given2 : ℕ → List ℕ) (f t : ℕ) (xs : List (List ℕ)) → f + length xs ≡ t → ((x : ℕ) → f ≤ x → x < t → known2 x ≡ true → (known x ≡ true) × (given x ≡ given2 x)) → Agree known given f xs → Agree known2 given2 f xs
 agree_known known known2 given given2 f t [] e h a = tt

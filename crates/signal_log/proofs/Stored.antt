@@ -6,7 +6,7 @@ use Rattle.std.proofs.lemmas.Bool.Decides.{eqb_tells}
 use Rattle.std.proofs.lemmas.List.{append-nil, append_assoc}
 use Rattle.std.proofs.lemmas.List.Elements.{filter_passes, All-get_or}
 use Rattle.sig_base.specs.declared.values.Row.{Row}
-use Rattle.sig_base.specs.HourRows.{RiseIn, AreRowsOf, Shown}
+use Rattle.sig_base.specs.HourRows.{AreRowsOf, Shown}
 use Rattle.span_set.specs.declared.set.Span.{Span}
 use Rattle.gap_map.specs.declared.stretch.Stretch.{Stretch}
 use Rattle.gap_map.specs.Stretches.{IsCut, known_at, known_in}
@@ -19,6 +19,7 @@ use Rattle.board.specs.Moves.{RowsIn}
 use Rattle.board.specs.Logs.{first_tenth, end_tenth, no_row}
 use Rattle.board.proofs.Bridge.{event_not_here, none_at}
 use Rattle.board.proofs.Cutting.{events_join, none_after}
+use Rattle.board.proofs.Within.{rows_since, rise_rows}
 
 abbrev pub rows_in : Option Shown → List Row
 rows_in None = []
@@ -52,17 +53,9 @@ pub rows_end : (f t : ℕ) (rs : List Row) → RowsIn f t rs → f ≤ t
 rows_end f t [] h = h
 rows_end f t (r ∷ rs) h = let a = h.0 in let b = h.1 in omega arith
 
-pub rows_low : (f g t : ℕ) (rs : List Row) → g ≤ f → RowsIn f t rs → RowsIn g t rs
-rows_low f g t [] le h = omega arith
-rows_low f g t (r ∷ rs) le h = ((let a = h.0 in omega arith), h.1, h.2)
-
 pub rows_join : (f m t : ℕ) (xs ys : List Row) → RowsIn f m xs → RowsIn m t ys → RowsIn f t (xs ++ ys)
-rows_join f m t [] ys h g = rows_low m f t ys h g
+rows_join f m t [] ys h g = rows_since m f t ys h g
 rows_join f m t (r ∷ xs) ys h g = (h.0, (let a = rows_end m t ys g in let b = h.1 in omega arith), rows_join r.at m t xs ys h.2 g)
-
-pub rise_rows : (f t : ℕ) (rs : List Row) → f ≤ t → RiseIn f t rs → RowsIn f t rs
-rise_rows f t [] le h = le
-rise_rows f t (r ∷ rs) le h = (h.0, h.1, (let b = h.1 in rise_rows r.at t rs (omega arith) h.2))
 
 pub filter_yes : (P : ℕ → Bool) (r : Row) (rs : List Row) → P r.at ≡ true → filter (λ (x : Row). P x.at) (r ∷ rs) ≡ r ∷ filter (λ (x : Row). P x.at) rs
 filter_yes P r rs e = rw e refl
@@ -74,7 +67,7 @@ pub rows_filter : (P : ℕ → Bool) (f t : ℕ) (rs : List Row) → RowsIn f t 
 rows_filter P f t [] h = h
 rows_filter P f t (r ∷ rs) h = elim (cases_Bool (P r.at)) [
   | inl is ↦ rw (filter_yes P r rs is) (h.0, h.1, rows_filter P r.at t rs h.2)
-  | inr not_is ↦ rw (filter_no P r rs not_is) (rows_low r.at f t (filter (λ (x : Row). P x.at) rs) h.0 (rows_filter P r.at t rs h.2))
+  | inr not_is ↦ rw (filter_no P r rs not_is) (rows_since r.at f t (filter (λ (x : Row). P x.at) rs) h.0 (rows_filter P r.at t rs h.2))
 ]
 
 -- at a tenth that passes no event is left out

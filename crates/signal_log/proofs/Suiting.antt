@@ -8,11 +8,11 @@ use Rattle.reach.specs.Past.{Holds}
 use Rattle.board.specs.Logs.{first_tenth}
 use Rattle.board.specs.History.{events_at}
 use Rattle.board.specs.Hours.{Clamped}
+use Rattle.board.proofs.Plain.{agreeing_early}
 use Rattle.signal_log.specs.Log.{Log, track_at}
 use Rattle.signal_log.specs.States.{IsReached}
 use Rattle.signal_log.specs.Points.{ComesUp}
 use Rattle.signal_log.specs.Laws.{AllCount, SameCount}
-use Rattle.signal_log.proofs.Runs.{agreeing_early}
 
 -- a state that comes up was entered before the point
 entered_before : (log : Log) (k i : ℕ) (s : State) → ComesUp log k i s → s.entry <ℤ pos (first_tenth k)

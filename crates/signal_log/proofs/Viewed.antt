@@ -10,8 +10,8 @@ use Rattle.reach.specs.Ahead.{Admits}
 use Rattle.reach.proofs.Later.{then_iff}
 use Rattle.sig_base.specs.declared.values.Row.{Row}
 use Rattle.gap_map.specs.Stretches.{known_at}
-use Rattle.gap_map.proofs.Following.{follow}
 use Rattle.channel_tables.proofs.Machines.{spec_machine}
+use Rattle.gap_map.proofs.Following.{follows}
 use Rattle.hour_store.specs.Store.{Store, is_known, known_rows}
 use Rattle.board.specs.History.{Agreeing, Event, Track, events_at, letters}
 use Rattle.board.specs.Channels.{AreSpecs, track}
@@ -119,7 +119,7 @@ module _ (s : Store) (view : HourLog) (are : AreSpecs view.specs) (is : IsHourOf
   admitted i lt u up = let next : first_tenth (view.hour + 1) ≡ t = omega arith in subst (λ (y : ℕ). Admits (after_of i) u ↔ ((e : State) × Agreeing (channel i) known given y end u e)) next (is.after.states i lt u up)
 
   tenth_within : (x : ℕ) → K x ≡ true → (f ≤ x) × (x < t)
-  tenth_within x there = known_within f t x view.stretches (follow (is_known s) f t view.stretches is.cut.stretches) there
+  tenth_within x there = known_within f t x view.stretches (follows (is_known s) f t view.stretches is.cut.stretches) there
 
   -- at the end of a tenth, one channel
   end_to : (i x : ℕ) (v : State) → i < length view.specs → f ≤ x → x < t → MayPass view x i v → (w : State) × (IsReached log i (x + 1) w × IsCompleted log i (x + 1) w) × Alike (channel i).rules (pos f) v w

@@ -102,7 +102,7 @@ end_more at (s ∷ ss) (suc n) d h a p = let i = end_more at ss n d (omega arith
 pub suffix : (xs : List Span) (n : ℕ) → n ≤ length xs → take (length xs - n) (drop n xs) ≡ drop n xs
 suffix xs n h = take_all (length xs - n) (drop n xs) (omega (arith, length-drop n xs))
 
-le_cases : (a b : ℤ) → ((int_le a b ≡ true) × (a ≤ℤ b)) ⊎ ((int_le a b ≡ false) × (b <ℤ a))
+pub le_cases : (a b : ℤ) → ((int_le a b ≡ true) × (a ≤ℤ b)) ⊎ ((int_le a b ≡ false) × (b <ℤ a))
 le_cases a b = grind (arith, ints)
 
 within_test : (s : Span) (e : ℤ) (m : Bool) (M : Type 0) → (IsTrue m ↔ M) → IsTrue ((int_le s.from e && int_lt e s.to) || m) ↔ (Within s e ⊎ M)

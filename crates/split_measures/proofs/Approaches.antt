@@ -73,7 +73,7 @@ bar_parts : (a : Approach) (o : Option ℕ) (b : StopBar) → bar_with a o ≡ S
 bar_parts a None b e = absurd (cc)
 bar_parts a (Some d) b e = (cc, cc)
 
-some_there : (o : Option ℕ) → is_some o ≡ true → (i : ℕ) × (o ≡ Some i)
+pub some_there : (o : Option ℕ) → is_some o ≡ true → (i : ℕ) × (o ≡ Some i)
 some_there None e = absurd (cc)
 some_there (Some i) e = (i, refl)
 

@@ -5,15 +5,8 @@ use Rattle.service_cut.specs.declared.items.Service.{Service}
 use Rattle.service_cut.specs.declared.items.Cycle.{Cycle}
 use Rattle.service_cut.specs.declared.items.Termination.TheVariants.{GapOut, MaxOut, ForceOff, Unlogged}
 use Rattle.hour_sums.specs.Numbers.{capped}
+use Rattle.hour_sums.proofs.Common.{capped_none, capped_one}
 use Rattle.split_measures.specs.Phases.{is_end, ends_by, split, cycle_length, phase_sum_of}
-
-capped_none : capped 0 ≡ 0
-unfolding capped
-capped_none = omega arith
-
-capped_one : capped 1 ≡ 1
-unfolding capped
-capped_one = omega arith
 
 sum_one : (n : ℕ) → n < 2 ^ 32 → capped (sum (n ∷ [])) ≡ n
 unfolding capped

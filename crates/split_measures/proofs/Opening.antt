@@ -2,8 +2,9 @@
 use Rattle.std.proofs.Common.{◌≡◌, refl, ap, ℕ, suc, ◌+◌, ◌^◌, ◌<◌, false, cond, List, [], ◌∷◌, ◌++◌, length, sym, arith}
 use Rattle.std.specs.Prelude.{count_by}
 use Rattle.std.proofs.lemmas.List.Sums.{sum_by-cons}
-use Rattle.hour_sums.specs.Numbers.{capped, one_if}
+use Rattle.hour_sums.specs.Numbers.{one_if}
 use Rattle.service_cut.specs.declared.items.Service.{Service}
+use Rattle.hour_sums.proofs.Adding.{capped_small}
 use Rattle.split_windows.specs.declared.items.Windows.{Windows}
 use Rattle.split_windows.specs.Windows.{services_of}
 use Rattle.split_measures.specs.declared.failures.SplitSum.{SplitSum}
@@ -13,24 +14,20 @@ use Rattle.split_measures.specs.Failures.{both_sums, is_verdict, split_sum_of}
 use Rattle.split_measures.specs.Hours.{opens_of}
 use Rattle.split_measures.proofs.Failing.{sums_append}
 
-all_open : (ss : List Service) → count_by (is_verdict Open) (opens_of ss) ≡ length ss
+pub all_open : (ss : List Service) → count_by (is_verdict Open) (opens_of ss) ≡ length ss
 all_open [] = refl
 all_open (s ∷ ss) =
     let c : count_by (is_verdict Open) (opens_of (s ∷ ss)) ≡ 1 + count_by (is_verdict Open) (opens_of ss) = sum_by-cons (λ (v : SplitVerdict). cond (is_verdict Open v) 1 0) Open (opens_of ss) in
     let rest = all_open ss in
     omega arith
 
-none_else : (v : SplitVerdict) (ss : List Service) → is_verdict v Open ≡ false → count_by (is_verdict v) (opens_of ss) ≡ 0
+pub none_else : (v : SplitVerdict) (ss : List Service) → is_verdict v Open ≡ false → count_by (is_verdict v) (opens_of ss) ≡ 0
 none_else v [] e = refl
 none_else v (s ∷ ss) e =
     let c : count_by (is_verdict v) (opens_of (s ∷ ss)) ≡ one_if (is_verdict v Open) + count_by (is_verdict v) (opens_of ss) = sum_by-cons (λ (w : SplitVerdict). cond (is_verdict v w) 1 0) Open (opens_of ss) in
     let z : one_if (is_verdict v Open) ≡ 0 = ap one_if e in
     let rest = none_else v ss e in
     omega (arith, z)
-
-fits : (n : ℕ) → n < 2 ^ 64 → capped n ≡ n
-unfolding capped
-fits n lt = omega arith
 
 pub opens_are : (n : ℕ) (ss : List Service) → n < 2 ^ 64 → length ss ≡ n → record { fail = 0; pass = 0; undecided = 0; left_open = n; fault = 0 } ≡ split_sum_of (opens_of ss)
 unfolding split_sum_of
@@ -42,8 +39,8 @@ opens_are n ss lt e =
       all_open ss,
       none_else Fault ss refl,
       e,
-      fits n lt,
-      fits 0 (omega arith),
+      capped_small n lt,
+      capped_small 0 (omega arith),
     ) refl
 
 -- the verdicts of services, and those that are open

@@ -10,6 +10,7 @@ use Rattle.std.proofs.lemmas.List.Folds.{find-append}
 use Rattle.sig_base.specs.declared.values.PhaseItem.{PhaseItem}
 use Rattle.sig_base.specs.declared.values.Row.{Row}
 use Rattle.sig_base.specs.Numbers.{has_phase}
+use Rattle.sig_base.proofs.Common.{not_true, some_same}
 use Rattle.board.specs.Logs.{end_tenth, first_tenth}
 use Rattle.hour_sweep.specs.Hours.{AreOrdered}
 use Rattle.hour_sweep.specs.Numbers.{given, outs_from}
@@ -22,10 +23,12 @@ use Rattle.service_cut.specs.Cut.{services_from}
 use Rattle.service_cut.specs.Signs.{is_begin, is_change, sign}
 use Rattle.service_cut.specs.Services.{is_over, service_at, service_begun, service_begun_in, service_begun_of}
 use Rattle.service_cut.proofs.WholeServices.{LastIs, find_split, last_is, service_is_whole}
+use Rattle.service_cut.proofs.YellowEnds.{from_first}
+use Rattle.service_cut.proofs.WholeCycles.{front_ordered}
 use Rattle.split_windows.specs.declared.items.OpenGreen.{OpenGreen}
 use Rattle.split_windows.specs.Windows.{AreServicesOf, IsOpened, IsServiceOf}
 use Rattle.split_windows.specs.Going.{AreInOrder, IsGreenAt, OpensFit, ServicesFit, of_phase, tenth_or}
-use Rattle.split_windows.proofs.Going.{Found, all_found, joined, last_joined, live_less, not_false, over_less, services_go_on}
+use Rattle.split_windows.proofs.Going.{Found, all_found, joined, last_joined, live_less, over_less, services_go_on}
 
 -- what stands behind a row of ordered rows
 ordered_behind : (a b : ℕ) (xs : List Row) (x : Row) (ys : List Row) → AreOrdered a b (xs ++ x ∷ ys) → (a ≤ x.at) × (x.at < b) × AreOrdered x.at b ys
@@ -39,19 +42,11 @@ in_order a b all to_x from_x to_y from_y x y e f h =
     let (le, lt, rest) = ordered_behind x.at b to_y y from_y (subst (λ (zs : List Row). AreOrdered x.at b zs) f more) in
     (le, lt)
 
--- rows of which more stand behind
-ordered_front : (a b : ℕ) (xs : List Row) (x : Row) (ys : List Row) → AreOrdered a b (xs ++ x ∷ ys) → AreOrdered a b xs
-ordered_front a b [] x ys h = let l = h.0 in let u = h.1 in omega arith
-ordered_front a b (z ∷ xs) x ys h = (h.0, h.1, ordered_front z.at b xs x ys h.2)
-
 -- each of the front is at or before the row
 front_low : (a b : ℕ) (xs to_y from_y : List Row) (y x : Row) (ys : List Row) → xs ≡ to_y ++ y ∷ from_y → AreOrdered a b (xs ++ x ∷ ys) → y.at ≤ x.at
 front_low a b xs to_y from_y y x ys e h =
     let joined_all : xs ++ x ∷ ys ≡ to_y ++ y ∷ (from_y ++ x ∷ ys) = ap (λ (zs : List Row). zs ++ x ∷ ys) e ∙ append_assoc to_y (y ∷ from_y) (x ∷ ys) in
     (in_order a b (xs ++ x ∷ ys) to_y (from_y ++ x ∷ ys) from_y ys y x joined_all refl h).0
-
-some_same : (a b : ServiceBegun) → Some a ≡ Some b → a ≡ b
-some_same a b e = cc
 
 -- the open green is that of the service
 opened : (t b g : ℕ) (o : ServiceBegun) (begun : Option OpenGreen) → IsGreenAt t (Some o) begun → o.b.at ≡ b → tenth_or t o.g ≡ min g t → IsOpened t b g begun
@@ -76,7 +71,7 @@ module _ (p first end : ℕ) (begun : Option OpenGreen) where
         let sb : s.b ≡ w.b.at = ap (λ (z : Service). z.b) w.s_is in
         let sg : s.g ≡ w.g.at = ap (λ (z : Service). z.g) w.s_is in
         let sr : s.r ≡ r.at = ap (λ (z : Service). z.r) w.s_is in
-        let own_rows = ordered_front 0 end xs r rs order in
+        let own_rows = front_ordered 0 end xs r rs order in
         let (bg, g_end) = in_order 0 end xs w.to_b w.from_b w.to_g w.from_g w.b w.g w.b_is.joined w.g_is.joined own_rows in
         let r_end = (ordered_behind 0 end xs r rs order).1 in
         let g_at : xs ≡ (w.to_b ++ w.b ∷ w.to_g) ++ w.g ∷ w.from_g = w.b_is.joined ∙ (ap (λ (zs : List Row). w.to_b ++ w.b ∷ zs) w.g_is.joined ∙ sym (append_assoc w.to_b (w.b ∷ w.to_g) (w.g ∷ w.from_g))) in
@@ -110,11 +105,6 @@ module _ (p first end : ℕ) (begun : Option OpenGreen) where
         let more2 = subst (λ (zs : List Row). AreServicesOf first end begun (of_phase p (outs_from (service_at known) (has_phase phases) zs rs)) × AreInOrder (of_phase p (outs_from (service_at known) (has_phase phases) zs rs))) (sym e) more in
         own_some (given (service_at known) (has_phase phases) (before ++ front) r rs) (outs_from (service_at known) (has_phase phases) ((before ++ front) ++ r ∷ []) rs) (λ s is of. one_fits front r rs late here (All-head (λ z. known z.at ≡ true) r rs ks) order s (given_some front r rs s is) of) more2
 
--- rows of an hour are not before it
-at_or_after : (a b c : ℕ) (xs : List Row) → c ≤ a → AreOrdered a b xs → All (λ z. c ≤ z.at) xs
-at_or_after a b c [] le h = All-nil (λ z. c ≤ z.at)
-at_or_after a b c (x ∷ xs) le h = let l = h.0 in All-cons (λ z. c ≤ z.at) x xs (omega arith) (at_or_after x.at b c xs (omega arith) h.2)
-
 pub known_all : (known : ℕ → Bool) (xs : List Row) → All (λ z. known z.at ≡ true) (known_rows known xs)
 known_all known [] = All-nil (λ z. known z.at ≡ true)
 known_all known (x ∷ xs) = elim (cases_Bool (known x.at)) [
@@ -129,7 +119,7 @@ services_fit known phases p hour before rows begun (ordered, own) open_at =
     let ks = known_rows known rows in
     let kept : AreOrdered first end ks = filter_ordered known first end first rows (omega arith) own in
     let all : AreOrdered 0 end ((before ++ []) ++ ks) = subst (λ (zs : List Row). AreOrdered 0 end (zs ++ ks)) (sym (append-nil before)) (ordered-append 0 first end before ks ordered kept) in
-    let fit = all_fit p first end begun known phases before (below_end 0 first before ordered) open_at [] ks (All-nil (λ z. first ≤ z.at)) (at_or_after first end first ks (omega arith) kept) (known_all known rows) all in
+    let fit = all_fit p first end begun known phases before (below_end 0 first before ordered) open_at [] ks (All-nil (λ z. first ≤ z.at)) (from_first first end first ks (omega arith) kept) (known_all known rows) all in
     subst (λ (zs : List Row). AreServicesOf first end begun (of_phase p (outs_from (service_at known) (has_phase phases) zs ks)) × AreInOrder (of_phase p (outs_from (service_at known) (has_phase phases) zs ks))) (append-nil before) fit
 
 no_begin : (known : ℕ → Bool) (p : ℕ) → IsGreenAt 0 (service_begun_of known 0 p []) None
@@ -139,7 +129,7 @@ no_begin known p = tt
 -- the services among known rows are in order
 pub services_in_order : (known : ℕ → Bool) (phases : List PhaseItem) (p end : ℕ) (rows : List Row) → AreOrdered 0 end rows → All (λ z. known z.at ≡ true) rows → AreInOrder (of_phase p (services_from known phases [] rows))
 services_in_order known phases p end rows order ks =
-    let low = at_or_after 0 end 0 rows (omega arith) order in
+    let low = from_first 0 end 0 rows (omega arith) order in
     (all_fit p 0 end None known phases [] (All-nil (λ z. z.at < 0)) (no_begin known p) [] rows (All-nil (λ z. 0 ≤ z.at)) low ks order).1
 
 -- the end of a green at two tenths
@@ -174,7 +164,7 @@ was_open known p t u front o (Some (b, after)) None tu early late all e lt = eli
       let same : service_begun p b (after ++ front) ≡ o = some_same _ o (rw is at e) in
       let parts = and_parts (live known b.at u) (not (is_over p (after ++ front))) is in
       let alive = live_less known b.at t u tu parts.0 in
-      let over = over_less p after front (not_false (is_over p (after ++ front)) parts.1) in
+      let over = over_less p after front (not_true (is_over p (after ++ front)) parts.1) in
       (service_begun p b after, rw (alive, over) refl, ap (λ (z : ServiceBegun). z.b.at) same, green_later t u p after front tu early.1 all ∙ ap (λ (z : ServiceBegun). min (tenth_or u z.g) t) same)
       )
   | inr un ↦ (let bad : None ≡ Some o = rw un at e in absurd (cc))
@@ -216,7 +206,7 @@ opens_fit known p hour before rows begun o (ordered, own) open_at e =
     let kept : AreOrdered first end ks = filter_ordered known first end first rows (omega arith) own in
     let all : AreOrdered 0 end (before ++ ks) = ordered-append 0 first end before ks ordered kept in
     let early = below_end 0 first before ordered in
-    let late = at_or_after first end first ks (omega arith) kept in
+    let late = from_first first end first ks (omega arith) kept in
     let h = rows_of known end p (before ++ ks) o (last_with q (before ++ ks)) (last_is q (before ++ ks)) e in
     let (low, high) = green_between p end (before ++ ks) o all h o.g refl in (
       low,

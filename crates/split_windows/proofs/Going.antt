@@ -7,24 +7,22 @@ use Rattle.std.proofs.lemmas.Bool.{and_parts, cases_Bool, leb-true, le-leb}
 use Rattle.std.proofs.lemmas.List.Elements.{All-head, All-tail}
 use Rattle.std.proofs.lemmas.List.Folds.{find-append, list_any-append}
 use Rattle.sig_base.specs.declared.values.Row.{Row}
+use Rattle.sig_base.proofs.Common.{not_true, some_same}
 use Rattle.hour_sweep.specs.Rows.{kept_last, last_with, live, since}
 use Rattle.hour_sweep.proofs.Places.{AllLast, last_with_all}
+use Rattle.hour_sweep.proofs.Known.{since_le}
 use Rattle.service_cut.specs.declared.items.Service.{Service}
 use Rattle.service_cut.specs.declared.services.ServiceBegun.{ServiceBegun}
 use Rattle.service_cut.specs.Signs.{is_begin, is_change, is_end, is_yellow, sign}
 use Rattle.service_cut.specs.Services.{is_over, service_at, service_begun, service_begun_in, service_begun_of, service_of, whole_service}
 use Rattle.split_windows.specs.Going.{ServicesGoOn, tenth_or}
 
-since_low : (known : ℕ → Bool) (t : ℕ) → since known t ≤ t
-since_low known zero = omega arith
-since_low known (suc t) = let low = since_low known t in elim (cases_Bool (known t)) [ inl is ↦ rw is (omega arith) | inr un ↦ rw un (omega arith) ]
-
 since_less : (known : ℕ → Bool) (d t : ℕ) → since known t ≤ since known (t + d)
 since_less known zero t = let e : t ≡ t + 0 = omega arith in subst (λ (x : ℕ). since known t ≤ since known x) e (omega arith)
 since_less known (suc d) t =
     let e : suc (t + d) ≡ t + suc d = omega arith in
     let before = since_less known d t in
-    let low = since_low known t in
+    let low = since_le known t in
     let one : since known t ≤ since known (suc (t + d)) = elim (cases_Bool (known (t + d))) [ inl is ↦ rw is before | inr un ↦ rw un (omega arith) ] in
     subst (λ (x : ℕ). since known t ≤ since known x) e one
 
@@ -71,13 +69,6 @@ over_less p (x ∷ xs) ys e = elim (cases_Bool (is_yellow (sign p x))) [
   | inr un ↦ rw un (over_less p xs ys (rw un at e))
 ]
 
-pub not_false : (b : Bool) → not b ≡ true → b ≡ false
-not_false true e = sym e
-not_false false e = refl
-
-some_same : (a b : Service) → Some a ≡ Some b → a ≡ b
-some_same a b e = cc
-
 -- what a whole service takes from its begin
 record Takes (o : ServiceBegun) (s : Service) : Type 0 where
   begin : s.b ≡ o.b.at
@@ -100,13 +91,9 @@ all_found P q (z ∷ zs) x h e = elim (cases_Bool (q z)) [
 abbrev GoesOn : (ℕ → Bool) → ℕ → ℕ → Found → Service → Type 0
 GoesOn known p t a s = (o : ServiceBegun) × (service_begun_in known t p a ≡ Some o) × (o.b.at ≡ s.b) × (tenth_or t o.g ≡ min s.g t)
 
--- the green's end by the first list, or by the second
-row_same : (a b : Row) → Some a ≡ Some b → a ≡ b
-row_same a b e = cc
-
 by_first : (p t : ℕ) (after front : List Row) (x : Row) (g : ℕ) → All (λ z. z.at < t) after → All (λ z. t ≤ z.at) front → (o : Option Row) → find (λ z. is_change (sign p z)) after ≡ o → option_or o (find (λ z. is_change (sign p z)) front) ≡ Some x → g ≡ x.at → tenth_or t o ≡ min g t
 by_first p t after front x g early late (Some y) is e eg =
-    let same : y ≡ x = row_same y x e in
+    let same : y ≡ x = some_same y x e in
     let lt = all_found (λ z. z.at < t) (λ z. is_change (sign p z)) after y early is in
     let at : y.at ≡ x.at = ap (λ (z : Row). z.at) same in
     omega arith
@@ -135,7 +122,7 @@ goes_on known p t front r later s (Some (b, after)) None early late all le e lt 
       let (x, ex, gx) = takes.change in
       let parts = and_parts (live known b.at r.at) (not (is_over p (after ++ front))) is in
       let alive = live_less known b.at t r.at le parts.0 in
-      let over = over_less p after front (not_false (is_over p (after ++ front)) parts.1) in
+      let over = over_less p after front (not_true (is_over p (after ++ front)) parts.1) in
       (service_begun p b after, rw (alive, over) refl, sym takes.begin, green_end p t after front x s.g early.1 all ex gx)
       )
   | inr un ↦ (let bad : None ≡ Some s = rw un at e in absurd (cc))

@@ -3,16 +3,13 @@ use Rattle.std.proofs.Common.{◌≡◌, refl, sym, subst, ◌↔◌, ℕ, ◌+�
 use Rattle.signal_log.specs.Log.{Log}
 use Rattle.service_cut.specs.declared.items.Service.{Service}
 use Rattle.free_channels.specs.Tells.{IsSure, TellSameUpto}
-use Rattle.free_channels.proofs.Bounds.{numbers_are_one, numbers_stay}
+use Rattle.free_channels.proofs.Bounds.{numbers_are_one, numbers_stay, sooner}
 use Rattle.free_channels.proofs.Colours.{colours_stay}
 use Rattle.detector_state.specs.declared.tenths.OnTenths.{OnTenths}
 use Rattle.detector_state.specs.Hours.{AreTenths}
 use Rattle.split_windows.specs.declared.items.Windows.{Windows}
 use Rattle.split_windows.specs.Windows.{services_of}
 use Rattle.split_windows.specs.Staying.{PendingAreOne, TenthsAreOne, TenthsStay}
-
-sooner : (a b : Log) (t x : ℕ) → x ≤ t → TellSameUpto a b t → TellSameUpto a b x
-sooner a b t x le same = record { specs = same.specs; known = λ y l. same.known y (omega arith); events = λ y l there. same.events y (omega arith) there }
 
 sure_same : (a b : Log) (i c t x : ℕ) → x < t → TellSameUpto a b t → IsSure a i c x ↔ IsSure b i c x
 sure_same a b i c t x lt same =
@@ -50,10 +47,10 @@ tenths_are_one log i low high n m x y =
     let fault = both_true ((z : ℕ) × (low ≤ z) × (z < high) × IsSure log i 2 z) n.fault m.fault x.fault y.fault in
     same_tenths n.least m.least n.greatest m.greatest n.fault m.fault least greatest fault
 
-head_same : (s u : Service) (ss us : List Service) → s ∷ ss ≡ u ∷ us → s ≡ u
+pub head_same : (s u : Service) (ss us : List Service) → s ∷ ss ≡ u ∷ us → s ≡ u
 head_same s u ss us e = cc
 
-tail_same : (s u : Service) (ss us : List Service) → s ∷ ss ≡ u ∷ us → ss ≡ us
+pub tail_same : (s u : Service) (ss us : List Service) → s ∷ ss ≡ u ∷ us → ss ≡ us
 tail_same s u ss us e = cc
 
 one_same : (log : Log) (i t : ℕ) (v w : Windows) → AreTenths log i v.service.b v.service.g v.green → AreTenths log i v.service.r t v.red → AreTenths log i w.service.b w.service.g w.green → AreTenths log i w.service.r t w.red → v.service ≡ w.service → v ≡ w

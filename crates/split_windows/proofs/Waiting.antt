@@ -4,6 +4,7 @@ use Rattle.std.specs.Prelude.{min}
 use Rattle.std.proofs.lemmas.Bool.{cases_Bool, cases_lt, leb-true, le-leb}
 use Rattle.std.proofs.lemmas.List.{append-nil, append_assoc, take_more}
 use Rattle.std.proofs.lemmas.List.Elements.{filter_more}
+use Rattle.board.proofs.Bridge.{leb_no}
 use Rattle.signal_log.specs.Log.{Log}
 use Rattle.service_cut.specs.declared.items.Service.{Service}
 use Rattle.detector_state.specs.declared.part.Part.{Part}
@@ -131,9 +132,6 @@ green_on log n first b g o (eb, et) lt h =
     let to : o.to ≡ first = omega arith in
     subst (λ (x : ℕ). AreTenths log n x first o.tenths) eb (subst (λ (x : ℕ). AreTenths log n o.b x o.tenths) to h)
 
-not_by : (a b : ℕ) → b < a → nat_le a b ≡ false
-not_by a b l = elim (cases_Bool (nat_le a b)) [ inl t ↦ (let le = leb-true a b t in absurd (omega arith)) | inr f ↦ f ]
-
 -- the red windows of services end between two tenths
 abbrev RedEndsIn : ℕ → ℕ → List Service → Type 0
 RedEndsIn n m [] = Unit {0}
@@ -145,7 +143,7 @@ left_ends first end n m o (s ∷ ss) e le h =
     let (bg, ge, fr, re, was) = h.0 in
     let rest = left_ends first end n m o ss e le h.1 in
     elim (cases_lt end (s.r + 50)) [
-      | inl l ↦ rw (not_by (s.r + 50) end l) ((omega arith, omega arith), rest)
+      | inl l ↦ rw (leb_no (s.r + 50) end l) ((omega arith, omega arith), rest)
       | inr l ↦ rw (le-leb (s.r + 50) end l) rest
     ]
 

@@ -1,8 +1,9 @@
 -- What is asked, at one tenth and through a range.
-use Rattle.std.proofs.Common.{◌≡◌, ◌≢◌, ◌⊎◌, ◌↔◌, inl, inr, ℕ, ◌+◌, ◌*◌, ◌-◌, ◌<◌, ◌≤◌, Bool, true, false, not, IsTrue, List, [], ◌∷◌, length, get_or, drop, refl, ap, sym, subst, ◌∙◌, arith}
+use Rattle.std.proofs.Common.{◌≡◌, ◌⊎◌, ◌↔◌, inl, inr, ℕ, ◌+◌, ◌-◌, ◌<◌, ◌≤◌, Bool, true, false, not, IsTrue, List, [], ◌∷◌, length, get_or, drop, refl, sym, subst, arith}
 use Rattle.std.specs.Prelude.{min}
 use Rattle.std.proofs.lemmas.Bool.{cases_Bool, cases_eq}
 use Rattle.std.proofs.lemmas.List.{drop_more, drop_all}
+use Rattle.sig_base.proofs.Common.{clash}
 use Rattle.colour_machine.specs.Mask.{Has}
 use Rattle.reach.specs.Runs.{State}
 use Rattle.reach.specs.Tests.{Meets as TestMeets}
@@ -10,7 +11,6 @@ use Rattle.reach.specs.declared.seen.Test.{Test}
 use Rattle.reach.specs.declared.seen.AgeBound.TheVariants.{Any}
 use Rattle.gap_map.specs.Stretches.{known_at}
 use Rattle.channel_path.specs.declared.moves.Move.{Move}
-use Rattle.channel_path.specs.declared.moves.Move.TheVariants.{Letter}
 use Rattle.channel_tables.specs.declared.spec.Spec.{Spec}
 use Rattle.board.specs.Stops.{moves_at}
 use Rattle.board.specs.History.{Event, Track, events_at}
@@ -22,13 +22,10 @@ use Rattle.board.proofs.Within.{hour_rows}
 use Rattle.state_tenths.specs.declared.asked.Asked.{Asked}
 use Rattle.state_tenths.specs.declared.asked.Asked.TheVariants.{Colour, NoneOf}
 use Rattle.state_tenths.specs.States.{AllHave, Meets, MeetsAt, IsCount}
-use Rattle.state_tenths.specs.Ranges.{IsQuiet, IsQuietIn, IsCutBy, Counts, begin_of, end_of}
+use Rattle.state_tenths.specs.Ranges.{IsQuietIn, IsCutBy, Counts, begin_of, end_of}
 use Rattle.state_tenths.proofs.Counting.{counts_all, counts_none, counts_empty, counts_join, counts_most, counts_hour}
 use Rattle.state_tenths.proofs.Still.{still}
 use Rattle.state_tenths.proofs.Cutting.{hour_cut}
-
-clash : (b : Bool) → b ≡ true → b ≡ false → ⊥
-clash b t f = let bad : true ≡ false = sym t ∙ f in absurd (cc)
 
 -- one colour
 

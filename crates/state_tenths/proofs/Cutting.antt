@@ -1,14 +1,13 @@
 -- The moves of a channel cut an hour into quiet ranges and gaps.
-use Rattle.std.proofs.Common.{◌≡◌, ◌≢◌, ◌⊎◌, inl, inr, ℕ, ◌+◌, ◌<◌, ◌≤◌, Bool, true, false, Option, Some, None, List, [], ◌∷◌, ◌++◌, take, drop, refl, ap, sym, subst, ◌∙◌, arith}
+use Rattle.std.proofs.Common.{◌≡◌, ◌⊎◌, inl, inr, ℕ, ◌+◌, ◌<◌, ◌≤◌, Bool, true, Option, Some, None, List, [], ◌∷◌, ◌++◌, take, drop, refl, ap, sym, subst, ◌∙◌, arith}
 use Rattle.std.proofs.lemmas.Bool.{cases_Bool, cases_lt}
 use Rattle.std.proofs.lemmas.Bool.Decides.{eqb_tells}
 use Rattle.sig_base.specs.declared.values.Row.{Row}
 use Rattle.gap_map.specs.declared.stretch.Stretch.{Stretch}
 use Rattle.gap_map.specs.Stretches.{FollowOn, known_at}
 use Rattle.channel_path.specs.declared.moves.Move.{Move}
-use Rattle.channel_path.specs.declared.moves.Move.TheVariants.{Letter, Gap}
-use Rattle.board.specs.History.{Event, Track, event_of, events_at, letters, put}
-use Rattle.board.specs.Moves.{RowsIn, count_before, letter_moves, own, stretch_moves, with_letter}
+use Rattle.board.specs.History.{Event, Track, events_at, letters}
+use Rattle.board.specs.Moves.{RowsIn, count_before, letter_moves, own}
 use Rattle.board.proofs.Bridge.{event_not_here, none_at, cut_rows, known_here, known_there, late_end}
 use Rattle.state_tenths.specs.Ranges.{IsQuiet, IsCutBy}
 

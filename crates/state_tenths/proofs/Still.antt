@@ -1,5 +1,5 @@
 -- Through known tenths without a letter the states that a channel may have stay the same.
-use Rattle.std.proofs.Common.{◌≡◌, ◌↔◌, inl, inr, ℕ, zero, suc, ◌+◌, ◌-◌, ◌<◌, ◌≤◌, ℤ, pos, Bool, true, List, [], Option, refl, subst, sym, ◌∙◌, arith}
+use Rattle.std.proofs.Common.{◌≡◌, ◌↔◌, ℕ, zero, suc, ◌+◌, ◌-◌, ◌<◌, ◌≤◌, ℤ, pos, Bool, true, List, [], Option, refl, subst, sym, ◌∙◌, arith}
 use Rattle.span_set.specs.declared.set.Span.{Span}
 use Rattle.reach.specs.Runs.{State, Steps}
 use Rattle.reach.specs.Past.{Holds}

@@ -1,12 +1,12 @@
 -- One stop bar over one hour.
-use Rattle.std.proofs.Common.{◌≡◌, refl, ap, sym, ◌∙◌, subst, ℕ, ◌+◌, ◌<◌, ◌≤◌, true, Option, Some, None, List, [], ◌∷◌, ◌++◌, arith}
-use Rattle.std.specs.Prelude.{unwrap_or, filter_map}
+use Rattle.std.proofs.Common.{◌≡◌, refl, ap, sym, ◌∙◌, subst, ℕ, ◌+◌, ◌≤◌, true, Option, Some, None, List, [], ◌∷◌, ◌++◌, arith}
+use Rattle.std.specs.Prelude.{unwrap_or}
 use Rattle.sig_base.specs.declared.values.PhaseItem.{PhaseItem}
 use Rattle.sig_base.specs.declared.values.Row.{Row}
 use Rattle.sig_base.specs.Numbers.{has_phase}
 use Rattle.board.specs.Logs.{end_tenth, first_tenth}
 use Rattle.signal_log.specs.Log.{Log}
-use Rattle.hour_sweep.specs.Hours.{AreOrdered, point}
+use Rattle.hour_sweep.specs.Hours.{AreOrdered}
 use Rattle.hour_sweep.specs.Rows.{known_rows}
 use Rattle.hour_sweep.proofs.Orders.{filter_ordered}
 use Rattle.service_cut.specs.declared.items.OpenService.{OpenService}
@@ -22,9 +22,9 @@ use Rattle.split_windows.specs.declared.items.Windows.{Windows}
 use Rattle.split_windows.specs.Going.{CanGoOn, IsGreenAt, of_phase, tenth_or}
 use Rattle.split_windows.specs.Windows.{AreEnded, AreFit, ArePending, AreWindows, IsEnded, IsOpen, due, left, services_of}
 use Rattle.split_windows.proofs.Fitting.{opens_fit, services_fit}
-use Rattle.split_windows.proofs.Staying.{pending_are_one, tenths_are_one}
+use Rattle.split_windows.proofs.Staying.{pending_are_one, tenths_are_one, head_same, tail_same}
 use Rattle.stop_bar.specs.Crossing.{Crossing}
-use Rattle.stop_bar.specs.Bars.{AreListedOnce, AreOver, CrossesOnce, IsAtBar, IsHourOf, ending, open_with, services_upto}
+use Rattle.stop_bar.specs.Bars.{AreListedOnce, AreOver, CrossesOnce, IsAtBar, IsHourOf, open_with, services_upto}
 use Rattle.stop_bar.proofs.Listing.{ending_both, left_later, waiting_end}
 use Rattle.stop_bar.proofs.Opening.{open_found, open_none, open_some}
 
@@ -128,12 +128,6 @@ crosses_once log i phases p before k a b x y =
     let green = green_one log i (first_tenth k) (service_begun_of log.known (first_tenth k) p before) a.green b.green x.green x.tenths y.green y.tenths in
     let pending = pending_are_one log i (first_tenth k) a.pending b.pending x.numbers y.numbers (x.waiting ∙ sym y.waiting) in
     same_crossing a.green b.green a.pending b.pending green pending
-
-head_same : (s u : Service) (ss us : List Service) → s ∷ ss ≡ u ∷ us → s ≡ u
-head_same s u ss us e = cc
-
-tail_same : (s u : Service) (ss us : List Service) → s ∷ ss ≡ u ∷ us → ss ≡ us
-tail_same s u ss us e = cc
 
 ended_one : (log : Log) (i : ℕ) (v w : Windows) → IsEnded log i v → IsEnded log i w → v.service ≡ w.service → v ≡ w
 ended_one log i v w x y e =

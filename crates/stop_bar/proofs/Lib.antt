@@ -5,3 +5,4 @@ pub mod Places
 pub mod AllBars
 pub mod ToldAt
 pub mod Owning
+pub mod Common

@@ -1,44 +1,24 @@
 -- The services up to a point, and those of an hour after it.
-use Rattle.std.proofs.Common.{◌≡◌, refl, ap, ap₂, sym, ◌∙◌, subst, inl, inr, ℕ, ◌+◌, ◌<◌, ◌≤◌, Bool, true, false, not, cond, ◌&&◌, nat_le, nat_lt, Option, Some, None, List, [], ◌∷◌, ◌++◌, arith}
+use Rattle.std.proofs.Common.{◌≡◌, refl, ap, ap₂, sym, ◌∙◌, subst, inl, inr, ℕ, ◌+◌, ◌<◌, ◌≤◌, Bool, nat_le, List, [], ◌∷◌, ◌++◌, arith}
 use Rattle.std.specs.Prelude.{All}
-use Rattle.std.specs.List.{filter}
-use Rattle.std.proofs.lemmas.Bool.{cases_Bool, cases_lt, le-ltb, leb-true, le-leb, lt-ltb}
-use Rattle.std.proofs.lemmas.List.{append-nil}
+use Rattle.std.proofs.lemmas.Bool.{cases_Bool, cases_lt, le-ltb, le-leb, lt-ltb}
 use Rattle.std.proofs.lemmas.List.Elements.{All-cons, All-filter, All-head, All-nil, All-tail, filter-append}
 use Rattle.sig_base.specs.declared.values.PhaseItem.{PhaseItem}
 use Rattle.sig_base.specs.declared.values.Row.{Row}
 use Rattle.sig_base.specs.Numbers.{has_phase}
+use Rattle.board.proofs.Bridge.{leb_no}
 use Rattle.hour_sweep.specs.Hours.{AreOrdered}
-use Rattle.hour_sweep.proofs.Counted.{HasTenth, IsGivenAt, given_between}
+use Rattle.hour_sweep.proofs.Counted.{given_between}
 use Rattle.service_cut.specs.declared.items.Service.{Service}
-use Rattle.service_cut.specs.declared.services.ServiceBegun.{ServiceBegun}
 use Rattle.service_cut.specs.Cut.{services_from}
-use Rattle.service_cut.specs.Signs.{is_end, sign}
-use Rattle.service_cut.specs.Services.{service_at, service_begun_of, service_of, whole_service}
-use Rattle.service_cut.proofs.HourLists.{services_add}
+use Rattle.service_cut.specs.Services.{service_at}
+use Rattle.service_cut.proofs.HourLists.{services_add, service_tenth}
 use Rattle.split_windows.specs.declared.items.Windows.{Windows}
 use Rattle.split_windows.specs.Going.{of_phase}
-use Rattle.split_windows.specs.Windows.{EndIn, EndsIn, due, left, services_of}
+use Rattle.split_windows.specs.Windows.{EndIn, due, left, services_of}
 use Rattle.stop_bar.specs.Bars.{ending, services_upto}
 
 -- ---- what a row ends has the row's tenth
-
-service_given : (p : ℕ) (s : ServiceBegun) (r : Row) (rest : List Row) (g y : Option Row) → IsGivenAt (λ (s : Service). s.r) r.at (service_of p s r rest g y)
-service_given p s r rest (Some g) (Some y) = refl
-service_given p s r rest (Some g) None = tt
-service_given p s r rest None y = tt
-
-whole_given : (p : ℕ) (o : Option ServiceBegun) (r : Row) (rest : List Row) → IsGivenAt (λ (s : Service). s.r) r.at (whole_service p o r rest)
-whole_given p None r rest = tt
-whole_given p (Some s) r rest = service_given p s r rest s.g s.y
-
-given_if : (v : Bool) (t : ℕ) (o : Option Service) → IsGivenAt (λ (s : Service). s.r) t o → IsGivenAt (λ (s : Service). s.r) t (cond v o None)
-given_if true t o h = h
-given_if false t o h = tt
-
-service_tenth : (known : ℕ → Bool) → HasTenth (λ (s : Service). s.r) (service_at known)
-unfolding service_at
-service_tenth known p before r rest = given_if (is_end (sign p r)) r.at (whole_service p (service_begun_of known r.at p before) r rest) (whole_given p (service_begun_of known r.at p before) r rest)
 
 -- those of a phase end between the tenths of the rows
 pub ends_between : (known : ℕ → Bool) (phases : List PhaseItem) (p a b : ℕ) (before rows : List Row) → AreOrdered a b rows → All (λ (s : Service). (a ≤ s.r) × (s.r < b)) (of_phase p (services_from known phases before rows))
@@ -53,9 +33,6 @@ services_split known phases p t b before rows first order =
 
 -- ---- filters by the end of the red window
 
-not_le : (a b : ℕ) → b < a → nat_le a b ≡ false
-not_le a b l = elim (cases_Bool (nat_le a b)) [ inl t ↦ (let le = leb-true a b t in absurd (omega arith)) | inr f ↦ f ]
-
 -- of those that end before tenth a the ones that wait there end in the next 50 tenths
 ending_left : (a b : ℕ) (ss : List Service) → a + 50 ≤ b → All (λ (s : Service). (0 ≤ s.r) × (s.r < a)) ss → ending a b ss ≡ left a ss
 ending_left a b [] le all = refl
@@ -64,7 +41,7 @@ ending_left a b (s ∷ ss) le all =
     let lt = here.1 in
     let rest = ending_left a b ss le (All-tail (λ (s : Service). (0 ≤ s.r) × (s.r < a)) s ss all) in
     elim (cases_lt a (s.r + 50)) [
-      | inl l ↦ rw (lt-ltb a (s.r + 50) l, le-leb (s.r + 50) b (omega arith), not_le (s.r + 50) a l) (ap (λ (us : List Service). s ∷ us) rest)
+      | inl l ↦ rw (lt-ltb a (s.r + 50) l, le-leb (s.r + 50) b (omega arith), leb_no (s.r + 50) a l) (ap (λ (us : List Service). s ∷ us) rest)
       | inr g ↦ rw (le-ltb a (s.r + 50) g, le-leb (s.r + 50) a g) rest
     ]
 
@@ -132,7 +109,7 @@ left_about a b (s ∷ ss) le all =
     let lt = here.1 in
     let rest = left_about a b ss le (All-tail (λ (s : Service). (0 ≤ s.r) × (s.r < a)) s ss all) in
     elim (cases_lt a (s.r + 50)) [
-      | inl l ↦ rw (not_le (s.r + 50) a l) (All-cons (λ (s : Service). (a ≤ s.r + 50) × (s.r + 50 ≤ b)) s (left a ss) (omega arith, omega arith) rest)
+      | inl l ↦ rw (leb_no (s.r + 50) a l) (All-cons (λ (s : Service). (a ≤ s.r + 50) × (s.r + 50 ≤ b)) s (left a ss) (omega arith, omega arith) rest)
       | inr g ↦ rw (le-leb (s.r + 50) a g) rest
     ]
 

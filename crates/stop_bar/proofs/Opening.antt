@@ -1,11 +1,12 @@
 -- The open service of one phase, among those of all phases.
 use Rattle.std.proofs.Common.{◌≡◌, ◌≢◌, ℕ, zero, suc, ◌+◌, ◌<◌, ◌≤◌, Bool, true, false, cond, eqb, List, Option, Some, None, map, refl, ap, ◌∙◌, arith, inl, inr}
-use Rattle.std.specs.Prelude.{filter_map, min, option_map, unwrap_or}
+use Rattle.std.specs.Prelude.{filter_map, option_map, unwrap_or}
 use Rattle.std.specs.List.{cons_option, range_with_len}
 use Rattle.std.proofs.lemmas.Bool.{cases_eq, eq-eqb, ne_eqb}
 use Rattle.sig_base.specs.declared.values.PhaseItem.{PhaseItem}
 use Rattle.sig_base.specs.declared.values.Row.{Row}
 use Rattle.sig_base.specs.Numbers.{has_phase}
+use Rattle.sig_base.proofs.Common.{some_same}
 use Rattle.hour_sweep.specs.Hours.{point}
 use Rattle.hour_sweep.specs.Numbers.{numbered}
 use Rattle.service_cut.specs.declared.items.OpenService.{OpenService}
@@ -70,15 +71,12 @@ open_found known phases p k rows has =
     let lt = has_room phases p has in
     find_in (has_phase phases) known (point k) rows p 0 (room phases) (omega arith) (omega arith) has
 
-some_open : (a b : OpenService) → Some a ≡ Some b → a ≡ b
-some_open a b e = cc
-
 green_to : (t : ℕ) (g : Option Row) → tenth_or t g ≡ unwrap_or (option_map (λ (x : Row). x.at) g) t
 green_to t None = refl
 green_to t (Some x) = refl
 
 green_end : (p t : ℕ) (s : ServiceBegun) (y : OpenService) (g : Option Row) → s.g ≡ g → open_service_of p (Some s) ≡ Some y → tenth_or t s.g ≡ unwrap_or y.g t
-green_end p t s y g e is = green_to t s.g ∙ ap (λ (z : OpenService). unwrap_or z.g t) (some_open _ y is)
+green_end p t s y g e is = green_to t s.g ∙ ap (λ (z : OpenService). unwrap_or z.g t) (some_same _ y is)
 
 -- which has its begin and how far its green has come
 pub open_some : (p t : ℕ) (o : Option ServiceBegun) (y : OpenService) → open_service_of p o ≡ Some y → (s : ServiceBegun) × (o ≡ Some s) × (s.b.at ≡ y.b) × (tenth_or t s.g ≡ unwrap_or y.g t)

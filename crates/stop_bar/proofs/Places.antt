@@ -1,6 +1,6 @@
 -- Lists place by place.
-use Rattle.std.proofs.Common.{suc, zero, ◌≡◌, refl, ap, sym, ◌∙◌, ℕ, ◌+◌, ◌<◌, ◌≤◌, true, Option, Some, None, List, [], ◌∷◌, ◌++◌, length, take, get_or, false, nat_lt, Bor, arith}
-use Rattle.std.specs.Prelude.{All, Err, IfOk, IfSome, Ok, Result, filter_map, is_some, option_copied, slice_get}
+use Rattle.std.proofs.Common.{suc, zero, ◌≡◌, refl, ap, sym, ◌∙◌, ℕ, ◌+◌, ◌<◌, true, Option, Some, None, List, [], ◌∷◌, ◌++◌, length, take, get_or, false, nat_lt, Bor, arith}
+use Rattle.std.specs.Prelude.{All, IfSome, filter_map, is_some, option_copied, slice_get}
 use Rattle.std.proofs.lemmas.Bool.{lt-ltb}
 use Rattle.std.proofs.lemmas.Option.{get_or_from_slice_get, slice_get_within}
 use Rattle.std.proofs.lemmas.List.{append-nil, take_more}
@@ -51,11 +51,6 @@ bar_phase a (Some d) b e = cc
 pub held : {A : Type 0} (o : Option (Bor A)) (r : Bor A) (x : A) → o ≡ Some r → option_copied o ≡ Some x → r.now ≡ x
 held None r x e f = absurd (cc)
 held (Some q) r x e f = cc
-
--- what follows for an answer
-pub ok_more : {A E : Type 0} (P Q : A → Type 0) (r : Result A E) → ((v : A) → P v → Q v) → IfOk r P → IfOk r Q
-ok_more P Q (Ok v) f h = f v h
-ok_more P Q (Err e) f h = h
 
 -- what is looked up at a place
 pub looked : {A : Type 0} (r : Option (Bor A)) (xs : List A) (i : ℕ) (y : A) → is_some r ≡ nat_lt i (length xs) → IfSome r (λ z. z.now ≡ get_or xs i z.now) → slice_get xs i ≡ Some y → option_copied r ≡ Some y

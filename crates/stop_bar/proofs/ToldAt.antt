@@ -1,5 +1,5 @@
 -- The detectors of all stop bars in one hour.
-use Rattle.std.proofs.Common.{◌≡◌, refl, ap, sym, ◌∙◌, subst, inl, inr, ℕ, ◌+◌, ◌*◌, ◌<◌, ◌≤◌, true, eqb, ◌&&◌, Some, None, List, [], ◌∷◌, length, get_or, arith}
+use Rattle.std.proofs.Common.{◌≡◌, refl, ap, sym, ◌∙◌, subst, inl, inr, ℕ, ◌+◌, ◌*◌, ◌<◌, ◌≤◌, true, eqb, Some, None, List, [], ◌∷◌, length, get_or, arith}
 use Rattle.sig_base.specs.HourRows.{AreRowsOf, RiseIn}
 use Rattle.std.proofs.lemmas.Bool.{and_parts, cases_Bool, eqb-true}
 use Rattle.std.proofs.lemmas.List.Quantifiers.{position-Some}
@@ -20,8 +20,7 @@ use Rattle.detector_state.specs.declared.part.Part.{Part}
 use Rattle.detector_state.specs.Hours.{IsHourIn, IsSwitched, TellsColours}
 use Rattle.detector_state.specs.Switches.{colours_of, switch_track}
 use Rattle.detector_state.proofs.Fitting.{hours_fit}
-use Rattle.stop_bar.specs.declared.bars.StopBar.{StopBar}
-use Rattle.stop_bar.specs.All.{IsHourHeld, IsPlaceOf}
+use Rattle.stop_bar.specs.All.{IsHourHeld}
 use Rattle.stop_bar.specs.Own.{detector, is_own, own_of}
 
 detector_rank : (k : Kind) → eqb (kind_rank k) (kind_rank Detector) ≡ true → k ≡ Detector

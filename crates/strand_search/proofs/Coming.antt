@@ -10,7 +10,7 @@ use Rattle.colour_machine.specs.Rules.{Rules}
 use Rattle.sig_base.specs.declared.values.Row.{Row}
 use Rattle.sig_base.specs.HourRows.{Shown}
 use Rattle.gap_map.specs.declared.stretch.Stretch.{Stretch}
-use Rattle.gap_map.specs.Stretches.{FollowOn, known_at}
+use Rattle.gap_map.specs.Stretches.{known_at}
 use Rattle.channel_tables.specs.declared.spec.Spec.{Spec}
 use Rattle.channel_tables.specs.Spec.{rules_of}
 use Rattle.reach.specs.Runs.{State}
@@ -19,14 +19,11 @@ use Rattle.reach.specs.declared.seen.AgeBound.{AgeBound}
 use Rattle.reach.specs.declared.seen.AgeBound.TheVariants.{Any, AtLeast, AtMost}
 use Rattle.reach.specs.declared.seen.Test.{Test}
 use Rattle.channel_path.specs.Places.{Passes}
-use Rattle.channel_path.specs.Walks.{Walk}
 use Rattle.hour_store.specs.Store.{IsStore, Store, held_at, is_known, rows_at}
 use Rattle.board.specs.Channels.{AreSpecs, track}
-use Rattle.board.specs.History.{Track, events_at}
 use Rattle.board.specs.Logs.{HourLog, end_tenth, first_tenth, hour_log, no_row}
-use Rattle.board.specs.Moves.{RowsIn, count_before, own}
+use Rattle.board.specs.Moves.{count_before}
 use Rattle.board.specs.Places.{IsAtPlace, IsPlace, since}
-use Rattle.board.proofs.Bridge.{own_walk}
 use Rattle.board.proofs.Cutting.{from_walk, since_in, to_walk}
 use Rattle.board.proofs.Verdicts.{end_place}
 use Rattle.board.proofs.Within.{end_is_place}
@@ -42,6 +39,7 @@ use Rattle.gap_ways.specs.Ways.{state_of}
 use Rattle.channel_ways.specs.Moves.{NonePasses, PassesAlone}
 use Rattle.channel_ways.specs.declared.passage.Passing.{Passing}
 use Rattle.channel_ways.proofs.Running.{walk_late}
+use Rattle.board.proofs.Common.{renumbered}
 use Rattle.strand_search.specs.declared.cut.Cut.{Cut}
 use Rattle.strand_search.specs.declared.crossing.Crossing.{Crossing}
 use Rattle.strand_search.specs.declared.search.Asked.{Asked}
@@ -50,6 +48,7 @@ use Rattle.strand_search.specs.Parts.{IsCutOf, IsHourPart, StandsAlone, moves_ov
 use Rattle.strand_search.specs.Points.{log_alone}
 use Rattle.strand_search.specs.Runs.{IsAsked, IsPlaceAt, MayComeTo, NoneComes, TellsWithinHour, test_of}
 use Rattle.signal_log.specs.Rows.{rows_before}
+use Rattle.signal_log.proofs.Lawful.{most_far}
 use Rattle.strand_search.proofs.Pieces.{piece_in}
 use Rattle.strand_search.proofs.Stepping.{next_here}
 use Rattle.strand_search.proofs.Placed.{hour_is, left_part, left_tells, left_within, place_here, right_part, right_tells, right_within}
@@ -71,13 +70,10 @@ answers_same false test v w same both fails = λ (has, bound). fails (subst (λ 
 far_least : (p at e : ℤ) (n : ℕ) → (e +ℤ pos 36001) ≤ℤ p → p ≤ℤ at → n ≤ 36001 → (e +ℤ pos n) ≤ℤ at
 far_least p at e n far le few = omega (arith, ints)
 
-far_most : (p at e : ℤ) (n : ℕ) → (e +ℤ pos 36001) ≤ℤ p → p ≤ℤ at → n ≤ 36000 → at ≤ℤ (e +ℤ pos n) → ⊥
-far_most p at e n far le few most = omega (arith, ints)
-
 far_ages : (p at e x : ℤ) (bound : AgeBound) → (e ≡ x) ⊎ (((x +ℤ pos 36001) ≤ℤ p) × ((e +ℤ pos 36001) ≤ℤ p)) → p ≤ℤ at → TellsWithinHour bound → InBound bound at x → InBound bound at e
 far_ages p at e x Any k le few h = tt
 far_ages p at e x (AtLeast n) k le few h = elim k [ inl same ↦ rw same h | inr (a, b) ↦ far_least p at e n b le few ]
-far_ages p at e x (AtMost n) k le few h = elim k [ inl same ↦ rw same h | inr (a, b) ↦ absurd (far_most p at x n a le few h) ]
+far_ages p at e x (AtMost n) k le few h = elim k [ inl same ↦ rw same h | inr (a, b) ↦ absurd (most_far p at x n a le few h) ]
 
 -- and states that are alike are such
 pub alike_tell : (m : Rules) (p at : ℤ) (v w : State) (bound : AgeBound) → AreAlike m p v w → p ≤ℤ at → TellsWithinHour bound → (v.colour ≡ w.colour) × (InBound bound at v.entry ↔ InBound bound at w.entry)
@@ -89,11 +85,6 @@ alike_tell m p at v w bound (few, same, k) le within =
 some_rows : (o : Option Shown) (rows : List Row) → is_some o ≡ true → rows ≡ rows_or_none (option_map (λ h. h.rows) o) → option_map (λ h. h.rows) o ≡ Some rows
 some_rows None rows e is = absurd (cc)
 some_rows (Some h) rows e is = ap (λ (x : List Row). Some x) (sym is)
-
--- the numbers of the rows don't matter to a walk
-renumbered : (k : Track) (f t i j : ℕ) (rows : List Row) (ss : List Stretch) (s u : State) → FollowOn f t ss → RowsIn f t rows → Walk k.rules (own k i rows ss) s u → Walk k.rules (own k j rows ss) s u
-renumbered k f t i j rows ss s u follow in_rows w =
-    (own_walk k (known_at ss) (events_at rows) f t j rows ss s u follow in_rows (λ x l1 l2. refl) (λ x l1 l2. refl)).0 ((own_walk k (known_at ss) (events_at rows) f t i rows ss s u follow in_rows (λ x l1 l2. refl) (λ x l1 l2. refl)).1 w)
 
 module _ (d : Spec) (s : Store) (asked : Asked) (rows : List Row) (ss : List Stretch) (is : IsStore s) (ask : IsAsked s asked) (part : IsHourPart s (asked.at / 36000) rows ss) (cut : Cut) (c : IsCutOf rows ss asked.at (rows_to rows asked.at asked.before) cut) (pasts : List (List (List Span))) (aheads : List (List (Option ℤ))) (at : ArePastsAt (log_alone d s) (asked.at / 36000) pasts) (af : AreAheadsAt (log_alone d s) (asked.at / 36000 + 1) aheads) where
   abbrev x : ℕ

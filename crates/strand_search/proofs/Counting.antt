@@ -5,11 +5,12 @@ use Rattle.reach.specs.Runs.{State}
 use Rattle.sig_base.specs.declared.values.Row.{Row}
 use Rattle.gap_map.specs.declared.stretch.Stretch.{Stretch}
 use Rattle.gap_map.specs.Stretches.{Alternate, BeginsOther, FollowOn, known_at}
+use Rattle.gap_map.proofs.Cutting.{nat_cases}
 use Rattle.board.specs.History.{Track}
 use Rattle.board.specs.Logs.{first_tenth, end_tenth}
 use Rattle.board.specs.Moves.{RowsIn, count_before, own, stretch_moves}
 use Rattle.board.specs.Places.{since, upto}
-use Rattle.board.proofs.Bridge.{cut_rows, known_here, late_end, lt_tells}
+use Rattle.board.proofs.Bridge.{cut_rows, known_here, late_end}
 use Rattle.gap_ways.specs.declared.states.Fill.{Fill}
 use Rattle.channel_ways.specs.Moves.{Filled}
 use Rattle.hour_ways.specs.Fillings.{AreFillRows}
@@ -144,12 +145,12 @@ part_few k f t i a b rows fills (st ∷ ss) fs s u h alt r are w unknown =
 -- ---- stretches of a part
 head_other : (known : Bool) (x : ℕ) (ss : List Stretch) → BeginsOther known ss → BeginsOther known (upto x ss)
 head_other known x [] h = tt
-head_other known x (s ∷ ss) h = elim (lt_tells x s.to) [ inl (test, _) ↦ rw test h | inr (test, _) ↦ rw test h ]
+head_other known x (s ∷ ss) h = elim (nat_cases x s.to) [ inl (test, _) ↦ rw test h | inr (test, _) ↦ rw test h ]
 
 pub upto_alternate : (x : ℕ) (ss : List Stretch) → Alternate ss → Alternate (upto x ss)
 upto_alternate x [] h = tt
-upto_alternate x (s ∷ ss) h = elim (lt_tells x s.to) [ inl (test, _) ↦ rw test (tt, tt) | inr (test, _) ↦ rw test (head_other s.known x ss h.0, upto_alternate x ss h.1) ]
+upto_alternate x (s ∷ ss) h = elim (nat_cases x s.to) [ inl (test, _) ↦ rw test (tt, tt) | inr (test, _) ↦ rw test (head_other s.known x ss h.0, upto_alternate x ss h.1) ]
 
 pub since_alternate : (x : ℕ) (ss : List Stretch) → Alternate ss → Alternate (since x ss)
 since_alternate x [] h = tt
-since_alternate x (s ∷ ss) h = elim (lt_tells x s.to) [ inl (test, _) ↦ rw test h | inr (test, _) ↦ rw test (since_alternate x ss h.1) ]
+since_alternate x (s ∷ ss) h = elim (nat_cases x s.to) [ inl (test, _) ↦ rw test h | inr (test, _) ↦ rw test (since_alternate x ss h.1) ]

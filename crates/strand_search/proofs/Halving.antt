@@ -2,17 +2,17 @@
 use Rattle.std.proofs.Common.{◌≡◌, refl, ap, sym, ◌∙◌, subst, inl, inr, ℕ, ◌+◌, ◌<◌, ◌≤◌, Bool, true, List, [], ◌∷◌, ◌++◌, length, take, drop, take-append-drop, arith}
 use Rattle.std.proofs.lemmas.Bool.{cases_eq}
 use Rattle.std.proofs.lemmas.List.{drop_at}
-use Rattle.colour_machine.specs.Rules.{Rules}
 use Rattle.sig_base.specs.declared.values.Row.{Row}
 use Rattle.gap_map.specs.declared.stretch.Stretch.{Stretch}
 use Rattle.gap_map.specs.Stretches.{AreStretches, FollowOn}
+use Rattle.gap_map.proofs.Cutting.{nat_cases}
 use Rattle.channel_path.specs.declared.moves.Move.{Move}
 use Rattle.channel_path.specs.Walks.{InOrder}
-use Rattle.channel_path.specs.Places.{TakesFrom, limit_of}
+use Rattle.channel_path.specs.Places.{limit_of}
 use Rattle.board.specs.History.{Event, Track, events_at}
 use Rattle.board.specs.Moves.{RowsIn, count_before, own}
 use Rattle.board.specs.Places.{since, upto}
-use Rattle.board.proofs.Bridge.{cut_rows, late_end, lt_tells}
+use Rattle.board.proofs.Bridge.{cut_rows, late_end}
 use Rattle.board.proofs.Cutting.{events_join, known_moves, none_after}
 use Rattle.board.proofs.Ordering.{order_join, own_order, rows_order}
 use Rattle.board.proofs.Tracks.{Lettered}
@@ -21,14 +21,14 @@ use Rattle.signal_log.proofs.Runs.{from_here, from_other, from_place}
 -- ---- stretches
 pub upto_stretches : (known : ℕ → Bool) (f t x : ℕ) (ss : List Stretch) → AreStretches known f t ss → f ≤ x → x < t → AreStretches known f (x + 1) (upto x ss)
 upto_stretches known f t x [] h low high = absurd (omega arith)
-upto_stretches known f t x (s ∷ ss) (e, some, same, rest) low high = elim (lt_tells x s.to) [
+upto_stretches known f t x (s ∷ ss) (e, some, same, rest) low high = elim (nat_cases x s.to) [
   | inl (test, lt) ↦ rw test (e, omega arith, (λ y l1 l2. same y l1 (omega arith)), refl)
   | inr (test, ge) ↦ rw test (e, some, same, upto_stretches known s.to t x ss rest ge high)
 ]
 
 pub since_stretches : (known : ℕ → Bool) (f t x : ℕ) (ss : List Stretch) → AreStretches known f t ss → f ≤ x → x < t → AreStretches known x t (since x ss)
 since_stretches known f t x [] h low high = absurd (omega arith)
-since_stretches known f t x (s ∷ ss) (e, some, same, rest) low high = elim (lt_tells x s.to) [
+since_stretches known f t x (s ∷ ss) (e, some, same, rest) low high = elim (nat_cases x s.to) [
   | inl (test, lt) ↦ rw test (refl, lt, (λ y l1 l2. same y (omega arith) l2), rest)
   | inr (test, ge) ↦ rw test (since_stretches known s.to t x ss rest ge high)
 ]
@@ -53,10 +53,6 @@ moves_after k known x t rows ss lettered is lt h follow r = (
   head_known k known x t rows ss lettered is lt h r follow,
   limit_next x t (own k 0 rows ss) lt (own_order k x t 0 rows ss lettered follow r).1,
 )
-
-pub takes_from : (m : Rules) (n : ℕ) (ms : List Move) → InOrder m n ms → TakesFrom n ms
-takes_from m n [] o = tt
-takes_from m n (x ∷ ms) o = o.0
 
 -- ---- rows
 pub later_events : (rows : List Row) (n f x y : ℕ) → RowsIn f (x + 1) (take n rows) → x ≤ y → events_at (drop n rows) y ≡ from_place (events_at rows) x (length (events_at (take n rows) x)) y

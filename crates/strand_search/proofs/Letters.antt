@@ -1,5 +1,5 @@
 -- The row of a letter.
-use Rattle.std.proofs.Common.{◌≡◌, refl, sym, ap, ◌∙◌, subst, inl, inr, ℕ, zero, suc, ◌+◌, ◌<◌, ◌≤◌, ◌^◌, ℤ, pos, negsuc, ◌<ℤ◌, ◌≤ℤ◌, nat_eq, nat_lt, List, [], ◌∷◌, ◌++◌, length, get_or, take, append_assoc, Option, Some, None, arith}
+use Rattle.std.proofs.Common.{◌≡◌, refl, sym, ap, ◌∙◌, subst, inl, inr, ℕ, zero, suc, ◌+◌, ◌<◌, ◌≤◌, ◌^◌, ℤ, pos, negsuc, ◌<ℤ◌, ◌≤ℤ◌, nat_eq, List, [], ◌∷◌, ◌++◌, length, get_or, take, append_assoc, Option, Some, arith}
 use Rattle.std.specs.List.{list_any}
 use Rattle.std.proofs.lemmas.Int.{ints}
 use Rattle.std.proofs.lemmas.Bool.{cases_Bool, eqb-true}
@@ -7,9 +7,11 @@ use Rattle.std.proofs.lemmas.List.{take_more}
 use Rattle.event_codes.specs.declared.channels.Channel.{Channel}
 use Rattle.event_codes.specs.declared.channels.Kind.{Kind}
 use Rattle.event_codes.specs.declared.channels.Kind.TheVariants.{Phase, Ped, Overlap, Detector, PedDetector, PreemptInput, PreemptService, Coordination}
-use Rattle.event_codes.specs.Channels.{Line, channel_by, channel_lines, number_of, numbered_channel}
+use Rattle.event_codes.specs.Channels.{Line, channel_by, channel_lines, number_of}
 use Rattle.colour_machine.specs.Rules.{Rules}
 use Rattle.sig_base.specs.declared.values.Row.{Row}
+use Rattle.sig_base.proofs.Common.{some_same}
+use Rattle.event_codes.proofs.Common.{numbered}
 use Rattle.channel_tables.specs.declared.spec.Spec.{Spec}
 use Rattle.channel_tables.specs.Letters.{IsNumber, letter_in_table, letter_with, sign_of}
 use Rattle.channel_tables.specs.Table.{place_from, place_of}
@@ -22,9 +24,6 @@ use Rattle.gap_ways.specs.declared.states.Fill.{Fill}
 use Rattle.hour_ways.specs.Fillings.{AreFillRows}
 use Rattle.strand_search.specs.Events.{AddsLetters, AreLettersOf}
 use Rattle.strand_search.proofs.Pieces.{fill_rows_join}
-
-some_same : {A : Type 0} (x y : A) → Some x ≡ Some y → x ≡ y
-some_same x y e = cc
 
 -- ---- the sign at a letter's place
 place_low : (k n l : ℕ) (xs : List ℕ) → place_from k n xs ≡ Some l → k ≤ l
@@ -43,18 +42,6 @@ sign_from k n zero (x ∷ xs) e = elim (cases_Bool (nat_eq x n)) [
 sign_from k n (suc l) (x ∷ xs) e = elim (cases_Bool (nat_eq x n)) [
   | inl t ↦ let here : Some k ≡ Some (k + suc l) = rw t at e in let same = some_same k (k + suc l) here in absurd (omega arith)
   | inr f ↦ let sum : k + suc l ≡ k + 1 + l = omega arith in sign_from (k + 1) n l xs (rw f at e ∙ ap (λ (z : ℕ). Some z) sum)
-]
-
--- the number of a channel that a row has
-numbered : (kind : Kind) (least most param : ℕ) (c : Channel) → numbered_channel kind least most param ≡ Some c → c.number ≡ number_of c.kind param
-numbered kind least most param c e = elim (cases_Bool (nat_lt param least)) [
-  | inl t ↦ let bad : None ≡ Some c = rw t at e in absurd (cc)
-  | inr f ↦ elim (cases_Bool (nat_lt most param)) [
-    | inl t ↦ let bad : None ≡ Some c = rw (f, t) at e in absurd (cc)
-    | inr g ↦
-        let is : Some (record { kind = kind; number = number_of kind param }) ≡ Some c = rw (f, g) at e in
-        subst (λ (z : Channel). z.number ≡ number_of z.kind param) (some_same (record { kind = kind; number = number_of kind param }) c is) refl
-  ]
 ]
 
 by_lines : (xs : List Line) (code param : ℕ) (c : Channel) → channel_by xs code param ≡ Some c → c.number ≡ number_of c.kind param

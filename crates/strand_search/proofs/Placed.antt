@@ -5,7 +5,7 @@ use Rattle.span_set.specs.declared.set.Span.{Span}
 use Rattle.sig_base.specs.declared.values.Row.{Row}
 use Rattle.gap_map.specs.declared.stretch.Stretch.{Stretch}
 use Rattle.gap_map.specs.Stretches.{known_at}
-use Rattle.gap_map.proofs.Following.{follow, known_at_is}
+use Rattle.gap_map.proofs.Following.{known_at_is, follows}
 use Rattle.channel_tables.specs.declared.spec.Spec.{Spec}
 use Rattle.channel_tables.specs.Spec.{rules_of}
 use Rattle.channel_path.proofs.Moving.{earlier_low}
@@ -23,6 +23,7 @@ use Rattle.signal_log.proofs.Runs.{from_same, upto_same}
 use Rattle.signal_log.proofs.Stored.{hour_events, known_cut}
 use Rattle.gap_ways.specs.Ways.{NoneOlder}
 use Rattle.channel_ways.specs.Moves.{IsPassage}
+use Rattle.board.proofs.Splitting.{begin_of}
 use Rattle.strand_search.specs.declared.cut.Cut.{Cut}
 use Rattle.strand_search.specs.declared.search.Asked.{Asked}
 use Rattle.strand_search.specs.Crossings.{FitsCut, events_to, rows_to}
@@ -31,7 +32,7 @@ use Rattle.strand_search.specs.Pieces.{on_from, up_to}
 use Rattle.strand_search.specs.Points.{log_alone}
 use Rattle.strand_search.specs.Runs.{IsAsked, IsPlaceAt}
 use Rattle.strand_search.proofs.Counting.{since_alternate, upto_alternate}
-use Rattle.strand_search.proofs.Halving.{later_events, moves_after, since_stretches, takes_from, upto_stretches}
+use Rattle.strand_search.proofs.Halving.{later_events, moves_after, since_stretches, upto_stretches}
 use Rattle.strand_search.proofs.Pieces.{IsWithin}
 use Rattle.strand_search.proofs.Ranging.{over_order}
 
@@ -50,7 +51,7 @@ passage_of d asked before cut after fits =
       tenth = asked.at;
       same = refl;
       last = last;
-      takes = takes_from (rules_of d) (asked.at + 1) (moves_over d cut.right) onward;
+      takes = begin_of (rules_of d) (asked.at + 1) (moves_over d cut.right) onward;
       onward = earlier_low (rules_of d) 0 (asked.at + 1) (moves_over d cut.right) (omega arith) onward;
       end = end;
       soon = omega arith;
@@ -58,7 +59,7 @@ passage_of d asked before cut after fits =
 
 -- an hour's part is its rows and stretches
 pub hour_is : (s : Store) (hour : ℕ) (rows : List Row) (ss : List Stretch) → IsHourPart s hour rows ss → IsHour hour rows ss
-hour_is s hour rows ss part = record { are_rows = part.fit; follow = follow (is_known s) (36000 * hour) (36000 * hour + 36000) ss part.cut.stretches }
+hour_is s hour rows ss part = record { are_rows = part.fit; follows = follows (is_known s) (36000 * hour) (36000 * hour + 36000) ss part.cut.stretches }
 
 -- no state at a point was entered longer ago than 36,001 tenths before it
 pub none_older : (d : Spec) (s : Store) (hour : ℕ) (pasts : List (List (List Span))) → ArePastsAt (log_alone d s) hour pasts → NoneOlder (get_or pasts 0 [])
@@ -107,7 +108,7 @@ module _ (d : Spec) (s : Store) (asked : Asked) (rows : List Row) (ss : List Str
 
   left_is : IsPart f (x + 1) (take n rows) (upto x ss)
   left_is = record {
-    follow = follow (is_known s) f (x + 1) (upto x ss) (upto_stretches (is_known s) f t x ss part.cut.stretches low high);
+    follows = follows (is_known s) f (x + 1) (upto x ss) (upto_stretches (is_known s) f t x ss part.cut.stretches low high);
     rows_in = place_here.before;
     alternate = upto_alternate x ss part.cut.alternate;
     few = (let e = length-take n rows in let q = few in omega arith);
@@ -115,7 +116,7 @@ module _ (d : Spec) (s : Store) (asked : Asked) (rows : List Row) (ss : List Str
 
   right_is : IsPart x t (drop n rows) (since x ss)
   right_is = record {
-    follow = follow (is_known s) x t (since x ss) (since_stretches (is_known s) f t x ss part.cut.stretches low high);
+    follows = follows (is_known s) x t (since x ss) (since_stretches (is_known s) f t x ss part.cut.stretches low high);
     rows_in = place_here.after;
     alternate = since_alternate x ss part.cut.alternate;
     few = (let e = length-drop n rows in let q = few in omega arith);
@@ -156,15 +157,15 @@ module _ (d : Spec) (s : Store) (asked : Asked) (rows : List Row) (ss : List Str
     right_tells = subst (λ (rs : List Row). SameIn (known_at cut.right.stretches.items) (events_at rs) (is_known s) (on_from (events_at (known_rows s)) x (events_to s asked)) x t) (sym c.right_rows) (subst (λ (zs : List Stretch). SameIn (known_at zs) (events_at (drop n rows)) (is_known s) (on_from (events_at (known_rows s)) x (events_to s asked)) x t) (sym c.right_stretches) right_same)
 
     pub left_within : IsWithin (known_at cut.left.stretches.items) f (x + 1)
-    left_within y there = known_within f (x + 1) y cut.left.stretches.items left_part.follow there
+    left_within y there = known_within f (x + 1) y cut.left.stretches.items left_part.follows there
 
     pub right_within : IsWithin (known_at cut.right.stretches.items) x t
-    right_within y there = known_within x t y cut.right.stretches.items right_part.follow there
+    right_within y there = known_within x t y cut.right.stretches.items right_part.follows there
 
     pub fits_cut : (pasts : List (List (List Span))) (aheads : List (List (Option ℤ))) → ArePastsAt (log_alone d s) (asked.at / 36000) pasts → AreAheadsAt (log_alone d s) (asked.at / 36000 + 1) aheads → FitsCut d asked (get_or pasts 0 []) cut (get_or aheads 0 [])
     fits_cut pasts aheads at af =
         let hours = part.fit.in_range in
-        let (order, end) = moves_after (track d) (is_known s) x t (drop n rows) (since x ss) (spec_lettered d) ask.is_known high (since_stretches (is_known s) f t x ss part.cut.stretches low high) right_is.follow right_is.rows_in in
+        let (order, end) = moves_after (track d) (is_known s) x t (drop n rows) (since x ss) (spec_lettered d) ask.is_known high (since_stretches (is_known s) f t x ss part.cut.stretches low high) right_is.follows right_is.rows_in in
         record {
           from = f;
           to = t;

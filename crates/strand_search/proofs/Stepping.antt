@@ -20,12 +20,12 @@ use Rattle.board.specs.History.{Agreeing, Event, Track, events_at}
 use Rattle.board.specs.Hours.{Clamped, IsAfterHour}
 use Rattle.board.specs.Logs.{end_tenth, first_tenth}
 use Rattle.board.proofs.Bridge.{agreeing_join, agreeing_none, own_walk}
-use Rattle.board.proofs.Plain.{after_hour}
+use Rattle.board.proofs.Plain.{after_hour, agreeing_early}
 use Rattle.board.proofs.Within.{hour_rows, known_within}
 use Rattle.signal_log.specs.Log.{IsBeforeWindow}
 use Rattle.signal_log.specs.Points.{AreAheadsAt, ArePastsAt}
 use Rattle.signal_log.proofs.Hour.{SameIn, after_point, cut_tells, run_in}
-use Rattle.signal_log.proofs.Runs.{agreeing_colour, agreeing_early, alike_later}
+use Rattle.signal_log.proofs.Runs.{agreeing_colour, alike_later}
 use Rattle.gap_ways.specs.declared.states.Entered.{Entered}
 use Rattle.gap_ways.specs.Ways.{state_of}
 use Rattle.channel_ways.specs.Moves.{Alike as Like, ClampedAfter, IsAlone}

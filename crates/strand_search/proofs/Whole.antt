@@ -20,12 +20,14 @@ use Rattle.board.proofs.Bridge.{agreeing_same, cut_rows}
 use Rattle.signal_log.specs.Log.{IsBeforeWindow}
 use Rattle.signal_log.specs.Points.{ArePastsAt, rows_or_none}
 use Rattle.signal_log.proofs.Hour.{reached_colour}
-use Rattle.signal_log.proofs.Runs.{agreeing_early, alike_later, from_here, from_other, place_join, to_place, upto_here, upto_other}
-use Rattle.signal_log.proofs.Stored.{hour_events, rise_rows, rows_join}
+use Rattle.signal_log.proofs.Runs.{alike_later, from_here, from_other, place_join, to_place, upto_here, upto_other}
+use Rattle.signal_log.proofs.Stored.{hour_events, rows_join}
 use Rattle.gap_ways.specs.Choices.{Answers}
 use Rattle.gap_ways.specs.Ways.{state_of}
 use Rattle.hour_ways.specs.Fillings.{AreUnknown}
 use Rattle.hour_ways.proofs.Agreeing.{join_early, join_late, unknown_join}
+use Rattle.board.proofs.Within.{rise_rows}
+use Rattle.board.proofs.Plain.{agreeing_early}
 use Rattle.strand_search.specs.declared.crossing.Crossing.{Crossing}
 use Rattle.strand_search.specs.declared.search.Asked.{Asked}
 use Rattle.strand_search.specs.declared.search.Found.{Found}

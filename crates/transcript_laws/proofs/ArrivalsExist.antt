@@ -9,6 +9,7 @@ use Rattle.ring_config.specs.Settings.{Settings}
 use Rattle.ring_config.specs.Sound.{IsSound}
 use Rattle.ring_config.specs.declared.items.Approach.{Approach}
 use Rattle.stop_bar.specs.Lists.{Each}
+use Rattle.stop_bar.proofs.Common.{each_long}
 use Rattle.cycle_arrivals.specs.Arrivals.{ons_of}
 use Rattle.arrival_measures.specs.declared.sums.ArrivalSum.{ArrivalSum}
 use Rattle.arrival_measures.specs.Faults.{arrivals_from, faults_from}
@@ -17,7 +18,7 @@ use Rattle.arrival_measures.specs.Cycles.{CycleNumbers}
 use Rattle.arrival_measures.specs.Hours.{AreAllJudged, HasActuations, HasArrivals, HasJudged, HaveCycles, cycle_numbers, cycle_part, due_in, is_seen, no_sum}
 use Rattle.transcript_laws.specs.Exists.{NotNone}
 use Rattle.transcript_laws.proofs.Chance.{some, then, with}
-use Rattle.transcript_laws.proofs.Counted.{count_of, each_listed, each_long, each_there, place_of}
+use Rattle.transcript_laws.proofs.Counted.{count_of, each_listed, each_there, place_of}
 
 -- the arrivals of one, the actuations of another, and numbers of cycles
 abbrev joined : ArrivalSum → ArrivalSum → CycleNumbers → ArrivalSum

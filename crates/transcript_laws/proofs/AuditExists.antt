@@ -1,23 +1,21 @@
 -- It can't be that an hour of a store has no audit lines, nor that it has none with their windows.
-use Rattle.std.proofs.Common.{◌≡◌, ◌∙◌, refl, sym, ap, ◌⊎◌, inl, inr, ℕ, zero, suc, ◌+◌, ◌-◌, ◌*◌, ◌/◌, ◌<◌, ◌≤◌, ℤ, pos, ◌+ℤ◌, Bool, true, false, not, nat_eq, List, [], ◌∷◌, ◌++◌, length, get_or, Option, Some, None, arith}
-use Rattle.std.specs.Prelude.{if◌then◌else◌, is_some}
+use Rattle.std.proofs.Common.{◌≡◌, refl, ◌⊎◌, inl, inr, ℕ, zero, suc, ◌+◌, ◌-◌, ◌<◌, ◌≤◌, ℤ, pos, ◌+ℤ◌, Bool, true, false, nat_eq, List, [], ◌∷◌, ◌++◌, length, get_or, Option, Some, None, arith}
+use Rattle.std.specs.Prelude.{if◌then◌else◌}
 use Rattle.std.specs.Int.Signed.{le_z}
 use Rattle.std.proofs.lemmas.Int.{ints}
-use Rattle.std.proofs.lemmas.Bool.{and_parts, cases_Bool, cases_eq, cases_lt}
-use Rattle.std.proofs.lemmas.List.{get_or_past}
+use Rattle.std.proofs.lemmas.Bool.{cases_Bool, cases_eq}
 use Rattle.std.specs.Int.{bit_at}
 use Rattle.sig_base.specs.declared.values.Row.{Row}
 use Rattle.sig_base.specs.declared.values.Verdict.{Verdict}
 use Rattle.sig_base.specs.declared.values.Verdict.TheVariants.{Idle, Kept, Broken, Undecided}
-use Rattle.span_set.specs.Spans.{is_member}
+use Rattle.sig_base.proofs.Each.{each_join, each_if, Each}
 use Rattle.channel_tables.specs.declared.spec.Spec.{Spec}
 use Rattle.reach.specs.Runs.{State}
 use Rattle.reach.specs.Tests.{InBound}
 use Rattle.reach.specs.declared.seen.AgeBound.{AgeBound}
 use Rattle.reach.specs.declared.seen.AgeBound.TheVariants.{Any, AtLeast, AtMost}
-use Rattle.hour_store.specs.Store.{IsStore, Store, held_at, is_known}
+use Rattle.hour_store.specs.Store.{IsStore, Store, is_known}
 use Rattle.board.specs.declared.clause.Term.{Term}
-use Rattle.board.specs.Channels.{AreSpecs}
 use Rattle.board.specs.Logs.{first_tenth, no_row, no_spec}
 use Rattle.board.specs.Verdicts.{IsVerdict, Keeps}
 use Rattle.ring_config.specs.declared.items.IntervalItem.{IntervalItem}
@@ -25,7 +23,6 @@ use Rattle.ring_config.specs.Settings.{Settings}
 use Rattle.ring_config.specs.Sound.{IsSound}
 use Rattle.signal_log.specs.Log.{HasHistory, Log, log_of, window_end}
 use Rattle.signal_log.specs.Rows.{hour_rows}
-use Rattle.signal_log.proofs.Stored.{events_filter}
 use Rattle.rule_audit.specs.declared.rules.Rule.{Rule}
 use Rattle.rule_audit.specs.declared.rules.Rule.TheVariants.{Interval, Conflict, Companion, Parents}
 use Rattle.rule_audit.specs.declared.lines.Place.{Place}
@@ -39,15 +36,13 @@ use Rattle.rule_audit.specs.Pass.{FitsRule}
 use Rattle.rule_audit.specs.Rules.{rules_for}
 use Rattle.rule_audit.proofs.Fitting.{rules_fit}
 use Rattle.rule_audit.proofs.Tracked.{channels_are}
-use Rattle.decisive.specs.Laws.{IsAt, TellsLess}
-use Rattle.decisive.specs.Window.{HasLogVerdict, IsBrokenLine, IsCandidate, IsDecisive, IsGreatestTo, IsLeastFrom, IsPlaceIn, obligation_of, only}
-use Rattle.decisive.proofs.Lawful.{broken_stays, more_whole, to_range}
-use Rattle.decisive.proofs.Less.{history_less}
+use Rattle.decisive.specs.Window.{HasLogVerdict, IsBrokenLine, IsCandidate, IsDecisive, IsGreatestTo, IsLeastFrom, obligation_of, only}
+use Rattle.decisive.proofs.Concluded.{at_place, whole_broken, known_within}
 use Rattle.hour_work.specs.Points.{is_known_before}
 use Rattle.hour_work.specs.Verdicts.{AreAuditLines, HasStoreVerdict, obligations_in, states_in}
-use Rattle.hour_work.proofs.PlacedLaws.{Each, each_weaker}
+use Rattle.hour_work.proofs.PlacedLaws.{each_weaker}
 use Rattle.session.specs.Windows.{AreHourLines, AreWithWindows, HasWindow, is_broken, with_window}
-use Rattle.session.proofs.WindowLaws.{lines_in}
+use Rattle.session.proofs.WindowLaws.{lines_in, all_if}
 use Rattle.transcript_laws.specs.Exists.{NotNone}
 use Rattle.transcript_laws.proofs.Chance.{decided, greatest, least, some, then as after, with}
 
@@ -131,23 +126,11 @@ rule_verdict_exists states specs rows t EndOfTenth (Parents o terms) shaped = cl
 
 -- ---- obligations
 
-join : {X : Type 0} (P : X → Type 0) (xs ys : List X) → Each P xs → Each P ys → Each P (xs ++ ys)
-join P [] ys p q = q
-join P (x ∷ xs) ys p q = (p.0, join P xs ys p.1 q)
-
-one_if : {X : Type 0} (P : X → Type 0) (b : Bool) (x : X) → P x → Each P (if b then x ∷ [] else [])
-one_if P true x p = (p, tt)
-one_if P false x p = tt
-
-all_if : {X : Type 0} (P : X → Type 0) (b : Bool) (xs : List X) → Each P xs → Each P (if b then xs else [])
-all_if P true xs p = p
-all_if P false xs p = tt
-
 abbrev Shaped : Obligation → Type 0
 Shaped o = IsShaped o.place o.rule
 
 row_shaped : (specs : List Spec) (i : ℕ) (r : Row) (n : ℕ) (x : Rule) → Each Shaped (row_obligation specs i r n x)
-row_shaped specs i r n (Interval item) = one_if Shaped (is_row_of specs r item.spec) (obligation n (Interval item) r.at (BeforeRow i)) tt
+row_shaped specs i r n (Interval item) = each_if Shaped (is_row_of specs r item.spec) (obligation n (Interval item) r.at (BeforeRow i)) tt
 row_shaped specs i r n (Conflict a b terms) = tt
 row_shaped specs i r n (Companion p terms) = tt
 row_shaped specs i r n (Parents o terms) = tt
@@ -155,34 +138,34 @@ row_shaped specs i r n (Parents o terms) = tt
 all_of_row : (specs : List Spec) (i : ℕ) (r : Row) (n : ℕ) (xs : List Rule) → Each Shaped (row_obligations specs i r n xs)
 unfolding row_obligations
 all_of_row specs i r n [] = tt
-all_of_row specs i r n (x ∷ xs) = join Shaped (row_obligation specs i r n x) (row_obligations specs i r (n + 1) xs) (row_shaped specs i r n x) (all_of_row specs i r (n + 1) xs)
+all_of_row specs i r n (x ∷ xs) = each_join Shaped (row_obligation specs i r n x) (row_obligations specs i r (n + 1) xs) (row_shaped specs i r n x) (all_of_row specs i r (n + 1) xs)
 
 all_of_rows : (specs : List Spec) (rules : List Rule) (t i : ℕ) (rs : List Row) → Each Shaped (rows_obligations specs rules t i rs)
 unfolding rows_obligations
 all_of_rows specs rules t i [] = tt
 all_of_rows specs rules t i (r ∷ rs) =
-    join Shaped (if nat_eq r.at t then row_obligations specs i r 1 rules else []) (rows_obligations specs rules t (i + 1) rs)
+    each_join Shaped (if nat_eq r.at t then row_obligations specs i r 1 rules else []) (rows_obligations specs rules t (i + 1) rs)
     (all_if Shaped (nat_eq r.at t) (row_obligations specs i r 1 rules) (all_of_row specs i r 1 rules))
     (all_of_rows specs rules t (i + 1) rs)
 
 end_shaped : (specs : List Spec) (rows : List Row) (before : Bool) (t n : ℕ) (x : Rule) → Each Shaped (end_obligation specs rows before t n x)
 end_shaped specs rows before t n (Interval item) = tt
-end_shaped specs rows before t n (Conflict a b terms) = one_if Shaped _ (obligation n (Conflict a b terms) t EndOfTenth) tt
-end_shaped specs rows before t n (Companion p terms) = one_if Shaped _ (obligation n (Companion p terms) t EndOfTenth) tt
-end_shaped specs rows before t n (Parents o terms) = one_if Shaped _ (obligation n (Parents o terms) t EndOfTenth) tt
+end_shaped specs rows before t n (Conflict a b terms) = each_if Shaped _ (obligation n (Conflict a b terms) t EndOfTenth) tt
+end_shaped specs rows before t n (Companion p terms) = each_if Shaped _ (obligation n (Companion p terms) t EndOfTenth) tt
+end_shaped specs rows before t n (Parents o terms) = each_if Shaped _ (obligation n (Parents o terms) t EndOfTenth) tt
 
 all_of_end : (specs : List Spec) (rows : List Row) (before : Bool) (t n : ℕ) (xs : List Rule) → Each Shaped (end_obligations specs rows before t n xs)
 unfolding end_obligations
 all_of_end specs rows before t n [] = tt
-all_of_end specs rows before t n (x ∷ xs) = join Shaped (end_obligation specs rows before t n x) (end_obligations specs rows before t (n + 1) xs) (end_shaped specs rows before t n x) (all_of_end specs rows before t (n + 1) xs)
+all_of_end specs rows before t n (x ∷ xs) = each_join Shaped (end_obligation specs rows before t n x) (end_obligations specs rows before t (n + 1) xs) (end_shaped specs rows before t n x) (all_of_end specs rows before t (n + 1) xs)
 
 all_shaped : (known : ℕ → Bool) (specs : List Spec) (rules : List Rule) (rows : List Row) (before : Bool) (t n : ℕ) → Each Shaped (obligations_from known specs rules rows before t n)
 unfolding obligations_from
 all_shaped known specs rules rows before t zero = tt
 all_shaped known specs rules rows before t (suc n) =
-    join Shaped (if known t then tenth_obligations specs rules rows before t else []) (obligations_from known specs rules rows (known t) (t + 1) n)
+    each_join Shaped (if known t then tenth_obligations specs rules rows before t else []) (obligations_from known specs rules rows (known t) (t + 1) n)
     (all_if Shaped (known t) (tenth_obligations specs rules rows before t)
-    (join Shaped (rows_obligations specs rules t 0 rows) (end_obligations specs rows before t 1 rules) (all_of_rows specs rules t 0 rows) (all_of_end specs rows before t 1 rules)))
+    (each_join Shaped (rows_obligations specs rules t 0 rows) (end_obligations specs rows before t 1 rules) (all_of_rows specs rules t 0 rows) (all_of_end specs rows before t 1 rules)))
     (all_shaped known specs rules rows (known t) (t + 1) n)
 
 -- ---- lines
@@ -202,40 +185,6 @@ audit_exists c s hour sound is has lt =
     lines_exist (HasStoreVerdict c s hour) os (each_weaker Shaped (λ o. NotNone ((x : Verdict) × HasStoreVerdict c s hour o x)) os (λ o h. rule_verdict_exists (states_in c s rows) c.specs rows o.at o.place o.rule h) shaped)
 
 -- ---- windows
-
--- what is broken over the log is broken over all tenths of its window
-whole_broken : (log : Log) (rows : List Row) (o : Obligation) (v : ℕ) → AreSpecs log.specs → HasHistory log → IsAt log rows o → ((t : ℕ) → log.known t ≡ true → t ≤ v) → HasLogVerdict log rows o Broken → HasLogVerdict (only 0 v log) rows o Broken
-whole_broken log rows o v are has at inside broken =
-    let more = only 0 v log in
-    let all = more_whole log 0 v in
-    let less : TellsLess log more = record {
-      specs = refl;
-      hours = refl;
-      known = λ t e. rw (e, to_range 0 v t (omega arith) (inside t e)) refl;
-      rows = λ t e. events_filter _ log.rows t (to_range 0 v t (omega arith) (inside t e));
-    } in
-    broken_stays log more rows o are less at (history_less log more.known more.rows are all.known all.rows has) broken
-
--- a known tenth is in the window
-known_within : (s : Store) (t : ℕ) → is_known s t ≡ true → t < 36000 * length s.hours
-known_within s t e = elim (cases_lt (t / 36000) (length s.hours)) [
-  | inl lt ↦ omega arith
-  | inr ge ↦
-      let none : held_at s (t / 36000) ≡ None = get_or_past s.hours (t / 36000) None ge in
-      let (a, b) = and_parts (is_some (held_at s (t / 36000))) (not (is_member s.blanks (pos t))) e in
-      let bad : is_some (held_at s (t / 36000)) ≡ false = ap (λ o. is_some o) none in
-      absurd (let c : true ≡ false = sym a ∙ bad in cc)
-]
-
-at_place : (log : Log) (rows : List Row) (number x : ℕ) (place : Place) (rule : Rule) → x < window_end log → log.known x ≡ true → FitsRule log.specs rule → IsPlaceIn rows x place → IsAt log rows (obligation number rule x place)
-at_place log rows number x (BeforeRow n) (Interval item) lt is fits (a, b) = record { within = lt; is_known = is; fits = (b, fits.within) }
-at_place log rows number x (BeforeRow n) (Conflict p q terms) lt is fits h = record { within = lt; is_known = is; fits = tt }
-at_place log rows number x (BeforeRow n) (Companion p terms) lt is fits h = record { within = lt; is_known = is; fits = tt }
-at_place log rows number x (BeforeRow n) (Parents o terms) lt is fits h = record { within = lt; is_known = is; fits = tt }
-at_place log rows number x EndOfTenth (Interval item) lt is fits h = record { within = lt; is_known = is; fits = tt }
-at_place log rows number x EndOfTenth (Conflict p q terms) lt is fits h = record { within = lt; is_known = is; fits = tt }
-at_place log rows number x EndOfTenth (Companion p terms) lt is fits h = record { within = lt; is_known = is; fits = tt }
-at_place log rows number x EndOfTenth (Parents o terms) lt is fits h = record { within = lt; is_known = is; fits = tt }
 
 -- of candidates one is the least from a number on, where some such one holds
 least_exists : (C B : ℕ → Type 0) (low v : ℕ) → C v → low ≤ v → B v → NotNone ((x : ℕ) × IsLeastFrom C B low x)

@@ -1,6 +1,5 @@
 -- Counts, and lists by places and by numbers, that it can't be that there are none of.
-use Rattle.std.proofs.Common.{◌≡◌, ◌∙◌, inl, inr, ℕ, zero, suc, ◌+◌, ◌-◌, ◌<◌, ◌≤◌, Bool, true, Option, Some, None, List, [], ◌∷◌, ◌++◌, length, get_or, arith, refl}
-use Rattle.std.specs.Prelude.{is_some}
+use Rattle.std.proofs.Common.{◌≡◌, ◌∙◌, inl, inr, ℕ, zero, suc, ◌+◌, ◌-◌, ◌<◌, ◌≤◌, Bool, true, Some, List, [], ◌∷◌, ◌++◌, length, get_or, arith, refl}
 use Rattle.std.proofs.lemmas.Bool.{cases_Bool}
 use Rattle.event_codes.specs.declared.channels.Channel.{Channel}
 use Rattle.ring_config.specs.Settings.{Settings, is_tracked, spec_place}
@@ -8,6 +7,7 @@ use Rattle.ring_config.specs.Sound.{IsSound}
 use Rattle.state_tenths.specs.Ranges.{Counts}
 use Rattle.state_tenths.specs.States.{IsCount}
 use Rattle.stop_bar.specs.Lists.{Each}
+use Rattle.split_measures.proofs.Approaches.{some_there}
 use Rattle.other_measures.specs.States.{EachOf}
 use Rattle.arrival_measures.specs.Judged.{CountOf}
 use Rattle.transcript_laws.specs.Exists.{NotNone}
@@ -44,13 +44,6 @@ pub each_listed : {X Y : Type 0} (R : X → Y → Type 0) (xs : List X) → ((i 
 each_listed R [] all = some ([], tt)
 each_listed R (x ∷ xs) all = then (all 0 x (omega arith)) (λ (y, r). with (each_listed R xs (λ i d lt. all (suc i) d (omega arith))) (λ (ys, rs). (y ∷ ys, (r, rs))))
 
--- both are equally long
-pub each_long : {X Y : Type 0} (R : X → Y → Type 0) (xs : List X) (ys : List Y) → Each R xs ys → length ys ≡ length xs
-each_long R [] [] h = refl
-each_long R [] (y ∷ ys) h = absurd h
-each_long R (x ∷ xs) [] h = absurd h
-each_long R (x ∷ xs) (y ∷ ys) h = let l = each_long R xs ys h.1 in omega arith
-
 -- what stands at a place of both
 pub each_there : {X Y : Type 0} (R : X → Y → Type 0) (xs : List X) (ys : List Y) (i : ℕ) (d : X) (e : Y) → Each R xs ys → i < length xs → R (get_or xs i d) (get_or ys i e)
 each_there R [] ys i d e h lt = absurd (omega arith)
@@ -76,10 +69,6 @@ each_weaker has Is As f (suc n) xs (inr (none, is)) = inr (none, each_weaker has
 
 -- ---- places of channels
 
-place_in : (o : Option ℕ) → is_some o ≡ true → (i : ℕ) × (o ≡ Some i)
-place_in None e = absurd (cc)
-place_in (Some i) e = (i, refl)
-
 -- a tracked channel has its place
 pub place_of : (c : Settings) (channel : Channel) → IsSound c → is_tracked c channel ≡ true → (i : ℕ) × (spec_place c.specs channel ≡ Some i)
-place_of c channel sound has = place_in (spec_place c.specs channel) (sound.tracked channel ∙ has)
+place_of c channel sound has = some_there (spec_place c.specs channel) (sound.tracked channel ∙ has)

@@ -1,9 +1,9 @@
 use Rattle.std.proofs.Common.{◌≡◌, ◌<◌, ◌≤◌, ◌∙◌, List, ap, subst, length, refl, arith}
 use Rattle.std.proofs.lemmas.List.{take_all}
 use Rattle.sig_base.specs.declared.values.Row.{Row}
+use Rattle.sig_base.proofs.Common.{clash}
 use Rattle.board.specs.Logs.{no_row}
 use Rattle.arrival_measures.specs.Points.{ArePicked, IsArrival}
-use Rattle.arrival_measures.proofs.Filters.{clash}
 use Rattle.arrival_measures.proofs.Picking.{picked_none, picked_off, picked_on}
 use Rattle.arrival_measures.proofs.arrivals.arrivals_among.Goals as goal
 use Rattle.arrival_measures.proofs.arrivals.arrivals_among.Goals.{then-is_arrival+in_ok-push, else-is_arrival}

@@ -1,12 +1,12 @@
 use Rattle.std.proofs.Common.{◌≡◌, ◌∙◌, ◌+◌, arith}
-use Rattle.gap_map.proofs.Following.{follow}
+use Rattle.gap_map.proofs.Following.{follows}
 use Rattle.hour_sweep.specs.Hours.{point}
 use Rattle.hour_sweep.proofs.Orders.{below_end}
 use Rattle.arrival_measures.proofs.hour.sources_of.Goals as goal
 
 pub returns-clause-sources : goal.returns-clause-sources
 returns-clause-sources c = λ known before hour h or d.
-    let first : c.first_of-first.result ≡ point hour = c.first_of-first.ensures (point hour) (point hour + 36000) (follow known (point hour) (point hour + 36000) _ h.are_stretches) (omega arith) in
+    let first : c.first_of-first.result ≡ point hour = c.first_of-first.ensures (point hour) (point hour + 36000) (follows known (point hour) (point hour + 36000) _ h.are_stretches) (omega arith) in
     record {
       is_hour = h;
       ordered = or;

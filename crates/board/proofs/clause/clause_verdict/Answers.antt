@@ -1,9 +1,10 @@
 use Rattle.std.proofs.Common.{arith, ℕ, ◌≡◌, ◌||◌, length, take, get_or}
 use Rattle.std.proofs.lemmas.List.{take_all}
+use Rattle.sig_base.proofs.Common.{not_true}
 use Rattle.reach.specs.Runs.{State}
 use Rattle.reach.proofs.Seeing.{or_is}
 use Rattle.board.specs.Verdicts.{MayPass, SomeNot}
-use Rattle.board.proofs.Verdicts.{terms_below, are_terms, verdict_turn, histories_are, kept_by, all_fail, one_holds, none_holds, clash, not_true, not_false}
+use Rattle.board.proofs.Verdicts.{terms_below, are_terms, verdict_turn, histories_are, kept_by, all_fail, one_holds, none_holds, clash, not_false}
 use Rattle.board.proofs.clause.clause_verdict.Goals as goal
 
 pub term_seen-seen-requires : goal.term_seen-seen-requires

@@ -1,5 +1,5 @@
 use Rattle.std.proofs.lemmas.Int.{to_z-of_z}
-use Rattle.gap_ways.proofs.Finding.{ok_more}
+use Rattle.sig_base.proofs.Common.{ok_more}
 use Rattle.channel_ways.proofs.clamp.clamped_source.Goals as goal
 
 pub returns-clause-way : goal.returns-clause-way

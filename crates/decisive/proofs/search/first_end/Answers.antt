@@ -1,6 +1,7 @@
 use Rattle.std.proofs.Common.{subst, ℕ}
+use Rattle.rule_audit.proofs.Walking.{if_ok}
 use Rattle.decisive.specs.Tries.{IsEndRow, NoEndRow}
-use Rattle.decisive.proofs.Judging.{both_map, more_ok}
+use Rattle.decisive.proofs.Judging.{both_map}
 use Rattle.decisive.proofs.Nearest.{end_sought, nearest_end, none_end}
 use Rattle.decisive.proofs.search.first_end.Goals as goal
 
@@ -13,4 +14,4 @@ returns c =
     let q = c.args.question.now in
     let told = c.args.told.now in
     let start = c.args.start in
-    more_ok c.nearest_tenth.result _ _ (λ r h. both_map r _ (NoEndRow start.now q told) _ (IsEndRow start.now q told) (none_end q told f t is start) (λ y (i, near, at). subst (λ (w : ℕ). IsEndRow start.now q told w) at (nearest_end q told f t is start i near)) h) c.nearest_tenth.ensures
+    if_ok c.nearest_tenth.result _ _ (λ r h. both_map r _ (NoEndRow start.now q told) _ (IsEndRow start.now q told) (none_end q told f t is start) (λ y (i, near, at). subst (λ (w : ℕ). IsEndRow start.now q told w) at (nearest_end q told f t is start i near)) h) c.nearest_tenth.ensures

@@ -1,6 +1,7 @@
 use Rattle.std.proofs.Common.{subst, ℕ}
+use Rattle.rule_audit.proofs.Walking.{if_ok}
 use Rattle.decisive.specs.Tries.{IsBeginRow, NoBeginRow}
-use Rattle.decisive.proofs.Judging.{both_map, more_ok}
+use Rattle.decisive.proofs.Judging.{both_map}
 use Rattle.decisive.proofs.Nearest.{begin_sought, nearest_begin, none_begin}
 use Rattle.decisive.proofs.search.last_begin.Goals as goal
 
@@ -13,4 +14,4 @@ returns c =
     let q = c.args.question.now in
     let told = c.args.told.now in
     let v = c.args.last in
-    more_ok c.nearest_tenth.result _ _ (λ r h. both_map r _ (NoBeginRow q told v) _ (IsBeginRow q told v) (none_begin q told f t is v c.requires.late cut.0) (λ y (i, near, at). subst (λ (u : ℕ). IsBeginRow q told v u) at (nearest_begin q told f t is v c.requires.late cut.0 i near)) h) c.nearest_tenth.ensures
+    if_ok c.nearest_tenth.result _ _ (λ r h. both_map r _ (NoBeginRow q told v) _ (IsBeginRow q told v) (none_begin q told f t is v c.requires.late cut.0) (λ y (i, near, at). subst (λ (u : ℕ). IsBeginRow q told v u) at (nearest_begin q told f t is v c.requires.late cut.0 i near)) h) c.nearest_tenth.ensures

@@ -1,6 +1,7 @@
 use Rattle.std.proofs.Common.{arith, refl, rules, subst, ◌≡◌, ◌<◌, length, ℕ}
+use Rattle.rule_audit.proofs.Walking.{if_ok}
 use Rattle.decisive.specs.Tries.{IsNearest, NoneDo, row_count}
-use Rattle.decisive.proofs.Judging.{more_ok, none_map}
+use Rattle.decisive.proofs.Judging.{none_map}
 use Rattle.decisive.proofs.Nearest.{none_of, trail_begin}
 use Rattle.decisive.proofs.search.nearest.Goals as goal
 
@@ -43,4 +44,4 @@ returns c =
     let end = c.loop-i-test.false in
     let count = c.row_count-i-end.ensures in
     let all : c.loop-i.i ≡ row_count c.args.aim.now c.args.told.now = omega arith in
-    more_ok c.try_last.result _ _ (λ r h. none_map r _ (NoneDo c.args.aim.now c.args.question.now c.args.told.now (row_count c.args.aim.now c.args.told.now)) (IsNearest c.args.aim.now c.args.question.now c.args.told.now) (λ none. subst (λ (n : ℕ). NoneDo c.args.aim.now c.args.question.now c.args.told.now n) all (none_of c.args.aim.now c.args.question.now c.args.told.now c.loop-i.trail c.loop-i.i c.loop-i.invariant none)) h) c.try_last.ensures
+    if_ok c.try_last.result _ _ (λ r h. none_map r _ (NoneDo c.args.aim.now c.args.question.now c.args.told.now (row_count c.args.aim.now c.args.told.now)) (IsNearest c.args.aim.now c.args.question.now c.args.told.now) (λ none. subst (λ (n : ℕ). NoneDo c.args.aim.now c.args.question.now c.args.told.now n) all (none_of c.args.aim.now c.args.question.now c.args.told.now c.loop-i.trail c.loop-i.i c.loop-i.invariant none)) h) c.try_last.ensures

@@ -1,11 +1,12 @@
 use Rattle.std.proofs.Common.{arith, ◌≡◌, ◌∙◌, ◌+◌, inl}
 use Rattle.board.specs.Logs.{first_tenth}
 use Rattle.signal_log.specs.Log.{log_of}
+use Rattle.rule_audit.proofs.Walking.{if_ok}
 use Rattle.decisive.specs.Lines.{IsHourBegin, place_in}
 use Rattle.decisive.proofs.Finished.{place_is}
 use Rattle.decisive.proofs.Growing.{begins_grow}
 use Rattle.decisive.proofs.Handed.{hour_begin, told_of}
-use Rattle.decisive.proofs.Judging.{more_ok, some_of}
+use Rattle.decisive.proofs.Judging.{some_of}
 use Rattle.decisive.proofs.window.begin_in_hour.Goals as goal
 
 pub nearest_begin-requires-clause-late : goal.nearest_begin-requires-clause-late
@@ -41,4 +42,4 @@ returns c =
     let e1 = c.told-told.ensures.rows in
     let e2 = c.told-told.ensures.stretches in
     let e4 : c.told-told.result.place ≡ place_in m.rows.now q.at c.args.place = c.told-told.ensures.place ∙ c.place_in.ensures (first_tenth hour) (first_tenth (hour + 1)) tells.rows_in in
-    more_ok c.nearest_begin.result _ _ (λ r h. some_of r _ (IsHourBegin q m c.args.place) (hour_begin q m c.told-told.result c.args.place r _ e1 e2 e4 h)) c.nearest_begin.ensures
+    if_ok c.nearest_begin.result _ _ (λ r h. some_of r _ (IsHourBegin q m c.args.place) (hour_begin q m c.told-told.result c.args.place r _ e1 e2 e4 h)) c.nearest_begin.ensures

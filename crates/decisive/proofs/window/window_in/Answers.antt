@@ -21,9 +21,9 @@ use Rattle.decisive.specs.Searches.{AreFound, IsBeginAt, rank_in}
 use Rattle.signal_log.specs.Rows.{hour_rows}
 use Rattle.decisive.specs.Window.{IsPlaceIn}
 use Rattle.board.specs.Places.{upto}
+use Rattle.rule_audit.proofs.Walking.{if_ok}
 use Rattle.decisive.proofs.Concluded.{concluded, concluded_own, rule_fits}
 use Rattle.decisive.proofs.Finished.{place_is, rank_is}
-use Rattle.decisive.proofs.Judging.{more_ok}
 use Rattle.decisive.proofs.GrowLaws.{grow_same}
 use Rattle.decisive.proofs.window.window_in.Goals as goal
 
@@ -153,7 +153,7 @@ returns-clause-window g c =
     let same_rows : events_at rows x ≡ events_at (known_rows s) x = sym (hour_events s hour x (rows_at s hour) store (omega arith) refl (omega arith) (omega arith) is_line.is_known) in
     let start = Kept c.args.moves.now.before in
     let j = rank_in rows x c.args.line.now.place in
-    more_ok c.search_window.result _ _ (λ w found.
+    if_ok c.search_window.result _ _ (λ w found.
     let f1 = subst (λ (specs : List Spec). AreFound start s specs c.deref.result.now hour x j w.0 w.1) c.specs-specs.ensures.value found in
     let f2 = subst (λ (ps : List Part). AreFound start s settings.specs ps hour x j w.0 w.1) parts f1 in
     concluded settings.specs s rows n x hour w.0 w.1 c.args.line.now.place rule start (channels_are settings sound) store c.requires.history fits within is_line.is_known same_rows is_line.place is_line.broken (refl, (hour, refl, c.requires.moves.pasts)) f2) c.search_window.ensures.found

@@ -1,6 +1,7 @@
 use Rattle.std.proofs.Common.{arith, refl, inr}
+use Rattle.rule_audit.proofs.Walking.{if_ok}
 use Rattle.decisive.specs.Tries.{IsBeginOf, NoBeginOf}
-use Rattle.decisive.proofs.Judging.{more_ok, none_map}
+use Rattle.decisive.proofs.Judging.{none_map}
 use Rattle.decisive.proofs.within.begin_within.Goals as goal
 
 pub begins_by-requires-clause-early : goal.begins_by-requires-clause-early
@@ -19,4 +20,4 @@ pub returns : goal.returns
 returns c =
     let q = c.args.question.now in
     let told = c.args.told.now in
-    more_ok c.nearest_begin.result _ _ (λ r h. none_map r _ (NoBeginOf q told c.args.last c.args.first) (IsBeginOf q told c.args.last) (λ none begins. none) h) c.nearest_begin.ensures
+    if_ok c.nearest_begin.result _ _ (λ r h. none_map r _ (NoBeginOf q told c.args.last c.args.first) (IsBeginOf q told c.args.last) (λ none begins. none) h) c.nearest_begin.ensures

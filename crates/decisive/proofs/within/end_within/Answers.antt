@@ -1,6 +1,7 @@
 use Rattle.std.proofs.Common.{arith, refl, inl, inr, ◌+◌}
+use Rattle.rule_audit.proofs.Walking.{if_ok}
 use Rattle.decisive.specs.Tries.{Ends, IsEndOf, NoEndOf, NoEndRow}
-use Rattle.decisive.proofs.Judging.{both_map, more_ok}
+use Rattle.decisive.proofs.Judging.{both_map}
 use Rattle.decisive.proofs.within.end_within.Goals as goal
 
 pub ends_by-requires-clause-late : goal.ends_by-requires-clause-late
@@ -24,4 +25,4 @@ returns c =
     let told = c.args.told.now in
     let start = c.args.start.now in
     let not_here : Ends start q told q.at → ⊥ = λ e. let t = c.in_ok-ends_by-2.ensures.1 e in absurd (cc) in
-    more_ok c.first_end.result _ _ (λ r h. both_map r (NoEndRow start q told) (NoEndOf start q told c.args.last) _ (IsEndOf start q told) (λ none ends. (not_here, none)) (λ w row. inr (not_here, row)) h) c.first_end.ensures
+    if_ok c.first_end.result _ _ (λ r h. both_map r (NoEndRow start q told) (NoEndOf start q told c.args.last) _ (IsEndOf start q told) (λ none ends. (not_here, none)) (λ w row. inr (not_here, row)) h) c.first_end.ensures

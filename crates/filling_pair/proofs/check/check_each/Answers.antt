@@ -1,7 +1,9 @@
 use Rattle.std.proofs.Common.{◌||◌}
+use Rattle.sig_base.proofs.Common.{not_true}
 use Rattle.reach.proofs.Seeing.{or_is}
+use Rattle.board.proofs.Verdicts.{not_false}
 use Rattle.signal_log.specs.Log.{log_of}
-use Rattle.filling_pair.proofs.Judged.{each_stop, each_turn, kept_turn, not_false, not_true}
+use Rattle.filling_pair.proofs.Judged.{each_stop, each_turn, kept_turn}
 use Rattle.filling_pair.proofs.Growing.{grow_on}
 use Rattle.filling_pair.proofs.check.check_each.Goals as goal
 

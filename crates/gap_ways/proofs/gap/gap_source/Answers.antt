@@ -1,7 +1,7 @@
 use Rattle.std.proofs.Common.{arith}
 use Rattle.std.proofs.lemmas.Int.{ints, to_z-of_z}
+use Rattle.sig_base.proofs.Common.{ok_more}
 use Rattle.gap_ways.proofs.Sources.{early_source, cut_held, cut_in_gap}
-use Rattle.gap_ways.proofs.Finding.{ok_more}
 use Rattle.gap_ways.proofs.gap.gap_source.Goals as goal
 
 pub returns-then-target-from-clause-held : goal.returns-then-target-from-clause-held

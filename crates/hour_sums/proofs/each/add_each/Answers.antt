@@ -1,4 +1,4 @@
-use Rattle.std.proofs.Common.{◌≡◌, ◌∙◌, ℕ, ◌+◌, ◌<◌, ◌≤◌, suc, List, [], ◌∷◌, ◌++◌, ap, arith, get_or, length, set, sym, take}
+use Rattle.std.proofs.Common.{◌≡◌, ◌∙◌, ℕ, ◌+◌, ◌<◌, ◌≤◌, suc, [], ◌∷◌, ◌++◌, ap, arith, get_or, length, set, sym, take}
 use Rattle.hour_sums.specs.Numbers.{merged}
 use Rattle.hour_sums.proofs.Merging.{length-past, length-within, step_past, step_within, sum_nil}
 use Rattle.hour_sums.proofs.each.add_each.Goals as goal

@@ -1,7 +1,7 @@
 use Rattle.std.proofs.Common.{◌++◌, ◌*◌, ◌-◌, ◌∷◌, [], ℕ, List, codes}
 use Rattle.outside.proofs.PutsFacts.{front-stopped, middle-stopped, puts-then}
 use Rattle.arrival_measures.specs.declared.sums.ArrivalSum.{ArrivalSum}
-use Rattle.report_text.specs.Approaches.{arrival_shares, fraction}
+use Rattle.report_text.specs.Approaches.{fraction}
 use Rattle.report_text.proofs.approaches.put_shares.Goals as goal
 
 abbrev share : ArrivalSum → List ℕ

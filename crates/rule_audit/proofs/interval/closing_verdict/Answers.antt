@@ -1,9 +1,11 @@
 use Rattle.std.proofs.Common.{pos, get_or}
+use Rattle.sig_base.proofs.Common.{not_true}
 use Rattle.reach.specs.declared.seen.AgeBound.TheVariants.{Any}
 use Rattle.board.specs.Logs.{no_row}
 use Rattle.board.specs.Verdicts.{MayPassRow}
+use Rattle.board.proofs.Verdicts.{not_false}
 use Rattle.rule_audit.specs.Pass.{log_of}
-use Rattle.rule_audit.proofs.Judging.{idle_verdict, kept_verdict, other_colour_verdict, met_verdict, broken_verdict, not_true, not_false}
+use Rattle.rule_audit.proofs.Judging.{idle_verdict, kept_verdict, other_colour_verdict, met_verdict, broken_verdict}
 use Rattle.rule_audit.proofs.interval.closing_verdict.Goals as goal
 
 pub returns-then-not-any : goal.returns-then-not-any

@@ -1,10 +1,11 @@
 use Rattle.std.proofs.Common.{refl, get_or, ◌≡◌, true}
 use Rattle.rule_audit.specs.Obligations.{is_clause}
 use Rattle.std.proofs.lemmas.List.Elements.{All-get_or}
+use Rattle.reach.proofs.Alone.{on_ok}
 use Rattle.rule_audit.specs.Judged.{HasVerdict}
 use Rattle.rule_audit.specs.Pass.{FitsRule, log_of}
 use Rattle.rule_audit.specs.Index.{no_rule}
-use Rattle.rule_audit.proofs.Adding.{adds_none, on_ok, rule_at}
+use Rattle.rule_audit.proofs.Adding.{adds_none, rule_at}
 use Rattle.rule_audit.proofs.tenth.judge_after.Goals as goal
 
 pub returns-in-Interval : goal.returns-in-Interval

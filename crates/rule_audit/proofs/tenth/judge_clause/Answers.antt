@@ -1,8 +1,9 @@
+use Rattle.reach.proofs.Alone.{on_ok}
 use Rattle.rule_audit.specs.declared.lines.Place.TheVariants.{EndOfTenth}
 use Rattle.rule_audit.specs.Obligations.{obligation}
 use Rattle.rule_audit.specs.Judged.{HasVerdict}
 use Rattle.rule_audit.specs.Pass.{log_of}
-use Rattle.rule_audit.proofs.Adding.{adds_one, clause_has, on_ok}
+use Rattle.rule_audit.proofs.Adding.{adds_one, clause_has}
 use Rattle.rule_audit.proofs.Histories.{some_history}
 use Rattle.rule_audit.proofs.tenth.judge_clause.Goals as goal
 

@@ -1,5 +1,6 @@
 use Rattle.std.proofs.Common.{get_or}
 use Rattle.event_codes.specs.Channels.{channel_in_table}
+use Rattle.reach.proofs.Alone.{on_ok}
 use Rattle.board.proofs.Tracks.{found_channel}
 use Rattle.board.specs.Logs.{no_row, no_spec}
 use Rattle.rule_audit.specs.declared.lines.Place.TheVariants.{BeforeRow}
@@ -7,7 +8,7 @@ use Rattle.rule_audit.specs.declared.rules.Rule.TheVariants.{Interval}
 use Rattle.rule_audit.specs.Obligations.{obligation}
 use Rattle.rule_audit.specs.Judged.{HasVerdict}
 use Rattle.rule_audit.specs.Pass.{log_of}
-use Rattle.rule_audit.proofs.Adding.{adds_one, on_ok}
+use Rattle.rule_audit.proofs.Adding.{adds_one}
 use Rattle.rule_audit.proofs.tenth.judge_interval.Goals as goal
 
 pub interval_verdict-verdict-requires-clause-own : goal.interval_verdict-verdict-requires-clause-own

@@ -1,8 +1,9 @@
 use Rattle.std.proofs.Common.{true, false}
+use Rattle.reach.proofs.Alone.{on_ok}
 use Rattle.rule_audit.specs.Obligations.{end_obligations, rows_obligations}
 use Rattle.rule_audit.specs.Judged.{HasVerdict}
 use Rattle.rule_audit.specs.Pass.{log_of}
-use Rattle.rule_audit.proofs.Adding.{adds_join, on_ok}
+use Rattle.rule_audit.proofs.Adding.{adds_join}
 use Rattle.rule_audit.proofs.tenth.judge_tenth.Goals as goal
 
 pub returns-then-before : goal.returns-then-before

@@ -1,7 +1,6 @@
-use Rattle.std.proofs.Common.{◌≡◌, ◌∙◌, ℕ, Some, ap, get_or, sym, subst}
-use Rattle.std.specs.Prelude.{All, option_map, slice_get}
+use Rattle.std.proofs.Common.{◌≡◌, ◌∙◌, Some, ap, get_or, sym, subst}
+use Rattle.std.specs.Prelude.{option_map, slice_get}
 use Rattle.std.proofs.lemmas.Option.{get_or_from_slice_get}
-use Rattle.hour_work.specs.Counts.{HasKeptAlone}
 use Rattle.hour_work.specs.Numbers.{Numbers}
 use Rattle.hour_work.specs.Reports.{IsHourPart}
 use Rattle.sigaudit.proofs.CleanFacts.{clean_hour}

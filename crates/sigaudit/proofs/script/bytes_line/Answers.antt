@@ -1,10 +1,9 @@
-use Rattle.std.proofs.Common.{◌≡◌, refl, Ok, Err}
+use Rattle.std.proofs.Common.{Ok, Err}
 use Rattle.session.specs.Edits.{change_of, hour_change}
 use Rattle.sigaudit.specs.declared.hour_file.Unread.TheVariants.{Records, Packed}
 use Rattle.sigaudit.specs.HourFile.{hour_said}
-use Rattle.sigaudit.specs.Script.{wanted_for, IsRead}
+use Rattle.sigaudit.specs.Script.{wanted_for}
 use Rattle.sigaudit.proofs.CountFacts.{read_counted, said_as, unread_counted}
-use Rattle.sigaudit.proofs.TakeFacts.{by_nothing}
 use Rattle.sigaudit.proofs.EditFacts.{bytes_refused}
 use Rattle.sigaudit.proofs.script.bytes_line.Goals as goal
 

@@ -1,4 +1,3 @@
-use Rattle.std.proofs.Common.{arith}
 use Rattle.state_tenths.proofs.Asking.{counted_start, counted_more, counted_all, late_hour}
 use Rattle.state_tenths.proofs.count.tenths_of.Goals as goal
 

@@ -1,4 +1,4 @@
-use Rattle.std.proofs.Common.{ap, sym, ◌∙◌, subst, ℕ, ◌≡◌, true, List, refl, arith, take_all, get_or, length}
+use Rattle.std.proofs.Common.{ap, sym, ◌∙◌, subst, ◌≡◌, true, List, arith, take_all, get_or, length}
 use Rattle.std.specs.Prelude.{All, slice_get}
 use Rattle.sig_base.specs.Numbers.{has_phase}
 use Rattle.stop_bar.specs.Crossing.{Crossing}

@@ -1,4 +1,4 @@
-use Rattle.std.proofs.Common.{ℕ, ◌++◌, List, take}
+use Rattle.std.proofs.Common.{◌++◌, List, take}
 use Rattle.sig_base.specs.declared.values.Row.{Row}
 use Rattle.signal_log.specs.Log.{Log}
 use Rattle.hour_sweep.specs.Rows.{known_rows}

@@ -1,10 +1,11 @@
-use Rattle.std.proofs.Common.{◌≡◌, ℕ, Some, List}
+use Rattle.std.proofs.Common.{◌≡◌, Some, List}
 use Rattle.std.specs.Prelude.{option_copied}
+use Rattle.sig_base.proofs.Common.{ok_more}
 use Rattle.detector_state.specs.declared.part.Part.{Part}
 use Rattle.stop_bar.specs.declared.hour.OverBar.{OverBar}
 use Rattle.stop_bar.specs.Crossing.{Crossing}
 use Rattle.stop_bar.specs.Bars.{IsBarHour}
-use Rattle.stop_bar.proofs.Places.{held, ok_more}
+use Rattle.stop_bar.proofs.Places.{held}
 use Rattle.stop_bar.proofs.all.one_hour.Goals as goal
 
 pub returns-in-Some-switched : goal.returns-in-Some-switched

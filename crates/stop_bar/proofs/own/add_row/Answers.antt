@@ -1,7 +1,7 @@
 use Rattle.std.proofs.Common.{◌∙◌, ap, sym, eqb, ℕ, [], ◌∷◌, ◌++◌, List, set, arith}
 use Rattle.std.proofs.lemmas.List.{get_or_default}
 use Rattle.sig_base.specs.declared.values.Row.{Row}
-use Rattle.stop_bar.proofs.Owning.{none_added, one_added}
+use Rattle.stop_bar.proofs.Owning.{one_added}
 use Rattle.stop_bar.proofs.own.add_row.Goals as goal
 
 pub returns-in_ok-push-in-Some-clause-rows : goal.returns-in_ok-push-in-Some-clause-rows

@@ -1,4 +1,4 @@
-use Rattle.std.proofs.Common.{refl, arith, length-append}
+use Rattle.std.proofs.Common.{arith, length-append}
 use Rattle.stop_bar.proofs.Owning.{none_more}
 use Rattle.stop_bar.proofs.own.no_rows.Goals as goal
 

@@ -1,4 +1,5 @@
-use Rattle.gap_ways.proofs.Finding.{match_more, ok_more}
+use Rattle.sig_base.proofs.Common.{ok_more}
+use Rattle.gap_ways.proofs.Finding.{match_more}
 use Rattle.strand_search.proofs.Placed.{fits_cut}
 use Rattle.strand_search.proofs.Coming.{crossed, none_comes}
 use Rattle.strand_search.proofs.crossing.cross.Goals as goal

@@ -1,4 +1,4 @@
-use Rattle.std.proofs.Common.{arith, pos, negsuc}
+use Rattle.std.proofs.Common.{arith, negsuc}
 use Rattle.std.proofs.lemmas.Int.{ints}
 use Rattle.reach.specs.Runs.{state}
 use Rattle.worked_channels.proofs.moves.walks_over_three_gaps.Goals as goal

@@ -1,9 +1,8 @@
-use Rattle.std.proofs.Common.{ap, sym, ◌∙◌, subst, ℕ, ◌≡◌, [], ◌∷◌, ◌++◌, List, arith, take, take_all, get_or, length}
+use Rattle.std.proofs.Common.{ap, ℕ, ◌≡◌, [], List, arith, take, take_all, get_or, length}
 use Rattle.std.proofs.lemmas.List.{take_more}
 use Rattle.stop_bar.specs.Crossing.{Crossing}
 use Rattle.stop_bar.specs.declared.bars.StopBar.{StopBar}
 use Rattle.stop_bar.specs.Bars.{IsAtBar}
-use Rattle.stop_bar.specs.Lists.{Each}
 use Rattle.stop_bar.specs.All.{IsPlaceOf, bars_of}
 use Rattle.stop_bar.proofs.Places.{each_more}
 use Rattle.stop_bar.proofs.all.AtBars.start.Goals as goal

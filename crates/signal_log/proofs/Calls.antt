@@ -42,7 +42,7 @@ pub one_as : (hour : ℕ) (rows : Option (List Row)) (held : Bool) (blanks : Lis
 one_as hour rows held blanks ss e one = subst (λ (b : Bool). (zs : List Stretch) → IsCut (known_in b blanks) (36000 * hour) (36000 * hour + 36000) zs → zs ≡ ss) e one
 
 pub hour_told : (hour : ℕ) (rows : Option (List Row)) (blanks : List Span) (ss : List Stretch) → AreRowsOf hour (rows_or_none rows) → IsCutOf hour rows blanks ss → IsHour hour (rows_or_none rows) ss
-hour_told hour rows blanks ss are cut = record { are_rows = are; follows = follows (known_in (is_some rows) blanks) (36000 * hour) (36000 * hour + 36000) ss cut.stretches }
+hour_told hour rows blanks ss are cut = record { are_rows = are; follow = follows (known_in (is_some rows) blanks) (36000 * hour) (36000 * hour + 36000) ss cut.stretches }
 
 -- what the answer is, where there is one
 pub ok_both : {X E : Type 0} (r : Result X E) (P Q S : X → Type 0) → ((x : X) → P x → Q x → S x) → IfOk r P → IfOk r Q → IfOk r S

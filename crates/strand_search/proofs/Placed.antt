@@ -59,7 +59,7 @@ passage_of d asked before cut after fits =
 
 -- an hour's part is its rows and stretches
 pub hour_is : (s : Store) (hour : ℕ) (rows : List Row) (ss : List Stretch) → IsHourPart s hour rows ss → IsHour hour rows ss
-hour_is s hour rows ss part = record { are_rows = part.fit; follows = follows (is_known s) (36000 * hour) (36000 * hour + 36000) ss part.cut.stretches }
+hour_is s hour rows ss part = record { are_rows = part.fit; follow = follows (is_known s) (36000 * hour) (36000 * hour + 36000) ss part.cut.stretches }
 
 -- no state at a point was entered longer ago than 36,001 tenths before it
 pub none_older : (d : Spec) (s : Store) (hour : ℕ) (pasts : List (List (List Span))) → ArePastsAt (log_alone d s) hour pasts → NoneOlder (get_or pasts 0 [])
@@ -108,7 +108,7 @@ module _ (d : Spec) (s : Store) (asked : Asked) (rows : List Row) (ss : List Str
 
   left_is : IsPart f (x + 1) (take n rows) (upto x ss)
   left_is = record {
-    follows = follows (is_known s) f (x + 1) (upto x ss) (upto_stretches (is_known s) f t x ss part.cut.stretches low high);
+    follow = follows (is_known s) f (x + 1) (upto x ss) (upto_stretches (is_known s) f t x ss part.cut.stretches low high);
     rows_in = place_here.before;
     alternate = upto_alternate x ss part.cut.alternate;
     few = (let e = length-take n rows in let q = few in omega arith);
@@ -116,7 +116,7 @@ module _ (d : Spec) (s : Store) (asked : Asked) (rows : List Row) (ss : List Str
 
   right_is : IsPart x t (drop n rows) (since x ss)
   right_is = record {
-    follows = follows (is_known s) x t (since x ss) (since_stretches (is_known s) f t x ss part.cut.stretches low high);
+    follow = follows (is_known s) x t (since x ss) (since_stretches (is_known s) f t x ss part.cut.stretches low high);
     rows_in = place_here.after;
     alternate = since_alternate x ss part.cut.alternate;
     few = (let e = length-drop n rows in let q = few in omega arith);
@@ -157,15 +157,15 @@ module _ (d : Spec) (s : Store) (asked : Asked) (rows : List Row) (ss : List Str
     right_tells = subst (λ (rs : List Row). SameIn (known_at cut.right.stretches.items) (events_at rs) (is_known s) (on_from (events_at (known_rows s)) x (events_to s asked)) x t) (sym c.right_rows) (subst (λ (zs : List Stretch). SameIn (known_at zs) (events_at (drop n rows)) (is_known s) (on_from (events_at (known_rows s)) x (events_to s asked)) x t) (sym c.right_stretches) right_same)
 
     pub left_within : IsWithin (known_at cut.left.stretches.items) f (x + 1)
-    left_within y there = known_within f (x + 1) y cut.left.stretches.items left_part.follows there
+    left_within y there = known_within f (x + 1) y cut.left.stretches.items left_part.follow there
 
     pub right_within : IsWithin (known_at cut.right.stretches.items) x t
-    right_within y there = known_within x t y cut.right.stretches.items right_part.follows there
+    right_within y there = known_within x t y cut.right.stretches.items right_part.follow there
 
     pub fits_cut : (pasts : List (List (List Span))) (aheads : List (List (Option ℤ))) → ArePastsAt (log_alone d s) (asked.at / 36000) pasts → AreAheadsAt (log_alone d s) (asked.at / 36000 + 1) aheads → FitsCut d asked (get_or pasts 0 []) cut (get_or aheads 0 [])
     fits_cut pasts aheads at af =
         let hours = part.fit.in_range in
-        let (order, end) = moves_after (track d) (is_known s) x t (drop n rows) (since x ss) (spec_lettered d) ask.is_known high (since_stretches (is_known s) f t x ss part.cut.stretches low high) right_is.follows right_is.rows_in in
+        let (order, end) = moves_after (track d) (is_known s) x t (drop n rows) (since x ss) (spec_lettered d) ask.is_known high (since_stretches (is_known s) f t x ss part.cut.stretches low high) right_is.follow right_is.rows_in in
         record {
           from = f;
           to = t;

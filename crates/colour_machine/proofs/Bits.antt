@@ -1,5 +1,5 @@
 -- Masks as numbers.
-use Rattle.std.proofs.Common.{min, ◌≡◌, ◌≢◌, refl, ◌∙◌, ◌⊎◌, inl, inr, ◌↔◌, ℕ, ◌*◌, ◌%◌, ◌^◌, ◌<◌, ◌≤◌, IsTrue, not, nat_eq, arith, w16, w32}
+use Rattle.std.proofs.Common.{min, ◌≡◌, ◌≢◌, refl, ◌∙◌, ◌⊎◌, inl, inr, ◌↔◌, ℕ, ◌*◌, ◌%◌, ◌^◌, ◌<◌, ◌≤◌, IsTrue, not, nat_eq, arith, w16}
 use Rattle.std.proofs.lemmas.Bool.{cases_eq, cases_lt}
 use Rattle.std.specs.Int.{bit_at}
 use Rattle.std.proofs.Math.Pow.{pow_pos}
@@ -16,13 +16,6 @@ pub has_set : (n k c : ℕ) → k < 16 → Has (bit_or n (1 * 2 ^ k % 65536)) c 
 has_set n k c h = elim (cases_eq c k) [
   | inl e ↦ rw e (λ _. inr refl, λ _. bit_at_set_same w16 n k h)
   | inr ne ↦ let o : bit_at (bit_or n (1 * 2 ^ k % 65536)) c ≡ bit_at n c = bit_at_set_other w16 n k h c ne in rw o (λ x. inl x, λ x. elim x [ inl y ↦ y | inr y ↦ absurd (ne y) ])
-]
-
--- the same for 32 bits
-pub has_set_wide : (n k c : ℕ) → k < 32 → (bit_at (bit_or n (1 * 2 ^ k % 4294967296)) c ≡ 1) ↔ ((bit_at n c ≡ 1) ⊎ (c ≡ k))
-has_set_wide n k c h = elim (cases_eq c k) [
-  | inl e ↦ rw e (λ _. inr refl, λ _. bit_at_set_same w32 n k h)
-  | inr ne ↦ let o : bit_at (bit_or n (1 * 2 ^ k % 4294967296)) c ≡ bit_at n c = bit_at_set_other w32 n k h c ne in rw o (λ x. inl x, λ x. elim x [ inl y ↦ y | inr y ↦ absurd (ne y) ])
 ]
 
 pow_fits : (k : ℕ) → k < 16 → 1 * 2 ^ k % 65536 ≡ 2 ^ k

@@ -42,25 +42,3 @@ IsReached m mask d = (c : ℕ) × Has mask c × ((ls : List ℕ) × Leads m c ls
 -- each colour of the mask is one of the machine's
 abbrev pub AreColours : Rules → ℕ → Type 0
 AreColours m mask = (c : ℕ) → Has mask c → c < m.colours
-
--- changes lead from colour c over these colours, each in the mask, to colour d
-abbrev pub Path : Rules → ℕ → ℕ → List ℕ → ℕ → Type 0
-Path m via c [] d = Change m c d
-Path m via c (x ∷ xs) d = Change m c x × Has via x × Path m via x xs d
-
--- changes lead from a colour of the mask to colour d, and each colour on the way is in via
-abbrev pub IsThrough : Rules → ℕ → ℕ → ℕ → Type 0
-IsThrough m from via d = (c : ℕ) × Has from c × ((xs : List ℕ) × Path m via c xs d)
-
--- changes lead from colour c to a colour of the mask, and each colour on the way is in via
-abbrev pub LeadsThrough : Rules → ℕ → ℕ → ℕ → Type 0
-LeadsThrough m to via c = (d : ℕ) × Has to d × ((xs : List ℕ) × Path m via c xs d)
-
--- the letter is legal in the colour
-abbrev pub IsLegal : Rules → ℕ → ℕ → Type 0
-IsLegal m c l = (d : ℕ) × Goes m c l d
-
--- the number is the greatest floor of the machine's colours
-pub record IsGreatestFloor (m : Rules) (n : ℕ) : Type 0 where
-  pub bounds : (c : ℕ) → c < m.colours → m.floor c ≤ n
-  pub is_one : (c : ℕ) × (c < m.colours) × (m.floor c ≡ n)

@@ -2,7 +2,7 @@
 ghost use Rattle.std.specs.Prelude.{◌≡◌, ◌≢◌, ℕ, ◌<◌, ◌⊎◌, ◌↔◌};
 ghost use Rattle.colour_machine.specs.Changes.{ReachedOne};
 ghost use Rattle.colour_machine.specs.Mask.{Has};
-ghost use Rattle.colour_machine.specs.Rules.{Goes, Change, IsReached, IsThrough, AreColours};
+ghost use Rattle.colour_machine.specs.Rules.{Goes, Change, IsReached, AreColours};
 
 use crate::{Machine, Mask};
 
@@ -12,18 +12,9 @@ pub fn after_any<M: Machine>(machine: &M, from: Mask) -> Mask
     ensures reached { (d : ℕ) → Has result d ↔ IsReached (M.rules machine.now) from d }
     ensures colours { AreColours (M.rules machine.now) result }
 {
-    after_through(machine, from, Mask::all())
-}
-
-/// The colours that one or more changes reach from a colour of the mask, floors aside, where each
-/// colour on the way is in `via`.
-pub fn after_through<M: Machine>(machine: &M, from: Mask, via: Mask) -> Mask
-    ensures reached { (d : ℕ) → Has result d ↔ IsThrough (M.rules machine.now) from via d }
-    ensures colours { AreColours (M.rules machine.now) result }
-{
     let mut reached = Mask::none();
     'rounds: loop {
-        let next = after_one(machine, from, via, reached);
+        let next = after_one(machine, from, reached);
         if next == reached {
             return reached;
         }
@@ -31,37 +22,32 @@ pub fn after_through<M: Machine>(machine: &M, from: Mask, via: Mask) -> Mask
     }
 }
 
-// The colours of `reached`, and those that one change reaches from a colour of `from`, or of both
-// `via` and `reached`.
-fn after_one<M: Machine>(machine: &M, from: Mask, via: Mask, reached: Mask) -> Mask
-    ensures { (d : ℕ) → Has result d ↔ (Has reached d ⊎ ReachedOne (M.rules machine.now) from via
+// The colours of `reached`, and those that one change reaches from a colour of `from` or `reached`.
+fn after_one<M: Machine>(machine: &M, from: Mask, reached: Mask) -> Mask
+    ensures { (d : ℕ) → Has result d ↔ (Has reached d ⊎ ReachedOne (M.rules machine.now) from
         reached d) }
 {
     let mut next = reached;
     for colour in 0..machine.colours() {
-        next = with_changes_if(machine, colour, from, via, reached, next);
+        next = with_changes_if(machine, colour, from, reached, next);
     }
     next
 }
 
-// The mask with the colours that one change reaches from the colour, where `from`, or both `via`
-// and `reached`, has it.
+// The mask with the colours that one change reaches from the colour, where `from` or `reached` has
+// it.
 fn with_changes_if<M: Machine>(
     machine: &M,
     colour: u8,
     from: Mask,
-    via: Mask,
     reached: Mask,
     mask: Mask,
 ) -> Mask
     requires { colour < (M.rules machine.now).colours }
     ensures { (d : ℕ) → Has result d ↔ (Has mask d ⊎ ((Has from colour
-        ⊎ (Has via colour × Has reached colour)) × Change (M.rules machine.now) colour d)) }
+        ⊎ Has reached colour) × Change (M.rules machine.now) colour d)) }
 {
-    if from.has(colour) {
-        return with_changes(machine, colour, mask);
-    }
-    if via.has(colour) && reached.has(colour) {
+    if from.has(colour) || reached.has(colour) {
         return with_changes(machine, colour, mask);
     }
     mask

@@ -3,18 +3,14 @@
 //! preempt and the coordination are each such a machine, so what is proved here for every machine
 //! holds for each of them.
 //!
-//! A colour's floor, the least age at which it may be left, is in tenths of a second. The searches
-//! over changes of colour leave floors aside.
+//! A colour's floor, the least age at which it may be left, is in tenths of a second. The search
+//! over changes of colour leaves floors aside.
 #![tactic(auto)]
 
 mod after;
-mod before;
-mod limits;
 mod machine;
 mod mask;
 
-pub use after::{after_any, after_through, with_change};
-pub use before::before_through;
-pub use limits::{greatest_floor, legal_letters, machine_colours};
+pub use after::{after_any, with_change};
 pub use machine::Machine;
 pub use mask::Mask;

@@ -3,8 +3,8 @@ mod many_hours;
 mod pairs;
 
 use crate::held::Mark;
-use configured::{one_interval, one_phase, three_hours, two_hours};
-use ring_config::Config;
+use configured::{ONE_INTERVAL, ONE_PHASE, THREE_HOURS, TWO_HOURS};
+use ring_config::read_config;
 use rule_audit::{AuditLine, Place};
 use session::{Edit, Session};
 use sig_base::{Applied, EditError, Hour, HourRows, NoMemory, Reads, Row, Tenth, Verdict};
@@ -41,9 +41,9 @@ fn edit_of(alloc: Global, step: Step) -> Result<Edit<Mark>, Fail> {
     }
 }
 
-// A session that holds nothing.
-fn started(alloc: Global, config: Config) -> Result<Session<Mark>, Fail> {
-    let session = Session::new(alloc, config)?;
+// A session of this configuration that holds nothing.
+fn started(alloc: Global, config: &str) -> Result<Session<Mark>, Fail> {
+    let session = Session::new(alloc, read_config(alloc, config.as_bytes())?)?;
     Ok(session)
 }
 
@@ -111,11 +111,15 @@ fn right_steps(alloc: Global, session: &mut Session<Mark>) -> Result<usize, Fail
     Ok(right)
 }
 
+// The same in a session that holds nothing.
+fn right_steps_of_two_hours(alloc: Global) -> Result<usize, Fail> {
+    let mut session = started(alloc, TWO_HOURS)?;
+    right_steps(alloc, &mut session)
+}
+
 #[test]
 fn edits_one_after_another(rt: HostRuntime) -> Result<(), Fail> {
-    let alloc = rt.alloc();
-    let mut session = started(alloc, two_hours(alloc)?)?;
-    assert_eq!(rt; right_steps(alloc, &mut session)?, STEPS.len());
+    assert_eq!(rt; right_steps_of_two_hours(rt.alloc())?, STEPS.len());
     Ok(())
 }
 
@@ -152,11 +156,15 @@ fn right_moves(alloc: Global, session: &mut Session<Mark>) -> Result<usize, Fail
     Ok(right)
 }
 
+// The same in a session that holds nothing.
+fn right_moves_of_three_hours(alloc: Global) -> Result<usize, Fail> {
+    let mut session = started(alloc, THREE_HOURS)?;
+    right_moves(alloc, &mut session)
+}
+
 #[test]
 fn moves_no_other_hours(rt: HostRuntime) -> Result<(), Fail> {
-    let alloc = rt.alloc();
-    let mut session = started(alloc, three_hours(alloc)?)?;
-    assert_eq!(rt; right_moves(alloc, &mut session)?, MOVES.len());
+    assert_eq!(rt; right_moves_of_three_hours(rt.alloc())?, MOVES.len());
     Ok(())
 }
 
@@ -188,13 +196,17 @@ fn contradicted(
     Ok((answer, numbers(session)))
 }
 
+// The same in a session that holds nothing.
+fn contradicted_at_once(alloc: Global) -> Result<(Result<Applied, EditError>, [u64; 3]), Fail> {
+    let mut session = started(alloc, ONE_PHASE)?;
+    contradicted(alloc, &mut session)
+}
+
 // The load names the second row, and nothing is held after it.
 #[test]
 fn refuses_what_contradicts(rt: HostRuntime) -> Result<(), Fail> {
-    let alloc = rt.alloc();
-    let mut session = started(alloc, one_phase(alloc)?)?;
     let refused = Err(EditError::Contradiction(YELLOW));
-    assert_eq!(rt; contradicted(alloc, &mut session)?, (refused, [0, 0, 0]));
+    assert_eq!(rt; contradicted_at_once(rt.alloc())?, (refused, [0, 0, 0]));
     Ok(())
 }
 
@@ -248,26 +260,19 @@ fn load_and_audit(
 }
 
 fn audit_of_too_short(alloc: Global, windows: bool) -> Result<Vec<AuditLine>, Fail> {
-    let mut session = started(alloc, one_interval(alloc)?)?;
+    let mut session = started(alloc, ONE_INTERVAL)?;
     load_and_audit(alloc, &mut session, windows)
 }
 
 // The broken line has its window where that is wanted.
 #[test]
 fn finds_what_decides(rt: HostRuntime) -> Result<(), Fail> {
-    let lines = audit_of_too_short(rt.alloc(), true)?;
-    let window = Some((1000, 1149));
-    assert_eq!(rt;
-        lines.as_slice(),
-        [AuditLine { window, ..BROKEN }].as_slice()
-    );
-    Ok(())
-}
-
-// It has none where that isn't.
-#[test]
-fn finds_a_line_alone(rt: HostRuntime) -> Result<(), Fail> {
-    let lines = audit_of_too_short(rt.alloc(), false)?;
-    assert_eq!(rt; lines.as_slice(), [BROKEN].as_slice());
+    for (windows, window) in [(true, Some((1000, 1149))), (false, None)] {
+        let lines = audit_of_too_short(rt.alloc(), windows)?;
+        assert_eq!(rt;
+            lines.as_slice(),
+            [AuditLine { window, ..BROKEN }].as_slice()
+        );
+    }
     Ok(())
 }

@@ -131,6 +131,17 @@ fn summed(alloc: Global, config: &Config, rows: &[Row]) -> Result<ArrivalSums, F
 }
 
 // The numbers of the one approach.
+fn approach_sum(alloc: Global, config: &Config, rows: &[Row]) -> Result<ArrivalSum, Fail>
+    requires specs { length config.now.specs ≡ 2 }
+    requires rows { AreRowsOf 0 rows.now }
+{
+    let mut total = ArrivalSums::new(alloc);
+    total.add(&summed(alloc, config, rows)?)?;
+    let sum = total.approaches().first().ok_or("approach")?;
+    Ok(*sum)
+}
+
+// The same by the text of a configuration.
 fn numbers(alloc: Global, text: &[u8], rows: &[Row]) -> Result<ArrivalSum, Fail>
     requires { AreRowsOf 0 rows.now }
 {
@@ -138,10 +149,7 @@ fn numbers(alloc: Global, text: &[u8], rows: &[Row]) -> Result<ArrivalSum, Fail>
     if config.specs().len() != 2 {
         return Err(Fail::from("channels"));
     }
-    let mut total = ArrivalSums::new(alloc);
-    total.add(&summed(alloc, &config, rows)?)?;
-    let sum = total.approaches().first().ok_or("approach")?;
-    Ok(*sum)
+    approach_sum(alloc, &config, rows)
 }
 
 // Judged rows are counted whether or not they are in a cycle; the cycle counts its own.

@@ -9,7 +9,7 @@ use event_codes::Kind;
 use gap_map::Stretch;
 use other_measures::{OtherCarry, OtherSums, PedSum, others_carried, others_hour};
 use ring_config::{Config, read_config};
-use sig_base::Row;
+use sig_base::{NoMemory, Row};
 use std::alloc::Global;
 use std::test::Fail;
 
@@ -54,7 +54,26 @@ fn summed(alloc: Global, config: &Config, stretches: &[Stretch]) -> Result<Other
     Ok(sums)
 }
 
-// The numbers of the one pedestrian signal, with an hour that isn't held added to them.
+// The same with an hour that isn't held added to them.
+fn totalled(alloc: Global, config: &Config, stretches: &[Stretch]) -> Result<OtherSums, Fail>
+    requires specs { length config.now.specs ≡ 5 }
+    requires stretches { FollowOn 0 36000 stretches.now }
+{
+    let mut total = summed(alloc, config, stretches)?;
+    total.add(&OtherSums::none(alloc, config)?)?;
+    Ok(total)
+}
+
+// Of them those of the one pedestrian signal.
+fn ped_sum(alloc: Global, config: &Config, stretches: &[Stretch]) -> Result<PedSum, Fail>
+    requires specs { length config.now.specs ≡ 5 }
+    requires stretches { FollowOn 0 36000 stretches.now }
+{
+    let total = totalled(alloc, config, stretches)?;
+    let ped = total.peds().first().ok_or("signal")?;
+    Ok(*ped)
+}
+
 fn numbers(alloc: Global, stretches: &[Stretch]) -> Result<PedSum, Fail>
     requires { FollowOn 0 36000 stretches.now }
 {
@@ -62,11 +81,7 @@ fn numbers(alloc: Global, stretches: &[Stretch]) -> Result<PedSum, Fail>
     if config.specs().len() != 5 {
         return Err(Fail::from("channels"));
     }
-    let mut total = OtherSums::new(alloc);
-    total.add(&summed(alloc, &config, stretches)?)?;
-    total.add(&OtherSums::none(alloc, &config)?)?;
-    let ped = total.peds().first().ok_or("signal")?;
-    Ok(*ped)
+    ped_sum(alloc, &config, stretches)
 }
 
 // A delay runs from the first call since the last walk; the first walk has none before it.
@@ -108,13 +123,23 @@ fn no_delay_over_a_gap(rt: HostRuntime) -> Result<(), Fail> {
     Ok(())
 }
 
+// Whether what crosses the end of the hour of two walks is what crosses the window's start.
+fn is_as_at_the_start(alloc: Global, config: &Config) -> Result<bool, NoMemory> {
+    let start = OtherCarry::start(alloc, config)?;
+    let mut carry = start.copy()?;
+    others_carried(alloc, config, &mut carry, &two_walks(), &WHOLE)?;
+    Ok(carry.same(&start))
+}
+
+fn is_walk_forgotten(alloc: Global) -> Result<bool, Fail> {
+    let config: Config = read_config(alloc, TEXT)?;
+    let is_same = is_as_at_the_start(alloc, &config)?;
+    Ok(is_same)
+}
+
 // The last walk is kept past the hour.
 #[test]
 fn a_walk_under_way(rt: HostRuntime) -> Result<(), Fail> {
-    let config: Config = read_config(rt.alloc(), TEXT)?;
-    let start = OtherCarry::start(rt.alloc(), &config)?;
-    let mut carry = start.copy()?;
-    others_carried(rt.alloc(), &config, &mut carry, &two_walks(), &WHOLE)?;
-    assert!(rt; !carry.same(&start));
+    assert!(rt; !is_walk_forgotten(rt.alloc())?);
     Ok(())
 }

@@ -65,10 +65,14 @@ fn listed(alloc: Global, config: &Config) -> Result<String, Fail> {
     Ok(text)
 }
 
+fn rules_of_the_corner(alloc: Global) -> Result<String, Fail> {
+    let config = configured(alloc, CORNER)?;
+    listed(alloc, &config)
+}
+
 #[test]
 fn rules_of_a_corner(rt: HostRuntime) -> Result<(), Fail> {
-    let config = configured(rt.alloc(), CORNER)?;
-    let text = listed(rt.alloc(), &config)?;
+    let text = rules_of_the_corner(rt.alloc())?;
     assert_eq!(rt; text.as_str(), RULES);
     Ok(())
 }
@@ -104,10 +108,18 @@ fn audited(alloc: Global, config: &Config, yellow: u32) -> Result<Vec<AuditLine>
     Ok(lines)
 }
 
+// The audit by the configuration of one phase.
+fn audited_phase(alloc: Global, yellow: u32) -> Result<Vec<AuditLine>, Fail>
+    requires low { 1000 ≤ yellow }
+    requires high { yellow < 36000 }
+{
+    let config = configured(alloc, PHASE)?;
+    audited(alloc, &config, yellow)
+}
+
 // 14.9 seconds are too short, 15 are long enough.
 #[test]
 fn a_green_of_at_least_15_seconds(rt: HostRuntime) -> Result<(), Fail> {
-    let config = configured(rt.alloc(), PHASE)?;
     for (yellow, verdict) in [(1149, Verdict::Broken), (1150, Verdict::Kept)] {
         let line = AuditLine {
             rule: 1,
@@ -116,7 +128,7 @@ fn a_green_of_at_least_15_seconds(rt: HostRuntime) -> Result<(), Fail> {
             verdict,
             window: None,
         };
-        let lines = audited(rt.alloc(), &config, yellow)?;
+        let lines = audited_phase(rt.alloc(), yellow)?;
         assert_eq!(rt; lines.as_slice(), [line].as_slice());
     }
     Ok(())

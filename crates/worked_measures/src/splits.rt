@@ -52,10 +52,15 @@ const ONE: PhaseSum = PhaseSum {
     ..NONE
 };
 
+fn summed_hour(alloc: Global) -> Result<SplitSums, Fail> {
+    let config = read_config(alloc, TEXT)?;
+    let sums = summed(alloc, &config)?;
+    Ok(sums)
+}
+
 #[test]
 fn phases_by_number(rt: HostRuntime) -> Result<(), Fail> {
-    let config = read_config(rt.alloc(), TEXT)?;
-    let sums = summed(rt.alloc(), &config)?;
+    let sums = summed_hour(rt.alloc())?;
     assert_eq!(rt; sums.phases(), [ONE, NONE].as_slice());
     Ok(())
 }

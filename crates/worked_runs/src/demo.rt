@@ -33,15 +33,20 @@ fn without_approach(alloc: Global, text: &str) -> Result<Vec<u8>, Fail> {
     Ok(kept)
 }
 
-// Each fetch from the given shelf would fail.
-#[test]
-fn a_demonstration_of_one_hour(rt: HostRuntime) -> Result<(), Fail> {
-    let alloc = rt.alloc();
+// How a demonstration of one hour ends, and what it writes. Each fetch from the given shelf would
+// fail.
+fn demo_ran(alloc: Global) -> Result<(Status, Vec<u8>), Fail> {
     let mut words = Words::new(alloc);
     words.push("--demo=1")?;
     let mut shelf = MemShelf::new(alloc);
     shelf.fail_call(1)?;
-    let (end, said) = ran_over(alloc, &words, &mut shelf, 4000)?;
+    ran_over(alloc, &words, &mut shelf, 4000)
+}
+
+#[test]
+fn a_demonstration_of_one_hour(rt: HostRuntime) -> Result<(), Fail> {
+    let alloc = rt.alloc();
+    let (end, said) = demo_ran(alloc)?;
     assert_eq!(rt; end, Status::Done);
     let text = str::from_utf8(&said).map_err(|_| "no text")?;
     assert_eq!(rt; without_approach(alloc, text)?.as_slice(), TEXT.as_bytes());

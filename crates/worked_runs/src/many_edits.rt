@@ -29,21 +29,40 @@ fn file_of(alloc: Global, hour: u32) -> Result<String, Fail> {
     Ok(text)
 }
 
-fn shelf_of(alloc: Global) -> Result<MemShelf, Fail> {
-    let mut shelf = MemShelf::new(alloc);
-    shelf.add("c", CONFIG.as_bytes())?;
-    let mut script = String::new(alloc);
-    script.push_str("audit\n")?;
+// The files of the hours, each by its number.
+fn add_hours(alloc: Global, shelf: &mut MemShelf) -> Result<(), Fail> {
     for hour in 0..HOURS {
         let name = format!(in alloc; "{hour}")?;
         shelf.add(&name, file_of(alloc, hour)?.as_bytes())?;
+    }
+    Ok(())
+}
+
+fn script_of(alloc: Global) -> Result<String, Fail> {
+    let mut script = String::new(alloc);
+    script.push_str("audit\n")?;
+    for hour in 0..HOURS {
         script.push_str(&format!(in alloc; "load {hour} {hour}\n")?)?;
     }
     for _turn in 0..TURNS {
         script.push_str(&format!(in alloc; "blank {TENTH}\nunblank {TENTH}\n")?)?;
     }
-    shelf.add("s", script.as_bytes())?;
+    Ok(script)
+}
+
+fn shelf_of(alloc: Global) -> Result<MemShelf, Fail> {
+    let mut shelf = MemShelf::new(alloc);
+    shelf.add("c", CONFIG.as_bytes())?;
+    shelf.add("s", script_of(alloc)?.as_bytes())?;
+    add_hours(alloc, &mut shelf)?;
     Ok(shelf)
+}
+
+// How the run of that script ends, and what it writes.
+fn edits_ran(alloc: Global) -> Result<(Status, Vec<u8>), Fail> {
+    let words = run_words(alloc)?;
+    let mut shelf = shelf_of(alloc)?;
+    ran_over(alloc, &words, &mut shelf, 1_000_000)
 }
 
 // Whether the answers of these edits name hour 350 alone, and how many lines there are.
@@ -66,9 +85,7 @@ fn read_answers(alloc: Global, text: &str) -> Result<(bool, u32), Fail> {
 #[test]
 fn many_edits_of_one_hour(rt: HostRuntime) -> Result<(), Fail> {
     let alloc = rt.alloc();
-    let words = run_words(alloc)?;
-    let mut shelf = shelf_of(alloc)?;
-    let (end, said) = ran_over(alloc, &words, &mut shelf, 1_000_000)?;
+    let (end, said) = edits_ran(alloc)?;
     assert_eq!(rt; end, Status::Done);
     assert!(rt; said.starts_with(b"1 audit\n"));
     let text = str::from_utf8(&said).map_err(|_| "no text")?;

@@ -1,4 +1,4 @@
-use super::configured::many_hours;
+use super::configured::MANY_HOURS;
 use super::{apply, started};
 use crate::held::Mark;
 use session::{Edit, Session};
@@ -83,13 +83,17 @@ fn replaced(
     Ok((answer, is_opened_alone(&before, &after)))
 }
 
+// The same in a session that holds nothing.
+fn replaced_in_many(alloc: Global) -> Result<(Result<Applied, EditError>, bool), Fail> {
+    let mut session = started(alloc, MANY_HOURS)?;
+    replaced(alloc, &mut session)
+}
+
 // Of 700 held hours one is put anew with the rows that it has: it moves alone and is opened one to
 // three times, and no other hour is opened.
 #[test]
 fn one_hour_of_many(rt: HostRuntime) -> Result<(), Fail> {
-    let alloc = rt.alloc();
-    let mut session = started(alloc, many_hours(alloc)?)?;
     let alone = Ok(Applied { from: 350, to: 351 });
-    assert_eq!(rt; replaced(alloc, &mut session)?, (alone, true));
+    assert_eq!(rt; replaced_in_many(rt.alloc())?, (alone, true));
     Ok(())
 }

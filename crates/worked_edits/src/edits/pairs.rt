@@ -1,4 +1,4 @@
-use super::configured::one_interval;
+use super::configured::ONE_INTERVAL;
 use super::{apply, started};
 use crate::held::{Mark, green, is_line, store_with_a_hole};
 use filling_pair::{Pair, Pairs, Strands, check_strands};
@@ -75,38 +75,28 @@ fn are_told_apart(
     Ok(true)
 }
 
-// How many pairs there are at the green's end, and whether the first one is told apart.
-fn pairs_of_a_hole(alloc: Global, session: &mut Session<Mark>) -> Result<(usize, bool), Fail> {
+// How many pairs there are one tenth before the green's end and at it, and whether the first one is
+// told apart.
+fn pairs_of_a_hole(alloc: Global, session: &mut Session<Mark>) -> Result<([usize; 2], bool), Fail> {
     let mut reads = Reads::new(Mark);
     hold_a_hole(alloc, session, &mut reads)?;
+    let before = pairs_at(session, 1199, &mut reads)?.list().len();
     let pairs = pairs_at(session, 1200, &mut reads)?;
     let store = store_with_a_hole(alloc)?;
     let first = pairs.list().first().ok_or("no pair")?;
     let is_apart = are_told_apart(session, &store, first, &mut reads)?;
-    Ok((pairs.list().len(), is_apart))
+    Ok(([before, pairs.list().len()], is_apart))
 }
 
+// The same in a session that holds nothing.
+fn pairs_of_a_session(alloc: Global) -> Result<([usize; 2], bool), Fail> {
+    let mut session = started(alloc, ONE_INTERVAL)?;
+    pairs_of_a_hole(alloc, &mut session)
+}
+
+// The line says undecided at the green's end, and at no other tenth.
 #[test]
 fn a_pair_of_an_undecided_line(rt: HostRuntime) -> Result<(), Fail> {
-    let alloc = rt.alloc();
-    let mut session = started(alloc, one_interval(alloc)?)?;
-    assert_eq!(rt; pairs_of_a_hole(alloc, &mut session)?, (1, true));
-    Ok(())
-}
-
-// How many pairs there are one tenth earlier.
-fn pairs_before(alloc: Global, session: &mut Session<Mark>) -> Result<usize, Fail> {
-    let mut reads = Reads::new(Mark);
-    hold_a_hole(alloc, session, &mut reads)?;
-    let pairs = pairs_at(session, 1199, &mut reads)?;
-    Ok(pairs.list().len())
-}
-
-// The line says undecided at no other tenth.
-#[test]
-fn no_pair_where_nothing_is_undecided(rt: HostRuntime) -> Result<(), Fail> {
-    let alloc = rt.alloc();
-    let mut session = started(alloc, one_interval(alloc)?)?;
-    assert_eq!(rt; pairs_before(alloc, &mut session)?, 0);
+    assert_eq!(rt; pairs_of_a_session(rt.alloc())?, ([0, 1], true));
     Ok(())
 }

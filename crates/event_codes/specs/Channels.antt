@@ -1,5 +1,5 @@
 -- Which device a row speaks of.
-use Rattle.std.specs.Prelude.{ℕ, nat_eq, nat_lt, List, [], ◌∷◌, Option, Some, None, if◌then◌else◌}
+use Rattle.std.specs.Prelude.{ℕ, ◌==◌, ◌&&◌, nat_eq, nat_lt, Bool, true, false, List, [], ◌∷◌, Option, Some, None, if◌then◌else◌}
 use Rattle.std.specs.List.{list_any}
 use Rattle.event_codes.specs.declared.channels.Channel.{Channel}
 use Rattle.event_codes.specs.declared.channels.Kind.{Kind}
@@ -66,3 +66,21 @@ group_with None code param = Alone code param
 -- the group of a row with this code and parameter
 abbrev pub group_in_table : ℕ → ℕ → Group
 group_in_table code param = group_with (channel_in_table code param) code param
+
+-- both kinds are one
+abbrev pub same_kind : Kind → Kind → Bool
+same_kind Phase Phase = true
+same_kind Ped Ped = true
+same_kind Overlap Overlap = true
+same_kind Detector Detector = true
+same_kind PedDetector PedDetector = true
+same_kind PreemptInput PreemptInput = true
+same_kind PreemptService PreemptService = true
+same_kind Coordination Coordination = true
+same_kind _ _ = false
+
+-- both groups are one: that of one channel, or of one code and parameter that have no channel
+unfoldable pub same_group : Group → Group → Bool
+same_group (Of c) (Of d) = same_kind c.kind d.kind && (c.number == d.number)
+same_group (Alone code param) (Alone other_code other_param) = (code == other_code) && (param == other_param)
+same_group _ _ = false

@@ -1,6 +1,6 @@
 // Which device a row speaks of.
 ghost use Rattle.std.specs.Prelude.{◌≡◌, ◌<◌};
-ghost use Rattle.event_codes.specs.Channels.{channel_in_table, group_in_table, number_of, numbered_channel};
+ghost use Rattle.event_codes.specs.Channels.{channel_in_table, group_in_table, number_of, numbered_channel, same_group};
 
 /// A kind of device, or of input, whose state a log follows.
 #[derive(Clone, Copy, Debug, PartialEq, Eq, Hash)]
@@ -29,6 +29,16 @@ pub struct Channel {
 pub enum Group {
     Of(Channel),
     Alone { code: u8, param: u16 },
+}
+
+impl Group {
+    /// Whether both are one group.
+    #[tactic(auto, unfolding(crate::specs::Channels::same_group))]
+    pub fn same(self, other: Group) -> bool
+        ensures { result ≡ same_group self other }
+    {
+        self == other
+    }
 }
 
 // The channel of this kind that the parameter numbers, from 1 to `most`.

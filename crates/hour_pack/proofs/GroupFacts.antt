@@ -8,8 +8,9 @@ use Rattle.event_codes.specs.declared.channels.Channel.{Channel}
 use Rattle.event_codes.specs.declared.channels.Kind.{Kind}
 use Rattle.event_codes.specs.declared.channels.Kind.TheVariants.{Coordination}
 use Rattle.event_codes.specs.Channels.{Line, channel_lines, channel_by, channel_in_table, number_of, numbered_channel, group_with}
-use Rattle.row_reader.specs.Repeats.{same_group, group_of_row}
-use Rattle.row_reader.proofs.GroupFacts.{same_group-is}
+use Rattle.event_codes.specs.Channels.{same_group}
+use Rattle.row_reader.specs.Repeats.{group_of_row}
+use Rattle.event_codes.proofs.Groups.{same_group-is}
 
 chosen : (b : Bool) (x y z : Option Channel) → (if b then x else y) ≡ z → ((b ≡ true) × (x ≡ z)) ⊎ ((b ≡ false) × (y ≡ z))
 chosen true x y z e = inl (refl, e)

@@ -6,7 +6,8 @@ use Rattle.std.proofs.lemmas.Bool.Decides.{nat_tests}
 use Rattle.std.proofs.lemmas.List.{take_all, take_more}
 use Rattle.sig_base.specs.declared.values.Row.{Row}
 use Rattle.sig_base.specs.HourRows.{RiseIn}
-use Rattle.row_reader.specs.Repeats.{same_group, group_of_row, last_where, is_event_of, is_repeat, same_event, HasNoRepeat}
+use Rattle.event_codes.specs.Channels.{same_group}
+use Rattle.row_reader.specs.Repeats.{group_of_row, last_where, is_event_of, is_repeat, same_event, HasNoRepeat}
 use Rattle.row_reader.proofs.RepeatFacts.{no_repeat-more, last_where-more}
 use Rattle.hour_pack.specs.Repeats.{HasRepeat}
 use Rattle.hour_pack.proofs.OrderFacts.{split_last, split_at, rise-front}

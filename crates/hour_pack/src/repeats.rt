@@ -2,7 +2,8 @@
 ghost use Rattle.std.specs.Prelude.{◌≡◌, ◌↔◌, ◌+◌, ◌≤◌, false, [], ◌∷◌, ◌++◌, IsTrue, length, take};
 ghost use Rattle.sig_base.specs.HourRows.{AreRowsOf, RiseIn};
 ghost use Rattle.sig_base.specs.Reads.{raised};
-ghost use Rattle.row_reader.specs.Repeats.{group_of_row, same_group, is_repeat, HasNoRepeat};
+ghost use Rattle.event_codes.specs.Channels.{same_group};
+ghost use Rattle.row_reader.specs.Repeats.{group_of_row, is_repeat, HasNoRepeat};
 ghost use Rattle.hour_pack.specs.Repeats.{HasRepeat};
 
 use event_codes::{Group, group_of};
@@ -20,14 +21,14 @@ fn group_of_row(row: Row) -> Group
 
 // Whether both rows are of one group. Rows of different parameters are so only where both are of
 // the coordination.
-#[tactic(auto, unfolding(row_reader::specs::Repeats::same_group))]
+#[tactic(auto, unfolding(event_codes::specs::Channels::same_group))]
 fn same_group(a: Row, b: Row) -> bool
     ensures { result ≡ same_group (group_of_row a) (group_of_row b) }
 {
     if a.param != b.param && (a.code != COORDINATION || b.code != COORDINATION) {
         return false;
     }
-    group_of_row(a) == group_of_row(b)
+    group_of_row(a).same(group_of_row(b))
 }
 
 /// Whether this row is a repeat behind those before it, none of which is later. It looks at the

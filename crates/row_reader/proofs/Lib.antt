@@ -9,4 +9,4 @@ pub mod ReadFacts
 pub mod CutFacts
 pub mod FormFacts
 pub mod MinuteFacts
-pub mod GroupFacts
+pub mod PairFacts

@@ -2,23 +2,17 @@
 use Rattle.std.proofs.Common.{◌≡◌, ◌≤◌, ◌<◌, ◌+◌, ℕ, Bool, true, false, List, [], ◌∷◌, ◌++◌, length, refl, sym, ap, ◌∙◌, arith, drop, get_or, append_assoc, append-nil, if◌then◌else◌, inl, inr}
 use Rattle.std.specs.Prelude.{◌==◌, ◌&&◌, Option, Some, None}
 use Rattle.std.specs.Option.{option_or}
-use Rattle.std.specs.Cmp.{IsEquivalence}
 use Rattle.std.proofs.lemmas.Bool.Decides.{nat_tests}
 use Rattle.std.proofs.lemmas.List.{length-append}
 use Rattle.std.proofs.Math.ListN.{drop_of_length-le}
 use Rattle.event_codes.specs.declared.channels.Group.{Group}
-use Rattle.event_codes.specs.contracts.channels.GroupEq.TheImpl.Laws.{laws-law}
+use Rattle.event_codes.specs.Channels.{same_group}
+use Rattle.event_codes.proofs.Groups.{same_group-symm}
 use Rattle.sig_base.specs.declared.values.Row.{Row}
 use Rattle.sig_base.specs.HourRows.{RiseIn}
 use Rattle.sig_base.proofs.Common.{next_row, or_none}
-use Rattle.row_reader.specs.Repeats.{same_group, group_of_row, last_where, is_event_of, is_repeat, kept_after, without_repeats, repeats_of, HasNoRepeat, IsPartOf}
+use Rattle.row_reader.specs.Repeats.{group_of_row, last_where, is_event_of, is_repeat, kept_after, without_repeats, repeats_of, HasNoRepeat, IsPartOf}
 use Rattle.row_reader.specs.Last.{is_row, last_of, GivesLast, IsWithLast}
-
--- ---- groups
-
-pub same_group-laws : IsEquivalence same_group
-unfolding same_group
-same_group-laws = laws-law
 
 pub or-assoc : (a b c : Option Row) → option_or (option_or a b) c ≡ option_or a (option_or b c)
 or-assoc None b c = refl
@@ -40,7 +34,7 @@ pick false false row o e = refl
 -- the look-ups after a row was noted
 noted : (row : Row) (old new : Group → Option Row) (kept : List Row) → GivesLast old kept → IsWithLast row old new → GivesLast new (kept ++ row ∷ [])
 noted row old new kept h w g =
-    w g ∙ pick (same_group (group_of_row row) g) (same_group g (group_of_row row)) row (old g) (same_group-laws.symm (group_of_row row) g)
+    w g ∙ pick (same_group (group_of_row row) g) (same_group g (group_of_row row)) row (old g) (same_group-symm (group_of_row row) g)
     ∙ ap (λ (o : Option Row). option_or (if same_group g (group_of_row row) then Some row else None) o) (h g)
     ∙ sym (last_where-more (λ r. same_group g (group_of_row r)) kept row)
 

@@ -3,12 +3,7 @@ use Rattle.std.specs.Prelude.{◌≡◌, ◌==◌, ◌&&◌, ◌⊎◌, ◌-◌,
 use Rattle.std.specs.Option.{option_or}
 use Rattle.sig_base.specs.declared.values.Row.{Row}
 use Rattle.event_codes.specs.declared.channels.Group.{Group}
-use Rattle.event_codes.specs.contracts.channels.GroupPartialEq.TheImpl as group_impl
-use Rattle.event_codes.specs.Channels.{group_in_table}
-
--- both groups are one
-unfoldable pub same_group : Group → Group → Bool
-same_group = (group_impl.ghosts).eq
+use Rattle.event_codes.specs.Channels.{group_in_table, same_group}
 
 -- the group of a row
 unfoldable pub group_of_row : Row → Group

@@ -1,6 +1,7 @@
 use Rattle.std.proofs.Common.{rules, ◌≡◌, ◌∙◌, ◌-◌, sym, arith, true, false, length, get_or}
 use Rattle.sig_base.specs.declared.values.Row.{Row}
-use Rattle.row_reader.specs.Repeats.{same_group, group_of_row}
+use Rattle.event_codes.specs.Channels.{same_group}
+use Rattle.row_reader.specs.Repeats.{group_of_row}
 use Rattle.hour_pack.proofs.RepeatFacts.{repeat-here, repeat-before, repeat-none, event-param, event-code}
 use Rattle.hour_pack.proofs.OrderFacts.{no_row, rise-cut}
 use Rattle.hour_pack.proofs.repeats.is_repeat.Goals as goal

@@ -9,7 +9,7 @@
 //! has the numbers of all hours. `phase_cycles` and `phase_points` list an hour's whole cycles of a
 //! phase and its arrivals.
 //!
-//! Each of these calls has another, `forward_over` and so on, over an hour that is opened already;
+//! Most of these calls have another, `partial_over` and so on, over an hour that is opened already;
 //! `work_over` gives what is kept at the point after such an hour and its numbers in one go.
 //!
 //! A tenth is known where its hour is held and the tenth isn't blanked. Held rows count at blanked

@@ -2,7 +2,8 @@
 //! unblank tenths, and the report of what is held, which is exact at every moment.
 //!
 //! An edit is made whole, or it is refused and the session is as before. One that is made answers
-//! the hours that it moves: only their numbers and audits can be others than before.
+//! the hours that it moves: only their numbers and verdicts can be others than before. The stretch
+//! that decides a broken line of another hour can be another too, where it reaches into these.
 #![tactic(auto)]
 
 mod audit;

@@ -348,7 +348,7 @@ impl<L> Session<L> {
     /// the variants of `EditError` is answered; those before `TooManyBlanks` take no memory and
     /// never give way to want of memory. `Contradiction` names the row at which the log would
     /// contradict itself; a withdrawal and a blanking never do. `Applied` has the hours whose
-    /// numbers and audits the edit can change. They begin at the last hour point before the hours
+    /// numbers and verdicts the edit can change. They begin at the last hour point before the hours
     /// that it touches from which the log can be completed from the same states as before, or at the
     /// window's start. They end at the first point after those hours up to which the log says the
     /// same as before, or at the window's end. A range touches each hour of which it has a tenth,

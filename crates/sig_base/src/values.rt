@@ -42,7 +42,7 @@ pub struct PhaseItem {
     pub side: u8,
 }
 
-/// The hours whose answers an accepted edit may change, `to` left out.
+/// The hours whose numbers and verdicts an accepted edit may change, `to` left out.
 #[derive(Clone, Copy, Debug, PartialEq, Eq)]
 pub struct Applied {
     pub from: u32,

@@ -6,8 +6,8 @@
 //! are the sums of its hours' numbers, a least the least of the leasts and a greatest the greatest.
 //!
 //! A service is a split failure where its stop bar's detector was on long enough in its green, and
-//! in the 50 tenths from the end of its yellow on: the light was green, and vehicles waited before
-//! it and after it. Where tenths are unknown, that may be so in some histories only.
+//! in the 50 tenths from the end of its yellow on: demand lasted through the green and was still
+//! there after it. Where tenths are unknown, that may be so in some histories only.
 //! `docs/DEFINITIONS.md` has the definitions.
 #![tactic(auto)]
 

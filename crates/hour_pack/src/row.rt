@@ -5,7 +5,7 @@ ghost use Rattle.hour_pack.specs.Reading.{Gives, code_at, fresh, param_at, row_a
 
 use crate::PackError;
 use crate::number::number_at;
-use crate::repeats::is_repeat;
+use row_reader::KeptRows;
 use sig_base::{Hour, Row};
 
 // The tenth of the row of this place, before `to`, and the bytes behind it.
@@ -46,13 +46,13 @@ fn param_at(row: u32, bytes: &[u8]) -> Result<(u16, &[u8]), PackError>
     }
 }
 
-fn fresh<'a>(kept: &[Row], row: Row, bytes: &'a [u8]) -> Result<(Row, &'a [u8]), PackError>
+fn fresh<'a>(kept: &KeptRows, row: Row, bytes: &'a [u8]) -> Result<(Row, &'a [u8]), PackError>
     requires rise { RiseIn 0 (row.at + 1) kept.now }
     requires few { length kept.now < 400000 }
     ensures value { Gives (λ x. (x.0, x.1.now)) result (fresh kept.now row bytes.now) }
     ensures same { IfOk result (λ x. x.0 ≡ row) }
 {
-    if is_repeat(kept, row) {
+    if kept.is_repeat(row) {
         return Err(PackError::Row(kept.len() as u32 + 1));
     }
     Ok((row, bytes))
@@ -64,7 +64,7 @@ fn fresh<'a>(kept: &[Row], row: Row, bytes: &'a [u8]) -> Result<(Row, &'a [u8]),
 pub(crate) fn row_at<'a>(
     hour: Hour,
     last: u32,
-    kept: &[Row],
+    kept: &KeptRows,
     bytes: &'a [u8],
 ) -> Result<(Row, &'a [u8]), PackError>
     requires hour { hour < 744 }

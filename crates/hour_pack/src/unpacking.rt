@@ -10,6 +10,7 @@ ghost use Rattle.hour_pack.specs.Reading.{Gives, GivesInMemory, count_at, hour_r
 use crate::PackError;
 use crate::head::after_head;
 use crate::row::row_at;
+use row_reader::KeptRows;
 use sig_base::{Hour, HourRows, Row, Window};
 use std::alloc::Global;
 
@@ -42,16 +43,17 @@ fn rows_at(
     ensures { GivesInMemory (λ x. (x.0.items, x.1.now)) result
         (rows_at count (36000 * hour + 36000) (36000 * hour) [] bytes.now) }
 {
-    let mut rows = Vec::with_capacity(alloc, bytes.len().min(3 * count as usize) / 3)?;
+    let room = bytes.len().min(3 * count as usize) / 3;
+    let mut kept = KeptRows::with_room(alloc, room)?;
     let mut last = 36_000 * hour;
     let mut rest = bytes;
     for _ in 0..count {
-        let (row, after) = row_at(hour, last, &rows, rest)?;
-        rows.push(row)?;
+        let (row, after) = row_at(hour, last, &kept, rest)?;
+        kept = kept.push(row)?;
         last = row.at;
         rest = after;
     }
-    Ok((rows, rest))
+    Ok((kept.into_rows(), rest))
 }
 
 #[tactic(auto, unfolding(crate::specs::Reading::hour_rows))]

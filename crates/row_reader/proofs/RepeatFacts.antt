@@ -32,7 +32,7 @@ pick false true row o e = cc
 pick false false row o e = refl
 
 -- the look-ups after a row was noted
-noted : (row : Row) (old new : Group → Option Row) (kept : List Row) → GivesLast old kept → IsWithLast row old new → GivesLast new (kept ++ row ∷ [])
+pub noted : (row : Row) (old new : Group → Option Row) (kept : List Row) → GivesLast old kept → IsWithLast row old new → GivesLast new (kept ++ row ∷ [])
 noted row old new kept h w g =
     w g ∙ pick (same_group (group_of_row row) g) (same_group g (group_of_row row)) row (old g) (same_group-symm (group_of_row row) g)
     ∙ ap (λ (o : Option Row). option_or (if same_group g (group_of_row row) then Some row else None) o) (h g)
@@ -113,6 +113,19 @@ repeat-is from to kept row rest look_up rise h =
     ap (is_event_of row) (last-at (λ r. same_group (group_of_row row) (group_of_row r)) from to kept row rest rise)
     ∙ event-at row (last_of (group_of_row row) kept)
     ∙ ap (is_row row) (sym (h (group_of_row row)))
+
+-- the list with this row at its end, at the last tenth
+rise-end : (from to : ℕ) (xs : List Row) (row : Row) → from ≤ row.at → row.at + 1 ≡ to → RiseIn from to xs → RiseIn from to (xs ++ row ∷ [])
+rise-end from to [] row le e h = (le, omega (arith, e), tt)
+rise-end from to (x ∷ xs) row le e h = (h.0, h.1, rise-end x.at to xs row (omega (arith, e, h.1)) e h.2)
+
+-- what was looked up tells whether a further row is a repeat
+pub told-repeat : (kept : List Row) (row : Row) (look_up : Group → Option Row) (g : Group) (o : Option Row) (b : Bool)
+    → RiseIn 0 (row.at + 1) kept → GivesLast look_up kept → g ≡ group_of_row row → o ≡ look_up g → b ≡ is_row row o → b ≡ is_repeat kept row
+told-repeat kept row look_up g o b rise h e f w =
+    w
+    ∙ sym (repeat-is 0 (row.at + 1) kept row [] look_up (rise-end 0 (row.at + 1) kept row (omega arith) refl rise) h
+    ∙ ap (λ (k : Group). is_row row (look_up k)) (sym e) ∙ ap (is_row row) (sym f))
 
 -- ---- the loop
 

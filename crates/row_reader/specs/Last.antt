@@ -1,5 +1,5 @@
 -- The last row of each group, as it is looked up while repeats are dropped.
-use Rattle.std.specs.Prelude.{◌≡◌, ◌==◌, ◌&&◌, Bool, false, List, Option, Some, None, slice_index_or, if◌then◌else◌, ℕ}
+use Rattle.std.specs.Prelude.{◌≡◌, ◌==◌, ◌&&◌, Bool, false, List, Option, Some, None, slice_index_or, if◌then◌else◌, length, ℕ}
 use Rattle.std.specs.Ordering.{nat_cmp, ordering_then}
 use Rattle.std.specs.declared.cmp.Ordering.{Ordering}
 use Rattle.sig_base.specs.declared.values.Row.{Row}
@@ -34,3 +34,7 @@ pair_cmp x y = ordering_then (nat_cmp x.0 y.0) (nat_cmp x.1 y.1)
 abbrev pub looked_up : List (Option Row) → (ℕ × ℕ → Option Row) → Group → Option Row
 looked_up cells alone (Of c) = slice_index_or cells (cell_of c) None
 looked_up cells alone (Alone code param) = alone (code, param)
+
+-- what is looked up in these cells, and by code and parameter, is the last of these rows of each group
+abbrev pub Remembers : List (Option Row) → (ℕ × ℕ → Option Row) → List Row → Type 0
+Remembers cells alone rows = (length cells ≡ 2048) × GivesLast (looked_up cells alone) rows

@@ -6,6 +6,7 @@
 #![tactic(auto)]
 
 mod count;
+mod kept;
 mod lasts;
 mod minute;
 mod number;
@@ -19,6 +20,7 @@ mod stamp;
 mod trim;
 
 pub use count::count_code;
+pub use kept::KeptRows;
 pub use number::read_number;
 pub use order::put_in_order;
 pub use reader::read_rows;

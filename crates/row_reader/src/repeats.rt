@@ -10,14 +10,14 @@ use sig_base::{Hour, NoMemory, Row};
 use std::alloc::Global;
 
 #[tactic(auto, unfolding(crate::specs::Repeats::group_of_row))]
-fn group_of_row(row: Row) -> Group
+pub(crate) fn group_of_row(row: Row) -> Group
     ensures { result ≡ group_of_row row }
 {
     group_of(row.code, row.param)
 }
 
 // Whether there is such a row, and it is this one.
-fn is_row(row: Row, last: Option<Row>) -> bool
+pub(crate) fn is_row(row: Row, last: Option<Row>) -> bool
     ensures { result ≡ is_row row last }
 {
     match last {

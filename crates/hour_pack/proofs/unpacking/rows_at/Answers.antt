@@ -10,20 +10,20 @@ returns-in_err-row c =
     let p = err_from_is_err_and c.from_residual-in_err-row.result c.from_residual-in_err-row.ensures.1 in
     rw (p.1, p.2)
     (is_fault _ c.in_err-row.field-0.0
-    (ends _ c.loop.last c.loop.rows.items c.args.count c.loop.counter c.loop.rest.now c.in_err-row.field-0.0 _ (omega arith)
-    (rw c.deref.ensures.value at c.in_err-row.ensures.value) c.loop.invariant.same))
+    (ends _ c.loop.last c.loop.kept c.args.count c.loop.counter c.loop.rest.now c.in_err-row.field-0.0 _ (omega arith)
+    c.in_err-row.ensures.value c.loop.invariant.same))
 
 pub loop-preserved : goal.loop-preserved
 loop-preserved c =
     let row = c.in_ok-row.row in
-    let kept = c.loop.rows.items in
-    rw c.in_ok-push.ensures.items record {
+    let kept = c.loop.kept in
+    rw c.in_ok-kept-2.ensures record {
       same = goes_on _ c.loop.last kept c.args.count c.loop.counter c.loop.rest.now row c.in_ok-row.after.now _ (omega arith)
-          (rw c.deref.ensures.value at c.in_ok-row.ensures.value) c.loop.invariant.same;
+          c.in_ok-row.ensures.value c.loop.invariant.same;
       last = c.in_ok-row.ensures.range.1;
       rise = rise-more 0 c.loop.last _ kept row c.loop.invariant.rise (omega arith) c.in_ok-row.ensures.range.0 (omega arith);
       count = omega (arith, c.loop.invariant.count, length-append kept (row ∷ []));
     }
 
 pub returns : goal.returns
-returns c = is_done _ c.loop.last c.loop.rows.items c.args.count c.loop.counter c.loop.rest.now _ (omega arith) c.loop.invariant.same
+returns c = rw c.into_rows.ensures (is_done _ c.loop.last c.loop.kept c.args.count c.loop.counter c.loop.rest.now _ (omega arith) c.loop.invariant.same)

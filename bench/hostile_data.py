@@ -239,29 +239,6 @@ def packed_hour(name, hour_word, rows, base):
     return b"".join(parts)
 
 
-def folded(a, b):
-    product = a * b
-    return (product ^ product >> 64) & 2 ** 64 - 1
-
-
-def colliding(count):
-    """Codes and parameters of no channel whose places in the hash map of a log's reader lie close to one another.
-
-    The map's hasher has a fixed seed, and multiplies, so they can be picked. More than so many places are tried.
-    """
-    factor, found = 0x9e3779b97f4a7c15, []
-    start = folded(0x243f6a8885a308d3 ^ 1, factor ^ 16)
-    for code in range(160, 256):
-        state = folded(start ^ code * 0x10101, factor ^ 2)
-        for param in range(65536):
-            number = folded(state ^ (param & 255 | (param >> 8) * 0x10100), factor ^ 4)
-            if (number ^ number >> 32) & 16383 < 800:
-                found.append((code, param))
-        if len(found) >= count:
-            return found[:count]
-    raise ValueError(count)
-
-
 def garbled(rng, data, most=8):
     """The bytes with some changed, put in, taken out, doubled, or cut off."""
     data = bytearray(data)

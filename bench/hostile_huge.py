@@ -69,25 +69,34 @@ def held_rows(bench, sizes=(10, 25, 50)):
     loosely(bench, "huge, held rows", sizes, found)
 
 
-def one_tenth(bench, sizes=(25000, 50000, 100000)):
-    """Packed hours with all rows in one tenth. Their time grows with the square, which is printed and not checked."""
-    bench.folder({"c": BASE, "s": b"load 0 p\n"})
-    for size in sizes:
-        bench.put("p", data.packed_hour("7", STAMP, [(0, 200 + i // 50000, i % 50000) for i in range(size)], 0))
-        name = "a packed hour of %d rows in one tenth" % size
-        measured(bench, name)
-        bench.expect("huge, " + name, 0, b"1 ok rows %d repeats 0 moved 0 2\n" % size)
+def one_tenth(bench, size=400000):
+    """As many rows as an hour may have, all in one tenth, as a log and packed, beside as many spread over the hour.
 
-
-def one_map(bench, sizes=(25000, 50000, 100000)):
-    """Logs whose rows are picked to collide in the reader's hash map, likewise; and of as many plain rows."""
+    Codes 200 to 207 are of no channel. Rows in one tenth may take at most twice the time of the others.
+    """
     bench.folder({"c": BASE, "s": b"load 0 f\n"})
-    plain = [(200 + i // 50000, i % 50000) for i in range(sizes[-1])]
-    for name, rows in (("picked to collide", data.colliding(sizes[-1])), ("as they come", plain)):
-        for size in sizes:
-            bench.put("f", b"".join(b"7,2024-03-04 06:00:00.0,%d,%d\n" % row for row in rows[:size]))
-            measured(bench, "%d rows, %s" % (size, name))
-            bench.expect("huge, %d rows, %s" % (size, name), 0, b"1 ok rows %d repeats 0 moved 0 2\n" % size)
+    rows = [(200 + i // 50000, i % 50000) for i in range(size)]
+    spread = [(i * data.HOUR // size, code, param) for i, (code, param) in enumerate(rows)]
+    one = [(0, code, param) for code, param in rows]
+    for name, write in (("a log", log_of), ("a packed hour", packed_of)):
+        found = []
+        for how, some in (("over the hour", spread), ("in one tenth", one)):
+            bench.put("f", write(some))
+            found.append(measured(bench, "%s of %d rows %s" % (name, size, how)))
+            bench.expect("huge, %s of %d rows %s" % (name, size, how), 0, b"1 ok rows %d repeats 0 moved 0 2\n" % size)
+        slow = found[1][0] > 2 * found[0][0] + 0.05
+        bench.check("huge, %s in one tenth takes at most twice the time" % name, not slow)
+
+
+def log_of(rows):
+    """A log of rows (tenth, code, parameter) of hour 06."""
+    lines = [b"7,2024-03-04 06:%02d:%02d.%d,%d,%d\n" % (at // 600, at // 10 % 60, at % 10, code, param)
+             for at, code, param in rows]
+    return b"".join(lines)
+
+
+def packed_of(rows):
+    return data.packed_hour("7", STAMP, rows, 0)
 
 
 def month(bench, hour_sizes=(186, 372, 744), blank_sizes=(2500, 5000, 10000)):
@@ -118,5 +127,4 @@ def month(bench, hour_sizes=(186, 372, 744), blank_sizes=(2500, 5000, 10000)):
 def huge(bench):
     held_rows(bench)
     one_tenth(bench)
-    one_map(bench)
     month(bench)

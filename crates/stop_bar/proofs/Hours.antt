@@ -1,6 +1,6 @@
 -- One stop bar over one hour.
-use Rattle.std.proofs.Common.{◌≡◌, refl, ap, sym, ◌∙◌, subst, ℕ, ◌+◌, ◌≤◌, true, Option, Some, None, List, [], ◌∷◌, ◌++◌, arith}
-use Rattle.std.specs.Prelude.{unwrap_or}
+use Rattle.std.proofs.Common.{◌≡◌, refl, ap, sym, ◌∙◌, subst, ℕ, ◌+◌, ◌≤◌, true, Bool, Option, Some, None, List, [], ◌∷◌, ◌++◌, arith}
+use Rattle.std.specs.Prelude.{All, unwrap_or}
 use Rattle.sig_base.specs.declared.values.PhaseItem.{PhaseItem}
 use Rattle.sig_base.specs.declared.values.Row.{Row}
 use Rattle.sig_base.specs.Numbers.{has_phase}
@@ -19,9 +19,9 @@ use Rattle.detector_state.specs.declared.part.Part.{Part}
 use Rattle.detector_state.specs.declared.tenths.OnTenths.{OnTenths}
 use Rattle.split_windows.specs.declared.items.OpenGreen.{OpenGreen}
 use Rattle.split_windows.specs.declared.items.Windows.{Windows}
-use Rattle.split_windows.specs.Going.{CanGoOn, IsGreenAt, of_phase, tenth_or}
+use Rattle.split_windows.specs.Going.{AreInOrder, CanGoOn, IsGreenAt, of_phase, tenth_or}
 use Rattle.split_windows.specs.Windows.{AreEnded, AreFit, ArePending, AreServicesOf, AreWindows, IsEnded, IsOpen, due, left, services_of}
-use Rattle.split_windows.proofs.Fitting.{opens_fit, services_fit}
+use Rattle.split_windows.proofs.Fitting.{opens_fit, services_fit, services_in_order}
 use Rattle.split_windows.proofs.Staying.{pending_are_one, tenths_are_one, head_same, tail_same}
 use Rattle.stop_bar.specs.Crossing.{Crossing}
 use Rattle.stop_bar.specs.Bars.{AreListedOnce, AreOver, CrossesOnce, IsAtBar, IsHourOf, open_with, services_upto, without_ends}
@@ -32,6 +32,13 @@ use Rattle.stop_bar.proofs.Opening.{open_found, open_none, open_some}
 of_without : (first end : ℕ) (begun : Option OpenGreen) (ss : List Service) → AreServicesOf first end begun ss → AreServicesOf first end begun (without_ends ss)
 of_without first end begun [] h = tt
 of_without first end begun (s ∷ ss) h = (h.0, of_without first end begun ss h.1)
+
+in_order_without : (ss : List Service) → AreInOrder ss → AreInOrder (without_ends ss)
+in_order_without [] h = tt
+in_order_without (s ∷ ss) h = (h.0, in_order_without ss h.1)
+
+pub upto_in_order : (known : ℕ → Bool) (phases : List PhaseItem) (p end : ℕ) (rows : List Row) → AreOrdered 0 end rows → All (λ z. known z.at ≡ true) rows → AreInOrder (services_upto known phases p rows)
+upto_in_order known phases p end rows order are_known = in_order_without (of_phase p (services_from known phases [] rows)) (services_in_order known phases p end rows order are_known)
 
 module _ (log : Log) (i : ℕ) (phases : List PhaseItem) (p hour : ℕ) (before rows : List Row) (cuts : CutLists) (parts : List Part) (is : IsHourOf log i phases hour before rows cuts parts) (at : Crossing) (here : IsAtBar log i phases p before hour at) where
   abbrev first : ℕ

@@ -13,6 +13,7 @@ use Rattle.hour_sweep.specs.Rows.{known_rows}
 use Rattle.service_cut.specs.declared.parts.Part.{Part}
 use Rattle.service_cut.specs.declared.items.Served.{Served}
 use Rattle.service_cut.specs.Parts.{IsCarry as IsCut}
+use Rattle.service_cut.specs.Cut.{closing_at, served_from}
 use Rattle.other_measures.specs.Crossing.{Crossing, IsCarry as IsCrossing}
 use Rattle.stop_bar.specs.Crossing.{Crossing as AtBar}
 use Rattle.stop_bar.specs.All.{AreAtBars}
@@ -67,7 +68,7 @@ first_carry c pasts cuts closing splits others arrivals shape are cut none bars 
   pasts = starts (log_of c.specs s) pasts shape are;
   known = refl;
   cuts = rw (none_earlier s) (cut (is_known s));
-  closing = rw (none_earlier s) none;
+  closing = none ∙ sym (ap (λ rs. closing_at (first_tenth 0) (served_from (is_known s) c.phases [] rs)) (none_earlier s));
   splits = rw (none_earlier s) (bars (log_of c.specs s));
   others = rw (none_earlier s) (crossing (is_known s));
   arrivals = rw (none_earlier s) (opens (is_known s));

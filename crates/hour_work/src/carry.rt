@@ -55,6 +55,7 @@ impl Carry {
     {
         let pasts = Pasts::start(alloc, config.specs())?;
         let cuts = CutCarry::start(alloc, config.phases())?;
+        let closing = Closing::start(alloc);
         let splits = SplitCarry::start(alloc, config)?;
         let others = OtherCarry::start(alloc, config)?;
         let arrivals = ArrivalCarry::start(alloc, config)?;
@@ -62,7 +63,7 @@ impl Carry {
             pasts,
             known: false,
             cuts,
-            closing: Closing::start(alloc),
+            closing,
             splits,
             others,
             arrivals,

@@ -1,23 +1,25 @@
 -- Stop bars over an hour of a store.
-use Rattle.std.proofs.Common.{◌≡◌, refl, ap, sym, ◌∙◌, subst, ℕ, ◌+◌, List, ◌++◌, arith}
+use Rattle.std.proofs.Common.{◌≡◌, refl, ap, ap₂, sym, ◌∙◌, subst, ℕ, ◌+◌, List, [], ◌++◌, arith}
 use Rattle.sig_base.specs.declared.values.Row.{Row}
 use Rattle.gap_map.specs.declared.stretch.Stretch.{Stretch}
-use Rattle.board.specs.Logs.{end_tenth}
+use Rattle.board.specs.Logs.{end_tenth, first_tenth}
 use Rattle.hour_store.specs.Store.{Store, is_known}
 use Rattle.hour_sweep.specs.Hours.{AreOrdered, point}
 use Rattle.hour_sweep.specs.Rows.{known_rows}
-use Rattle.hour_sweep.proofs.Orders.{rise_ordered}
+use Rattle.hour_sweep.proofs.Orders.{filter_ordered, rise_ordered}
 use Rattle.ring_config.specs.Settings.{Settings}
 use Rattle.signal_log.specs.Log.{HasHistory, log_of}
 use Rattle.rule_audit.proofs.Tracked.{channels_are}
-use Rattle.service_cut.specs.Cut.{CutLists}
+use Rattle.service_cut.specs.declared.items.Served.{Served}
+use Rattle.service_cut.specs.Cut.{CutLists, closing_at, served_from}
+use Rattle.service_cut.proofs.Closings.{closing_later}
 use Rattle.detector_state.specs.declared.part.Part.{Part}
 use Rattle.split_windows.proofs.Fitting.{known_all}
 use Rattle.stop_bar.specs.Crossing.{Crossing as AtBar}
 use Rattle.stop_bar.specs.All.{AreAtBars, AreTold, IsCutHour, IsHourHeld}
 use Rattle.split_measures.specs.declared.failures.SplitSum.{SplitSum}
 use Rattle.split_measures.specs.Hours.{AreHourSums, AreSplitSums, CrossesNext, IsLogUpto, IsSplitHour}
-use Rattle.hour_work.specs.Points.{Carried}
+use Rattle.hour_work.specs.Points.{AreClosingAt, Carried}
 use Rattle.hour_work.specs.Reports.{IsHourCut}
 use Rattle.hour_work.specs.Rows.{earlier_rows, own_rows}
 use Rattle.hour_work.proofs.MeasureLaws.{earlier_more, own_known}
@@ -57,6 +59,19 @@ module _ (c : Settings) (s : Store) (hour : ℕ) (before : Carried) (rows : List
 
   upto_is : earlier_rows s hour ++ known_rows (is_known s) rows ≡ earlier_rows s (hour + 1)
   upto_is = ap (λ (rs : List Row). earlier_rows s hour ++ rs) own_is ∙ sym (earlier_more s hour is.has_hour.within)
+
+  -- the services whose red window crosses the next point are those of the hour
+  pub closing_next : (closing : List Served) (t : ℕ) → t ≡ end_tenth hour → closing ≡ closing_at t lists.served → AreClosingAt c s (hour + 1) closing
+  closing_next closing t e now =
+      let known = is_known s in
+      let front = earlier_rows s hour in
+      let ks = known_rows known rows in
+      let order = filter_ordered known (point hour) (end_tenth hour) (point hour) rows (omega arith) (rise_ordered (point hour) (point hour + 36000) rows (omega arith) is.are_rows.rise) in
+      let at : end_tenth hour ≡ first_tenth (hour + 1) = omega arith in
+      now
+      ∙ (ap₂ (λ x ws. closing_at x ws) e is.lists.served_are
+      ∙ (sym (closing_later known c.phases (point hour) (end_tenth hour) front ks (omega arith) earlier order)
+      ∙ ap₂ (λ x rs. closing_at x (served_from known c.phases [] rs)) at upto_is))
 
   log_upto : HasHistory (log_of c.specs s) → IsLogUpto (log_of c.specs s) c hour (earlier_rows s (hour + 1))
   log_upto some = let lt = is.has_hour.within in record {

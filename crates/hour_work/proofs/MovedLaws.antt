@@ -111,6 +111,7 @@ half_one c s k a b sound x y = record {
   pasts = one_pasts (log_of c.specs s) k a.pasts b.pasts x.pasts y.pasts;
   known = x.known ∙ sym y.known;
   cuts = x.cuts.parts_are ∙ sym y.cuts.parts_are;
+  closing = x.closing ∙ sym y.closing;
   splits = one_splits (log_of c.specs s) c k (earlier_rows s k) a.splits b.splits sound x.splits y.splits;
   others = one_crossing a.others b.others (x.others.peds_are ∙ sym y.others.peds_are) (x.others.preempts_are ∙ sym y.others.preempts_are);
   arrivals = one_open a.arrivals b.arrivals (x.arrivals.crossings_are ∙ sym y.arrivals.crossings_are) (x.arrivals.flags_are ∙ sym y.arrivals.flags_are);
@@ -124,6 +125,7 @@ carries_one c s t k a b sound x y (m, p, q) =
       pasts = same_on a.pasts m.pasts b.pasts h.pasts g.pasts;
       known = h.known ∙ g.known;
       cuts = h.cuts ∙ g.cuts;
+      closing = h.closing ∙ g.closing;
       splits = h.splits ∙ g.splits;
       others = h.others ∙ g.others;
       arrivals = h.arrivals ∙ g.arrivals;
@@ -134,11 +136,11 @@ futures_one c s t k a b x y (m, p, q) = one_aheads (log_of c.specs s) k a m x p 
 
 -- ---- values
 
-pub one_carried : (a b : Carried) → a.pasts ≡ b.pasts → a.known ≡ b.known → a.cuts ≡ b.cuts → a.splits ≡ b.splits → a.others ≡ b.others → a.arrivals ≡ b.arrivals → a ≡ b
-one_carried a b p k u s o r =
-    let one : Carried = record { pasts = a.pasts; known = a.known; cuts = a.cuts; splits = a.splits; others = a.others; arrivals = a.arrivals } in
-    let other : Carried = record { pasts = b.pasts; known = b.known; cuts = b.cuts; splits = b.splits; others = b.others; arrivals = b.arrivals } in
-    let same : one ≡ other = rw (p, k, u, s, o, r) refl in
+pub one_carried : (a b : Carried) → a.pasts ≡ b.pasts → a.known ≡ b.known → a.cuts ≡ b.cuts → a.closing ≡ b.closing → a.splits ≡ b.splits → a.others ≡ b.others → a.arrivals ≡ b.arrivals → a ≡ b
+one_carried a b p k u w s o r =
+    let one : Carried = record { pasts = a.pasts; known = a.known; cuts = a.cuts; closing = a.closing; splits = a.splits; others = a.others; arrivals = a.arrivals } in
+    let other : Carried = record { pasts = b.pasts; known = b.known; cuts = b.cuts; closing = b.closing; splits = b.splits; others = b.others; arrivals = b.arrivals } in
+    let same : one ≡ other = rw (p, k, u, w, s, o, r) refl in
     same
 
 says_itself : (a : Carried) → SaySame a a
@@ -146,6 +148,7 @@ says_itself a = record {
   pasts = (refl, λ i lt. (refl, λ u. (λ h. h, λ h. h)));
   known = refl;
   cuts = refl;
+  closing = refl;
   splits = refl;
   others = refl;
   arrivals = refl;

@@ -11,7 +11,9 @@ use Rattle.gap_map.specs.Stretches.{IsCut as IsStretched, known_in}
 use Rattle.hour_store.specs.Store.{Store, count_in, held_at, is_known, rows_at, rows_of}
 use Rattle.hour_sweep.specs.Rows.{known_rows}
 use Rattle.service_cut.specs.declared.parts.Part.{Part}
+use Rattle.service_cut.specs.declared.items.Served.{Served}
 use Rattle.service_cut.specs.Parts.{IsCarry as IsCut}
+use Rattle.service_cut.specs.Cut.{closing_at, served_from}
 use Rattle.other_measures.specs.Crossing.{Crossing, IsCarry as IsCrossing}
 use Rattle.stop_bar.specs.Crossing.{Crossing as AtBar}
 use Rattle.stop_bar.specs.All.{AreAtBars}
@@ -60,12 +62,13 @@ no_rows (o ∷ hours) = refl
 pub none_earlier : (s : Store) → earlier_rows s 0 ≡ []
 none_earlier s = ap (λ rs. known_rows (is_known s) rs) (no_rows s.hours)
 
-pub first_carry : (c : Settings) (pasts : List (List (List Span))) (cuts : List (Option Part)) (splits : List AtBar) (others : Crossing) (arrivals : CarryParts) → AreBefore c.specs pasts → AreStarts c.specs (length c.specs) pasts → ((known : ℕ → Bool) → IsCut known c.phases [] 0 cuts) → ((log : Log) → AreAtBars log c [] 0 splits) → ((known : ℕ → Bool) → IsCrossing known c [] 0 others) → ((known : ℕ → Bool) → AreOpen known c [] 0 arrivals)
-    → (s : Store) → IsCarryAt c s 0 (record { pasts = pasts; known = false; cuts = cuts; splits = splits; others = others; arrivals = arrivals })
-first_carry c pasts cuts splits others arrivals shape are cut bars crossing opens s = record {
+pub first_carry : (c : Settings) (pasts : List (List (List Span))) (cuts : List (Option Part)) (closing : List Served) (splits : List AtBar) (others : Crossing) (arrivals : CarryParts) → AreBefore c.specs pasts → AreStarts c.specs (length c.specs) pasts → ((known : ℕ → Bool) → IsCut known c.phases [] 0 cuts) → closing ≡ [] → ((log : Log) → AreAtBars log c [] 0 splits) → ((known : ℕ → Bool) → IsCrossing known c [] 0 others) → ((known : ℕ → Bool) → AreOpen known c [] 0 arrivals)
+    → (s : Store) → IsCarryAt c s 0 (record { pasts = pasts; known = false; cuts = cuts; closing = closing; splits = splits; others = others; arrivals = arrivals })
+first_carry c pasts cuts closing splits others arrivals shape are cut none bars crossing opens s = record {
   pasts = starts (log_of c.specs s) pasts shape are;
   known = refl;
   cuts = rw (none_earlier s) (cut (is_known s));
+  closing = none ∙ sym (ap (λ rs. closing_at (first_tenth 0) (served_from (is_known s) c.phases [] rs)) (none_earlier s));
   splits = rw (none_earlier s) (bars (log_of c.specs s));
   others = rw (none_earlier s) (crossing (is_known s));
   arrivals = rw (none_earlier s) (opens (is_known s));

@@ -11,6 +11,7 @@ pub record SaySame (a b : Carried) : Type 0 where
   pub pasts : AreSamePasts a.pasts b.pasts
   pub known : a.known ≡ b.known
   pub cuts : a.cuts ≡ b.cuts
+  pub closing : a.closing ≡ b.closing
   pub splits : a.splits ≡ b.splits
   pub others : a.others ≡ b.others
   pub arrivals : a.arrivals ≡ b.arrivals

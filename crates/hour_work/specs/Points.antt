@@ -1,5 +1,5 @@
 -- What is kept at an hour point: the place before an hour's first tenth, or the window's end.
-use Rattle.std.specs.Prelude.{◌≡◌, ◌-◌, ◌+◌, ℕ, ℤ, nat_lt, Bool, ◌&&◌, List, Option}
+use Rattle.std.specs.Prelude.{◌≡◌, ◌-◌, ◌+◌, ℕ, ℤ, nat_lt, Bool, ◌&&◌, List, [], Option}
 use Rattle.span_set.specs.declared.set.Span.{Span}
 use Rattle.sig_base.specs.declared.values.Row.{Row}
 use Rattle.channel_tables.specs.declared.spec.Spec.{Spec}
@@ -12,6 +12,8 @@ use Rattle.signal_log.specs.Log.{IsContradiction, Log, log_of}
 use Rattle.signal_log.specs.Points.{ArePastsAt, AreAheadsAt, AreAheadsFor}
 use Rattle.signal_log.specs.Over.{AreAheadsOver, ArePastsOver, IsStopOver}
 use Rattle.service_cut.specs.declared.parts.Part.{Part}
+use Rattle.service_cut.specs.declared.items.Served.{Served}
+use Rattle.service_cut.specs.Cut.{closing_at, served_from}
 use Rattle.service_cut.specs.Parts.{IsCarry as IsCut}
 use Rattle.other_measures.specs.Crossing.{Crossing, IsCarry as IsCrossing}
 use Rattle.stop_bar.specs.Crossing.{Crossing as AtBar}
@@ -22,11 +24,12 @@ use Rattle.hour_work.specs.declared.steps.ForwardError.{ForwardError}
 use Rattle.hour_work.specs.declared.steps.UnderWay.{UnderWay}
 use Rattle.hour_work.specs.declared.steps.ForwardError.TheVariants.{Contradiction, Memory}
 
--- the states of each channel, whether the tenth before the point is known, and what is under way of phases, at stop bars, of pedestrian signals and preempts, and of the arrivals of approaches
+-- the states of each channel, whether the tenth before the point is known, what is under way of phases, the whole services whose red window isn't over, by their rows, and what is under way at stop bars, of pedestrian signals and preempts, and of the arrivals of approaches
 pub record Carried : Type 0 where
   pub pasts : List (List (List Span))
   pub known : Bool
   pub cuts : List (Option Part)
+  pub closing : List Served
   pub splits : List AtBar
   pub others : Crossing
   pub arrivals : CarryParts
@@ -44,6 +47,10 @@ pub record FitPoint (c : Settings) (k : ℕ) (carry : Carried) : Type 0 where
 abbrev pub AreCutsAt : Settings → Store → ℕ → List (Option Part) → Type 0
 AreCutsAt c s k cuts = IsCut (is_known s) c.phases (earlier_rows s k) k cuts
 
+-- the whole services that ended before point k and whose red window isn't over there, each by its four rows, of every configured phase
+abbrev pub AreClosingAt : Settings → Store → ℕ → List Served → Type 0
+AreClosingAt c s k closing = closing ≡ closing_at (first_tenth k) (served_from (is_known s) c.phases [] (earlier_rows s k))
+
 abbrev pub AreBarsAt : Settings → Store → ℕ → List AtBar → Type 0
 AreBarsAt c s k splits = AreAtBars (log_of c.specs s) c (earlier_rows s k) k splits
 
@@ -56,6 +63,7 @@ AreCrossingAt c s k others = IsCrossing (is_known s) c (earlier_rows s k) k othe
 -- all that is under way at point k of a store
 pub record AreUnderWayAt (c : Settings) (s : Store) (k : ℕ) (way : UnderWay) : Type 0 where
   pub cuts : AreCutsAt c s k way.cuts
+  pub closing : AreClosingAt c s k way.closing
   pub splits : AreBarsAt c s k way.splits
   pub others : AreCrossingAt c s k way.others
   pub arrivals : AreOpenAt c s k way.arrivals
@@ -65,6 +73,7 @@ pub record IsCarryAt (c : Settings) (s : Store) (k : ℕ) (carry : Carried) : Ty
   pub pasts : ArePastsAt (log_of c.specs s) k carry.pasts
   pub known : carry.known ≡ is_known_before (is_known s) (first_tenth k)
   pub cuts : AreCutsAt c s k carry.cuts
+  pub closing : AreClosingAt c s k carry.closing
   pub splits : AreBarsAt c s k carry.splits
   pub others : AreCrossingAt c s k carry.others
   pub arrivals : AreOpenAt c s k carry.arrivals

@@ -11,7 +11,7 @@ use arrival_measures::ArrivalCarry;
 use board::{Aheads, Pasts};
 use other_measures::OtherCarry;
 use ring_config::Config;
-use service_cut::CutCarry;
+use service_cut::{Closing, CutCarry};
 use sig_base::{NoMemory, Tenth};
 use split_measures::SplitCarry;
 use std::alloc::Global;
@@ -24,6 +24,7 @@ pub struct Carry {
     pub(crate) pasts: Pasts,
     pub(crate) known: bool,
     pub(crate) cuts: CutCarry,
+    pub(crate) closing: Closing,
     pub(crate) splits: SplitCarry,
     pub(crate) others: OtherCarry,
     pub(crate) arrivals: ArrivalCarry,
@@ -38,6 +39,7 @@ impl Model for Carry {
       pasts = c.pasts;
       known = c.known;
       cuts = c.cuts;
+      closing = c.closing;
       splits = c.splits;
       others = c.others;
       arrivals = c.arrivals;
@@ -53,6 +55,7 @@ impl Carry {
     {
         let pasts = Pasts::start(alloc, config.specs())?;
         let cuts = CutCarry::start(alloc, config.phases())?;
+        let closing = Closing::start(alloc);
         let splits = SplitCarry::start(alloc, config)?;
         let others = OtherCarry::start(alloc, config)?;
         let arrivals = ArrivalCarry::start(alloc, config)?;
@@ -60,6 +63,7 @@ impl Carry {
             pasts,
             known: false,
             cuts,
+            closing,
             splits,
             others,
             arrivals,
@@ -87,11 +91,13 @@ impl Carry {
     // Whether both say the same of all but the states.
     fn same_under_way(&self, other: &Carry) -> bool
         ensures { IsTrue result ↔ ((self.now.known ≡ other.now.known)
-            × (self.now.cuts ≡ other.now.cuts) × (self.now.splits ≡ other.now.splits)
-            × (self.now.others ≡ other.now.others) × (self.now.arrivals ≡ other.now.arrivals)) }
+            × (self.now.cuts ≡ other.now.cuts) × (self.now.closing ≡ other.now.closing)
+            × (self.now.splits ≡ other.now.splits) × (self.now.others ≡ other.now.others)
+            × (self.now.arrivals ≡ other.now.arrivals)) }
     {
         self.known == other.known
             && self.cuts.same(&other.cuts)
+            && self.closing.same(&other.closing)
             && self.splits.same(&other.splits)
             && self.others.same(&other.others)
             && self.arrivals.same(&other.arrivals)

@@ -202,6 +202,7 @@ pub(crate) fn held_hour(
     };
     let way = UnderWay {
         cuts: cut.cuts,
+        closing: cut.closing,
         splits: cut.bars,
         others: crossing,
         arrivals: cut.opens,

@@ -14,9 +14,10 @@ ghost use Rattle.hour_work.specs.Rows.{earlier_rows, own_rows};
 ghost use Rattle.hour_work.specs.Verdicts.{AreAuditLines};
 ghost use Rattle.arrival_measures.specs.Hours.{AreAllJudged, HaveCycles};
 ghost use Rattle.hour_work.specs.Measures.{MayBeIn, MeetsIn, cycles_in, services_in};
-ghost use Rattle.hour_work.specs.Points.{AreBarsAt, AreCrossingAt, AreCutsAt, AreOpenAt, IsCarryAt};
+ghost use Rattle.hour_work.specs.Points.{AreBarsAt, AreClosingAt, AreCrossingAt, AreCutsAt, AreOpenAt, IsCarryAt};
 ghost use Rattle.hour_work.specs.Reports.{IsBetweenAt, IsSeenAt};
 
+use crate::steps::end_of;
 use crate::stop_bars::splits_seen;
 use crate::{Between, Carry};
 use arrival_measures::{ArrivalCarry, ArrivalSums, arrivals_hour};
@@ -25,7 +26,7 @@ use gap_map::Stretch;
 use other_measures::{OtherCarry, OtherSums, others_hour};
 use ring_config::Config;
 use rule_audit::{AuditLine, Rule, audit_rows};
-use service_cut::{CutCarry, cut_hour};
+use service_cut::{Closing, CutCarry, cut_hour};
 use sig_base::NoMemory;
 use signal_log::Place;
 use split_measures::{SplitCarry, SplitSums};
@@ -77,12 +78,14 @@ pub(crate) fn audit_seen(
 }
 
 /// What is cut of an hour: the numbers of its phases and its approaches, and what is under way of
-/// phases, at stop bars and of arrivals at the point after it.
+/// phases, at stop bars and of arrivals at the point after it, with the services whose red window
+/// isn't over there.
 #[derive(Drop)]
 pub(crate) struct CutSeen {
     pub(crate) splits: SplitSums,
     pub(crate) arrivals: ArrivalSums,
     pub(crate) cuts: CutCarry,
+    pub(crate) closing: Closing,
     pub(crate) bars: SplitCarry,
     pub(crate) opens: ArrivalCarry,
 }
@@ -115,6 +118,9 @@ pub(crate) fn cut_seen(
     ensures cuts { IfOk result (λ v. (s : Store) → HasPlace s place.now
         → IsCarryAt config.now s place.now.hour before.now
         → AreCutsAt config.now s (place.now.hour + 1) v.cuts) }
+    ensures closing { IfOk result (λ v. (s : Store) → HasPlace s place.now
+        → IsCarryAt config.now s place.now.hour before.now
+        → AreClosingAt config.now s (place.now.hour + 1) v.closing) }
     ensures bars { IfOk result (λ v. (s : Store) → HasPlace s place.now
         → IsCarryAt config.now s place.now.hour before.now
         → AreBarsAt config.now s (place.now.hour + 1) v.bars) }
@@ -126,6 +132,7 @@ pub(crate) fn cut_seen(
     let parts = place.stretches();
     let mut cuts = before.cuts.copy()?;
     let cut = cut_hour(alloc, config.phases(), &mut cuts, rows, parts)?;
+    let closing = Closing::of(alloc, &cut, end_of(place))?;
     let (splits, bars) = splits_seen(alloc, config, place, before, &cut)?;
     let mut opens = before.arrivals.copy()?;
     let arrivals = arrivals_hour(alloc, config, &mut opens, &cut, view, rows, parts)?;
@@ -133,6 +140,7 @@ pub(crate) fn cut_seen(
         splits,
         arrivals,
         cuts,
+        closing,
         bars,
         opens,
     })

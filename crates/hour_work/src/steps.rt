@@ -5,7 +5,7 @@ ghost use Rattle.sig_base.specs.declared.values.Row.{Row};
 ghost use Rattle.channel_tables.specs.declared.spec.Spec.{Spec};
 ghost use Rattle.sig_base.specs.HourRows.{AreRowsOf};
 ghost use Rattle.hour_store.specs.Store.{Store};
-ghost use Rattle.board.specs.Logs.{first_tenth};
+ghost use Rattle.board.specs.Logs.{end_tenth, first_tenth};
 ghost use Rattle.board.specs.Places.{AllEarly, AreAheadsOf};
 ghost use Rattle.board.specs.Stops.{AreBefore};
 ghost use Rattle.ring_config.specs.Settings.{Settings};
@@ -23,7 +23,7 @@ use arrival_measures::{ArrivalCarry, arrivals_carried};
 use board::{Pasts, PastsError};
 use other_measures::{OtherCarry, others_carried};
 use ring_config::Config;
-use service_cut::{CutCarry, cut_hour};
+use service_cut::{Closing, CutCarry, cut_hour};
 use sig_base::{Hour, NoMemory, Row};
 use signal_log::{Place, aheads_over, pasts_over};
 use span_set::SpanSet;
@@ -141,6 +141,7 @@ pub(crate) fn kept(place: &Place<'_>, pasts: Pasts, way: UnderWay) -> Carry
 {
     let UnderWay {
         cuts,
+        closing,
         splits,
         others,
         arrivals,
@@ -149,6 +150,7 @@ pub(crate) fn kept(place: &Place<'_>, pasts: Pasts, way: UnderWay) -> Carry
         pasts,
         known: place.is_end_known(),
         cuts,
+        closing,
         splits,
         others,
         arrivals,
@@ -183,9 +185,17 @@ fn states_over(
 #[derive(Drop)]
 pub(crate) struct UnderWay {
     pub(crate) cuts: CutCarry,
+    pub(crate) closing: Closing,
     pub(crate) splits: SplitCarry,
     pub(crate) others: OtherCarry,
     pub(crate) arrivals: ArrivalCarry,
+}
+
+// The first tenth after an hour.
+pub(crate) fn end_of(place: &Place<'_>) -> u32
+    ensures { result ≡ end_tenth place.now.hour }
+{
+    36_000 * place.hour() + 36_000
 }
 
 // What is under way of each measure at the point after an hour.
@@ -206,6 +216,7 @@ fn under_way(
     let parts = place.stretches();
     let mut cuts = before.cuts.copy()?;
     let cut = cut_hour(alloc, config.phases(), &mut cuts, rows, parts)?;
+    let closing = Closing::of(alloc, &cut, end_of(place))?;
     let splits = splits_over(alloc, config, place, before, &cut)?;
     let mut arrivals = before.arrivals.copy()?;
     arrivals_carried(alloc, config, &mut arrivals, &cut, rows, parts)?;
@@ -213,6 +224,7 @@ fn under_way(
     others_carried(alloc, config, &mut others, rows, parts)?;
     Ok(UnderWay {
         cuts,
+        closing,
         splits,
         others,
         arrivals,

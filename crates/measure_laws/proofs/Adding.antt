@@ -25,7 +25,8 @@ use Rattle.ring_config.specs.declared.items.Approach.{Approach}
 use Rattle.signal_log.specs.Log.{HasHistory, log_of}
 use Rattle.split_windows.specs.Windows.{left}
 use Rattle.ring_config.proofs.SpecLaws.{length_filter}
-use Rattle.stop_bar.specs.Bars.{ending, services_upto}
+use Rattle.split_windows.specs.Going.{of_phase}
+use Rattle.stop_bar.specs.Bars.{ending, services_upto, without_end}
 use Rattle.stop_bar.specs.Lists.{Each}
 use Rattle.stop_bar.proofs.Common.{each_long}
 use Rattle.split_measures.specs.declared.verdict.SplitVerdict.{SplitVerdict}
@@ -118,8 +119,9 @@ open_few hours hour ss = elim (cases_Bool (nat_le hours (hour + 1))) [
 pub all_few : (known : ℕ → Bool) (phases : List PhaseItem) (p : ℕ) (upto : List Row) → length (services_upto known phases p upto) ≤ length upto
 all_few known phases p upto =
     let a = length_filter (λ (s : Service). eqb s.phase p) (services_from known phases [] upto) in
+    let same = length-map (of_phase p (services_from known phases [] upto)) without_end in
     let b = outs_few (service_at known) (has_phase phases) [] upto in
-    omega (arith, a, b)
+    omega (arith, a, b, same)
 
 pub splits_add_up : SplitsAddUp
 splits_add_up log c i b hour upto sum few is =

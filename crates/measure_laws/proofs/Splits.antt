@@ -20,7 +20,7 @@ use Rattle.split_windows.specs.Windows.{due, left}
 use Rattle.split_windows.specs.Going.{of_phase}
 use Rattle.stop_bar.specs.declared.bars.StopBar.{StopBar}
 use Rattle.stop_bar.specs.All.{IsPlaceOf, bar_with}
-use Rattle.stop_bar.specs.Bars.{ending, services_upto}
+use Rattle.stop_bar.specs.Bars.{ending, services_upto, without_ends}
 use Rattle.stop_bar.specs.Lists.{Each}
 use Rattle.stop_bar.proofs.Listing.{ends_between, services_split}
 use Rattle.split_measures.specs.declared.failures.SplitSum.{SplitSum}
@@ -83,7 +83,7 @@ module _ (known : ℕ → Bool) (phases : List PhaseItem) (p : ℕ) where
       let f = front t rows in
       let g = back t rows in
       let us = upto f in
-      let vs = of_phase p (services_from known phases f g) in
+      let vs = without_ends (of_phase p (services_from known phases f g)) in
       let early = ends_between known phases p 0 t [] f cut.first in
       let late = ends_between known phases p t b f g cut.rest in
       let parts : upto rows ≡ us ++ vs = ap (λ rs. upto rs) (sym cut.joined) ∙ services_split known phases p t b f g cut.first cut.rest in
@@ -100,7 +100,7 @@ module _ (known : ℕ → Bool) (phases : List PhaseItem) (p : ℕ) where
   due_before : (a b : ℕ) (before rows : List Row) → AreOrdered 0 a before → AreOrdered a b rows → due a (upto (before ++ rows)) ≡ due a (upto before)
   due_before a b before rows first order =
       let us = upto before in
-      let vs = of_phase p (services_from known phases before rows) in
+      let vs = without_ends (of_phase p (services_from known phases before rows)) in
       ap (λ ss. due a ss) (services_split known phases p a b before rows first order)
       ∙ (filter-append _ us vs
       ∙ (ap (λ ss. due a us ++ ss) (due_late a b a vs (omega arith) (ends_between known phases p a b before rows order))

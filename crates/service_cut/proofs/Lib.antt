@@ -6,4 +6,5 @@ pub mod Rooms
 pub mod PartLaws
 pub mod ToldRows
 pub mod HourLists
+pub mod Closings
 pub mod Fitting

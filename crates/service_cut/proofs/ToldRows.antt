@@ -22,10 +22,10 @@ use Rattle.service_cut.specs.declared.parts.Told.TheVariants.{Ends, Says}
 use Rattle.service_cut.specs.declared.signs.Sign.{Sign}
 use Rattle.service_cut.specs.declared.signs.Sign.TheVariants.{Begin, Change, Yellow, End, Cause, Other}
 use Rattle.service_cut.specs.Signs.{sign, is_end, is_cause}
-use Rattle.service_cut.specs.Services.{cause_in, service_of, whole_service, service_at}
+use Rattle.service_cut.specs.Services.{cause_in, service_of, whole_service, service_at, served_of, whole_served, served_at}
 use Rattle.service_cut.specs.Cycles.{cycle_begun_of, cycle_of, cycle_at}
 use Rattle.service_cut.specs.Parts.{part_of}
-use Rattle.service_cut.specs.Steps.{is_yellow_over, service_whole, service_over, cycle_over_in, ends_with, told_by_sign, told_by, cycle_told, kept, within, lates_after, lates, service_closed, service_told, services_told}
+use Rattle.service_cut.specs.Steps.{is_yellow_over, service_whole, service_over, cycle_over_in, ends_with, told_by_sign, told_by, cycle_told, over_served, served_told, kept, within, lates_after, lates, service_closed, service_told, services_told}
 use Rattle.service_cut.proofs.Push.{yellow_end_is, none_ahead, EarlyRow, EarlyBegun, service_begun_early}
 use Rattle.service_cut.proofs.PartLaws.{told_at, other_sign}
 
@@ -51,6 +51,34 @@ cycle_by_sign Other x a = refl
 pub cycle_now : (known : ℕ → Bool) (p : ℕ) (before : List Row) (x : Row) (rest : List Row) → option_and_then cycle_told (told_at known p before x rest) ≡ cycle_at known p before x
 unfolding cycle_at
 cycle_now known p before x rest = cycle_by_sign (sign p x) x (part_of known x.at before p) ∙ ap (λ v. cond v (cycle_of p (cycle_begun_of known x.at p before) x) None) (sym (yellow_end_is known p before x))
+
+-- the rows of the service that a row ends
+
+served_of_ends : (s : Option ServiceOver) (c : Option Cycle) → option_and_then served_told (ends_with s c) ≡ over_served s
+served_of_ends None None = refl
+served_of_ends None (Some c) = refl
+served_of_ends (Some s) c = refl
+
+served_whole : (p : ℕ) (s : ServiceBegun) (x : Row) (g y : Option Row) → over_served (service_whole p s x g y) ≡ served_of p s x g y
+served_whole p s x (Some g) (Some y) = refl
+served_whole p s x (Some g) None = refl
+served_whole p s x None y = refl
+
+served_over : (p : ℕ) (o : Option ServiceBegun) (x : Row) → over_served (service_over p o x) ≡ whole_served p o x
+served_over p None x = refl
+served_over p (Some s) x = served_whole p s x s.g s.y
+
+served_by_sign : (s : Sign) (x : Row) (a : Part) → option_and_then served_told (told_by_sign s x a) ≡ cond (is_end s) (whole_served a.phase a.service x) None
+served_by_sign Begin x a = refl
+served_by_sign Change x a = refl
+served_by_sign Yellow x a = refl
+served_by_sign End x a = served_of_ends (service_over a.phase a.service x) (cycle_over_in a.phase a.yellow a.cycle x) ∙ served_over a.phase a.service x
+served_by_sign Cause x a = refl
+served_by_sign Other x a = refl
+
+pub served_now : (known : ℕ → Bool) (p : ℕ) (before : List Row) (x : Row) (rest : List Row) → option_and_then served_told (told_at known p before x rest) ≡ served_at known p before x
+unfolding served_at
+served_now known p before x rest = served_by_sign (sign p x) x (part_of known x.at before p)
 
 -- what was found of a phase
 

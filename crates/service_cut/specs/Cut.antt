@@ -8,16 +8,40 @@ use Rattle.hour_sweep.specs.Rows.{known_rows}
 use Rattle.hour_sweep.specs.Hours.{AreOrdered, point}
 use Rattle.hour_sweep.specs.Numbers.{outs_from}
 use Rattle.service_cut.specs.declared.items.Service.{Service}
+use Rattle.service_cut.specs.declared.items.Served.{Served}
 use Rattle.service_cut.specs.declared.items.Cycle.{Cycle}
 use Rattle.service_cut.specs.declared.items.OpenService.{OpenService}
 use Rattle.service_cut.specs.declared.items.OpenCycle.{OpenCycle}
-use Rattle.service_cut.specs.Services.{service_at}
+use Rattle.service_cut.specs.Services.{service_at, served_at}
 use Rattle.service_cut.specs.Cycles.{cycle_at}
 use Rattle.service_cut.specs.Parts.{parts_of, open_service, open_cycle}
 
 -- the whole services that end among the rows, in their order, where the first rows stand before them
 abbrev pub services_from : (ℕ → Bool) → List PhaseItem → List Row → List Row → List Service
 services_from known phases before rows = outs_from (service_at known) (has_phase phases) before rows
+
+-- the rows of the whole services that end among the rows, likewise
+abbrev pub served_from : (ℕ → Bool) → List PhaseItem → List Row → List Row → List Served
+served_from known phases before rows = outs_from (λ p earlier r rest. served_at known p earlier r) (has_phase phases) before rows
+
+-- those whose red window, the 50 tenths from r on, isn't over at tenth t
+abbrev pub closing_at : ℕ → List Served → List Served
+closing_at t ws = filter (λ w. nat_lt t (w.r.at + 50)) ws
+
+-- a phase and the tenths of its b, g, y and r
+pub record Tenths : Type 0 where
+  pub phase : ℕ
+  pub b : ℕ
+  pub g : ℕ
+  pub y : ℕ
+  pub r : ℕ
+
+-- those of a service, and of its rows
+abbrev pub service_tenths : Service → Tenths
+service_tenths s = record { phase = s.phase; b = s.b; g = s.g; y = s.y; r = s.r }
+
+abbrev pub served_tenths : Served → Tenths
+served_tenths s = record { phase = s.phase; b = s.b.at; g = s.g.at; y = s.y.at; r = s.r.at }
 
 -- the whole cycles that end among the rows, likewise
 abbrev pub cycles_from : (ℕ → Bool) → List PhaseItem → List Row → List Row → List Cycle
@@ -37,6 +61,7 @@ AreHourParts of is_in = (known : ℕ → Bool) (phases : List PhaseItem) (a b c 
 -- what is seen of an hour's lists
 pub record CutLists : Type 0 where
   pub services : List Service
+  pub served : List Served
   pub cycles : List Cycle
   pub open_services : List OpenService
   pub open_cycles : List OpenCycle
@@ -44,6 +69,7 @@ pub record CutLists : Type 0 where
 -- the lists of an hour with these rows, where these are the known rows before it
 pub record IsCut (known : ℕ → Bool) (phases : List PhaseItem) (before : List Row) (hour : ℕ) (rows : List Row) (cuts : CutLists) : Type 0 where
   pub services_are : cuts.services ≡ services_from known phases before (known_rows known rows)
+  pub served_are : cuts.served ≡ served_from known phases before (known_rows known rows)
   pub cycles_are : cuts.cycles ≡ cycles_from known phases before (known_rows known rows)
   pub open_services_are : cuts.open_services ≡ filter_map open_service (parts_of known (point (hour + 1)) phases (before ++ known_rows known rows))
   pub open_cycles_are : cuts.open_cycles ≡ filter_map open_cycle (parts_of known (point (hour + 1)) phases (before ++ known_rows known rows))

@@ -5,6 +5,7 @@ use Rattle.std.specs.List.{list_any}
 use Rattle.sig_base.specs.declared.values.Row.{Row}
 use Rattle.hour_sweep.specs.Rows.{last_with, last, live}
 use Rattle.service_cut.specs.declared.items.Service.{Service}
+use Rattle.service_cut.specs.declared.items.Served.{Served}
 use Rattle.service_cut.specs.declared.items.Termination.{Termination}
 use Rattle.service_cut.specs.declared.items.Termination.TheVariants.{GapOut, MaxOut, ForceOff, Unlogged}
 use Rattle.service_cut.specs.declared.services.ServiceBegun.{ServiceBegun}
@@ -52,3 +53,15 @@ whole_service p (Some s) r rest = service_of p s r rest s.g s.y
 -- the whole service of phase p that ends with row r, where these rows stand before it and those after it
 unfoldable pub service_at : (ℕ → Bool) → ℕ → List Row → Row → List Row → Option Service
 service_at known p before r rest = if is_end (sign p r) then whole_service p (service_begun_of known r.at p before) r rest else None
+
+abbrev pub served_of : ℕ → ServiceBegun → Row → Option Row → Option Row → Option Served
+served_of p s r (Some g) (Some y) = Some (record { phase = p; b = s.b; g = g; y = y; r = r })
+served_of p s r _ _ = None
+
+abbrev pub whole_served : ℕ → Option ServiceBegun → Row → Option Served
+whole_served p None r = None
+whole_served p (Some s) r = served_of p s r s.g s.y
+
+-- the four rows of the whole service of phase p that ends with row r, where these rows stand before it
+unfoldable pub served_at : (ℕ → Bool) → ℕ → List Row → Row → Option Served
+served_at known p before r = if is_end (sign p r) then whole_served p (service_begun_of known r.at p before) r else None

@@ -6,6 +6,7 @@ use Rattle.sig_base.specs.declared.values.Row.{Row}
 use Rattle.sig_base.specs.declared.values.PhaseItem.{PhaseItem}
 use Rattle.sig_base.specs.Numbers.{has_phase}
 use Rattle.service_cut.specs.declared.items.Service.{Service}
+use Rattle.service_cut.specs.declared.items.Served.{Served}
 use Rattle.service_cut.specs.declared.items.Cycle.{Cycle}
 use Rattle.service_cut.specs.declared.services.ServiceBegun.{ServiceBegun}
 use Rattle.service_cut.specs.declared.cycles.CycleBegun.{CycleBegun}
@@ -92,7 +93,7 @@ part_cleared a = record a { service = None; yellow = None; cycle = None }
 
 -- what a service has where its end of yellow has come
 abbrev pub service_whole : ℕ → ServiceBegun → Row → Option Row → Option Row → Option ServiceOver
-service_whole p s r (Some g) (Some y) = Some (record { phase = p; b = s.b.at; g = g.at; y = y.at; r = r.at; cause = s.cause })
+service_whole p s r (Some g) (Some y) = Some (record { served = record { phase = p; b = s.b; g = g; y = y; r = r }; cause = s.cause })
 service_whole p s r _ _ = None
 
 abbrev pub service_over : ℕ → Option ServiceBegun → Row → Option ServiceOver
@@ -123,6 +124,14 @@ abbrev pub cycle_told : Told → Option Cycle
 cycle_told (Ends e) = e.cycle
 cycle_told (Says x) = None
 
+abbrev pub over_served : Option ServiceOver → Option Served
+over_served None = None
+over_served (Some s) = Some s.served
+
+abbrev pub served_told : Told → Option Served
+served_told (Ends e) = over_served e.service
+served_told (Says x) = None
+
 -- of a row and one that was found after it, the one at the row's tenth that stands last
 abbrev pub kept : Row → Option Row → Row
 kept x None = x
@@ -135,7 +144,7 @@ within g (Some z) = if nat_le z.at g then Some z else None
 
 -- the service, where this row of its phase was found after it
 abbrev pub closed : ServiceOver → Option Row → Service
-closed s late = record { phase = s.phase; b = s.b; g = s.g; y = s.y; r = s.r; end = termination (option_or (within s.g late) s.cause) }
+closed s late = record { phase = s.served.phase; b = s.served.b.at; g = s.served.g.at; y = s.served.y.at; r = s.served.r.at; end = termination (option_or (within s.served.g.at late) s.cause) }
 
 -- what was found of each phase, with one more row in front
 abbrev pub lates_after : Told → List (Option Row) → List (Option Row)
@@ -148,7 +157,7 @@ lates n (o ∷ os) = lates_after o (lates n os)
 
 abbrev pub service_closed : List (Option Row) → Option ServiceOver → Option Service
 service_closed ls None = None
-service_closed ls (Some s) = Some (closed s (slice_index_or ls s.phase None))
+service_closed ls (Some s) = Some (closed s (slice_index_or ls s.served.phase None))
 
 abbrev pub service_told : List (Option Row) → Told → Option Service
 service_told ls (Ends e) = service_closed ls e.service

@@ -75,16 +75,17 @@ fn note(lates: &mut [Option<Row>], row: Row)
 fn closed(service: ServiceOver, late: Option<Row>) -> Service
     ensures { result ≡ closed service late }
 {
-    let cause = match within(service.g, late) {
+    let served = service.served;
+    let cause = match within(served.g.at, late) {
         Some(row) => Some(row),
         None => service.cause,
     };
     Service {
-        phase: service.phase,
-        b: service.b,
-        g: service.g,
-        y: service.y,
-        r: service.r,
+        phase: served.phase,
+        b: served.b.at,
+        g: served.g.at,
+        y: served.y.at,
+        r: served.r.at,
         end: termination_by(cause),
     }
 }
@@ -95,7 +96,7 @@ fn service_of(told: &Told, lates: &[Option<Row>]) -> Option<Service>
     match told {
         Told::Ends(ended) => match ended.service {
             Some(service) => {
-                let late = found(lates, u16::from(service.phase));
+                let late = found(lates, u16::from(service.served.phase));
                 Some(closed(service, late))
             }
             None => None,

@@ -6,11 +6,11 @@ ghost use Rattle.hour_sweep.specs.Rows.{known_rows};
 ghost use Rattle.hour_sweep.specs.Hours.{IsHour};
 ghost use Rattle.service_cut.specs.Parts.{IsCarry, open_service, open_cycle};
 ghost use Rattle.service_cut.specs.Cut.{IsCut};
-ghost use Rattle.service_cut.specs.Steps.{cycle_told, services_told};
+ghost use Rattle.service_cut.specs.Steps.{cycle_told, served_told, services_told};
 
 use crate::carry::CutCarry;
 use crate::endings::services_of;
-use crate::items::{Cycle, OpenCycle, OpenService, Service};
+use crate::items::{Cycle, OpenCycle, OpenService, Served, Service};
 use crate::parts::{Part, Told};
 use gap_map::Stretch;
 use hour_sweep::track_hour;
@@ -22,6 +22,7 @@ use std::marker::Model;
 #[derive(Drop)]
 pub struct Cuts {
     services: Vec<Service>,
+    served: Vec<Served>,
     cycles: Vec<Cycle>,
     open_services: Vec<OpenService>,
     open_cycles: Vec<OpenCycle>,
@@ -34,6 +35,7 @@ impl Model for Cuts {
 
     ghost view = { λ c. record {
       services = c.services.items;
+      served = c.served.items;
       cycles = c.cycles.items;
       open_services = c.open_services.items;
       open_cycles = c.open_cycles.items;
@@ -46,6 +48,13 @@ impl Cuts {
         ensures { result.now ≡ self.now.services }
     {
         self.services.as_slice()
+    }
+
+    /// The rows of the whole services, in the order of their last rows.
+    pub fn served(&self) -> &[Served]
+        ensures { result.now ≡ self.now.served }
+    {
+        self.served.as_slice()
     }
 
     /// The whole cycles, in the order of their last rows.
@@ -104,6 +113,28 @@ fn cycle_open(part: &Option<Part>) -> Option<OpenCycle>
     })
 }
 
+fn served_told(told: &Told) -> Option<Served>
+    ensures { result ≡ served_told told.now }
+{
+    match told {
+        Told::Ends(ended) => match ended.service {
+            Some(service) => Some(service.served),
+            None => None,
+        },
+        Told::Says(_) => None,
+    }
+}
+
+fn served_of(alloc: Global, told: &[Told]) -> Result<Vec<Served>, NoMemory>
+    ensures { IfOk result (λ v. v.items ≡ filter_map served_told told.now) }
+{
+    let served = told
+        .iter()
+        .filter_map(|one| served_told(one))
+        .collect(alloc)?;
+    Ok(served)
+}
+
 fn cycle_told(told: &Told) -> Option<Cycle>
     ensures { result ≡ cycle_told told.now }
 {
@@ -147,17 +178,20 @@ fn cycles_left(alloc: Global, parts: &[Option<Part>]) -> Result<Vec<OpenCycle>, 
 fn lists(alloc: Global, told: &[Told], parts: &[Option<Part>]) -> Result<Cuts, NoMemory>
     ensures { IfOk result (λ cuts. cuts ≡ record {
       services = services_told (length parts.now) told.now;
+      served = filter_map served_told told.now;
       cycles = filter_map cycle_told told.now;
       open_services = filter_map open_service parts.now;
       open_cycles = filter_map open_cycle parts.now;
     }) }
 {
     let services = services_of(alloc, told, parts.len())?;
+    let served = served_of(alloc, told)?;
     let cycles = cycles_of(alloc, told)?;
     let open_services = services_left(alloc, parts)?;
     let open_cycles = cycles_left(alloc, parts)?;
     Ok(Cuts {
         services,
+        served,
         cycles,
         open_services,
         open_cycles,

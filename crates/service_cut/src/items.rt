@@ -1,4 +1,5 @@
 // What an hour lists.
+use sig_base::Row;
 
 /// Why a green ended, by the last row that said so.
 #[derive(Clone, Copy, Debug, PartialEq, Eq)]
@@ -23,6 +24,20 @@ pub struct Service {
     /// The end of yellow, or the begin of red clearance if that comes first.
     pub r: u32,
     pub end: Termination,
+}
+
+/// The four rows of a whole service of a phase.
+#[derive(Clone, Copy, Debug, PartialEq, Eq)]
+pub struct Served {
+    pub phase: u8,
+    /// The begin of green.
+    pub b: Row,
+    /// The end of green: its termination, or the begin of yellow if that comes first.
+    pub g: Row,
+    /// The begin of yellow.
+    pub y: Row,
+    /// The end of yellow, or the begin of red clearance if that comes first.
+    pub r: Row,
 }
 
 /// A whole cycle of a phase, from one end of yellow to the next.

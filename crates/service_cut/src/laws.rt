@@ -1,5 +1,5 @@
 // What the definitions say of whole logs. Each law is the contract of a function that does nothing.
-ghost use Rattle.std.specs.Prelude.{◌≡◌, ◌↔◌, ◌≤◌, ◌++◌, ℕ, Bool, true, Some, All, List, []};
+ghost use Rattle.std.specs.Prelude.{◌≡◌, ◌↔◌, ◌+◌, ◌≤◌, ◌++◌, ℕ, Bool, true, Some, All, List, [], map};
 ghost use Rattle.sig_base.specs.declared.values.Row.{Row};
 ghost use Rattle.sig_base.specs.declared.values.PhaseItem.{PhaseItem};
 ghost use Rattle.hour_sweep.specs.Hours.{AreOrdered};
@@ -8,7 +8,7 @@ ghost use Rattle.service_cut.specs.declared.items.Cycle.{Cycle};
 ghost use Rattle.service_cut.specs.Services.{service_at};
 ghost use Rattle.service_cut.specs.Cycles.{cycle_at};
 ghost use Rattle.service_cut.specs.Whole.{IsService, IsCycle, CycleFits};
-ghost use Rattle.service_cut.specs.Cut.{AreHourParts, services_from, cycles_from, service_is_in, cycle_is_in};
+ghost use Rattle.service_cut.specs.Cut.{AreHourParts, services_from, served_from, closing_at, cycles_from, service_is_in, cycle_is_in, service_tenths, served_tenths};
 
 /// A row ends exactly the whole services: four rows of the phase, each the first of its kind, no
 /// begin of green between, every tenth between known.
@@ -16,6 +16,14 @@ pub fn services_are_whole()
     ensures { (known : ℕ → Bool) (p : ℕ) (before : List Row) (r : Row) (later : List Row)
         (s : Service) → known r.at ≡ true → (service_at known p before r later ≡ Some s)
         ↔ IsService known p before r later s }
+{}
+
+/// The rows that are listed are those of the whole services, in their order: each service has the
+/// phase and the tenths of its rows.
+pub fn served_are_services()
+    ensures { (known : ℕ → Bool) (phases : List PhaseItem) (before rows : List Row)
+        → map served_tenths (served_from known phases before rows)
+        ≡ map service_tenths (services_from known phases before rows) }
 {}
 
 /// A row ends exactly the whole cycles: two ends of yellow with none between, every tenth between
@@ -40,9 +48,21 @@ pub fn hours_add_up()
         (before rows : List Row) → AreOrdered 0 t before → AreOrdered t b rows
         → services_from known phases [] (before ++ rows) ≡ services_from known phases [] before
         ++ services_from known phases before rows }
+    ensures served { (known : ℕ → Bool) (phases : List PhaseItem) (t b : ℕ) (before rows : List Row)
+        → AreOrdered 0 t before → AreOrdered t b rows → served_from known phases [] (before ++ rows)
+        ≡ served_from known phases [] before ++ served_from known phases before rows }
     ensures cycles { (known : ℕ → Bool) (phases : List PhaseItem) (t b : ℕ) (before rows : List Row)
         → AreOrdered 0 t before → AreOrdered t b rows → cycles_from known phases [] (before ++ rows)
         ≡ cycles_from known phases [] before ++ cycles_from known phases before rows }
+{}
+
+/// Where the later part is at least 50 tenths long, those whose red window isn't over at its end
+/// end in it.
+pub fn closing_is_of_the_hour()
+    ensures { (known : ℕ → Bool) (phases : List PhaseItem) (t b : ℕ) (before rows : List Row)
+        → t + 50 ≤ b → AreOrdered 0 t before → AreOrdered t b rows
+        → closing_at b (served_from known phases [] (before ++ rows))
+        ≡ closing_at b (served_from known phases before rows) }
 {}
 
 /// Of all services and cycles of a log, those whose last row is in an hour are the hour's part.

@@ -2,6 +2,7 @@
 ghost use Rattle.std.specs.Prelude.{◌≡◌};
 ghost use Rattle.service_cut.specs.Steps.{first_of, cause_after, service_after, service_over};
 
+use crate::items::Served;
 use crate::signs::Sign;
 use sig_base::Row;
 
@@ -98,15 +99,11 @@ pub(crate) fn service_after(
     }
 }
 
-/// A service whose end of yellow has come, with tenths since the window's start. A row that says
-/// why its green ended may still come within its tenth.
+/// A service whose end of yellow has come. A row that says why its green ended may still come
+/// within its tenth.
 #[derive(Clone, Copy)]
 pub(crate) struct ServiceOver {
-    pub(crate) phase: u8,
-    pub(crate) b: u32,
-    pub(crate) g: u32,
-    pub(crate) y: u32,
-    pub(crate) r: u32,
+    pub(crate) served: Served,
     pub(crate) cause: Option<Row>,
 }
 
@@ -120,12 +117,15 @@ pub(crate) fn service_over(
     let begun = service?;
     let g = begun.g?;
     let y = begun.y?;
-    Some(ServiceOver {
+    let served = Served {
         phase,
-        b: begun.b.at,
-        g: g.at,
-        y: y.at,
-        r: row.at,
+        b: begun.b,
+        g,
+        y,
+        r: *row,
+    };
+    Some(ServiceOver {
+        served,
         cause: begun.cause,
     })
 }

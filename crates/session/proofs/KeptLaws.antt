@@ -56,7 +56,7 @@ between_kept c s xs ys is forth back some k d e lt = record { has_hour = has s k
 -- the numbers that are kept are the store's report
 pub report_kept : (c : Settings) (s : Store) (xs : List Carried) (ys : List Ahead) (ps : List Numbers) → IsStore s → AreKept c s xs ys ps → HasHistory (log_of c.specs s) → IsReport c s ps
 report_kept c s xs ys ps is kept some =
-    let d : Carried = record { pasts = []; known = true; cuts = []; splits = []; others = record { peds = []; preempts = [] }; arrivals = record { crossings = []; flags = [] } } in
+    let d : Carried = record { pasts = []; known = true; cuts = []; closing = []; splits = []; others = record { peds = []; preempts = [] }; arrivals = record { crossings = []; flags = [] } } in
     record {
       size = kept.size;
       each = λ k f lt. kept.counts k lt d [] f s (between_kept c s xs ys is kept.forth kept.back some k d [] lt);

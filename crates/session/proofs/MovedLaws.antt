@@ -21,7 +21,7 @@ use Rattle.session.proofs.KeptLaws.{carry_kept, future_kept, report_kept}
 
 -- stands where a list has no carry
 no_carry : Carried
-no_carry = record { pasts = []; known = true; cuts = []; splits = []; others = record { peds = []; preempts = [] }; arrivals = record { crossings = []; flags = [] } }
+no_carry = record { pasts = []; known = true; cuts = []; closing = []; splits = []; others = record { peds = []; preempts = [] }; arrivals = record { crossings = []; flags = [] } }
 
 module _ (c : Settings) (s t : Store) (sound : IsSound c) (is : IsStore s) (is_new : IsStore t) (hours : length t.hours ≡ length s.hours) where
   -- where the same is kept, both stores say the same

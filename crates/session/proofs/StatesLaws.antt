@@ -71,7 +71,7 @@ states_on c s k before after are is lt at leads =
 -- ---- the states of what is kept
 
 no_carry : Carried
-no_carry = record { pasts = []; known = true; cuts = []; splits = []; others = record { peds = []; preempts = [] }; arrivals = record { crossings = []; flags = [] } }
+no_carry = record { pasts = []; known = true; cuts = []; closing = []; splits = []; others = record { peds = []; preempts = [] }; arrivals = record { crossings = []; flags = [] } }
 
 pub kept_states : (kept : List Carried) (k : ℕ) (d : Carried) → k < length kept → get_or (map (λ (x : Carried). x.pasts) kept) k [] ≡ (get_or kept k d).pasts
 kept_states kept k d lt = get_or-map (λ (x : Carried). x.pasts) kept k d [] lt

@@ -19,7 +19,6 @@ use Rattle.detector_state.specs.Switches.{IsChannelOf}
 use Rattle.split_windows.specs.declared.items.Windows.{Windows}
 use Rattle.split_windows.specs.Going.{AreInOrder}
 use Rattle.split_windows.specs.Windows.{left, services_of}
-use Rattle.split_windows.proofs.Fitting.{services_in_order}
 use Rattle.stop_bar.specs.declared.bars.StopBar.{StopBar}
 use Rattle.stop_bar.specs.Bars.{AreOver, IsAtBar, ending, services_upto}
 use Rattle.stop_bar.specs.Crossing.{Crossing}
@@ -27,6 +26,7 @@ use Rattle.stop_bar.specs.Lists.{Each}
 use Rattle.stop_bar.specs.All.{AreAllOver, AreAtBars, IsPlaceOf, bar_with, bars_of}
 use Rattle.stop_bar.proofs.Places.{each_at, each_more}
 use Rattle.stop_bar.proofs.ToldAt.{place_channel}
+use Rattle.stop_bar.proofs.Hours.{upto_in_order}
 use Rattle.split_measures.specs.declared.failures.SplitSum.{SplitSum}
 use Rattle.split_measures.specs.declared.verdict.SplitVerdict.{SplitVerdict}
 use Rattle.split_measures.specs.Failures.{split_sum_of}
@@ -144,7 +144,7 @@ module _ (log : Log) (c : Settings) (hour : ℕ) (upto : List Row) (is : IsLogUp
 
   pub sum_is : (b : StopBar) (i : ℕ) (ws : List Windows) (x : Crossing) (sum : SplitSum) → IsPlaceOf c b i → AreOver log i c.phases b.phase hour upto ws → IsAtBar log i c.phases b.phase upto (hour + 1) x → sum ≡ split_sum_of (verdicts_by b.high ws ++ opens_of (open_at_end c.window.hours hour x)) → IsSplitSum log c i b hour upto sum
   sum_is b i ws x sum at over here e =
-      let order = services_in_order log.known c.phases b.phase end upto is.ordered is.are_known in
+      let order = upto_in_order log.known c.phases b.phase end upto is.ordered is.are_known in
       let top = is.within in
       let inside = ending_within first end (services b) order in
       let in_log = all_in_log log end ws (omega arith) (subst (λ (ss : List Service). AreWithin end ss) (sym over.services) inside) in

@@ -1,6 +1,6 @@
 -- One stop bar over one hour.
-use Rattle.std.proofs.Common.{◌≡◌, refl, ap, sym, ◌∙◌, subst, ℕ, ◌+◌, ◌≤◌, true, Option, Some, None, List, [], ◌∷◌, ◌++◌, arith}
-use Rattle.std.specs.Prelude.{unwrap_or}
+use Rattle.std.proofs.Common.{◌≡◌, refl, ap, sym, ◌∙◌, subst, ℕ, ◌+◌, ◌≤◌, true, Bool, Option, Some, None, List, [], ◌∷◌, ◌++◌, arith}
+use Rattle.std.specs.Prelude.{All, unwrap_or}
 use Rattle.sig_base.specs.declared.values.PhaseItem.{PhaseItem}
 use Rattle.sig_base.specs.declared.values.Row.{Row}
 use Rattle.sig_base.specs.Numbers.{has_phase}
@@ -19,14 +19,26 @@ use Rattle.detector_state.specs.declared.part.Part.{Part}
 use Rattle.detector_state.specs.declared.tenths.OnTenths.{OnTenths}
 use Rattle.split_windows.specs.declared.items.OpenGreen.{OpenGreen}
 use Rattle.split_windows.specs.declared.items.Windows.{Windows}
-use Rattle.split_windows.specs.Going.{CanGoOn, IsGreenAt, of_phase, tenth_or}
-use Rattle.split_windows.specs.Windows.{AreEnded, AreFit, ArePending, AreWindows, IsEnded, IsOpen, due, left, services_of}
-use Rattle.split_windows.proofs.Fitting.{opens_fit, services_fit}
+use Rattle.split_windows.specs.Going.{AreInOrder, CanGoOn, IsGreenAt, of_phase, tenth_or}
+use Rattle.split_windows.specs.Windows.{AreEnded, AreFit, ArePending, AreServicesOf, AreWindows, IsEnded, IsOpen, due, left, services_of}
+use Rattle.split_windows.proofs.Fitting.{opens_fit, services_fit, services_in_order}
 use Rattle.split_windows.proofs.Staying.{pending_are_one, tenths_are_one, head_same, tail_same}
 use Rattle.stop_bar.specs.Crossing.{Crossing}
-use Rattle.stop_bar.specs.Bars.{AreListedOnce, AreOver, CrossesOnce, IsAtBar, IsHourOf, open_with, services_upto}
+use Rattle.stop_bar.specs.Bars.{AreListedOnce, AreOver, CrossesOnce, IsAtBar, IsHourOf, open_with, services_upto, without_ends}
 use Rattle.stop_bar.proofs.Listing.{ending_both, left_later, waiting_end}
 use Rattle.stop_bar.proofs.Opening.{open_found, open_none, open_some}
+
+-- services without their terminations are of an hour as they are with them
+of_without : (first end : ℕ) (begun : Option OpenGreen) (ss : List Service) → AreServicesOf first end begun ss → AreServicesOf first end begun (without_ends ss)
+of_without first end begun [] h = tt
+of_without first end begun (s ∷ ss) h = (h.0, of_without first end begun ss h.1)
+
+in_order_without : (ss : List Service) → AreInOrder ss → AreInOrder (without_ends ss)
+in_order_without [] h = tt
+in_order_without (s ∷ ss) h = (h.0, in_order_without ss h.1)
+
+pub upto_in_order : (known : ℕ → Bool) (phases : List PhaseItem) (p end : ℕ) (rows : List Row) → AreOrdered 0 end rows → All (λ z. known z.at ≡ true) rows → AreInOrder (services_upto known phases p rows)
+upto_in_order known phases p end rows order are_known = in_order_without (of_phase p (services_from known phases [] rows)) (services_in_order known phases p end rows order are_known)
 
 module _ (log : Log) (i : ℕ) (phases : List PhaseItem) (p hour : ℕ) (before rows : List Row) (cuts : CutLists) (parts : List Part) (is : IsHourOf log i phases hour before rows cuts parts) (at : Crossing) (here : IsAtBar log i phases p before hour at) where
   abbrev first : ℕ
@@ -39,7 +51,7 @@ module _ (log : Log) (i : ℕ) (phases : List PhaseItem) (p hour : ℕ) (before 
   ks = known_rows log.known rows
 
   abbrev own : List Service
-  own = of_phase p (services_from log.known phases before ks)
+  own = without_ends (of_phase p (services_from log.known phases before ks))
 
   kept : AreOrdered first end ks
   kept = filter_ordered log.known first end first rows (omega arith) is.about.1
@@ -50,7 +62,7 @@ module _ (log : Log) (i : ℕ) (phases : List PhaseItem) (p hour : ℕ) (before 
   fit : AreFit hour at.green at.pending own
   fit = (
     waiting_end log.known phases p first end before at.pending long is.about.0 here.waiting,
-    (services_fit log.known phases p hour before rows at.green is.about here.green).0,
+    of_without first end at.green (of_phase p (services_from log.known phases before ks)) (services_fit log.known phases p hour before rows at.green is.about here.green).0,
   )
 
   next : first_tenth (hour + 1) ≡ end
@@ -65,9 +77,9 @@ module _ (log : Log) (i : ℕ) (phases : List PhaseItem) (p hour : ℕ) (before 
     numbers = subst (λ (x : ℕ). ArePending log i x waiting) (sym next) n;
   }
 
-  pub over_is : (mine : List Service) → mine ≡ of_phase p cuts.services → (ended waiting : List Windows) → services_of ended ≡ services_of at.pending ++ due end mine → services_of waiting ≡ left end mine → AreWindows hour at.green at.pending mine parts ended waiting → (green : Option OpenGreen) → IsGreenAt end (service_begun_of log.known end p (before ++ ks)) green × IsOpen log i green → AreOver log i phases p hour (before ++ ks) ended × IsAtBar log i phases p (before ++ ks) (hour + 1) (record { green = green; pending = waiting })
+  pub over_is : (mine : List Service) → mine ≡ without_ends (of_phase p cuts.services) → (ended waiting : List Windows) → services_of ended ≡ services_of at.pending ++ due end mine → services_of waiting ≡ left end mine → AreWindows hour at.green at.pending mine parts ended waiting → (green : Option OpenGreen) → IsGreenAt end (service_begun_of log.known end p (before ++ ks)) green × IsOpen log i green → AreOver log i phases p hour (before ++ ks) ended × IsAtBar log i phases p (before ++ ks) (hour + 1) (record { green = green; pending = waiting })
   over_is mine e ended waiting se sw numbers green (g, t) =
-      let same : mine ≡ own = e ∙ ap (λ (ss : List Service). of_phase p ss) is.cut.services_are in
+      let same : mine ≡ own = e ∙ ap (λ (ss : List Service). without_ends (of_phase p ss)) is.cut.services_are in
       let told = subst (λ (ss : List Service). AreWindows hour at.green at.pending ss parts ended waiting) same numbers log i is.told fit here.tenths here.numbers in
       let se2 : services_of ended ≡ services_of at.pending ++ due end own = se ∙ ap (λ (ss : List Service). services_of at.pending ++ due end ss) same in
       let sw2 : services_of waiting ≡ left end own = sw ∙ ap (λ (ss : List Service). left end ss) same in (

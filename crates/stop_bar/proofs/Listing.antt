@@ -2,7 +2,8 @@
 use Rattle.std.proofs.Common.{◌≡◌, refl, ap, ap₂, sym, ◌∙◌, subst, inl, inr, ℕ, ◌+◌, ◌<◌, ◌≤◌, Bool, nat_le, List, [], ◌∷◌, ◌++◌, arith}
 use Rattle.std.specs.Prelude.{All}
 use Rattle.std.proofs.lemmas.Bool.{cases_Bool, cases_lt, le-ltb, le-leb, lt-ltb}
-use Rattle.std.proofs.lemmas.List.Elements.{All-cons, All-filter, All-head, All-nil, All-tail, filter-append}
+use Rattle.std.proofs.lemmas.List.{map-append}
+use Rattle.std.proofs.lemmas.List.Elements.{All-cons, All-filter, All-head, All-map, All-nil, All-tail, filter-append}
 use Rattle.sig_base.specs.declared.values.PhaseItem.{PhaseItem}
 use Rattle.sig_base.specs.declared.values.Row.{Row}
 use Rattle.sig_base.specs.Numbers.{has_phase}
@@ -16,20 +17,21 @@ use Rattle.service_cut.proofs.HourLists.{services_add, service_tenth}
 use Rattle.split_windows.specs.declared.items.Windows.{Windows}
 use Rattle.split_windows.specs.Going.{of_phase}
 use Rattle.split_windows.specs.Windows.{EndIn, due, left, services_of}
-use Rattle.stop_bar.specs.Bars.{ending, services_upto}
+use Rattle.stop_bar.specs.Bars.{ending, services_upto, without_end, without_ends}
 
 -- ---- what a row ends has the row's tenth
 
 -- those of a phase end between the tenths of the rows
-pub ends_between : (known : ℕ → Bool) (phases : List PhaseItem) (p a b : ℕ) (before rows : List Row) → AreOrdered a b rows → All (λ (s : Service). (a ≤ s.r) × (s.r < b)) (of_phase p (services_from known phases before rows))
+pub ends_between : (known : ℕ → Bool) (phases : List PhaseItem) (p a b : ℕ) (before rows : List Row) → AreOrdered a b rows → All (λ (s : Service). (a ≤ s.r) × (s.r < b)) (without_ends (of_phase p (services_from known phases before rows)))
 ends_between known phases p a b before rows order =
-    All-filter _ (λ (s : Service). (a ≤ s.r) × (s.r < b)) (services_from known phases before rows) (given_between (λ (s : Service). s.r) (service_at known) (has_phase phases) a b before rows (service_tenth known) order)
+    All-map (λ (s : Service). (a ≤ s.r) × (s.r < b)) without_end (of_phase p (services_from known phases before rows)) (All-filter _ (λ (s : Service). (a ≤ s.r) × (s.r < b)) (services_from known phases before rows) (given_between (λ (s : Service). s.r) (service_at known) (has_phase phases) a b before rows (service_tenth known) order))
 
 -- those up to a point, and those of the rows after it
-pub services_split : (known : ℕ → Bool) (phases : List PhaseItem) (p t b : ℕ) (before rows : List Row) → AreOrdered 0 t before → AreOrdered t b rows → services_upto known phases p (before ++ rows) ≡ services_upto known phases p before ++ of_phase p (services_from known phases before rows)
+pub services_split : (known : ℕ → Bool) (phases : List PhaseItem) (p t b : ℕ) (before rows : List Row) → AreOrdered 0 t before → AreOrdered t b rows → services_upto known phases p (before ++ rows) ≡ services_upto known phases p before ++ without_ends (of_phase p (services_from known phases before rows))
 services_split known phases p t b before rows first order =
-    ap (λ (ss : List Service). of_phase p ss) (services_add known phases t b before rows first order)
-    ∙ filter-append _ (services_from known phases [] before) (services_from known phases before rows)
+    ap (λ (ss : List Service). without_ends (of_phase p ss)) (services_add known phases t b before rows first order)
+    ∙ (ap (λ (ss : List Service). without_ends ss) (filter-append _ (services_from known phases [] before) (services_from known phases before rows))
+    ∙ map-append without_end (of_phase p (services_from known phases [] before)) (of_phase p (services_from known phases before rows)))
 
 -- ---- filters by the end of the red window
 
@@ -69,7 +71,7 @@ left_none a b (s ∷ ss) le all =
 -- the lists of an hour, whose rows stand after these
 module _ (known : ℕ → Bool) (phases : List PhaseItem) (p a b : ℕ) (before rows : List Row) (long : a + 50 ≤ b) (first : AreOrdered 0 a before) (order : AreOrdered a b rows) where
   abbrev own : List Service
-  own = of_phase p (services_from known phases before rows)
+  own = without_ends (of_phase p (services_from known phases before rows))
 
   abbrev early : List Service
   early = services_upto known phases p before

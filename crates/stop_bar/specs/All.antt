@@ -5,7 +5,6 @@ use Rattle.sig_base.specs.HourRows.{AreRowsOf}
 use Rattle.sig_base.specs.declared.values.Row.{Row}
 use Rattle.sig_base.specs.Numbers.{has_phase}
 use Rattle.span_set.specs.declared.set.Span.{Span}
-use Rattle.event_codes.specs.declared.channels.Channel.{Channel}
 use Rattle.event_codes.specs.declared.channels.Kind.TheVariants as kinds
 use Rattle.gap_map.specs.declared.stretch.Stretch.{Stretch}
 use Rattle.gap_map.specs.Stretches.{IsCut as IsCutBy, known_in}

@@ -1,5 +1,5 @@
 -- The services of a stop bar's phase, and their windows, up to a point and in an hour.
-use Rattle.std.specs.Prelude.{ℕ, ◌≡◌, ◌+◌, ◌++◌, ◌&&◌, ◌==◌, nat_le, nat_lt, true, Bool, Option, List, [], find}
+use Rattle.std.specs.Prelude.{ℕ, ◌≡◌, ◌+◌, ◌++◌, ◌&&◌, ◌==◌, nat_le, nat_lt, true, Bool, Option, List, [], find, map}
 use Rattle.std.specs.List.{filter}
 use Rattle.sig_base.specs.declared.values.PhaseItem.{PhaseItem}
 use Rattle.sig_base.specs.declared.values.Row.{Row}
@@ -9,6 +9,7 @@ use Rattle.signal_log.specs.Log.{Log}
 use Rattle.hour_sweep.specs.Rows.{known_rows}
 use Rattle.service_cut.specs.declared.items.OpenService.{OpenService}
 use Rattle.service_cut.specs.declared.items.Service.{Service}
+use Rattle.service_cut.specs.declared.items.Termination.TheVariants.{Unlogged}
 use Rattle.service_cut.specs.Cut.{CutLists, IsCut, services_from}
 use Rattle.service_cut.specs.Services.{service_begun_of}
 use Rattle.detector_state.specs.declared.part.Part.{Part}
@@ -19,9 +20,16 @@ use Rattle.split_windows.specs.Windows.{AreEnded, ArePending, IsOpen, left, serv
 use Rattle.stop_bar.specs.Crossing.{Crossing}
 use Rattle.split_windows.specs.declared.items.OpenGreen.{OpenGreen}
 
--- the whole services of phase p that end among the rows
+-- a service without its termination, which is no more under way once its end of yellow has come
+abbrev pub without_end : Service → Service
+without_end s = record s { end = Unlogged }
+
+abbrev pub without_ends : List Service → List Service
+without_ends ss = map without_end ss
+
+-- the whole services of phase p that end among the rows, without their terminations
 abbrev pub services_upto : (ℕ → Bool) → List PhaseItem → ℕ → List Row → List Service
-services_upto known phases p rows = of_phase p (services_from known phases [] rows)
+services_upto known phases p rows = without_ends (of_phase p (services_from known phases [] rows))
 
 -- the open service of phase p among these
 abbrev pub open_with : ℕ → List OpenService → Option OpenService

@@ -1,11 +1,11 @@
 // One stop bar over one hour.
 ghost use Rattle.std.specs.Prelude.{ℕ, ◌≡◌, ◌<◌, ◌+◌, ◌++◌, ◌==◌, IfOk, find, unwrap_or};
 ghost use Rattle.split_windows.specs.Going.{of_phase};
-ghost use Rattle.stop_bar.specs.Bars.{IsBarHour, IsOpenNext, open_with};
+ghost use Rattle.stop_bar.specs.Bars.{IsBarHour, IsOpenNext, open_with, without_end, without_ends};
 
 use crate::at_bar::AtBar;
 use detector_state::Switched;
-use service_cut::{Cuts, OpenService, Service};
+use service_cut::{Cuts, OpenService, Service, Termination};
 use sig_base::{Hour, NoMemory};
 use split_windows::{OpenGreen, Windows, open_after, windows_hour};
 use std::alloc::Global;
@@ -47,14 +47,24 @@ pub fn bar_hour(
     })
 }
 
-// The services of the phase, in their order.
+fn without_end(service: Service) -> Service
+    ensures { result ≡ without_end service }
+{
+    Service {
+        end: Termination::Unlogged,
+        ..service
+    }
+}
+
+// The services of the phase, in their order, without their terminations.
 fn own_services(alloc: Global, services: &[Service], phase: u8) -> Result<Vec<Service>, NoMemory>
-    ensures { IfOk result (λ v. v.items ≡ of_phase phase services.now) }
+    ensures { IfOk result (λ v. v.items ≡ without_ends (of_phase phase services.now)) }
 {
     let own = services
         .iter()
         .copied()
         .filter(|service| service.phase == phase)
+        .map(|service| without_end(service))
         .collect(alloc)?;
     Ok(own)
 }

@@ -18,9 +18,10 @@ use Rattle.rule_audit.proofs.Tracked.{channels_are}
 use Rattle.detector_state.specs.Switches.{IsChannelOf, IsSwitch}
 use Rattle.service_cut.specs.declared.items.Service.{Service}
 use Rattle.split_windows.specs.Going.{AreInOrder}
-use Rattle.split_windows.proofs.Fitting.{known_all, services_in_order}
+use Rattle.split_windows.proofs.Fitting.{known_all}
 use Rattle.stop_bar.specs.declared.bars.StopBar.{StopBar}
 use Rattle.stop_bar.specs.Bars.{ending, services_upto}
+use Rattle.stop_bar.proofs.Hours.{upto_in_order}
 use Rattle.stop_bar.specs.All.{IsPlaceOf, bar_with}
 use Rattle.stop_bar.specs.Lists.{Each}
 use Rattle.stop_bar.proofs.ToldAt.{place_channel}
@@ -85,7 +86,7 @@ module _ (log : Log) (c : Settings) (hour : ℕ) (upto : List Row) (is : IsLogUp
   bar_exists : (b : StopBar) (i : ℕ) → IsPlaceOf c b i → NotNone ((sum : SplitSum) × IsSplitSum log c i b hour upto sum)
   bar_exists b i at =
       let services = services_upto log.known c.phases b.phase upto in
-      let order = services_in_order log.known c.phases b.phase (end_tenth hour) upto is.ordered is.are_known in
+      let order = upto_in_order log.known c.phases b.phase (end_tenth hour) upto is.ordered is.are_known in
       let top = is.within in
       with (verdicts_exist log i (record { kind = Detector; number = b.detector }) b.high is.are_specs is.history (channel_of b i at) tt (first_tenth hour) (end_tenth hour) services (omega arith) order) (λ (vs, all). (
         split_sum_of (vs ++ opens_of (open_in c.window.hours hour services)),

@@ -21,6 +21,8 @@ mod many_edits;
 #[cfg(test)]
 mod measures;
 #[cfg(test)]
+mod moved;
+#[cfg(test)]
 mod offsets;
 #[cfg(test)]
 mod packed;

@@ -83,6 +83,7 @@ returns-clause-small c =
 pub returns-clause-way : goal.returns-clause-way
 returns-clause-way c = λ s has is. record {
   cuts = c.in_ok-cut.ensures.cuts s has is;
+  closing = c.in_ok-cut.ensures.closing s has is;
   splits = c.in_ok-cut.ensures.bars s has is;
   others = c.in_ok-others.ensures.carry s has is;
   arrivals = c.in_ok-cut.ensures.opens s has is;

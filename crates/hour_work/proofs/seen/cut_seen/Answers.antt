@@ -2,6 +2,7 @@ use Rattle.std.proofs.Common.{◌∙◌, ap}
 use Rattle.signal_log.specs.Points.{rows_or_none}
 use Rattle.hour_work.specs.Points.{Carried}
 use Rattle.service_cut.specs.Parts.{IsCarry as IsCut}
+use Rattle.hour_work.proofs.BarLaws.{closing_next}
 use Rattle.hour_work.proofs.MeasureLaws.{opens_over, over_hour}
 use Rattle.hour_work.proofs.SeenLaws.{cut_of, seen_cut, seen_cycles, seen_judged, seen_splits, seen_width}
 use Rattle.hour_work.proofs.seen.cut_seen.Goals as goal
@@ -43,6 +44,15 @@ returns-clause-cuts c = λ s has is.
     let same = c.in_ok-cuts.ensures ∙ ap (λ (x : Carried). x.cuts) c.before-2.view_is in
     let law = rw (c.phases.ensures.value, c.rows-rows.ensures.value, c.stretches-parts.ensures.value) at c.in_ok-cut.ensures.carry in
     over_hour (λ known before k v. IsCut known cfg.phases before k v) s o.hour o.rows o.blanks o.stretches c.in_ok-cuts.cuts c.args.before.now.cuts c.cut_hour.new.carry same has opened.are_rows opened.cut law is.cuts
+
+pub returns-clause-closing : goal.returns-clause-closing
+returns-clause-closing c = λ s has is.
+    let cfg = c.args.config.now in
+    let o = c.args.place.now in
+    let same = c.in_ok-cuts.ensures ∙ ap (λ (x : Carried). x.cuts) c.before-2.view_is in
+    let cutting = rw (c.phases.ensures.value, c.rows-rows.ensures.value, c.stretches-parts.ensures.value) at c.in_ok-cut.ensures.cut in
+    let listed = cut_of cfg s o c.args.before.now c.in_ok-cuts.cuts c.in_ok-cut.cut c.phases.ensures.sound c.stretches-parts.ensures.opened has is same cutting in
+    closing_next cfg s o.hour c.args.before.now (rows_or_none o.rows) o.stretches c.in_ok-cut.cut listed c.in_ok-closing.closing c.end_of.result c.end_of.ensures c.in_ok-closing.ensures
 
 pub returns-clause-bars : goal.returns-clause-bars
 returns-clause-bars c = λ s has is.

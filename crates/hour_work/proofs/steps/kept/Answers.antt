@@ -8,6 +8,7 @@ returns-clause-carry c = λ cfg s has pasts way. record {
   pasts = pasts;
   known = c.is_end_known.ensures ∙ known_after s c.args.place.now.hour c.args.place.now.rows c.args.place.now.blanks (is_some c.args.place.now.rows) has refl;
   cuts = way.cuts;
+  closing = way.closing;
   splits = way.splits;
   others = way.others;
   arrivals = way.arrivals;

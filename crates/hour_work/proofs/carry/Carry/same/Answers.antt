@@ -9,8 +9,8 @@ returns-clause-value c =
     let other = ap (λ (x : Carried). x.pasts) c.other.view_is in
     let pasts = sym own ∙ (c.same.ensures.value.0 c.if-not-same.false ∙ other) in
     let rest = c.same_under_way.ensures in (
-      λ t. let (k, u, p, o, a) = rest.0 t in one_carried c.args.self.now c.args.other.now pasts k u p o a,
-      λ e. rest.1 (ap (λ (x : Carried). x.known) e, ap (λ (x : Carried). x.cuts) e, ap (λ (x : Carried). x.splits) e, ap (λ (x : Carried). x.others) e, ap (λ (x : Carried). x.arrivals) e),
+      λ t. let (k, u, w, p, o, a) = rest.0 t in one_carried c.args.self.now c.args.other.now pasts k u w p o a,
+      λ e. rest.1 (ap (λ (x : Carried). x.known) e, ap (λ (x : Carried). x.cuts) e, ap (λ (x : Carried). x.closing) e, ap (λ (x : Carried). x.splits) e, ap (λ (x : Carried). x.others) e, ap (λ (x : Carried). x.arrivals) e),
     )
 
 pub returns-clause-says : goal.returns-clause-says
@@ -19,6 +19,6 @@ returns-clause-says c =
     let other = ap (λ (x : Carried). x.pasts) c.other.view_is in
     let pasts = sym own ∙ (c.same.ensures.value.0 c.if-not-same.false ∙ other) in
     let rest = c.same_under_way.ensures in (
-      λ t. let (k, u, p, o, a) = rest.0 t in says_refl c.args.self.now c.args.other.now (one_carried c.args.self.now c.args.other.now pasts k u p o a),
-      λ s. rest.1 (s.known, s.cuts, s.splits, s.others, s.arrivals),
+      λ t. let (k, u, w, p, o, a) = rest.0 t in says_refl c.args.self.now c.args.other.now (one_carried c.args.self.now c.args.other.now pasts k u w p o a),
+      λ s. rest.1 (s.known, s.cuts, s.closing, s.splits, s.others, s.arrivals),
     )

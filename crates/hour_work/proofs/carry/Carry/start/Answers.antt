@@ -11,7 +11,7 @@ returns-clause-carry c =
     let shape = rw c.specs.ensures.value at c.in_ok-pasts.ensures.shape in
     let states = rw c.specs.ensures.value at c.in_ok-pasts.ensures.states in
     let cuts = rw c.phases.ensures.value at c.in_ok-cuts.ensures in
-    first_carry c.args.config.now c.in_ok-pasts.pasts c.in_ok-cuts.cuts c.in_ok-splits.splits c.in_ok-others.others c.in_ok-arrivals.arrivals shape states cuts c.in_ok-splits.ensures c.in_ok-others.ensures c.in_ok-arrivals.ensures
+    first_carry c.args.config.now c.in_ok-pasts.pasts c.in_ok-cuts.cuts c.start-closing.result c.in_ok-splits.splits c.in_ok-others.others c.in_ok-arrivals.arrivals shape states cuts c.start-closing.ensures c.in_ok-splits.ensures c.in_ok-others.ensures c.in_ok-arrivals.ensures
 
 pub returns-clause-fit : goal.returns-clause-fit
 returns-clause-fit c = carry_fits c.args.config.now (nothing_held 0) 0 _ (returns-clause-carry c (nothing_held 0))

@@ -1,0 +1,5 @@
+use Rattle.std.proofs.Common.{◌≡◌, length, take}
+use Rattle.service_cut.proofs.closing.same_services.Given as goal
+
+abbrev pub invariant-loop-i : goal.invariant-loop-i
+invariant-loop-i l = record { len : length l.a ≡ length l.b; same : take l.i l.a ≡ take l.i l.b }

@@ -3,7 +3,8 @@
 //! Going over the hours from the window's start, `forward` carries what the hours so far say to the
 //! next hour point, or names the row at which the log contradicts itself; with the states of each
 //! channel go the services, cycles, stop bars' windows, walks, preempts and arrivals that are under
-//! way, and the rows of the services whose red window isn't over. Going back from the window's end, `backward` carries which states can still be completed.
+//! way, and the rows of the services whose red window isn't over. Going back from the window's end,
+//! `backward` carries which states can still be completed.
 //! Between the two stand the numbers of an hour (`partial`) and the lines of its audit
 //! (`audit_lines`), both over all histories of the whole window that agree with the log. A `Report`
 //! has the numbers of all hours. `phase_cycles` and `phase_points` list an hour's whole cycles of a

@@ -43,3 +43,8 @@ def ways_down(crates):
     def ways(name):
         return sum(map(ways, crates[name])) if crates[name] else 1
     return {name: ways(name) for name in crates}
+
+
+def files_below(folder, ending):
+    """The files of a folder and those below it with this ending, in order."""
+    return sorted(os.path.join(at, name) for at, _, names in os.walk(folder) for name in names if name.endswith(ending))

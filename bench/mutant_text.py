@@ -51,11 +51,11 @@ class Mutant:
 
 
 class Function:
-    """A function: its name, the types of its parameters and of its answer as texts, the tokens of its body, its first
-    and last line."""
+    """A function: its name, the types of its parameters and of its answer as texts, the tokens of its body, and its
+    first and last line, clauses included."""
     def __init__(self, source, name, takes, answers, body):
-        self.source, self.name, self.takes, self.answers, self.body = source, name, takes, answers, body
-        self.first, self.last = body[0].line, body[-1].line
+        self.source, self.name, self.takes, self.answers, self.body = source, name.text, takes, answers, body
+        self.first, self.last = name.line, body[-1].line
 
 
 class Source:
@@ -77,7 +77,7 @@ class Source:
             if opens is None or any(a <= i < b for a, b in tests) or is_test(code, i):
                 continue
             takes, answers = types_of(code[i + 2:opens])
-            yield Function(self, code[i + 1].text, takes, answers, code[opens:closing(code, opens) + 1])
+            yield Function(self, code[i + 1], takes, answers, code[opens:closing(code, opens) + 1])
 
 
 def read_tokens(rattle, files):

@@ -95,6 +95,8 @@ def lay_out_pages(man, version, date):
         "sigaudit", "what sigaudit reads and prints", read("docs/FORMATS.md").decode(), version, date))
     for name, path in recipes().items():
         head = with_installed_names(pages.head_of(os.path.join(HERE, "examples", path)))
+        if path.endswith("Makefile"):
+            head = head.replace("\n\n", "\n\nusage: %s FOLDER [-j N]\n\n" % name, 1)
         put("%s/man1/%s.1" % (man, name), pages.of_recipe(name, head, version, date))
 
 

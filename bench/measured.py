@@ -14,7 +14,9 @@ GNU_TIME = "/usr/bin/time"
 
 
 def built_program():
-    """The path of the built program; it is proved and built first where it isn't yet."""
+    """The path of the program that SIGAUDIT names, or of the built one, which is proved and built first if need be."""
+    if os.environ.get("SIGAUDIT"):
+        return os.path.abspath(os.environ["SIGAUDIT"])
     subprocess.run([os.path.join(HERE, "sigaudit")], stdout=subprocess.DEVNULL)
     return os.path.join(HERE, "out", "sigaudit")
 

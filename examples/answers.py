@@ -15,7 +15,8 @@ class Section:
 
 
 class Session:
-    """The configuration, script and answer; edits are (line number, words, answer) in order."""
+    """The configuration, script and answer; edits are (line number, words, answer) in order. What is known at the
+    end, and at a section: the held hours, each with its file and rows, and the blanks."""
 
     def __init__(self, config, script, answer):
         self.config = logs.read_config(config)
@@ -31,7 +32,7 @@ class Session:
         except OSError as error:
             sys.exit("%s: %s" % (error.filename, error.strerror))
         asked = {number for number, words in lines.items() if words and words[0][0] != "#"}
-        held, blanks, answered = set(), [], set()
+        held, blanks, answered = {}, [], set()
         for line in answers:
             found = re.match(r"(\d+) ([a-z]+)\b(.*)", line)
             if not found:
@@ -48,18 +49,19 @@ class Session:
             if what in ("ok", "refused"):
                 self.edits.append((number, words, what + found[3]))
                 if what == "ok":
-                    self.edit(words, held, blanks)
+                    self.edit(words, found[3].split(), held, blanks)
             else:
-                self.sections.append(Section(words, (set(held), list(blanks))))
+                self.sections.append(Section(words, (dict(held), list(blanks))))
         if answered != asked or answers[-1]:
             sys.exit("%s: not the whole answer to %s" % (answer, script))
         self.known = held, blanks
 
-    def edit(self, words, held, blanks):
+    def edit(self, words, said, held, blanks):
+        """Carries out an edit that the answer took: held has the file and the rows of each hour, by its number."""
         if words[0] in ("load", "replace"):
-            held.add(int(words[1]))
+            held[int(words[1])] = words[2], int(said[1])
         elif words[0] == "withdraw":
-            held.discard(int(words[1]))
+            held.pop(int(words[1]), None)
         else:
             low, high = (logs.parse_stamp(word)[0] for word in words[1:3])
             if words[0] == "blank":
@@ -112,6 +114,7 @@ class Session:
 COLOURS = {"Term": "end of green", "YellowDone": "time after yellow", "Clear": "red clearance",
            "ClearDone": "time after red clearance", "DontWalk": "don't walk", "On": "time between on and green",
            "Clearance": "pedestrian clearance"}
+CHANNELS = {"ped": "pedestrian signal", "preempt": "preempt service"}
 
 
 def in_words(name):
@@ -126,7 +129,7 @@ def in_words(name):
     if name[0] == "parents":
         return "overlap %s is green only while one of its phases is served" % name[1]
     kind, number, colour, _, bound, tenths = name
-    channel = {"ped": "pedestrian signal", "preempt": "preempt service"}.get(kind, kind)
+    channel = CHANNELS.get(kind, kind)
     return "the %s of %s %s lasts at %s %.1f s" % (
         COLOURS.get(colour, colour.lower()), channel, number, bound, int(tenths) / 10)
 

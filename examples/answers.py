@@ -90,16 +90,17 @@ class Session:
 
     def unknown(self, section=None):
         """The stretches of the window that weren't known at a section, or at the end: from and up to, in order."""
-        held, blanks = (section or self).known
-        cuts = [(self.start + h * logs.HOUR, self.start + (h + 1) * logs.HOUR)
-                for h in range(self.config["hours"]) if h not in held]
-        merged = []
-        for low, high in sorted(cuts + blanks):
-            if merged and low <= merged[-1][1]:
-                merged[-1] = merged[-1][0], max(high, merged[-1][1])
-            else:
-                merged.append((low, high))
-        return merged
+        return merged(self.missing(section) + self.blanked(section))
+
+    def missing(self, section=None):
+        """The stretches of the window of which no file was held at a section, or at the end."""
+        held = (section or self).known[0]
+        return merged([(self.start + h * logs.HOUR, self.start + (h + 1) * logs.HOUR)
+                       for h in range(self.config["hours"]) if h not in held])
+
+    def blanked(self, section=None):
+        """The stretches that were blanked at a section, or at the end."""
+        return merged((section or self).known[1])
 
     def names(self):
         """The name of each rule by its number, by the audits of the answer."""
@@ -109,6 +110,17 @@ class Session:
                 if line[0] == "rule":
                     found[int(line[1])] = line[2:line.index("kept")]
         return found
+
+
+def merged(stretches):
+    """Stretches of time in order, those that touch or overlap as one."""
+    found = []
+    for low, high in sorted(stretches):
+        if found and low <= found[-1][1]:
+            found[-1] = found[-1][0], max(high, found[-1][1])
+        else:
+            found.append((low, high))
+    return found
 
 
 COLOURS = {"Term": "end of green", "YellowDone": "time after yellow", "Clear": "red clearance",

@@ -10,7 +10,7 @@ import logs
 import pages
 
 WIDE, HALF = 1040, 510
-LEFT, RIGHT, TOP = 58, 14, 12
+LEFT, RIGHT, TOP = 68, 14, 12
 INK, SOFT, LINE = "#1c2127", "#59636e", "#d4d9de"
 BROKEN, UNDECIDED, BLUE, SKY, GREEN, ORANGE = "#b34700", "#0072b2", "#0072b2", "#9fd0ee", "#00805c", "#e69f00"
 # A pattern is drawn once in a page; its lines let what is below it be seen.
@@ -23,6 +23,8 @@ PATTERNS = (
     '<pattern id="striped" width="5" height="5" patternUnits="userSpaceOnUse" patternTransform="rotate(-45)">'
     '<rect width="5" height="5" fill="#e69f00"/><path d="M0 0V5" stroke="#7a5200" stroke-width="1.6"/></pattern>'
     "</defs></svg>")
+# More stretches than so many are drawn as narrow as they are.
+MANY = 40
 # From one tick of a time axis to the next, in tenths.
 STEPS = [minutes * 600 for minutes in (5, 10, 15, 30, 60, 120, 180, 360, 720, 1440, 2880, 7200, 10080)]
 
@@ -88,42 +90,43 @@ class Picture:
     def shade(self, unknown, top=None, bottom=None):
         """Hatches the stretches that aren't known, each wide enough to be seen."""
         top, bottom = self.top if top is None else top, self.bottom if bottom is None else bottom
-        d = []
+        least, d = 2.5 if len(unknown) <= MANY else 0.5, []
         for low, high in unknown:
             low, high = max(low, self.start), min(high, self.end)
             if low < high:
-                wide = max(self.x(high) - self.x(low), 2.5)
+                wide = max(self.x(high) - self.x(low), least)
                 d.append("M%s %sh%sV%sh-%sz" % (short(self.x(low)), short(top), short(wide), short(bottom), short(wide)))
         self.path(d, fill="url(#unknown)")
 
-    def time_axis(self, dates=True):
-        """Ticks by the clock; below them the day where it begins, and at the ends of the picture."""
+    def time_axis(self):
+        """Ticks by the clock, with the days below them; of a longer time ticks by the day."""
+        day = 24 * logs.HOUR
         room = max(4, (self.right - self.left) // 74)
         step = next((step for step in STEPS if (self.end - self.start) / step <= room), STEPS[-1])
-        day = 24 * logs.HOUR
-        self.add("path", d="M%s %sH%s" % (short(self.left), short(self.bottom), short(self.right)), stroke=INK, fill="none")
-        taken = []
-        ticks = []
-        for tenth in range(-(-self.start // step) * step, self.end + 1, step):
-            at = self.x(tenth)
-            ticks.append("M%s %sv5" % (short(at), short(self.bottom)))
-            if step < day:
-                at_end = at > self.right - 20
-                self.write(self.right + RIGHT - 2 if at_end else at, self.bottom + 18,
-                           end_clock(tenth) if tenth == self.end else clock(tenth),
-                           anchor="end" if at_end else "middle")
-            if dates and (step >= day or tenth % day == 0) and tenth < self.end:
-                taken.append((at, tenth))
-        self.path(ticks, stroke=INK)
-        if not dates:
-            return
-        below = self.bottom + (34 if step < day else 18)
-        if not taken or taken[0][0] > self.left + 90:
-            taken.insert(0, (self.left, self.start))
-        for place, (at, tenth) in enumerate(taken):
-            last = at > self.right - 70
-            self.write(self.right + RIGHT - 2 if last else at, below, day_of(tenth),
-                       anchor="end" if last else "start" if place == 0 or step < day else "middle")
+        self.path("M%s %sH%s" % (short(self.left), short(self.bottom), short(self.right)), stroke=INK)
+        by_day = step >= day
+        first = -(-self.start // day) * day if by_day else -(-self.start // step) * step
+        ticks = range(first, self.end + 1, step)
+        self.path(["M%s %sv5" % (short(self.x(tenth)), short(self.bottom)) for tenth in ticks], stroke=INK)
+        for tenth in ticks:
+            if not by_day:
+                self.below(tenth, 18, end_clock(tenth) if tenth == self.end else clock(tenth))
+            elif tenth < self.end:
+                self.below(tenth, 18, day_of(tenth).split(" ", 1)[1])
+        if not by_day:
+            days = [self.start] + list(range(-(-(self.start + 1) // day) * day, self.end, day))
+            if len(days) > 1 and self.x(days[1]) - self.left < 90:
+                days.pop(0)
+            for tenth in days:
+                self.below(tenth, 34, day_of(tenth), at_begin=True)
+
+    def below(self, tenth, down, words, at_begin=False):
+        """Words below the axis: in the middle of a tick or at it, and within the picture."""
+        at, wide = self.x(tenth), 3.6 * len(words)
+        anchor = "start" if at_begin else "middle"
+        if at + (2 * wide if at_begin else wide) > self.width:
+            at, anchor = self.width - 2, "end"
+        self.write(at, self.bottom + down, words, anchor=anchor)
 
     def value_axis(self, greatest, unit, percent=False, exactly=False):
         """Ticks of the numbers, with faint lines through the picture, up to a round number or exactly to the greatest."""
@@ -233,7 +236,10 @@ def hours_band(title, start, end, unknown, rows, unit, percent=False, width=HALF
                                            short(tall), short(wide - 2 * gap)))
         if mean is not None:
             means.append("M%s %sh%s" % (short(picture.x(hour)), short(picture.y(mean)), short(wide)))
-    picture.path(band, fill=SKY, stroke=BLUE if wide > 3 else None, stroke_width=0.6 if wide > 3 else None)
+    if wide > 3:
+        picture.path(band, fill=SKY, stroke=BLUE, stroke_width=0.6)
+    else:
+        picture.path(band, fill=BLUE)
     picture.path(means, stroke=INK, stroke_width=2)
     picture.time_axis()
     return picture.svg()

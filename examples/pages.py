@@ -64,7 +64,7 @@ summary:hover { background: var(--shade); }
 .lines { list-style: none; margin: 8px 0 16px; padding: 0; max-width: none; border-top: 1px solid var(--line); }
 .lines > li { border-bottom: 1px solid var(--line); font-size: 15px; }
 .lines > li.plain { padding: 6px 0 6px 19px; }
-.lines summary span, .lines .plain span { margin-right: 14px; }
+.lines summary > span, .lines .plain > span { margin-right: 14px; }
 .lines summary { line-height: 1.45; }
 .lines .inner { padding: 2px 0 16px 19px; }
 .mark { font-weight: 650; }
@@ -94,7 +94,7 @@ footer { margin-top: 64px; padding-top: 14px; padding-bottom: 48px; color: var(-
   @page { margin: 15mm 14mm; }
   body { font-size: 10pt; line-height: 1.4; } header, main, footer { max-width: none; padding: 0; }
   h1 { font-size: 19pt; } h2 { font-size: 14pt; margin-top: 22pt; } h3 { font-size: 11pt; margin-top: 14pt; }
-  h2, h3, h4, caption { break-after: avoid; } figure, tr, .tiles li, .note, .warn, .lines > li > details > summary { break-inside: avoid; }
+  h2, h3, h4, caption, h2 + p, h3 + p, h4 + p, .scroll caption { break-after: avoid; } figure, tr, .tiles li, .note, .warn, .lines > li > details > summary { break-inside: avoid; }
   thead { display: table-header-group; } .scroll, .picture, pre.rows { overflow: visible; }
   table { font-size: 8.5pt; } th, td { padding: 2.5pt 8pt 2.5pt 0; } .lines > li { font-size: 9pt; } pre.rows { font-size: 7.5pt; white-space: pre-wrap; }
   figcaption, .tiles li > span, caption { font-size: 8.5pt; } .tiles b { font-size: 15pt; } .tiles { grid-template-columns: repeat(auto-fit, minmax(100px, 1fr)); }

@@ -32,12 +32,11 @@ def time(tenth, words=None):
 
 
 def span(low, high):
-    """From and to: the day once where it is one."""
+    """From and to, with the day once where it is one; midnight at the end is the 24:00 of the day before."""
     day = 24 * logs.HOUR
-    if low // day == (high - 1) // day:
-        end = drawings.end_clock(high) if high % 600 == 0 else moment(high).split(" ")[-1]
-        return time(low) + " to " + time(high, end)
-    return time(low) + " to " + time(high)
+    ending = "%s %s" % (moment(high - 1).rsplit(" ", 1)[0], drawings.end_clock(high)) if high % 600 == 0 else moment(high)
+    same = low // day == (high - 1) // day
+    return time(low) + " to " + time(high, ending.split(" ")[-1] if same else ending)
 
 
 def seconds(tenths):

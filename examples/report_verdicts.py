@@ -298,9 +298,14 @@ def section(audit):
             "trip of a conflict monitor, and mostly no two greens. Of the first undecided verdict of some rules two histories are "
             "shown, one that keeps the rule and one that breaks it. Both agree with every known row; that either happened, or "
             "that a controller would do so, isn’t claimed.", cls="soft"))
-    shown = chosen(audit)
-    for number in sorted(numbers, key=lambda number: (not audit.of(number, "broken"), number)):
-        parts.append(rule(audit, number, rules.get(str(number)), shown))
+    shown, undecided = chosen(audit), []
+    for number in numbers:
+        if audit.of(number, "broken"):
+            parts.append(rule(audit, number, rules.get(str(number)), shown))
+        else:
+            undecided.append(rule(audit, number, rules.get(str(number)), shown, level="h4"))
+    if undecided:
+        parts += [element("h3", "Undecided, and nowhere broken")] + undecided
     return element("section", "\n".join(parts))
 
 
@@ -314,10 +319,10 @@ def chosen(audit):
             if line.row.place in places}
 
 
-def rule(audit, number, row, shown):
+def rule(audit, number, row, shown, level="h3"):
     broken, undecided = audit.of(number, "broken"), audit.of(number, "undecided")
     words = answers.in_words(audit.session.names()[number])
-    parts = [element("h3", text(words[:1].upper() + words[1:]), id="rule-%d" % number)]
+    parts = [element(level, text(words[:1].upper() + words[1:]), id="rule-%d" % number)]
     if row:
         parts.append(element("p", "Rule %d: %s broken, %s undecided, %s kept." % (
             number, row.shown("broken"), row.shown("undecided"), row.shown("kept")), cls="soft"))

@@ -84,6 +84,10 @@ class Outage:
     def by_day(self):
         return self.begin // logs.HOUR % 24 in DAY
 
+    def blank(self):
+        """The tenths from the row before to the one after, and those of these two where they lost a row."""
+        return min(self.begin + 1, self.lost[0]), max(self.end, self.lost[-1] + 1)
+
     def is_found(self, blanks):
         """Whether each lost tenth that lies in the gap is blanked."""
         inside = [tenth for tenth in self.lost if self.begin < tenth < self.end]
@@ -127,6 +131,11 @@ def run(words, folder):
     return made.stdout, made.returncode, sum(after[2:4]) - sum(before[2:4])
 
 
+def put(folder, name, text):
+    with open(os.path.join(folder, name), "w") as file:
+        file.write(text)
+
+
 def tenth(word):
     return logs.parse_stamp(word)[0]
 
@@ -140,13 +149,13 @@ def seconds_outside(blanks, outages):
     """The blanked seconds that no outage covers."""
     total = 0
     for low, high in blanks:
-        total += high - low - sum(max(0, min(high, o.end) - max(low, o.begin + 1)) for o in outages)
+        total += high - low - sum(max(0, min(high, o.end + 1) - max(low, o.begin)) for o in outages)
     return total / 10
 
 
 def idle(blanks, outages):
     """The blanks that have no lost row."""
-    return [(low, high) for low, high in blanks if not any(low < o.end and o.begin < high for o in outages)]
+    return [(low, high) for low, high in blanks if not any(low <= tenth < high for o in outages for tenth in o.lost)]
 
 
 def config_text(day, text):
@@ -161,9 +170,9 @@ def audit(program, folder, names, blanks):
     """The audit of the files with these blanks: the broken lines, the count of undecided ones, the hours refused."""
     script = ["blank %s %s" % (logs.show(low), logs.show(high)) for low, high in blanks]
     script += ["load %d %s" % load for load in enumerate(names)] + ["audit"]
-    with open(os.path.join(folder, "script.txt"), "w") as file:
-        file.write("\n".join(script) + "\n")
+    put(folder, "script.txt", "\n".join(script) + "\n")
     answer, _, _ = run([program, "--config", "config.toml", "--script", "script.txt"], folder)
+    put(folder, "answer.txt", answer)
     lines = answer.splitlines()
     broken = [line for line in lines if line.startswith("broken ")]
     return broken, sum(line.startswith("undecided ") for line in lines), sum(" refused " in line for line in lines)

@@ -338,10 +338,15 @@ class Gaps:
     def score(self, begin, end):
         return self.odds(self.vector((begin, end)))
 
+    def take(self, holes):
+        """From now on these are known holes: rows on both sides of one tell nothing together."""
+        self.holes = sorted([*self.holes, *((begin, end - 1) for begin, end in holes)])
+
     def find(self, least=WEAK, taken=LIKELY):
         """The likeliest gaps one after another, each from `taken` on held for a hole before the next: (odds, gap)."""
         heap = [(-self.odds(vector), gap) for gap, vector in self.vectors.items()]
-        heap = [entry for entry in heap if -entry[0] >= least]
+        heap = [entry for entry in heap if -entry[0] >= least and not any(
+            begin < entry[1][1] and entry[1][0] < end for begin, end in self.holes)]
         heapq.heapify(heap)
         found, scored_at = [], {}
         while heap:

@@ -1,7 +1,7 @@
 """Which gaps of a log are proposed as holes, with grades: what `holes` rests on beside `gaps` and `machines`. Not proved.
 
-First the gaps that the model of `gaps` finds likely. Then what the machines and the configuration's floors contradict
-still, until nothing does: a hole goes into the likeliest gaps between the two rows, or over all of it.
+First what the machines and the configuration's floors contradict: a hole lies between the two rows, and is put over the
+likeliest gaps there. Then, these known, the gaps that the model of `gaps` finds likely.
 """
 import bisect
 import dataclasses
@@ -20,14 +20,17 @@ MISFIT_LEAST, MISFIT_SHARE = 10, 0.05
 
 @dataclasses.dataclass(order=True)
 class Hole:
-    """A gap for which a blank is proposed: the row before, the row after, the blank, how sure it is, and why."""
+    """A gap for which a blank is proposed: the row before, the row after, how sure it is, and why."""
     begin: int
     end: int
-    low: int
-    high: int
     grade: str
     odds: float | None
     why: str
+
+    def blank(self):
+        """The first tenth that is blanked, and the first that isn't: other rows of the tenths at both ends may be lost
+        too, as where rows are lost by their number and not by their time."""
+        return self.begin, self.end + 1
 
 
 @dataclasses.dataclass
@@ -83,9 +86,9 @@ class Log:
 
 
 def silences(begin, end, tenths):
-    """The silences of a stretch with the blank of each: (from, to, first blanked, first not)."""
-    ends = [(begin, begin)] + [(t, t + 1) for t in tenths] + [(end, end)]
-    return [(a, b, c, b) for (a, c), (b, _) in zip(ends, ends[1:]) if b > c]
+    """The silences of a stretch with at least one tenth between two rows, or before the first or after the last."""
+    marks = [begin - 1] + list(tenths) + [end]
+    return [(max(a, begin), b) for a, b in zip(marks, marks[1:]) if b > a + 1]
 
 
 def without_repeats(rows):
@@ -145,7 +148,7 @@ def proposals(log, config, silence=None, jobs=1, chances=True):
                         if s[1] - s[0] >= silence and s[0] not in known]
     settle(log, config, found, None)
     found.holes.sort()
-    blanks = merged((hole.low, hole.high) for hole in found.holes)
+    blanks = merged(hole.blank() for hole in found.holes)
     found.suspects = sorted((entry for entry in found.suspects
                              if not any(a < entry[2] and entry[1] < b for a, b in blanks)), reverse=True)
     return found
@@ -158,16 +161,17 @@ def proposals_of(log, end, edges, config, jobs, chances):
     if model is None:
         found.small.append((log.stretches()[0][0], log.stretches()[-1][1], len(log.tenths())))
         return found
+    settle(log, config, found, model)
+    model.take(hole.blank() for hole in found.holes)
     for odds, gap in model.find():
         if odds >= gaps.LIKELY:
-            found.holes.append(Hole(*gap, gap[0] + 1, gap[1], gaps.grade_of(odds), odds, in_words(model, gap)))
+            found.holes.append(Hole(*gap, gaps.grade_of(odds), odds, in_words(model, gap)))
         else:
             found.suspects.append((odds, *gap, in_words(model, gap)))
     found.holes += [Hole(*s, "likely", None, "edge") for s in log.silences()
-                    if (s[0] in edges or s[1] in edges) and s[1] - s[0] >= gaps.LEAST and model.silent(*s[:2]) > EDGE]
+                    if (s[0] in edges or s[1] in edges) and s[1] - s[0] >= gaps.LEAST and model.silent(*s) > EDGE]
     if chances:
         found.chances = list(model.chances())
-    settle(log, config, found, model)
     found.misfits = []
     found.holes = [hole for hole in found.holes if hole.begin < end]
     found.suspects = [entry for entry in found.suspects if entry[1] < end]
@@ -221,7 +225,7 @@ def settle(log, config, found, model):
     found.misfits = misfits(rows, contradictions(rows, floors, log.missing()))
     odd = {(kind, code) for kind, code, *_ in found.misfits}
     while rows:
-        blanks = merged([(hole.low, hole.high) for hole in found.holes] + log.missing())
+        blanks = merged([hole.blank() for hole in found.holes] + log.missing())
         wrong = [entry for entry in contradictions(rows, floors, blanks) if (entry[3][0], entry[4]) not in odd]
         rows = {entry[3]: rows[entry[3]] for entry in wrong}
         taken = []
@@ -230,21 +234,17 @@ def settle(log, config, found, model):
                 begin, end = span_of(low, high, tenths, blanks, model)
                 taken.append((begin, end))
                 why = "%s code %d at %s after %s" % (name_of(channel), code, logs.show(high), logs.show(low))
-                found.holes.append(Hole(begin, end, begin + 1, end, "certain", None, why))
+                found.holes.append(Hole(begin, end, "certain", None, why))
 
 
 def span_of(low, high, tenths, blanks, model):
     """Where the hole goes that lies between two rows: the row before and the row after."""
     i, j = bisect.bisect_left(tenths, low), bisect.bisect_left(tenths, high)
-    behind = tenths[min(len(tenths) - 1, j + 1)]
     near = [blank for blank in blanks if blank[0] <= high and low < blank[1]]
     if near:
-        # One is there already, and too small for the floors: it grows, in the end over the row.
-        return near[-1][0] - 1, high if near[-1][1] < high else behind
+        return near[0][0], high    # one is there already, and too small for the floors: it grows
     inside = [gap for gap in zip(tenths[i:j], tenths[i + 1:j + 1]) if gap[1] - gap[0] > 1]
-    if not inside:
-        return tenths[max(0, i - 1)], behind
-    likeliest = likeliest_of(inside, model)
+    likeliest = likeliest_of(inside, model) if inside else [(low, high)]
     return min(likeliest)[0], max(likeliest)[1]
 
 

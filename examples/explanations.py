@@ -12,6 +12,7 @@ Times are tenths, as logs.py counts them (logs.show prints a stamp). What is sai
 log: where rows are missing, a duration has a least and a greatest value, which are equal where the rows tell. Floors
 of the configuration aren't used: with them less may be possible, and never more.
 """
+import bisect
 import dataclasses
 from typing import NamedTuple
 
@@ -21,7 +22,9 @@ import logs
 import machines
 
 SERVED = frozenset(("On", "Green", "Term", "Yellow", "Clear"))
-# So many hours before and after the hour of a verdict are read until its colour's begin and end are found.
+# So many hours before and after that of a verdict are read, until begin and end are found: most in its own hour, and
+# few rules ask for a colour of hours. Of an undecided conflict, companion or parents line the first two suffice, since
+# some channel may never have told what it shows.
 REACHES = (0, 1, 2, 6, 24)
 
 
@@ -53,6 +56,7 @@ class Explanation:
     stretch: tuple | None   # the stretch that decides it, its first and its last tenth; None where none is printed
     silence: tuple | None   # the longest time without a row in that stretch, its ends; None where there is none
     unknown: tuple          # the unknown stretches that leave least and greatest apart, each from and up to
+    instead: tuple          # of a duration rule, the other colours that the channel may have had before the row
     log: held.HeldLog = dataclasses.field(repr=False, compare=False)
 
     @property
@@ -77,12 +81,11 @@ class Explanation:
         return self.bound - self.least if self.at == "least" else self.least - self.bound
 
     @property
-    def shows(self):
-        """Whether the figures show the verdict by themselves: that a broken rule is broken. Where not, it follows by
-        the floors, or from rows after the stamp."""
-        if self.at == "least":
-            return self.greatest is not None and self.greatest < self.bound
-        return self.least > (self.bound if self.at else 0)
+    def shown(self):
+        """The verdict that the figures show by themselves; the floors may make more of it, and never another."""
+        if self.at is None:
+            return "broken" if self.least else "kept" if self.greatest == 0 else "undecided"
+        return verdict_of(self.at, self.bound, self.least, self.greatest, self.instead)
 
     def rows(self):
         """All known rows in the deciding stretch, its ends among them; none where there is no stretch."""
@@ -200,10 +203,21 @@ class Course:
             after.append(self.every if table is None else frozenset(
                 colour for colour in table if table[colour] in after[-1]))
         self.after = after[::-1]
+        self.starts = [self.start_of(event) for event in self.events]
+        self.pieces = self.cut()
+        self.piece_starts = [piece[0] for piece in self.pieces]
+
+    @staticmethod
+    def start_of(event):
+        return event.tenth if isinstance(event, held.Row) else event[0]
 
     def table(self, event):
         """Where a row leads from each colour; None of an unknown stretch."""
         return machines.MACHINES[self.channel[0]][event.code] if isinstance(event, held.Row) else None
+
+    def colours(self, place):
+        """The colours that are possible between an event and the one before it; after the last one where it is none."""
+        return self.before[place] & self.after[place]
 
     def begin(self, place, colour):
         """When the colour began that the channel has before an event: earliest (None: before this time), latest, and
@@ -231,29 +245,32 @@ class Course:
 
     def ends_at(self, colour, tenth):
         """The places of the rows of a tenth that can end the colour, in order."""
-        return [place for place, event in enumerate(self.events)
-                if isinstance(event, held.Row) and event.tenth == tenth and colour in self.before[place]
-                and self.table(event).get(colour, colour) != colour]
+        return [place for place in self.rows_at(tenth)
+                if colour in self.colours(place) and self.table(self.events[place])[colour] != colour]
 
-    def pieces(self):
+    def rows_at(self, tenth):
+        """The places of the rows of a tenth."""
+        places = range(bisect.bisect_left(self.starts, tenth), bisect.bisect_right(self.starts, tenth))
+        return [place for place in places if isinstance(self.events[place], held.Row)]
+
+    def cut(self):
         """The time as pieces, each with the colours that are possible at the ends of its tenths."""
         found, begin = [], self.low
         for place, event in enumerate(self.events):
-            low = event.tenth if isinstance(event, held.Row) else event[0]
+            low = self.start_of(event)
             if begin < low:
-                found.append((begin, low, self.before[place] & self.after[place]))
+                found.append((begin, low, self.colours(place)))
             begin = low
             if not isinstance(event, held.Row):
                 begin = event[1] - 1
                 if low < begin:
                     found.append((low, begin, self.every))
-        found.append((begin, self.high, self.before[-1] & self.after[-1]))
+        found.append((begin, self.high, self.colours(len(self.events))))
         return found
 
     def run(self, tenth, holds):
         """The longest time around a tenth in whose pieces the colours pass a test, as its ends; None where not there."""
-        pieces = self.pieces()
-        place = next(i for i, piece in enumerate(pieces) if piece[0] <= tenth < piece[1])
+        pieces, place = self.pieces, bisect.bisect_right(self.piece_starts, tenth) - 1
         if not holds(pieces[place][2]):
             return None
         first = last = place
@@ -265,10 +282,7 @@ class Course:
 
     def turn(self, tenth, holds):
         """The first row of a tenth after which the possible colours pass a test, or None."""
-        for place, event in enumerate(self.events):
-            if isinstance(event, held.Row) and event.tenth == tenth and holds(self.before[place + 1] & self.after[place + 1]):
-                return event
-        return None
+        return next((self.events[place] for place in self.rows_at(tenth) if holds(self.colours(place + 1))), None)
 
 
 class Finder:
@@ -291,13 +305,9 @@ class Finder:
 
     def find(self, rule, stamp):
         """The lines of a rule at a stamp, kept ones too where the answer has them, each with its section."""
-        found = [(line, section) for line, section in self.lines(("broken", "undecided"))
-                 if (line.rule, line.stamp) == (rule, stamp)]
-        hours = dict(self.session.by_hour("verdicts"))
-        section = hours.get((stamp - self.session.start) // logs.HOUR)
-        if found or section is None:
-            return found
-        return [(line, section) for line, section in lines_of([section], ("kept", "broken", "undecided"))
+        hour = dict(self.session.by_hour("verdicts")).get((stamp - self.session.start) // logs.HOUR)
+        sections = self.sections if hour is None or hour.known != self.sections[-1].known else [hour]
+        return [(line, section) for line, section in lines_of(sections, ("kept", "broken", "undecided"))
                 if (line.rule, line.stamp) == (rule, stamp)]
 
     def log(self, section):
@@ -333,36 +343,40 @@ class Finder:
         channel, colour, bound = (name[0], int(name[1])), name[2], int(name[5])
         for reach in REACHES:
             course = self.course(log, channel, (line.stamp - self.session.start) // logs.HOUR, reach)
-            found = [(course.events[place],) + course.begin(place, colour)
-                     for place in course.ends_at(colour, line.stamp)]
-            if all(earliest is not None and (earliest == latest or holes) for _, earliest, latest, _, holes in found):
+            found = [(place,) + course.begin(place, colour) for place in course.ends_at(colour, line.stamp)]
+            told = all(low == high and course.colours(place) == {colour} for place, low, high, *_ in found)
+            if told or reach and all(low is not None and holes for _, low, _, _, holes in found):
                 break
-            if course.low == self.session.start:
+            if course.low == self.session.start and course.high == self.session.end:
                 break
-        fitting = [one for one in found if agrees(line, name[4], bound, one[1], one[2])] or found
-        end, earliest, latest, begin, holes = fitting[min(line.place, len(fitting) - 1)]
-        return {"bound": bound, "at": name[4], "least": line.stamp - latest,
-                "greatest": None if earliest is None else line.stamp - earliest, "begin": begin, "end": end,
-                "unknown": () if earliest == latest else tuple(holes[::-1])}
+        figures = [{"bound": bound, "at": name[4], "least": line.stamp - high,
+                    "greatest": None if low is None else line.stamp - low, "begin": begin, "end": course.events[place],
+                    "unknown": () if low == high else tuple(holes[::-1]),
+                    "instead": tuple(one for one in machines.COLOURS[name[0]] if one in course.colours(place) - {colour})}
+                   for place, low, high, begin, holes in found]
+        fitting = [one for one in figures if line.verdict == verdict_of(
+            name[4], bound, one["least"], one["greatest"], one["instead"])] or figures
+        return fitting[min(line.place, len(fitting) - 1)]
 
     def together(self, log, name, line):
         """Of another rule: the time around the stamp for which what it forbids was so."""
         pairs = forbidden(name, self.session.config)
-        for reach in REACHES:
+        for reach in REACHES[:2] if line.verdict == "undecided" else REACHES:
             courses = [self.course(log, channel, (line.stamp - self.session.start) // logs.HOUR, reach)
                        for channel, _ in pairs]
             sure, may = (overlap([course.run(line.stamp, lambda seen, bad=bad: test(seen, bad))
                                   for course, (_, bad) in zip(courses, pairs)])
                          for test in (frozenset.issubset, lambda seen, bad: bool(seen & bad)))
-            inside = courses[0].low < may[0] and may[1] < courses[0].high
-            whole = courses[0].low == self.session.start and courses[0].high == self.session.end
-            if inside or whole:
+            inside = [run is None or courses[0].low < run[0] and run[1] < courses[0].high for run in (sure, may)]
+            if sure == may and all(inside):
+                break
+            if courses[0].low == self.session.start and courses[0].high == self.session.end:
                 break
         begin, end = self.turns(courses, pairs, sure) if sure else (None, None)
-        return {"bound": None, "at": None, "least": sure[1] - sure[0] if sure else 0,
-                "greatest": may[1] - may[0] if inside else None, "begin": begin, "end": end,
-                "unknown": () if sure == may else tuple(log.unknown_in(may[0], may[1] + 1))}
-
+        unknown = () if sure == may else tuple(log.unknown_in(may[0], may[1] + 1))
+        greatest = 0 if may is None else may[1] - may[0] if inside[1] else None
+        return {"bound": None, "at": None, "least": sure[1] - sure[0] if sure else 0, "greatest": greatest,
+                "begin": begin, "end": end, "unknown": unknown, "instead": ()}
 
     @staticmethod
     def turns(courses, pairs, sure):
@@ -378,12 +392,13 @@ def overlap(runs):
     return None if None in runs else (max(run[0] for run in runs), min(run[1] for run in runs))
 
 
-def agrees(line, at, bound, earliest, latest):
-    """Whether a duration by its earliest and latest begin can have this verdict."""
-    short, long = line.stamp - latest, None if earliest is None else line.stamp - earliest
-    may_keep = (long is None or long >= bound) if at == "least" else short <= bound
-    may_break = short < bound if at == "least" else long is None or long > bound
-    return {"kept": may_keep, "broken": may_break}.get(line.verdict, may_keep and may_break)
+def verdict_of(at, bound, least, greatest, instead):
+    """The verdict of a duration from least to greatest (None: of any length), where another colour may have been."""
+    long = float("inf") if greatest is None else greatest
+    if least >= bound if at == "least" else long <= bound:
+        return "kept"
+    breaks = long < bound if at == "least" else least > bound
+    return "broken" if breaks and not instead else "undecided"
 
 
 def lines_of(sections, verdicts):

@@ -15,7 +15,8 @@ class Section:
 
 
 class Session:
-    """The configuration, script and answer; edits are (line number, words, answer) in order."""
+    """The configuration, script and answer; edits are (line number, words, answer) in order. What is known at the
+    end, and at a section: the held hours, each with its file and rows, and the blanks."""
 
     def __init__(self, config, script, answer):
         self.config = logs.read_config(config)
@@ -31,7 +32,7 @@ class Session:
         except OSError as error:
             sys.exit("%s: %s" % (error.filename, error.strerror))
         asked = {number for number, words in lines.items() if words and words[0][0] != "#"}
-        held, blanks, answered = set(), [], set()
+        held, blanks, answered = {}, [], set()
         for line in answers:
             found = re.match(r"(\d+) ([a-z]+)\b(.*)", line)
             if not found:
@@ -48,18 +49,19 @@ class Session:
             if what in ("ok", "refused"):
                 self.edits.append((number, words, what + found[3]))
                 if what == "ok":
-                    self.edit(words, held, blanks)
+                    self.edit(words, found[3].split(), held, blanks)
             else:
-                self.sections.append(Section(words, (set(held), list(blanks))))
+                self.sections.append(Section(words, (dict(held), list(blanks))))
         if answered != asked or answers[-1]:
             sys.exit("%s: not the whole answer to %s" % (answer, script))
         self.known = held, blanks
 
-    def edit(self, words, held, blanks):
+    def edit(self, words, said, held, blanks):
+        """Carries out an edit that the answer took: held has the file and the rows of each hour, by its number."""
         if words[0] in ("load", "replace"):
-            held.add(int(words[1]))
+            held[int(words[1])] = words[2], int(said[1])
         elif words[0] == "withdraw":
-            held.discard(int(words[1]))
+            held.pop(int(words[1]), None)
         else:
             low, high = (logs.parse_stamp(word)[0] for word in words[1:3])
             if words[0] == "blank":
@@ -88,16 +90,17 @@ class Session:
 
     def unknown(self, section=None):
         """The stretches of the window that weren't known at a section, or at the end: from and up to, in order."""
-        held, blanks = (section or self).known
-        cuts = [(self.start + h * logs.HOUR, self.start + (h + 1) * logs.HOUR)
-                for h in range(self.config["hours"]) if h not in held]
-        merged = []
-        for low, high in sorted(cuts + blanks):
-            if merged and low <= merged[-1][1]:
-                merged[-1] = merged[-1][0], max(high, merged[-1][1])
-            else:
-                merged.append((low, high))
-        return merged
+        return merged(self.missing(section) + self.blanked(section))
+
+    def missing(self, section=None):
+        """The stretches of the window of which no file was held at a section, or at the end."""
+        held = (section or self).known[0]
+        return merged([(self.start + h * logs.HOUR, self.start + (h + 1) * logs.HOUR)
+                       for h in range(self.config["hours"]) if h not in held])
+
+    def blanked(self, section=None):
+        """The stretches that were blanked at a section, or at the end."""
+        return merged((section or self).known[1])
 
     def names(self):
         """The name of each rule by its number, by the audits of the answer."""
@@ -109,9 +112,21 @@ class Session:
         return found
 
 
+def merged(stretches):
+    """Stretches of time in order, those that touch or overlap as one."""
+    found = []
+    for low, high in sorted(stretches):
+        if found and low <= found[-1][1]:
+            found[-1] = found[-1][0], max(high, found[-1][1])
+        else:
+            found.append((low, high))
+    return found
+
+
 COLOURS = {"Term": "end of green", "YellowDone": "time after yellow", "Clear": "red clearance",
            "ClearDone": "time after red clearance", "DontWalk": "don't walk", "On": "time between on and green",
            "Clearance": "pedestrian clearance"}
+CHANNELS = {"ped": "pedestrian signal", "preempt": "preempt service"}
 
 
 def in_words(name):
@@ -126,7 +141,7 @@ def in_words(name):
     if name[0] == "parents":
         return "overlap %s is green only while one of its phases is served" % name[1]
     kind, number, colour, _, bound, tenths = name
-    channel = {"ped": "pedestrian signal", "preempt": "preempt service"}.get(kind, kind)
+    channel = CHANNELS.get(kind, kind)
     return "the %s of %s %s lasts at %s %.1f s" % (
         COLOURS.get(colour, colour.lower()), channel, number, bound, int(tenths) / 10)
 

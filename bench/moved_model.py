@@ -16,6 +16,7 @@ floor, so entries before OLD tenths are as good as one of OLD tenths before.
 import bisect
 
 import hostile_data as data
+import machines
 
 HOUR = data.HOUR
 OLD = 36001
@@ -37,13 +38,9 @@ class Channel:
 
 def channel(kind, number, floors=()):
     """A channel of the configuration. A row's letter is its code, of the coordination its parameter."""
+    machine = machines.MACHINES[kind.replace(" ", "_")]
     if kind == "coordination":
-        machine = {n: data.from_any(range(7), n) for n in range(7)}
-        return Channel((kind, 0), machine, {(150, n): n for n in range(7)})
-    detector = dict(data.DETECTOR)
-    detector.update((code, data.DETECTOR[84]) for code in range(85, 89))
-    machine = {"phase": data.PHASE, "ped": data.PED, "overlap": data.OVERLAP, "preempt": data.SERVICE,
-               "input": data.switch(104, 102), "ped detector": data.switch(89, 90), "detector": detector}[kind]
+        return Channel((kind, 0), machine, {(150, state): state for state in machine})
     return Channel((kind, number), machine, {(code, number): code for code in machine}, floors)
 
 
@@ -53,7 +50,7 @@ class Setup:
         self.hours, self.phases, self.peds, self.overlaps, self.preempts = hours, phases, peds, overlaps, preempts
         self.coordination, self.floors, self.approaches = coordination, floors, approaches
         named = [("phase", n) for n in phases] + [("ped", n) for n in peds] + [("overlap", n) for n in overlaps]
-        named += [("input", n) for n in preempts] + [("preempt", n) for n in preempts]
+        named += [("preempt input", n) for n in preempts] + [("preempt", n) for n in preempts]
         named += [("ped detector", n) for n in peds]
         named += [("detector", n) for n in sorted({n for each in approaches for n in each.detectors()})]
         named += [("coordination", 0)] if coordination else []

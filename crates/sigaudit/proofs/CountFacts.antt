@@ -1,11 +1,12 @@
 -- How the lines of a script open hours.
-use Rattle.std.proofs.Common.{◌≡◌, ◌<◌, ◌≤◌, ◌+◌, ◌*◌, ◌/◌, ◌++◌, ◌∙◌, ◌⊎◌, ℕ, List, [], ◌∷◌, length, Bool, true, false, Option, Some, Result, Ok, Err, refl, sym, ap, subst, inl, inr, arith, append_assoc, append-nil}
+use Rattle.std.proofs.Common.{◌≡◌, ◌<◌, ◌≤◌, ◌+◌, ◌*◌, ◌/◌, ◌++◌, ◌∙◌, ◌⊎◌, ℕ, List, [], ◌∷◌, length, Bool, true, false, Option, Some, None, Result, Ok, Err, refl, sym, ap, subst, inl, inr, arith, append_assoc, append-nil}
 use Rattle.std.specs.Prelude.{OnOk, slice_index}
 use Rattle.std.proofs.lemmas.Bool.{cases_lt, lt-ltb, le-ltb}
 use Rattle.std.proofs.lemmas.List.{length-append}
 use Rattle.outside.specs.Shelf.{Files}
 use Rattle.sig_base.specs.HourRows.{Shown}
 use Rattle.sig_base.specs.Window.{Span}
+use Rattle.sig_base.specs.Numbers.{has_phase}
 use Rattle.sig_base.specs.declared.values.Row.{Row}
 use Rattle.sig_base.specs.declared.values.Applied.{Applied}
 use Rattle.sig_base.specs.declared.values.EditError.{EditError}
@@ -14,6 +15,7 @@ use Rattle.hour_store.specs.Store.{Store, nothing_held}
 use Rattle.ring_config.specs.Reading.{Read}
 use Rattle.ring_config.specs.Settings.{Settings}
 use Rattle.ring_config.specs.declared.error.ConfigError.{ConfigError}
+use Rattle.signal_log.specs.Log.{HasHistory, log_of}
 use Rattle.session.specs.Edits.{Change, hour_change, step_of}
 use Rattle.session.specs.Edits as change
 use Rattle.session.specs.Moved.{Moves}
@@ -35,6 +37,7 @@ use Rattle.sigaudit.specs.declared.status.Stopped.TheVariants as stopped
 use Rattle.sigaudit.specs.Counting.{AreCounted, ArePlain, AreTallied, OpensAnswer, OpensConfig, OpensFile, OpensText, EditTally, FetchTally, IsPlain, LineTally, MadeTally, ReadTally, ScriptTally, WhereTaken, within}
 use Rattle.sigaudit.specs.Aims.{Aim, for_lines}
 use Rattle.sigaudit.specs.HourFile.{hour_said}
+use Rattle.sigaudit.specs.Offsets.{advance_of}
 use Rattle.sigaudit.specs.Run.{World, Takes}
 use Rattle.sigaudit.specs.Script.{edit_said, hour_bytes, hour_file, is_edit_memory, wanted_for, IsTurn}
 use Rattle.sigaudit.specs.Status.{status_of_run}
@@ -66,21 +69,21 @@ counted_still Tally a b e tally = (ap length e, λ h lt. (0, 0, tally h, opened_
 pub same_tally : (T U : ℕ → ℕ → ℕ → Type 0) (a b : List ℕ) → ((h m k : ℕ) → T h m k → U h m k) → AreCounted T a b → AreCounted U a b
 same_tally T U a b f (size, each) = (size, λ h lt. let (m, k, tally, opened) = each h lt in (m, k, f h m k tally, opened))
 
-made_counted : (c : Settings) (s new : Store) (ch : Change) (a : Applied) (old now : List ℕ) → Moves c s new ch a → AreOpened a.from a.to 1 3 old now → AreCounted (MadeTally c s ch (Ok new)) old now
-made_counted c s new ch a old now moves opens = (
+made_counted : (c : Settings) (s new : Store) (ch : Change) (a : Applied) (old now : List ℕ) → HasHistory (log_of c.specs new) → Moves c s new ch a → AreOpened a.from a.to 1 3 old now → AreCounted (MadeTally c s ch (Ok new)) old now
+made_counted c s new ch a old now has moves opens = (
   opens.size,
   λ h lt. elim (cases_lt h a.from) [
-    | inl before ↦ (0, 0, inl (a, moves, sym (within_not a.from a.to h (inl before)), refl), opened_not (slice_index old h) (slice_index now h) (opens.outside h (inl before)))
+    | inl before ↦ (0, 0, inl (has, a, moves, sym (within_not a.from a.to h (inl before)), refl), opened_not (slice_index old h) (slice_index now h) (opens.outside h (inl before)))
     | inr low ↦ elim (cases_lt h a.to) [
-      | inl high ↦ (1, 0, inl (a, moves, sym (within_is a.from a.to h low high), refl), opens.within h lt low high)
-      | inr past ↦ (0, 0, inl (a, moves, sym (within_not a.from a.to h (inr past)), refl), opened_not (slice_index old h) (slice_index now h) (opens.outside h (inr past)))
+      | inl high ↦ (1, 0, inl (has, a, moves, sym (within_is a.from a.to h low high), refl), opens.within h lt low high)
+      | inr past ↦ (0, 0, inl (has, a, moves, sym (within_not a.from a.to h (inr past)), refl), opened_not (slice_index old h) (slice_index now h) (opens.outside h (inr past)))
     ]
   ],
 )
 
 pub edit_counted : (c : Settings) (s new : Store) (ch : Change) (a : Applied) (old now : List ℕ) → Steps c (step_of s ch) s new (Ok a) → Moves c s new ch a → OpensBy ch old now (Ok a) → AreCounted (EditTally c s ch) old now
 unfolding OpensBy
-edit_counted c s new ch a old now steps moves opens = rw steps.0 (made_counted c s new ch a old now moves opens)
+edit_counted c s new ch a old now steps moves opens = rw steps.0 (made_counted c s new ch a old now steps.1 moves opens)
 
 -- an edit that is refused before it is made
 unmade : (c : Settings) (s : Store) (ch : Change) (to : Result Store EditError) (e : EditError) (old now : List ℕ) → to ≡ Err e → now ≡ old → AreCounted (MadeTally c s ch to) old now
@@ -90,15 +93,16 @@ stopped_counted : (c : Settings) (s new : Store) (ch : Change) (row : Row) (old 
 unfolding OpensBy
 stopped_counted c s new ch row old now steps (first, last, touches, opens) =
     let to = row.at / 36000 + 1 in
-    let (_, (t, is, contradicts, _)) = steps in
+    let (_, (t, is, contradicts, none)) = steps in
     let same : t ≡ new = cc in
-    let at = rw same at contradicts in (
+    let at = rw same at contradicts in
+    let not = rw same at none in (
       opens.size,
       λ h lt. elim (cases_lt h first) [
-        | inl before ↦ (0, 0, inr (row, first, last, at, touches, refl, sym (within_not first to h (inl before))), opened_not (slice_index old h) (slice_index now h) (opens.outside h (inl before)))
+        | inl before ↦ (0, 0, inr (row, first, last, at, not, touches, refl, sym (within_not first to h (inl before))), opened_not (slice_index old h) (slice_index now h) (opens.outside h (inl before)))
         | inr low ↦ elim (cases_lt h to) [
-          | inl high ↦ (0, 1, inr (row, first, last, at, touches, refl, sym (within_is first to h low high)), opened_wider 1 1 0 3 (slice_index old h) (slice_index now h) (omega arith) (omega arith) (opens.within h lt low high))
-          | inr past ↦ (0, 0, inr (row, first, last, at, touches, refl, sym (within_not first to h (inr past))), opened_not (slice_index old h) (slice_index now h) (opens.outside h (inr past)))
+          | inl high ↦ (0, 1, inr (row, first, last, at, not, touches, refl, sym (within_is first to h low high)), opened_wider 1 1 0 3 (slice_index old h) (slice_index now h) (omega arith) (omega arith) (opens.within h lt low high))
+          | inr past ↦ (0, 0, inr (row, first, last, at, not, touches, refl, sym (within_not first to h (inr past))), opened_not (slice_index old h) (slice_index now h) (opens.outside h (inr past)))
         ]
       ],
     )
@@ -206,9 +210,28 @@ hour_still files c hour s h = (refl, refl)
 pub line_still : (files : Files) (c : Settings) (x y : Said) (s : Store) (old : List ℕ) (r : Result Bool Stopped) → x ≡ y → ((h : ℕ) → LineTally files c y s h 0 0) → OnOk r (AreCounted (LineTally files c x s) old old)
 line_still files c x y s old r e still = rw e (on_ok r (AreCounted (LineTally files c y s) old old) (counted_still (LineTally files c y s) old old refl still))
 
+points_still : (files : Files) (c : Settings) (p : ℕ) (s : Store) (h : ℕ) → LineTally files c (line.points p) s h 0 0
+unfolding LineTally
+points_still files c p s h = (refl, refl)
+
+offsets_still : (files : Files) (c : Settings) (name : List ℕ) (s : Store) (h : ℕ) → LineTally files c (line.offsets name) s h 0 0
+unfolding LineTally
+offsets_still files c name s h = (refl, refl)
+
+-- a bad line, as it names no phase of the configuration, or no approach with an advance detector
+pub points_counted : (files : Files) (c : Settings) (x : Said) (p : ℕ) (s : Store) (old now : List ℕ) (r : Result Bool Stopped) → x ≡ line.points p → (has_phase c.phases p ≡ false → now ≡ old) → IsPlain c x → OnOk r (AreCounted (LineTally files c x s) old now)
+points_counted files c x p s old now r e still plain =
+    let absent : has_phase c.phases p ≡ false = subst (λ (z : Said). IsPlain c z) e plain in
+    rw e (on_ok r (AreCounted (LineTally files c (line.points p) s) old now) (counted_still (LineTally files c (line.points p) s) old now (still absent) (points_still files c p s)))
+
+pub offsets_counted : (files : Files) (c : Settings) (x : Said) (name : List ℕ) (s : Store) (old now : List ℕ) (r : Result Bool Stopped) → x ≡ line.offsets name → (advance_of c name ≡ None → now ≡ old) → IsPlain c x → OnOk r (AreCounted (LineTally files c x s) old now)
+offsets_counted files c x name s old now r e still plain =
+    let absent : advance_of c name ≡ None = subst (λ (z : Said). IsPlain c z) e plain in
+    rw e (on_ok r (AreCounted (LineTally files c (line.offsets name) s) old now) (counted_still (LineTally files c (line.offsets name) s) old now (still absent) (offsets_still files c name s)))
+
 -- a line by what is read of it
-pub line_read : (files : Files) (c : Settings) (x y : Said) (s : Store) (old now : List ℕ) (r : Result Bool Stopped) → x ≡ y → (IsPlain x → OnOk r (AreCounted (LineTally files c x s) old now)) → IsPlain y → OnOk r (AreCounted (LineTally files c y s) old now)
-line_read files c x y s old now r e h = subst (λ (z : Said). IsPlain z → OnOk r (AreCounted (LineTally files c z s) old now)) e h
+pub line_read : (files : Files) (c : Settings) (x y : Said) (s : Store) (old now : List ℕ) (r : Result Bool Stopped) → x ≡ y → (IsPlain c x → OnOk r (AreCounted (LineTally files c x s) old now)) → IsPlain c y → OnOk r (AreCounted (LineTally files c y s) old now)
+line_read files c x y s old now r e h = subst (λ (z : Said). IsPlain c z → OnOk r (AreCounted (LineTally files c z s) old now)) e h
 
 -- ---- lines one after another
 
@@ -254,15 +277,15 @@ counted_start files c lines s n old e = record {
 }
 
 -- a line of plain ones is plain
-plain_at : (w : Span) (done : List (List ℕ)) (l : List ℕ) (rest : List (List ℕ)) → ArePlain w (done ++ l ∷ rest) → IsPlain (said w l)
-plain_at w [] l rest (here, more) = here
-plain_at w (x ∷ xs) l rest (here, more) = plain_at w xs l rest more
+plain_at : (c : Settings) (done : List (List ℕ)) (l : List ℕ) (rest : List (List ℕ)) → ArePlain c (done ++ l ∷ rest) → IsPlain c (said c.window l)
+plain_at c [] l rest (here, more) = here
+plain_at c (x ∷ xs) l rest (here, more) = plain_at c xs l rest more
 
-pub line_plain : (files : Files) (c : Settings) (lines : List (List ℕ)) (s0 s : Store) (n : ℕ) (text line : List ℕ) (old now : List ℕ) → 0 < length text → line ≡ first_line text → ArePlain c.window lines
-    → IsCountedOn files c lines s0 n (lines_of text) s old now → IsPlain (said c.window line)
+pub line_plain : (files : Files) (c : Settings) (lines : List (List ℕ)) (s0 s : Store) (n : ℕ) (text line : List ℕ) (old now : List ℕ) → 0 < length text → line ≡ first_line text → ArePlain c lines
+    → IsCountedOn files c lines s0 n (lines_of text) s old now → IsPlain c (said c.window line)
 line_plain files c lines s0 s n text line old now some l plain on =
     let all : lines ≡ on.done ++ line ∷ lines_of (after_line text) = on.all ∙ (rw (lines_next text some, ← l) refl) in
-    plain_at c.window on.done line (lines_of (after_line text)) (rw all at plain)
+    plain_at c on.done line (lines_of (after_line text)) (rw all at plain)
 
 -- one more line was taken
 pub line_counted : (files : Files) (c : Settings) (lines : List (List ℕ)) (s0 : Store) (n m : ℕ) (text line after : List ℕ) (mid new : World) (s s' : Store) (r : Bool) (old now later : List ℕ)
@@ -289,9 +312,9 @@ lines_counted files c lines s0 s n text old now none on =
 -- ---- a run
 
 pub script_counted : (files : Files) (c : Settings) (script : List ℕ) (session : Kept) (old now : List ℕ) (refused : Bool) → session ≡ record { config = c; store = nothing_held c.window.hours }
-    → (ArePlain session.config.window (lines_of script) → AreCounted (ScriptTally files session.config (lines_of script) session.store) old now) → WhereTaken (status_of_run (Ok (ended_by refused))) (OpensText files c for_lines old now (Some script))
-script_counted files c script session old now true e h = subst (λ (k : Kept). ArePlain k.config.window (lines_of script) → AreCounted (ScriptTally files k.config (lines_of script) k.store) old now) e h
-script_counted files c script session old now false e h = subst (λ (k : Kept). ArePlain k.config.window (lines_of script) → AreCounted (ScriptTally files k.config (lines_of script) k.store) old now) e h
+    → (ArePlain session.config (lines_of script) → AreCounted (ScriptTally files session.config (lines_of script) session.store) old now) → WhereTaken (status_of_run (Ok (ended_by refused))) (OpensText files c for_lines old now (Some script))
+script_counted files c script session old now true e h = subst (λ (k : Kept). ArePlain k.config (lines_of script) → AreCounted (ScriptTally files k.config (lines_of script) k.store) old now) e h
+script_counted files c script session old now false e h = subst (λ (k : Kept). ArePlain k.config (lines_of script) → AreCounted (ScriptTally files k.config (lines_of script) k.store) old now) e h
 
 pub taken_not : (s : Stopped) (P : Type 0) → WhereTaken (status_of_run (Err s)) P
 taken_not stopped.Fault P = tt

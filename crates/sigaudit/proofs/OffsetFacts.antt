@@ -117,3 +117,9 @@ offsets_cut c c' n name s at count counts w w' ec e el es a =
     let there : Some at ≡ advance_of c name = e ∙ ap (λ (k : Settings). advance_of k name) ec in
     let a' = subst (λ (text : List ℕ). Stops w w' text) (same_text c n name s at count counts es el) a in
     subst (λ (o : Option (ℕ × ℕ)). TakesBy (λ t. t ≡ offsets_turn c n name s o) w w' s (Err stopped.Fault)) there (offsets_turn c n name s (Some at), refl, a')
+
+-- an approach with an advance detector isn't one without
+pub advance_still : (c c' : Settings) (name : List ℕ) (at : ℕ × ℕ) (old now : List ℕ) → c' ≡ c → Some at ≡ advance_of c' name → advance_of c name ≡ None → now ≡ old
+advance_still c c' name at old now ec e n =
+    let there : Some at ≡ advance_of c name = e ∙ ap (λ (k : Settings). advance_of k name) ec in
+    absurd (let bad : Some at ≡ None = there ∙ n in cc)

@@ -127,3 +127,9 @@ pub phase_absent : (c c' c'' : Settings) (n p : ℕ) (s : Store) (b : Bool) (w w
 phase_absent c c' c'' n p s b w w' r ec ed e y h =
     let absent : false ≡ has_phase c.phases p = sym y ∙ e ∙ ap (λ (k : Settings). has_phase k.phases p) ec in
     subst (λ (x : Bool). TakesBy (λ t. t ≡ points_turn c n p s x) w w' s r) absent (by_refusal (λ t. t ≡ refuses c n BadLine s) c c'' n BadLine s w w' r ed refl h)
+
+-- a phase that is configured isn't one that isn't
+pub phase_still : (c c' : Settings) (p : ℕ) (b : Bool) (old now : List ℕ) → c' ≡ c → b ≡ has_phase c'.phases p → b ≡ true → has_phase c.phases p ≡ false → now ≡ old
+phase_still c c' p b old now ec e y n =
+    let there : true ≡ has_phase c.phases p = sym y ∙ e ∙ ap (λ (k : Settings). has_phase k.phases p) ec in
+    absurd (let bad : true ≡ false = there ∙ n in cc)

@@ -2,14 +2,14 @@
 use Rattle.std.specs.Prelude.{◌≡◌, ◌⊎◌, ◌<◌, ◌+◌, ◌*◌, ◌/◌, ◌^◌, ℕ, nat_lt, if◌then◌else◌, List, [], ◌∷◌, length, slice_index, Option, Some, None, Result, Ok, Err, true, false, ⊤}
 use Rattle.outside.specs.Shelf.{Files}
 use Rattle.sig_base.specs.HourRows.{Shown}
-use Rattle.sig_base.specs.Window.{Span}
+use Rattle.sig_base.specs.Numbers.{has_phase}
 use Rattle.sig_base.specs.declared.values.Applied.{Applied}
 use Rattle.sig_base.specs.declared.values.EditError.{EditError}
 use Rattle.sig_base.specs.declared.values.Row.{Row}
 use Rattle.hour_store.specs.Store.{Store, nothing_held}
 use Rattle.ring_config.specs.Reading.{Read}
 use Rattle.ring_config.specs.Settings.{Settings, config_of}
-use Rattle.signal_log.specs.Log.{IsContradiction, log_of}
+use Rattle.signal_log.specs.Log.{HasHistory, IsContradiction, log_of}
 use Rattle.session.specs.Edits.{Change, hour_change, step_of}
 use Rattle.session.specs.Edits as change
 use Rattle.session.specs.Moved.{Moves, Touches}
@@ -25,6 +25,7 @@ use Rattle.sigaudit.specs.declared.status.Status.{Status}
 use Rattle.sigaudit.specs.declared.status.Status.TheVariants.{Done, SomeRefused, Usage, BadConfig, Fault, Memory, NoFile}
 use Rattle.sigaudit.specs.Aims.{Aim, for_lines, for_rule}
 use Rattle.sigaudit.specs.HourFile.{hour_said}
+use Rattle.sigaudit.specs.Offsets.{advance_of}
 use Rattle.sigaudit.specs.Script.{hour_bytes, wanted_for, IsTurn}
 use Rattle.sigaudit.specs.Transcript.{limited}
 use Rattle.sigaudit.specs.Turns.{Turn}
@@ -33,12 +34,12 @@ use Rattle.sigaudit.specs.Turns.{Turn}
 abbrev pub within : ℕ → ℕ → ℕ → ℕ
 within from to h = if nat_lt h from then 0 else (if nat_lt h to then 1 else 0)
 
--- how often an hour moves, and how often it lies between the first hour that an edit touches and the row at which it contradicts the log, both with it: by an edit that makes this of the store
+-- how often an hour moves, and how often it lies between the first hour that an edit touches and the row at which it contradicts the log, both with it: by an edit that makes this of the store, and is accepted where some history agrees with the new store, and refused where none does
 abbrev pub MadeTally : Settings → Store → Change → Result Store EditError → ℕ → ℕ → ℕ → Type 0
 MadeTally c s ch (Err e) h m k = (m ≡ 0) × (k ≡ 0)
 MadeTally c s ch (Ok new) h m k =
-    ((moved : Applied) × Moves c s new ch moved × (m ≡ within moved.from moved.to h) × (k ≡ 0))
-    ⊎ ((row : Row) × (first : ℕ) × (last : ℕ) × IsContradiction (log_of c.specs new) row × Touches ch first last × (m ≡ 0) × (k ≡ within first (row.at / 36000 + 1) h))
+    (HasHistory (log_of c.specs new) × (moved : Applied) × Moves c s new ch moved × (m ≡ within moved.from moved.to h) × (k ≡ 0))
+    ⊎ ((row : Row) × (first : ℕ) × (last : ℕ) × IsContradiction (log_of c.specs new) row × (HasHistory (log_of c.specs new) → ⊥) × Touches ch first last × (m ≡ 0) × (k ≡ within first (row.at / 36000 + 1) h))
 
 -- by an edit
 abbrev pub EditTally : Settings → Store → Change → ℕ → ℕ → ℕ → Type 0
@@ -61,13 +62,13 @@ BytesTally c load s bytes h m k = ReadTally c (hour_change load.replaces) s (hou
 abbrev pub LoadTally : Settings → LoadLine → Store → Result (List ℕ) Refusal → ℕ → ℕ → ℕ → Type 0
 LoadTally c load s want h m k = FetchTally c load.hour (hour_change load.replaces) s want h m k
 
--- the line is an edit, asks for measures, is bad or is skipped
-abbrev pub IsPlain : Said → Type 0
-IsPlain line.audit = ⊥
-IsPlain (line.verdicts hour) = ⊥
-IsPlain (line.points p) = ⊥
-IsPlain (line.offsets name) = ⊥
-IsPlain _ = ⊤
+-- the line is an edit, asks for measures, is bad or is skipped; one that asks for the diagrams of a phase is bad where the phase isn't configured, and one that asks for the shifts of an approach where no approach of this name has an advance detector
+abbrev pub IsPlain : Settings → Said → Type 0
+IsPlain c line.audit = ⊥
+IsPlain c (line.verdicts hour) = ⊥
+IsPlain c (line.points p) = has_phase c.phases p ≡ false
+IsPlain c (line.offsets name) = advance_of c name ≡ None
+IsPlain c _ = ⊤
 
 -- by such a line
 unfoldable pub LineTally : Files → Settings → Said → Store → ℕ → ℕ → ℕ → Type 0
@@ -86,9 +87,9 @@ AreTallied files c n (l ∷ ls) s last h m k =
     × ((m1 : ℕ) × (k1 : ℕ) × (m2 : ℕ) × (k2 : ℕ) × LineTally files c (said c.window l) s h m1 k1 × AreTallied files c (n + 1) ls t.store last h m2 k2 × (m ≡ m1 + m2) × (k ≡ k1 + k2))
 
 -- each line is such a line
-abbrev pub ArePlain : Span → List (List ℕ) → Type 0
-ArePlain w [] = ⊤
-ArePlain w (l ∷ ls) = IsPlain (said w l) × ArePlain w ls
+abbrev pub ArePlain : Settings → List (List ℕ) → Type 0
+ArePlain c [] = ⊤
+ArePlain c (l ∷ ls) = IsPlain c (said c.window l) × ArePlain c ls
 
 -- by the lines of a script over a store
 abbrev pub ScriptTally : Files → Settings → List (List ℕ) → Store → ℕ → ℕ → ℕ → Type 0
@@ -102,7 +103,7 @@ AreCounted Tally old new =
 -- where all lines of a script are such lines, and it is carried out for their texts
 abbrev pub OpensText : Files → Settings → Aim → List ℕ → List ℕ → Option (List ℕ) → Type 0
 OpensText files c for_lines old new None = ⊤
-OpensText files c for_lines old new (Some script) = ArePlain c.window (lines_of script) → AreCounted (ScriptTally files c (lines_of script) (nothing_held c.window.hours)) old new
+OpensText files c for_lines old new (Some script) = ArePlain c (lines_of script) → AreCounted (ScriptTally files c (lines_of script) (nothing_held c.window.hours)) old new
 OpensText files c (for_rule rule at) old new script = ⊤
 
 abbrev pub OpensConfig : Files → Aim → List ℕ → List ℕ → List ℕ → Read Settings → Type 0

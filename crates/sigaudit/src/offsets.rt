@@ -1,5 +1,5 @@
 // The best shift of an approach.
-ghost use Rattle.std.specs.Prelude.{◌≡◌, ◌++◌, ◌≤◌, All, IfOk, OnOk, length};
+ghost use Rattle.std.specs.Prelude.{◌≡◌, ◌++◌, ◌≤◌, All, IfOk, None, OnOk, length};
 ghost use Rattle.offset_search.specs.Shifted.{counts_of};
 ghost use Rattle.sig_base.specs.Reads.{Grow};
 ghost use Rattle.sigaudit.specs.Offsets.{advance_of, arrivals_at, arrivals_in, arrivals_of, is_taken, offsets_of, store_arrivals};
@@ -115,7 +115,8 @@ fn shifts_of<L>(
 }
 
 /// Writes how many vehicles would have met green at each shift of an approach's arrivals, and the
-/// best shift. A name that is no approach with an advance detector makes a bad line.
+/// best shift. A name that is no approach with an advance detector makes a bad line, for which no
+/// hour is opened.
 #[tactic(auto, using(crate::proofs::GrowFacts::grow_same))]
 pub fn offsets_line<L, K: Sink>(
     alloc: Global,
@@ -127,6 +128,7 @@ pub fn offsets_line<L, K: Sink>(
 ) -> Result<bool, Stopped>
     ensures turn { TakesBy (λ t. t ≡ offsets_of session.now.config number name.now
         session.now.store) (K.taken sink.old) (K.taken sink.new) session.now.store result }
+    ensures still { advance_of session.now.config name.now ≡ None → reads.new ≡ reads.old }
     ensures grow { Grow reads.old reads.new }
 {
     let Some((place, phase)) = advance_of(session.config(), name) else {

@@ -1,5 +1,6 @@
 // The diagrams of a phase.
-ghost use Rattle.std.specs.Prelude.{◌≡◌, true};
+ghost use Rattle.std.specs.Prelude.{◌≡◌, true, false};
+ghost use Rattle.sig_base.specs.Numbers.{has_phase};
 ghost use Rattle.sig_base.specs.Reads.{Grow};
 ghost use Rattle.sigaudit.specs.Points.{points_of_phase, points_turn};
 ghost use Rattle.sigaudit.specs.Run.{TakesBy};
@@ -31,7 +32,7 @@ fn phase_diagrams<L, K: Sink>(
 }
 
 /// Writes the whole cycles of a phase with the arrivals in them. A phase that isn't configured makes
-/// a bad line.
+/// a bad line, for which no hour is opened.
 #[tactic(auto, using(crate::proofs::GrowFacts::grow_same))]
 pub fn points_line<L, K: Sink>(
     number: u32,
@@ -42,6 +43,7 @@ pub fn points_line<L, K: Sink>(
 ) -> Result<bool, Stopped>
     ensures turn { TakesBy (λ t. t ≡ points_of_phase session.now.config number phase
         session.now.store) (K.taken sink.old) (K.taken sink.new) session.now.store result }
+    ensures still { has_phase session.now.config.phases phase ≡ false → reads.new ≡ reads.old }
     ensures grow { Grow reads.old reads.new }
 {
     if !has_phase(session.config().phases(), phase) {

@@ -277,7 +277,8 @@ fn take_said<L, S: Shelf, K: Sink>(
         (world (S.counts shelf.new) (K.taken sink.new)) }
     ensures files { S.files shelf.new ≡ S.files shelf.old }
     ensures config { session.new.config ≡ session.old.config }
-    ensures opens { (files : Files) → S.files shelf.old ≡ Some files → IsPlain (seen line.entry)
+    ensures opens { (files : Files) → S.files shelf.old ≡ Some files
+        → IsPlain session.old.config (seen line.entry)
         → OnOk result (AreCounted (LineTally files session.old.config (seen line.entry)
         session.old.store) reads.old reads.new) }
     ensures grow { Grow reads.old reads.new }
@@ -337,7 +338,7 @@ fn take_line<L, S: Shelf, K: Sink>(
     ensures files { S.files shelf.new ≡ S.files shelf.old }
     ensures config { session.new.config ≡ session.old.config }
     ensures opens { (files : Files) → S.files shelf.old ≡ Some files
-        → IsPlain (said session.old.config.window line.now)
+        → IsPlain session.old.config (said session.old.config.window line.now)
         → OnOk result (AreCounted (LineTally files session.old.config
         (said session.old.config.window line.now) session.old.store) reads.old reads.new) }
     ensures grow { Grow reads.old reads.new }
@@ -367,7 +368,7 @@ pub fn run_script<L, S: Shelf, K: Sink>(
     ensures never_fall { NeverFall (world (S.counts shelf.old) (K.taken sink.old))
         (world (S.counts shelf.new) (K.taken sink.new)) }
     ensures opens { (files : Files) → S.files shelf.old ≡ Some files
-        → ArePlain session.old.config.window (lines_of script.now)
+        → ArePlain session.old.config (lines_of script.now)
         → OnOk result (AreCounted (ScriptTally files session.old.config (lines_of script.now)
         session.old.store) reads.old reads.new) }
     ensures config { session.new.config ≡ session.old.config }

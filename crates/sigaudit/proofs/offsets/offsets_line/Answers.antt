@@ -2,7 +2,7 @@ use Rattle.std.proofs.Common.{◌≡◌}
 use Rattle.sigaudit.specs.Offsets.{offsets_of}
 use Rattle.sigaudit.proofs.StopFacts.{fault_at, memory_at}
 use Rattle.sigaudit.proofs.TakeFacts.{by_nothing}
-use Rattle.sigaudit.proofs.OffsetFacts.{offsets_absent, offsets_cut, offsets_done}
+use Rattle.sigaudit.proofs.OffsetFacts.{advance_still, offsets_absent, offsets_cut, offsets_done}
 use Rattle.sigaudit.proofs.offsets.offsets_line.Goals as goal
 
 pub returns-in_err-arrivals-clause-turn : goal.returns-in_err-arrivals-clause-turn
@@ -20,3 +20,12 @@ returns-in_err-put_shifts-clause-turn g c =
 pub returns-clause-turn : goal.returns-clause-turn
 returns-clause-turn g c =
     offsets_done c.args.session.now.config c.config.result.now c.args.number c.args.name.now c.args.session.now.store (c.in-Some.place, c.in-Some.phase) _ _ _ _ c.config.ensures.value c.in-Some.ensures c.in_ok-arrivals.ensures.arrivals c.in_ok-arrivals.ensures.shifts (rw c.as_bytes.ensures.value at c.in_ok-put_shifts.ensures)
+
+pub returns-in_err-arrivals-clause-still : goal.returns-in_err-arrivals-clause-still
+returns-in_err-arrivals-clause-still g c = advance_still c.args.session.now.config c.config.result.now c.args.name.now (c.in-Some.place, c.in-Some.phase) _ _ c.config.ensures.value c.in-Some.ensures
+
+pub returns-in_err-put_shifts-clause-still : goal.returns-in_err-put_shifts-clause-still
+returns-in_err-put_shifts-clause-still g c = advance_still c.args.session.now.config c.config.result.now c.args.name.now (c.in-Some.place, c.in-Some.phase) _ _ c.config.ensures.value c.in-Some.ensures
+
+pub returns-clause-still : goal.returns-clause-still
+returns-clause-still g c = advance_still c.args.session.now.config c.config.result.now c.args.name.now (c.in-Some.place, c.in-Some.phase) _ _ c.config.ensures.value c.in-Some.ensures

@@ -72,7 +72,7 @@ loop-rest-preserved g c =
           let on = i.opens files told plain in
           let is_plain = line_plain files cfg lines c.args.session.now.store s (c.loop-rest.number + 1) c.loop-rest.rest.now line c.args.reads.now c.loop-rest.reads some c.split_line.ensures.line plain on in
           let turn = subst (λ (k : Settings). Takes (IsTurn files k (c.loop-rest.number + 1) (said k.window line) s) (world (g.S.Shelf.counts c.loop-rest.shelf) (g.K.Sink.taken c.loop-rest.sink)) (world (g.S.Shelf.counts c.take_line.new.shelf) (g.K.Sink.taken c.take_line.new.sink)) c.take_line.new.session.store (Ok c.in-Ok.is_refused)) i.config (c.in-Ok.ensures.turn files (i.files ∙ told)) in
-          let counts = subst (λ (k : Settings). IsPlain (said k.window line) → AreCounted (LineTally files k (said k.window line) s) c.loop-rest.reads c.take_line.new.reads) i.config (c.in-Ok.ensures.opens files (i.files ∙ told)) is_plain in
+          let counts = subst (λ (k : Settings). IsPlain k (said k.window line) → AreCounted (LineTally files k (said k.window line) s) c.loop-rest.reads c.take_line.new.reads) i.config (c.in-Ok.ensures.opens files (i.files ∙ told)) is_plain in
           line_counted files cfg lines c.args.session.now.store (c.loop-rest.number + 1) (c.loop-rest.number + 1 + 1) c.loop-rest.rest.now line c.split_line.result.1.now (world (g.S.Shelf.counts c.loop-rest.shelf) (g.K.Sink.taken c.loop-rest.sink)) (world (g.S.Shelf.counts c.take_line.new.shelf) (g.K.Sink.taken c.take_line.new.sink)) s c.take_line.new.session.store c.in-Ok.is_refused c.args.reads.now c.loop-rest.reads c.take_line.new.reads
           some c.split_line.ensures.line c.split_line.ensures.rest refl on turn counts;
     }

@@ -9,7 +9,7 @@ use Rattle.sigaudit.specs.Audit.{AreVerdicts, IsAudited}
 use Rattle.sigaudit.specs.Points.{points_of_phase}
 use Rattle.sigaudit.specs.Offsets.{offsets_of}
 use Rattle.sigaudit.specs.Script.{edit_said, hour_bytes, IsEdited, IsFetched, IsMeasured, IsMeasuredOf}
-use Rattle.sigaudit.proofs.CountFacts.{bad_still, hour_still, line_edited, line_loaded, line_replaced, line_still, measures_still, skip_still}
+use Rattle.sigaudit.proofs.CountFacts.{bad_still, hour_still, line_edited, line_loaded, line_replaced, line_still, measures_still, offsets_counted, points_counted, skip_still}
 use Rattle.sigaudit.proofs.TakeFacts.{caused_of_by, never_of_by}
 use Rattle.sigaudit.proofs.LineFacts.{by_bad, line_as, line_by, line_skipped, turn_audit, turn_bad, turn_edit, turn_hour, turn_load, turn_measures, turn_offsets, turn_points, turn_replace, turn_verdicts}
 use Rattle.sigaudit.proofs.script.take_said.Goals as goal
@@ -135,3 +135,11 @@ returns-in-Measures-clause-opens g c = λ files told plain.
 pub returns-in-MeasuresOf-clause-opens : goal.returns-in-MeasuresOf-clause-opens
 returns-in-MeasuresOf-clause-opens g c = λ files told plain.
     line_still files c.args.session.now.config (seen c.args.line) (line.measures_of c.in-MeasuresOf.hour) c.args.session.now.store c.args.reads.now c.hour_line.result (ap seen c.in-MeasuresOf.is) (λ h. hour_still files c.args.session.now.config c.in-MeasuresOf.hour c.args.session.now.store h)
+
+pub returns-in-Points-clause-opens : goal.returns-in-Points-clause-opens
+returns-in-Points-clause-opens g c = λ files told plain.
+    points_counted files c.args.session.now.config (seen c.args.line) c.in-Points.phase c.args.session.now.store c.args.reads.now c.points_line.new.reads c.points_line.result (ap seen c.in-Points.is) c.points_line.ensures.still plain
+
+pub returns-in-Offsets-clause-opens : goal.returns-in-Offsets-clause-opens
+returns-in-Offsets-clause-opens g c = λ files told plain.
+    offsets_counted files c.args.session.now.config (seen c.args.line) c.in-Offsets.name.now c.args.session.now.store c.args.reads.now c.offsets_line.new.reads c.offsets_line.result (ap seen c.in-Offsets.is) c.offsets_line.ensures.still plain

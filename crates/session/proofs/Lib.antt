@@ -13,6 +13,7 @@ pub mod WorkLaws
 pub mod BeginLaws
 pub mod MaskLaws
 pub mod MovedLaws
+pub mod LineLaws
 pub mod LessLaws
 pub mod DiagramLaws
 pub mod WindowLaws

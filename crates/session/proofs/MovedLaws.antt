@@ -20,7 +20,7 @@ use Rattle.session.specs.Renewed.{AreNewCarries, AreNewFutures, IsRenewed}
 use Rattle.session.proofs.KeptLaws.{carry_kept, future_kept, report_kept}
 
 -- stands where a list has no carry
-no_carry : Carried
+pub no_carry : Carried
 no_carry = record { pasts = []; known = true; cuts = []; closing = []; splits = []; others = record { peds = []; preempts = [] }; arrivals = record { crossings = []; flags = [] } }
 
 module _ (c : Settings) (s t : Store) (sound : IsSound c) (is : IsStore s) (is_new : IsStore t) (hours : length t.hours ≡ length s.hours) where
@@ -110,6 +110,7 @@ keep_parts c s t first xs new_carries ys from new_futures ps start new_parts sum
     ] in
     ap (λ (qs : List Numbers). get_or qs hour d) other ∙ (stay ∙ sym (ap (λ (qs : List Numbers). get_or qs hour d) one))
 
-pub keep_to : (c : Settings) (s t new : Store) (result : Result Applied EditError) → OnOk result ((new ≡ t) × HasHistory (log_of c.specs t)) → IfOk result (KeepParts c s t) → IfOk result (KeepParts c s new)
-keep_to c s t new (Ok x) done stay = subst (λ (v : Store). KeepParts c s v x) (sym done.0) stay
-keep_to c s t new (Err e) done stay = tt
+-- what stays in the store that was to be made stays in the new one
+pub keep_to : (c : Settings) (Keep : Store → Applied → Type 0) (t new : Store) (result : Result Applied EditError) → OnOk result ((new ≡ t) × HasHistory (log_of c.specs t)) → IfOk result (Keep t) → IfOk result (Keep new)
+keep_to c Keep t new (Ok x) done stay = subst (λ (v : Store). Keep v x) (sym done.0) stay
+keep_to c Keep t new (Err e) done stay = tt

@@ -189,7 +189,7 @@ shapes_new c s first last carries futures from new_futures parts is but y k d e 
 same_known : (s t : Store) (k : ℕ) → SameHour s t k → (x : ℕ) → first_tenth k ≤ x → x < first_tenth (k + 1) → known_in (is_some (rows_at s k)) s.blanks x ≡ known_in (is_some (rows_at t k)) t.blanks x
 same_known s t k same x low high = rw same.rows (ap (λ (b : Bool). is_some (rows_at s k) && not b) (same.blanks x low high))
 
-same_has : (s t r : Store) (k : ℕ) → SameHour s t k → HasHour r k (rows_at t k) t.blanks → HasHour r k (rows_at s k) s.blanks
+pub same_has : (s t r : Store) (k : ℕ) → SameHour s t k → HasHour r k (rows_at t k) t.blanks → HasHour r k (rows_at s k) s.blanks
 same_has s t r k same has = record {
   is_store = has.is_store;
   within = has.within;

@@ -54,7 +54,7 @@ cut_more known a b (s ∷ ss) cut = elim (same_or_not (known a) s.known) [
 ]
 
 -- so many tenths from a tenth on have a cut
-has_cut : (known : ℕ → Bool) (n a : ℕ) → (ss : List Stretch) × IsCut known a (a + n) ss
+pub has_cut : (known : ℕ → Bool) (n a : ℕ) → (ss : List Stretch) × IsCut known a (a + n) ss
 has_cut known zero a = ([], record { stretches = omega arith; alternate = tt })
 has_cut known (suc n) a =
     let (ss, cut) = has_cut known n (a + 1) in

@@ -1,12 +1,14 @@
 -- The hours whose answers can change by an edit.
-use Rattle.std.specs.Prelude.{◌≡◌, ◌+◌, ◌*◌, ◌≤◌, ◌<◌, ◌⊎◌, ℕ, ℤ, pos, ◌-ℤ◌, ◌≤ℤ◌, ◌<ℤ◌, List, length, slice_index_or}
+use Rattle.std.specs.Prelude.{◌≡◌, ◌+◌, ◌*◌, ◌≤◌, ◌<◌, ◌⊎◌, ℕ, ℤ, pos, ◌-ℤ◌, ◌≤ℤ◌, ◌<ℤ◌, false, List, length, slice_index_or}
 use Rattle.sig_base.specs.declared.values.Applied.{Applied}
 use Rattle.hour_store.specs.Store.{Store}
 use Rattle.ring_config.specs.Settings.{Settings}
+use Rattle.rule_audit.specs.declared.lines.AuditLine.{AuditLine}
 use Rattle.hour_work.specs.Moved.{IsSameCarry, IsSameFuture}
 use Rattle.hour_work.specs.Numbers.{Numbers}
 use Rattle.hour_work.specs.Reports.{IsReport}
 use Rattle.session.specs.Edits.{Change, load, replace, withdraw, blank, unblank}
+use Rattle.session.specs.Windows.{AreHourLines}
 
 -- the tenth is one of the hour
 abbrev pub IsIn : ℤ → ℕ → Type 0
@@ -37,3 +39,7 @@ Moves c s t change moved = (first : ℕ) × (last : ℕ) × Touches change first
 -- the reports of both stores have the same numbers for every hour that doesn't move
 abbrev pub KeepParts : Settings → Store → Store → Applied → Type 0
 KeepParts c s t moved = (a b : List Numbers) (hour : ℕ) (d : Numbers) → IsReport c s a → IsReport c t b → (hour < moved.from) ⊎ (moved.to ≤ hour) → slice_index_or b hour d ≡ slice_index_or a hour d
+
+-- the audits of both stores, where windows aren't looked for, have the same lines for every hour of the window that doesn't move
+abbrev pub KeepLines : Settings → Store → Store → Applied → Type 0
+KeepLines c s t moved = (a b : List AuditLine) (hour : ℕ) → hour < length s.hours → AreHourLines c s hour false a → AreHourLines c t hour false b → (hour < moved.from) ⊎ (moved.to ≤ hour) → b ≡ a

@@ -10,7 +10,7 @@ ghost use Rattle.rule_audit.specs.Rules.{rules_for};
 ghost use Rattle.hour_work.specs.Points.{NamesRow};
 ghost use Rattle.hour_work.specs.Reports.{IsReport};
 ghost use Rattle.session.specs.Edits.{Change, blank, change_of, held_error, hour_change, range_change, step_of, withdraw};
-ghost use Rattle.session.specs.Moved.{AreMoved, KeepParts, Moves, Touches};
+ghost use Rattle.session.specs.Moved.{AreMoved, KeepLines, KeepParts, Moves, Touches};
 ghost use Rattle.session.specs.Opens.{OpensBy};
 ghost use Rattle.session.specs.Pairs.{ArePairsAt};
 ghost use Rattle.session.specs.Puts.{AreSameBut, IsPlaced, put_into};
@@ -225,6 +225,8 @@ impl<L> Session<L> {
             (put_into self.old.store put) first last) }
         ensures stays { IfOk result (KeepParts self.old.config self.old.store
             (put_into self.old.store put)) }
+        ensures lines { IfOk result (KeepLines self.old.config self.old.store
+            (put_into self.old.store put)) }
         ensures back { OnErr result (self.new.store ≡ self.old.store) }
         ensures stop { IfErr result (StopsAt self.old.config (put_into self.old.store put)) }
         ensures store { IsStore (put_into self.old.store put) }
@@ -269,6 +271,7 @@ impl<L> Session<L> {
         ensures moved { IfOk result (Moves self.old.config self.old.store self.new.store
             (hour_change replaces rows)) }
         ensures stays { IfOk result (KeepParts self.old.config self.old.store self.new.store) }
+        ensures lines { IfOk result (KeepLines self.old.config self.old.store self.new.store) }
         ensures config { self.new.config ≡ self.old.config }
         ensures opens { OpensBy (hour_change replaces rows) reads.old reads.new result }
         ensures grow { Grow reads.old reads.new }
@@ -294,6 +297,7 @@ impl<L> Session<L> {
         ensures moved { IfOk result (Moves self.old.config self.old.store self.new.store
             (withdraw hour)) }
         ensures stays { IfOk result (KeepParts self.old.config self.old.store self.new.store) }
+        ensures lines { IfOk result (KeepLines self.old.config self.old.store self.new.store) }
         ensures config { self.new.config ≡ self.old.config }
         ensures opens { OpensBy (withdraw hour) reads.old reads.new result }
         ensures grow { Grow reads.old reads.new }
@@ -322,6 +326,7 @@ impl<L> Session<L> {
         ensures moved { IfOk result (Moves self.old.config self.old.store self.new.store
             (range_change edit from to)) }
         ensures stays { IfOk result (KeepParts self.old.config self.old.store self.new.store) }
+        ensures lines { IfOk result (KeepLines self.old.config self.old.store self.new.store) }
         ensures config { self.new.config ≡ self.old.config }
         ensures opens { OpensBy (range_change edit from to) reads.old reads.new result }
         ensures grow { Grow reads.old reads.new }
@@ -360,6 +365,7 @@ impl<L> Session<L> {
         ensures moved { IfOk result (Moves self.old.config self.old.store self.new.store
             (change_of edit)) }
         ensures stays { IfOk result (KeepParts self.old.config self.old.store self.new.store) }
+        ensures lines { IfOk result (KeepLines self.old.config self.old.store self.new.store) }
         ensures config { self.new.config ≡ self.old.config }
         ensures opens { OpensBy (change_of edit) reads.old reads.new result }
         ensures grow { Grow reads.old reads.new }

@@ -3,6 +3,7 @@ use Rattle.std.proofs.Common.{◌∙◌, ◌<◌, ◌≤◌, Some, ap, arith, le
 use Rattle.sig_base.specs.Window.{Span}
 use Rattle.hour_store.specs.Store.{rows_held, with_hour}
 use Rattle.session.specs.Edits.{hour_change, step_of}
+use Rattle.session.specs.Moved.{KeepLines, KeepParts}
 use Rattle.session.proofs.EditLaws.{steps_done}
 use Rattle.session.proofs.HourEditLaws.{held_alike, hour_step, hour_touches}
 use Rattle.session.proofs.MovedLaws.{keep_to, moves_by}
@@ -42,7 +43,15 @@ returns-clause-stays g c =
     let h = c.hour-hour.result in
     let done = rw (← c.self.view_is) at c.make.ensures.done in
     let stays = rw (← c.self.view_is) at c.make.ensures.stays in
-    rw (← c.self.view_is) (keep_to c.self.inside.config s (with_hour s h (Some c.args.rows)) c.make.new.self.store c.make.result done stays)
+    rw (← c.self.view_is) (keep_to c.self.inside.config (KeepParts c.self.inside.config s) (with_hour s h (Some c.args.rows)) c.make.new.self.store c.make.result done stays)
+
+pub returns-clause-lines : goal.returns-clause-lines
+returns-clause-lines g c =
+    let s = c.self.inside.store in
+    let h = c.hour-hour.result in
+    let done = rw (← c.self.view_is) at c.make.ensures.done in
+    let lines = rw (← c.self.view_is) at c.make.ensures.lines in
+    rw (← c.self.view_is) (keep_to c.self.inside.config (KeepLines c.self.inside.config s) (with_hour s h (Some c.args.rows)) c.make.new.self.store c.make.result done lines)
 
 pub returns-clause-opens : goal.returns-clause-opens
 returns-clause-opens g c = c.make.ensures.opens (hour_change c.args.replaces c.args.rows) (hour_touches c.args.replaces c.args.rows c.hour-hour.result c.hour-hour.ensures.value)

@@ -2,7 +2,7 @@ use Rattle.std.proofs.Common.{◌≡◌, ◌∙◌, ◌-ℤ◌, ◌<ℤ◌, arit
 use Rattle.std.proofs.lemmas.Int.{ints, to_z-of_z}
 use Rattle.hour_store.specs.Store.{with_blanks}
 use Rattle.session.specs.Edits.{range_change, step_of}
-use Rattle.session.specs.Moved.{IsIn}
+use Rattle.session.specs.Moved.{IsIn, KeepLines, KeepParts}
 use Rattle.session.specs.Ranges.{IsEdited}
 use Rattle.session.proofs.EditLaws.{few_blanks, in_order, inside, many_blanks, steps_done}
 use Rattle.session.proofs.MaskLaws.{fits_before, hours_in_order, hours_within, same_but_range}
@@ -153,7 +153,14 @@ returns-clause-stays g c =
     let s = c.self.inside.store in
     let done = rw (← c.self.view_is) at c.make.ensures.done in
     let stays = rw (← c.self.view_is) at c.make.ensures.stays in
-    rw (← c.self.view_is) (keep_to c.self.inside.config s (with_blanks s c.in-Ok.blanks) c.make.new.self.store c.make.result done stays)
+    rw (← c.self.view_is) (keep_to c.self.inside.config (KeepParts c.self.inside.config s) (with_blanks s c.in-Ok.blanks) c.make.new.self.store c.make.result done stays)
+
+pub returns-clause-lines : goal.returns-clause-lines
+returns-clause-lines g c =
+    let s = c.self.inside.store in
+    let done = rw (← c.self.view_is) at c.make.ensures.done in
+    let lines = rw (← c.self.view_is) at c.make.ensures.lines in
+    rw (← c.self.view_is) (keep_to c.self.inside.config (KeepLines c.self.inside.config s) (with_blanks s c.in-Ok.blanks) c.make.new.self.store c.make.result done lines)
 
 pub returns-clause-opens : goal.returns-clause-opens
 returns-clause-opens g c =

@@ -2,6 +2,7 @@ use Rattle.std.proofs.Common.{◌≡◌, ◌∙◌, ◌+◌, ◌<◌, ℕ, ap, a
 use Rattle.session.specs.Puts.{put_into}
 use Rattle.session.specs.Sessions.{Kept}
 use Rattle.session.proofs.EditLaws.{stops_at}
+use Rattle.session.proofs.LineLaws.{keep_lines}
 use Rattle.session.proofs.MovedLaws.{are_moved, keep_parts}
 use Rattle.session.proofs.OpenLaws.{opens_made, opens_refused}
 use Rattle.session.proofs.RenewLaws.{kept_but, put_length}
@@ -78,6 +79,20 @@ returns-in-Ok-clause-stays g c =
     let new = rw c.exchange-before.ensures.store at c.in-Ok.ensures.fresh in
     rw (← c.self.view_is) (keep_parts c.self.inside.config s (put_into s c.args.put) points.first worked.carries.items points.carries.items worked.futures.items points.from points.futures.items worked.report fresh.start fresh.parts.items fresh.sums c.moved-hours.result
     c.self.invariant.is_store c.self.invariant.history c.self.invariant.kept is has new c.moved-hours.ensures.from c.moved-hours.ensures.to)
+
+pub returns-in-Ok-clause-lines : goal.returns-in-Ok-clause-lines
+returns-in-Ok-clause-lines g c =
+    let s = c.self.inside.store in
+    let worked = c.self.inside.worked in
+    let points = c.in-Ok.fresh.points in
+    let same = rw (← c.self.view_is) at c.requires.same in
+    let is = rw c.exchange-before.ensures.store at c.in-Ok.ensures.store in
+    let has = rw c.exchange-before.ensures.store at c.in-Ok.ensures.history in
+    let carries = rw c.exchange-before.ensures.store at c.in-Ok.ensures.carries in
+    let futures = rw c.exchange-before.ensures.store at c.in-Ok.ensures.futures in
+    let to = c.moved-hours.ensures.to ∙ ap (λ (n : ℕ). n + length points.carries.items) c.in-Ok.ensures.first in
+    rw (← c.self.view_is) (keep_lines c.self.inside.config s (put_into s c.args.put) c.args.first c.args.last worked.carries.items points.carries.items worked.futures.items points.from points.futures.items worked.report c.moved-hours.result
+    c.self.invariant.sound same c.self.invariant.is_store c.self.invariant.history c.self.invariant.kept is has (put_length s c.args.put) carries futures c.moved-hours.ensures.from to)
 
 pub returns-in-Ok-clause-opens : goal.returns-in-Ok-clause-opens
 returns-in-Ok-clause-opens g c = λ change touched. opens_made change _ _ _ _ _ c.moved-hours.ensures.from c.moved-hours.ensures.to c.in-Ok.ensures.opens

@@ -2,6 +2,7 @@ use Rattle.std.proofs.Common.{◌∙◌, ◌<◌, None, ap, arith, length, refl,
 use Rattle.sig_base.specs.Window.{Span}
 use Rattle.hour_store.specs.Store.{with_hour}
 use Rattle.session.specs.Edits.{step_of, withdraw}
+use Rattle.session.specs.Moved.{KeepLines, KeepParts}
 use Rattle.session.proofs.EditLaws.{steps_done, withdraw_step}
 use Rattle.session.proofs.LessLaws.{never_withdrawn}
 use Rattle.session.proofs.MovedLaws.{keep_to, moves_by}
@@ -43,7 +44,15 @@ returns-clause-stays g c =
     let h = c.args.hour in
     let done = rw (← c.self.view_is) at c.make.ensures.done in
     let stays = rw (← c.self.view_is) at c.make.ensures.stays in
-    rw (← c.self.view_is) (keep_to c.self.inside.config s (with_hour s h None) c.make.new.self.store c.make.result done stays)
+    rw (← c.self.view_is) (keep_to c.self.inside.config (KeepParts c.self.inside.config s) (with_hour s h None) c.make.new.self.store c.make.result done stays)
+
+pub returns-clause-lines : goal.returns-clause-lines
+returns-clause-lines g c =
+    let s = c.self.inside.store in
+    let h = c.args.hour in
+    let done = rw (← c.self.view_is) at c.make.ensures.done in
+    let lines = rw (← c.self.view_is) at c.make.ensures.lines in
+    rw (← c.self.view_is) (keep_to c.self.inside.config (KeepLines c.self.inside.config s) (with_hour s h None) c.make.new.self.store c.make.result done lines)
 
 pub returns-clause-opens : goal.returns-clause-opens
 returns-clause-opens g c = c.make.ensures.opens (withdraw c.args.hour) (refl, refl)

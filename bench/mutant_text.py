@@ -52,10 +52,10 @@ class Mutant:
 
 class Function:
     """A function: its name, the types of its parameters and of its answer as texts, the tokens of its body, and its
-    first and last line, clauses included."""
-    def __init__(self, source, name, takes, answers, body):
-        self.source, self.name, self.takes, self.answers, self.body = source, name.text, takes, answers, body
-        self.first, self.last = name.line, body[-1].line
+    first and last line, attributes and clauses included."""
+    def __init__(self, source, name, first, takes, answers, body):
+        self.source, self.name, self.takes, self.answers, self.body = source, name, takes, answers, body
+        self.first, self.last = first, body[-1].line
 
 
 class Source:
@@ -77,7 +77,8 @@ class Source:
             if opens is None or any(a <= i < b for a, b in tests) or is_test(code, i):
                 continue
             takes, answers = types_of(code[i + 2:opens])
-            yield Function(self, code[i + 1], takes, answers, code[opens:closing(code, opens) + 1])
+            first = code[begin_of(code, i)].line
+            yield Function(self, code[i + 1].text, first, takes, answers, code[opens:closing(code, opens) + 1])
 
 
 def read_tokens(rattle, files):
@@ -148,12 +149,16 @@ def spans_of_tests(code):
             if [token.text for token in code[i:i + len(words)]] == words and code[i + len(words) + 1].text == "{"]
 
 
-def is_test(code, at):
-    """Whether the function at this place has an attribute that names tests."""
-    names = set()
+def begin_of(code, at):
+    """The place where the item begins whose word stands at this place, with its attributes."""
     while at and code[at - 1].text not in ("}", ";", "{"):
         at -= 1
-        names.add(code[at].text)
+    return at
+
+
+def is_test(code, at):
+    """Whether the function at this place has an attribute that names tests."""
+    names = {token.text for token in code[begin_of(code, at):at]}
     return "#" in names and "test" in names
 
 

@@ -84,6 +84,20 @@ def builds(count, room):
     count.check("a program of other sources is refused", status == 1 and "from other sources" in said, said)
 
 
+# What --help says.
+
+def answers_help(count, room):
+    """All commands but `recipe`, which is called by other names, with a program that would fail."""
+    for folder in ("bench", "examples", "packaging"):
+        for path in lay_out.files_below(folder):
+            command = os.path.join(HERE, folder, path)
+            if not os.access(command, os.X_OK) or os.path.basename(path) in ("recipe", "rules"):
+                continue
+            status, said = run([command, "--help"], cwd=room, env=dict(os.environ, SIGAUDIT="/bin/false"), timeout=60)
+            count.check("%s/%s --help" % (folder, path), "usage: " in said and status in (0, 2), said)
+    count.check("none of them left a file", not os.listdir(room), os.listdir(room))
+
+
 # A Debian.
 
 class Debian:

@@ -64,7 +64,8 @@ def builds(count, room):
         return
     made, log = [], os.path.join(room, "gate.log")
     lay_out.put(log, "rt: low proved\nrt: ok; handles allowed: none\n12 passed, 0 failed\n")
-    for name, env in (("one", {"TZ": "UTC", "LC_ALL": "C"}), ("a longer name", {"TZ": "Asia/Tokyo", "LC_ALL": "C.UTF-8"})):
+    places = {"one": {"TZ": "UTC", "LC_ALL": "C"}, "a longer name": {"TZ": "Asia/Tokyo", "LC_ALL": "C.UTF-8"}}
+    for name, env in places.items():
         clone, out = os.path.join(room, name), os.path.join(room, name + " release")
         subprocess.run(["git", "clone", "-q", HERE, clone], check=True)
         words = ["packaging/build", "--program", os.path.abspath(program), "--gate", log, "--out", out]
@@ -111,15 +112,17 @@ class Debian:
         env = ["env", "-i", "PATH=/usr/sbin:/usr/bin:/sbin:/bin", "LC_ALL=C.UTF-8", "DEBIAN_FRONTEND=noninteractive"]
         who = ["setpriv", "--reuid=1000", "--regid=1000", "--clear-groups"] if user else []
         home = ["HOME=/home/user"] if user else ["HOME=/root"]
-        script = 'mount -t proc proc "$0/proc" && mount -t devpts devpts "$0/dev/pts" && exec chroot "$0" "$@"'
-        return run(["unshare", "--mount", "--", "sh", "-c", script, self.folder, *env, *home, *who, "sh", "-c", command])
+        mounts = 'mount -t proc proc "$0/proc" && mount -t devpts devpts "$0/dev/pts" && exec chroot "$0" "$@"'
+        words = [*env, *home, *who, "sh", "-c", command]
+        return run(["unshare", "--mount", "--", "sh", "-c", mounts, self.folder, *words])
 
     def path(self, name):
         return os.path.join(self.folder, name.lstrip("/"))
 
     def names(self):
         """All that stands in it but for what apt and dpkg keep of their own, logs, caches and temporary files."""
-        passed = re.compile(r"(var/(lib/(dpkg|apt|systemd)|log|cache)|tmp|proc|dev|root|home|run)(/|$)|etc/[^/]*(-|\.cache|mtab)$")
+        passed = re.compile(r"(var/(lib/(dpkg|apt|systemd)|log|cache)|tmp|proc|dev|root|home|run)(/|$)"
+                            r"|etc/[^/]*(-|\.cache|mtab)$")
         found = set()
         for where, folders, names in os.walk(self.folder):
             below = os.path.relpath(where, self.folder)
@@ -169,7 +172,6 @@ def debian(count, room, release, suite, base, mirror):
         commands_have_help(check, here)
         recipes_answer(check, here, room, "")
         pictures(check, here)
-        quotes(check, here)
         launcher_takes_it(check, here)
     else:
         print("%s: recipes left out, its Python is %s" % (suite, ".".join(version)))
@@ -178,15 +180,10 @@ def debian(count, room, release, suite, base, mirror):
             check("%s says which Python it wants" % name, status == 1 and "3.11" in said, said)
     fresh = here.names()
     status, said = here.inside("apt-get purge -qy sigaudit")
-    left = sorted(name for name in here.names() - before if "gnuplot" not in name and "sigaudit" in name)
+    left = sorted(name for name in here.names() - before if "sigaudit" in name)
     check("purge leaves nothing", status == 0 and not left, left or said)
     upgrade(check, here, release, fresh)
     archive(check, here, room, later)
-
-
-def answer_of(config, *words):
-    """What the program of this repository answers is kept in the example; here are its words, and where that stands."""
-    return "sigaudit --config config.toml " + " ".join(words)
 
 
 def program_answers(check, here, prefix, user=False, path=""):
@@ -261,44 +258,33 @@ def recipes_answer(check, here, room, path):
                                "$(dirname $(readlink -f $(command -v sigaudit-corridor)))/examples/corridor/Makefile "
                                "CORRIDOR=c -j2" % path, user=True)
     check("the corridor with make -j2", status == 0, text)
-    same_below(check, "the corridor's files are those of the repository", os.path.join(own, "c"), here.path("home/user/c"),
-               (".svg", ".html"))
+    same_below(check, "the corridor's files are those of the repository", os.path.join(own, "c"),
+               here.path("home/user/c"), (".svg", ".html"))
     status, text = here.inside("%s cd && sigaudit-corridor c -j2" % path, user=True)
     check("sigaudit-corridor finds nothing to do", status == 0 and "Nothing to be done" in text, text)
     here.inside("rm -rf /home/user/whole /home/user/c")
 
 
 def pictures(check, here):
-    """With what the package recommends the pictures are drawn."""
+    """With what the package recommends the pictures are drawn, and the documents' commands give what they quote."""
     status, said = here.inside("apt-get install -qy --no-install-recommends gnuplot-nox")
     words = "cd && sigaudit-audit-export --config config.toml --out drawn o05.csv o06.csv o07.csv"
     status, said = here.inside(words, user=True)
     drawn = [name for name in os.listdir(here.path("home/user/drawn")) if name.endswith(".svg")]
     check("pictures are drawn with gnuplot-nox", len(drawn) >= 4, said)
+    quotes(check, here)
     here.inside("rm -rf /home/user/drawn; apt-get purge -qy --autoremove gnuplot-nox")
 
 
-def with_installed_names(command):
-    """A command of the documents as the guide says that it is called where sigaudit is installed."""
-    command = re.sub(r"make -f examples/corridor/Makefile CORRIDOR=(\S+)", r"sigaudit-corridor \1", command)
-    command = re.sub(r"(?<!\S)(\.{1,2}/)+sigaudit(?=\s)", "sigaudit", command)
-    for name, path in lay_out.recipes().items():
-        command = re.sub(r"(?<!\S)((\.\./)*examples/|(\.\./)+)%s(?=\s)" % re.escape(path), name, command)
-    return command
-
-
 def quotes(check, here):
-    """The documents' commands by their installed names, by bench/quotes, where the repository's own recipes aren't."""
+    """The documents' commands by their installed names, by bench/quotes, where the repository's own files aren't."""
     top = here.path("home/user/quoted")
-    for name in ("README.md", "docs/GUIDE.md", "examples/README.md", "examples/intersection/README.md"):
-        text = lay_out.read(name).decode()
-        lay_out.put(os.path.join(top, name), re.sub(r"(?m)^ {4}.*", lambda line: with_installed_names(line[0]), text))
-    shutil.copytree(INTERSECTION, os.path.join(top, "examples", "intersection"), dirs_exist_ok=True,
-                    ignore=shutil.ignore_patterns("README.md"))
-    lay_out.put(os.path.join(top, "bench", "quotes"), lay_out.read("bench/quotes"), 0o755)
+    for name in ("bench/quotes", "README.md", "docs/GUIDE.md", "examples/README.md", "examples/intersection/README.md"):
+        lay_out.put(os.path.join(top, name), lay_out.read(name), 0o755)
+    shutil.copytree(INTERSECTION, os.path.join(top, "examples", "intersection"), dirs_exist_ok=True)
     lay_out.put(os.path.join(top, "sigaudit"), "#!/bin/sh\necho this is not the installed program\nexit 99\n", 0o755)
-    status, text = here.inside("chown -R 1000:1000 /home/user/quoted && setpriv --reuid=1000 --regid=1000 --clear-groups "
-                               "env HOME=/home/user SIGAUDIT=/usr/bin/sigaudit /home/user/quoted/bench/quotes")
+    here.inside("chown -R 1000:1000 /home/user/quoted")
+    status, text = here.inside("SIGAUDIT=/usr/bin/sigaudit /home/user/quoted/bench/quotes --installed", user=True)
     check("the documents' commands by their installed names", status == 0 and ", 0 failed" in text, text)
     here.inside("rm -rf /home/user/quoted")
 
@@ -309,7 +295,8 @@ def launcher_takes_it(check, here):
     for name in ("sigaudit", "VERSION", "crates.txt"):
         shutil.copy(os.path.join(HERE, name), here.path("home/user/clone"))
     status, text = here.inside("cd /home/user/clone && ./sigaudit --demo 1", user=True)
-    check("./sigaudit takes the installed program", status == 0 and "running /usr/bin/sigaudit of version" in text, text[:300])
+    check("./sigaudit takes the installed program",
+          status == 0 and "running /usr/bin/sigaudit of version" in text, text[:300])
     with open(here.path("home/user/clone/VERSION"), "w") as file:
         file.write("0.0.1\n")
     status, text = here.inside("cd /home/user/clone && ./sigaudit --demo 1", user=True)
@@ -358,6 +345,6 @@ def archive(check, here, room, later):
     if later:
         shutil.rmtree(os.path.join(room, "own"))
         recipes_answer(check, here, room, path)
-    status, said = here.inside("cd && %s/install.sh .local && %s/install.sh --remove .local; find .local" % (ARCHIVE, ARCHIVE),
-                               user=True)
+    twice = "cd && for how in '' --remove; do %s/install.sh $how .local; done; find .local" % ARCHIVE
+    status, said = here.inside(twice, user=True)
     check("install.sh --remove leaves nothing", said.splitlines()[1:] == [".local"], said)

@@ -64,7 +64,8 @@ def builds(count, room):
         return
     made, log = [], os.path.join(room, "gate.log")
     lay_out.put(log, "rt: low proved\nrt: ok; handles allowed: none\n12 passed, 0 failed\n")
-    for name, env in (("one", {"TZ": "UTC", "LC_ALL": "C"}), ("a longer name", {"TZ": "Asia/Tokyo", "LC_ALL": "C.UTF-8"})):
+    places = {"one": {"TZ": "UTC", "LC_ALL": "C"}, "a longer name": {"TZ": "Asia/Tokyo", "LC_ALL": "C.UTF-8"}}
+    for name, env in places.items():
         clone, out = os.path.join(room, name), os.path.join(room, name + " release")
         subprocess.run(["git", "clone", "-q", HERE, clone], check=True)
         words = ["packaging/build", "--program", os.path.abspath(program), "--gate", log, "--out", out]
@@ -84,6 +85,20 @@ def builds(count, room):
     count.check("a program of other sources is refused", status == 1 and "from other sources" in said, said)
 
 
+# What --help says.
+
+def answers_help(count, room):
+    """All commands but `recipe`, which is called by other names, with a program that would fail."""
+    for folder in ("bench", "examples", "packaging"):
+        for path in lay_out.files_below(folder):
+            command = os.path.join(HERE, folder, path)
+            if not os.access(command, os.X_OK) or os.path.basename(path) in ("recipe", "rules"):
+                continue
+            status, said = run([command, "--help"], cwd=room, env=dict(os.environ, SIGAUDIT="/bin/false"), timeout=60)
+            count.check("%s/%s --help" % (folder, path), "usage: " in said and status in (0, 2), said)
+    count.check("none of them left a file", not os.listdir(room), os.listdir(room))
+
+
 # A Debian.
 
 class Debian:
@@ -97,15 +112,17 @@ class Debian:
         env = ["env", "-i", "PATH=/usr/sbin:/usr/bin:/sbin:/bin", "LC_ALL=C.UTF-8", "DEBIAN_FRONTEND=noninteractive"]
         who = ["setpriv", "--reuid=1000", "--regid=1000", "--clear-groups"] if user else []
         home = ["HOME=/home/user"] if user else ["HOME=/root"]
-        script = 'mount -t proc proc "$0/proc" && mount -t devpts devpts "$0/dev/pts" && exec chroot "$0" "$@"'
-        return run(["unshare", "--mount", "--", "sh", "-c", script, self.folder, *env, *home, *who, "sh", "-c", command])
+        mounts = 'mount -t proc proc "$0/proc" && mount -t devpts devpts "$0/dev/pts" && exec chroot "$0" "$@"'
+        words = [*env, *home, *who, "sh", "-c", command]
+        return run(["unshare", "--mount", "--", "sh", "-c", mounts, self.folder, *words])
 
     def path(self, name):
         return os.path.join(self.folder, name.lstrip("/"))
 
     def names(self):
         """All that stands in it but for what apt and dpkg keep of their own, logs, caches and temporary files."""
-        passed = re.compile(r"(var/(lib/(dpkg|apt|systemd)|log|cache)|tmp|proc|dev|root|home|run)(/|$)|etc/[^/]*(-|\.cache|mtab)$")
+        passed = re.compile(r"(var/(lib/(dpkg|apt|systemd)|log|cache)|tmp|proc|dev|root|home|run)(/|$)"
+                            r"|etc/[^/]*(-|\.cache|mtab)$")
         found = set()
         for where, folders, names in os.walk(self.folder):
             below = os.path.relpath(where, self.folder)
@@ -139,8 +156,8 @@ def made_debian(folder, suite, base, mirror):
     return debian
 
 
-def debian(count, room, release, suite, base, mirror):
-    here = made_debian(os.path.join(room, suite), suite, base, mirror)
+def debian(count, here, release, suite, shared):
+    """Installs the package there and takes it away, then upgrades to it, then does the same with the archive."""
     for name in (PACKAGE, ARCHIVE + ".tar.xz"):
         shutil.copy(os.path.join(release, name), here.path("tmp"))
     check = lambda what, holds, seen="": count.check("%s: %s" % (suite, what), holds, seen)
@@ -152,11 +169,12 @@ def debian(count, room, release, suite, base, mirror):
     program_answers(check, here, "/usr")
     pages_and_completion(check, here, "/usr")
     if later:
+        here.inside("apt-get install -qy --no-install-recommends gnuplot-nox")
         commands_have_help(check, here)
-        recipes_answer(check, here, room, "")
-        pictures(check, here)
+        recipes_answer(check, here, repository_answers(shared, release), "")
         quotes(check, here)
         launcher_takes_it(check, here)
+        here.inside("apt-get purge -qy --autoremove gnuplot-nox")
     else:
         print("%s: recipes left out, its Python is %s" % (suite, ".".join(version)))
         for name in lay_out.recipes():
@@ -164,15 +182,10 @@ def debian(count, room, release, suite, base, mirror):
             check("%s says which Python it wants" % name, status == 1 and "3.11" in said, said)
     fresh = here.names()
     status, said = here.inside("apt-get purge -qy sigaudit")
-    left = sorted(name for name in here.names() - before if "gnuplot" not in name and "sigaudit" in name)
+    left = sorted(name for name in here.names() - before if "sigaudit" in name)
     check("purge leaves nothing", status == 0 and not left, left or said)
     upgrade(check, here, release, fresh)
-    archive(check, here, room, later)
-
-
-def answer_of(config, *words):
-    """What the program of this repository answers is kept in the example; here are its words, and where that stands."""
-    return "sigaudit --config config.toml " + " ".join(words)
+    archive(check, here, release, shared, later)
 
 
 def program_answers(check, here, prefix, user=False, path=""):
@@ -223,68 +236,58 @@ def same_below(check, what, one, other, but=()):
     check(what, a and not differ, "differ: %s" % differ)
 
 
-def recipes_answer(check, here, room, path):
-    """The whole way and a corridor by the installed names, beside the same by the repository's."""
-    own = os.path.join(room, "own")
+WHOLE = "--config config.toml --out whole o05.csv o06.csv o07.csv"
+
+
+def repository_answers(shared, release):
+    """The whole way and a corridor by this repository's recipes and the released program, made once."""
+    own = os.path.join(shared, "own")
+    if os.path.isdir(own):
+        return own
     os.makedirs(own)
-    env = dict(os.environ, SIGAUDIT=os.path.join(room, "program"))
-    with tarfile.open(os.path.join(here.path("tmp"), ARCHIVE + ".tar.xz")) as packed:
-        with open(env["SIGAUDIT"], "wb") as file:
-            file.write(packed.extractfile(ARCHIVE + "/bin/sigaudit").read())
-    os.chmod(env["SIGAUDIT"], 0o755)
+    program = os.path.join(shared, "program")
+    with tarfile.open(os.path.join(release, ARCHIVE + ".tar.xz")) as packed:
+        lay_out.put(program, packed.extractfile(ARCHIVE + "/bin/sigaudit").read(), 0o755)
     for name in ("config.toml", "o05.csv", "o06.csv", "o07.csv"):
         shutil.copy(os.path.join(INTERSECTION, name), own)
+    recipe = lambda name: os.path.join(HERE, "examples", name)
+    for command in ("%s %s" % (recipe("audit-export"), WHOLE), "%s c" % recipe("corridor/signals"),
+                    "make -s -f %s CORRIDOR=c -j2" % recipe("corridor/Makefile")):
+        run(["sh", "-c", command], cwd=own, env=dict(os.environ, SIGAUDIT=program))
+    return own
+
+
+def recipes_answer(check, here, own, path, drawn=True):
+    """The whole way and a corridor by the installed names, beside the same by the repository's."""
+    for name in ("config.toml", "o05.csv", "o06.csv", "o07.csv"):
         shutil.copy(os.path.join(INTERSECTION, name), here.path("home/user"))
-    words = " --config config.toml --out whole o05.csv o06.csv o07.csv"
-    ours = run(["sh", "-c", os.path.join(HERE, "examples", "audit-export") + words], cwd=own, env=env)
-    theirs = here.inside("%s cd && sigaudit-audit-export%s" % (path, words), user=True)
-    check("the whole way ends as the repository's", ours[0] == theirs[0] and "see whole" in theirs[1], theirs[1])
+    status, text = here.inside("%s cd && sigaudit-audit-export %s" % (path, WHOLE), user=True)
+    check("the whole way", status in (0, 1) and "see whole" in text, text)
     same_below(check, "the whole way's files are those of the repository", os.path.join(own, "whole"),
                here.path("home/user/whole"), (".svg", ".html"))
-    corridor = os.path.join(HERE, "examples", "corridor")
-    run(["sh", "-c", "%s/signals c && make -f %s/Makefile CORRIDOR=c -j2" % (corridor, corridor)], cwd=own, env=env)
+    if drawn:
+        svg = [name for name in os.listdir(here.path("home/user/whole")) if name.endswith(".svg")]
+        check("pictures are drawn with gnuplot-nox", len(svg) >= 4, text)
     status, text = here.inside("%s cd && sigaudit-corridor-signals c && make -f "
                                "$(dirname $(readlink -f $(command -v sigaudit-corridor)))/examples/corridor/Makefile "
                                "CORRIDOR=c -j2" % path, user=True)
     check("the corridor with make -j2", status == 0, text)
-    same_below(check, "the corridor's files are those of the repository", os.path.join(own, "c"), here.path("home/user/c"),
-               (".svg", ".html"))
+    same_below(check, "the corridor's files are those of the repository", os.path.join(own, "c"),
+               here.path("home/user/c"), (".svg", ".html"))
     status, text = here.inside("%s cd && sigaudit-corridor c -j2" % path, user=True)
     check("sigaudit-corridor finds nothing to do", status == 0 and "Nothing to be done" in text, text)
     here.inside("rm -rf /home/user/whole /home/user/c")
 
 
-def pictures(check, here):
-    """With what the package recommends the pictures are drawn."""
-    status, said = here.inside("apt-get install -qy --no-install-recommends gnuplot-nox")
-    words = "cd && sigaudit-audit-export --config config.toml --out drawn o05.csv o06.csv o07.csv"
-    status, said = here.inside(words, user=True)
-    drawn = [name for name in os.listdir(here.path("home/user/drawn")) if name.endswith(".svg")]
-    check("pictures are drawn with gnuplot-nox", len(drawn) >= 4, said)
-    here.inside("rm -rf /home/user/drawn; apt-get purge -qy --autoremove gnuplot-nox")
-
-
-def with_installed_names(command):
-    """A command of the documents as the guide says that it is called where sigaudit is installed."""
-    command = re.sub(r"make -f examples/corridor/Makefile CORRIDOR=(\S+)", r"sigaudit-corridor \1", command)
-    command = re.sub(r"(?<!\S)(\.{1,2}/)+sigaudit(?=\s)", "sigaudit", command)
-    for name, path in lay_out.recipes().items():
-        command = re.sub(r"(?<!\S)((\.\./)*examples/|(\.\./)+)%s(?=\s)" % re.escape(path), name, command)
-    return command
-
-
 def quotes(check, here):
-    """The documents' commands by their installed names, by bench/quotes, where the repository's own recipes aren't."""
+    """The documents' commands by their installed names, by bench/quotes, where the repository's own files aren't."""
     top = here.path("home/user/quoted")
-    for name in ("README.md", "docs/GUIDE.md", "examples/README.md", "examples/intersection/README.md"):
-        text = lay_out.read(name).decode()
-        lay_out.put(os.path.join(top, name), re.sub(r"(?m)^ {4}.*", lambda line: with_installed_names(line[0]), text))
-    shutil.copytree(INTERSECTION, os.path.join(top, "examples", "intersection"), dirs_exist_ok=True,
-                    ignore=shutil.ignore_patterns("README.md"))
-    lay_out.put(os.path.join(top, "bench", "quotes"), lay_out.read("bench/quotes"), 0o755)
+    for name in ("bench/quotes", "README.md", "docs/GUIDE.md", "examples/README.md", "examples/intersection/README.md"):
+        lay_out.put(os.path.join(top, name), lay_out.read(name), 0o755)
+    shutil.copytree(INTERSECTION, os.path.join(top, "examples", "intersection"), dirs_exist_ok=True)
     lay_out.put(os.path.join(top, "sigaudit"), "#!/bin/sh\necho this is not the installed program\nexit 99\n", 0o755)
-    status, text = here.inside("chown -R 1000:1000 /home/user/quoted && setpriv --reuid=1000 --regid=1000 --clear-groups "
-                               "env HOME=/home/user SIGAUDIT=/usr/bin/sigaudit /home/user/quoted/bench/quotes")
+    here.inside("chown -R 1000:1000 /home/user/quoted")
+    status, text = here.inside("SIGAUDIT=/usr/bin/sigaudit /home/user/quoted/bench/quotes --installed", user=True)
     check("the documents' commands by their installed names", status == 0 and ", 0 failed" in text, text)
     here.inside("rm -rf /home/user/quoted")
 
@@ -295,7 +298,8 @@ def launcher_takes_it(check, here):
     for name in ("sigaudit", "VERSION", "crates.txt"):
         shutil.copy(os.path.join(HERE, name), here.path("home/user/clone"))
     status, text = here.inside("cd /home/user/clone && ./sigaudit --demo 1", user=True)
-    check("./sigaudit takes the installed program", status == 0 and "running /usr/bin/sigaudit of version" in text, text[:300])
+    check("./sigaudit takes the installed program",
+          status == 0 and "running /usr/bin/sigaudit of version" in text, text[:300])
     with open(here.path("home/user/clone/VERSION"), "w") as file:
         file.write("0.0.1\n")
     status, text = here.inside("cd /home/user/clone && ./sigaudit --demo 1", user=True)
@@ -331,7 +335,7 @@ def upgrade(check, here, release, fresh):
     here.inside("apt-get purge -qy sigaudit")
 
 
-def archive(check, here, room, later):
+def archive(check, here, release, shared, later):
     """The archive into a prefix of a common user, and away again."""
     path = "export PATH=$HOME/.local/bin:$PATH;"
     status, said = here.inside("cd && tar -xJf /tmp/%s.tar.xz && %s/install.sh .local" % (ARCHIVE, ARCHIVE), user=True)
@@ -342,8 +346,7 @@ def archive(check, here, room, later):
     pages_and_completion(check, here, "/home/user/.local", "export PATH=/home/user/.local/bin:$PATH "
                          "XDG_DATA_HOME=/home/user/.local/share;")
     if later:
-        shutil.rmtree(os.path.join(room, "own"))
-        recipes_answer(check, here, room, path)
-    status, said = here.inside("cd && %s/install.sh .local && %s/install.sh --remove .local; find .local" % (ARCHIVE, ARCHIVE),
-                               user=True)
+        recipes_answer(check, here, repository_answers(shared, release), path, drawn=False)
+    twice = "cd && for how in '' --remove; do %s/install.sh $how .local; done; find .local" % ARCHIVE
+    status, said = here.inside(twice, user=True)
     check("install.sh --remove leaves nothing", said.splitlines()[1:] == [".local"], said)

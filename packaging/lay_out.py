@@ -112,7 +112,8 @@ def list_of_recipes():
 def lay_out_completion(folder):
     cases = []
     for name, path in recipes().items():
-        words = sorted(set(re.findall(r"(?<![\w-])--[a-z]+(?:-[a-z]+)*", pages.head_of(os.path.join(HERE, "examples", path)))))
+        head = pages.head_of(os.path.join(HERE, "examples", path))
+        words = sorted(set(re.findall(r"(?<![\w-])--[a-z]+(?:-[a-z]+)*", head)))
         cases.append('    %s) words="%s" ;;' % (name, " ".join(words)))
     complete = "complete -F _sigaudit %s" % " ".join(recipes())
     text = read("packaging/completion.bash").decode()
@@ -136,7 +137,8 @@ def lay_out(folder, program, proof, sources, date):
     lay_out_completion(folder + "/share/bash-completion/completions")
     doc = folder + "/share/doc/sigaudit"
     for name in DOCUMENTS:
-        for path in [name] if os.path.isfile(os.path.join(HERE, name)) else ["docs/" + each for each in files_below(name)]:
+        is_file = os.path.isfile(os.path.join(HERE, name))
+        for path in [name] if is_file else [name + "/" + each for each in files_below(name)]:
             put("%s/%s" % (doc, path), read(path))
     put(doc + "/PROOF.txt", read(proof))
     link(doc + "/examples", "../../sigaudit/examples")

@@ -20,7 +20,8 @@ def roff(text):
 def verbatim(lines):
     """Lines that are printed as they stand; nothing in them is marked."""
     shown = [line.replace("\\", "\\e").replace("-", "\\-") for line in lines]
-    return [".PP", ".RS 4", ".nf"] + ["\\&" + line if line[:1] in (".", "'") else line for line in shown] + [".fi", ".RE"]
+    shown = ["\\&" + line if line[:1] in (".", "'") else line for line in shown]
+    return [".PP", ".RS 4", ".nf"] + shown + [".fi", ".RE"]
 
 
 def title(name, section, version, date):
@@ -116,7 +117,7 @@ def cells_of(line):
 
 
 def table(lines):
-    """A table as a list: its first column the terms, the others their text, named by their heads where they are several."""
+    """A table as a list: its first column the terms, the others their text, with their heads where they are several."""
     heads, rows = cells_of(lines[0]), [cells_of(line) for line in lines[2:]]
     half = len(heads) // 2
     if len(heads) % 2 == 0 and heads[:half] == heads[half:]:
@@ -128,8 +129,8 @@ def table(lines):
         if len(row) == 2:
             made.append(roff(row[1]) or "\\&")
         else:
-            made.append(" ".join("%s: %s." % (roff(head), roff(cell).rstrip(".")) for head, cell in zip(heads[1:], row[1:])
-                                 if cell) or "\\&")
+            named = ["%s: %s." % (roff(head), roff(cell).rstrip(".")) for head, cell in zip(heads[1:], row[1:]) if cell]
+            made.append(" ".join(named) or "\\&")
     return made + [".PP"]
 
 
@@ -144,7 +145,8 @@ def of_document(name, summary, text, version, date):
             made += verbatim(lines[at + 1:end]) + [".PP"]
             at = end
         elif line.startswith("    "):
-            end = next((k for k in range(at, len(lines)) if lines[k].strip() and not lines[k].startswith("    ")), len(lines))
+            others = [k for k in range(at, len(lines)) if lines[k].strip() and not lines[k].startswith("    ")]
+            end = (others + [len(lines)])[0]
             block = [each[4:] for each in lines[at:end]]
             made += verbatim("\n".join(block).rstrip("\n").split("\n")) + [".PP"]
             at = end - 1

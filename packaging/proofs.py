@@ -41,8 +41,8 @@ To repeat it
 What the proofs say and what they rest on stands in README.md, "What is proved". Of the recipes, sigaudit-NAME, nothing
 is proved, nor of packaging/, which links the released program and packs it.
 """
-NO_GATE = """No log of the gate was given to packaging/build. So this file says nothing of whether the proofs of these sources
-pass: repeat them."""
+NO_GATE = """No log of the gate was given to packaging/build. So this file says nothing of whether the proofs of these
+sources pass: repeat them."""
 GATE = """The log that was given to packaging/build (sha256 %s) ends with
 
 %s
@@ -102,7 +102,7 @@ class Facts:
         return hashlib.sha256(lines.encode()).hexdigest(), len(names)
 
     def of_program(self):
-        """The digest of what the program is made of, as ./sigaudit makes it: crates with what they stand on, and files."""
+        """The digest of what the program is made of, as ./sigaudit makes it: crates, what they stand on, files."""
         stands_on = {}
         for line in text_of(os.path.join(self.here, "crates.txt")).splitlines():
             name, colon, others = line.partition("#")[0].partition(":")

@@ -1,9 +1,9 @@
 """Tests of examples/report and of the corridor's index, for bench/recipes: the pages read back. Not proved.
 
-numbers(..) reads a page and looks up each of its numbers again: in the tables, in the answer, in the hour files, in the
-script, each by code of its own. A number that says nowhere where it is from, and isn't part of a name, a time or a fixed
-text, is a fault. escaped(..) makes a page of names with markup. html(..) has the page checked as HTML, browser(..) opens
-it in a browser without a window.
+numbers(..) reads a page and looks up each of its numbers again: in the tables, in the answer, in the hour files, in
+the script, each by code of its own. A number that says nowhere where it is from, and isn't part of a name, a time or a
+fixed text, is a fault. escaped(..) makes a page of names with markup; html_faults(..) has a page checked as HTML, and
+browser_faults(..) opens it in a browser without a window. pictures() reads the numbers of drawn pictures back.
 """
 import collections
 import csv
@@ -19,7 +19,9 @@ HERE = os.path.dirname(os.path.dirname(os.path.abspath(__file__)))
 sys.path[:0] = [os.path.join(HERE, "examples"), os.path.join(HERE, "bench")]
 import answers
 import browser
+import drawings
 import explanations
+import logs
 
 EMPTY = {"meta", "link", "br", "col", "img", "input", "hr"}
 # Texts whose numbers are names, times, rows or fixed words.
@@ -273,6 +275,59 @@ def numbers(folder, **where):
     return Page(folder, **where).check().said()
 
 
+def index(path):
+    """The lines of a corridor's page: each cell as text, with the folders to which links lead."""
+    reader = Reader(path)
+    out = "".join("HTML: %s\n" % fault for fault in reader.faults)
+    for row in next(reader.root.all("tbody")).all("tr"):
+        out += " | ".join(" ".join(cell.text().split()) for cell in row.children if not isinstance(cell, str))
+        out += " | %s\n" % " ".join(node.given["href"] for node in row.all("a"))
+    return out + "".join("%s%s\n" % (node.given["href"], "" if os.path.exists(os.path.join(
+        os.path.dirname(path), node.given["href"])) else " isn't there") for node in reader.root.all("a"))
+
+
+def boxes(path):
+    """The boxes of a path of bars: left, upper edge, width, height, those that are drawn upward too."""
+    for left, top, wide, how, tall in re.findall(r"M(\S+) (\S+?)h([\d.]+)([Vv])([-\d.]+)h-[\d.]+z", path):
+        below = float(tall) if how == "V" else float(top) + float(tall)
+        yield float(left), min(float(top), below), float(wide), abs(below - float(top))
+
+
+def pictures():
+    """Bars, bands, shifts, diagrams and time lines, drawn of known numbers, which are read back from their paths."""
+    start = logs.hour_of("2024-03-04T05")
+    hours = [start + place * logs.HOUR for place in range(4)]
+    end, out = start + 4 * logs.HOUR, ""
+    paths = lambda picture, fill: [found for found in re.findall(r'<path d="([^"]*)"[^>]*fill="([^"]*)"', picture)
+                                   if found[1] == fill]
+    failed, passed = {hours[0]: 3, hours[2]: 10}, {hours[0]: 7, hours[1]: 5}
+    bars = drawings.hours_bars("x", start, end, [], [("#111111", failed), ("#222222", passed)], "services")
+    scale = (170 - 40 - drawings.TOP) / 10
+    for fill in ("#111111", "#222222"):
+        out += "bars: %s\n" % [round(box[3] / scale, 1) for box in boxes(paths(bars, fill)[0][0])]
+    band = drawings.hours_band("x", start, end, [], [(hours[0], 20, 50, 80), (hours[3], 0, None, 100)], "x", percent=True)
+    scale = (170 - 40 - drawings.TOP) / 100
+    out += "band: %s\n" % [(round((130 - top - tall) / scale), round((130 - top) / scale))
+                           for _, top, _, tall in boxes(paths(band, drawings.SKY)[0][0])]
+    line = drawings.shifts("x", [5, 10, 0], 1, 12)
+    shown = re.search(r'd="(M[^"]*L[^"]*)"', line)[1]
+    scale = (170 - 40 - drawings.TOP) / 10
+    out += "shifts: %s\n" % [round((130 - float(y)) / scale, 1) for y in re.findall(r"[ML]\S+ ([\d.]+)", shown)]
+    cycles = [(start, 1000, 300, 900), (start + 1000, 5000, 0, 0), (start + 6000, 800, 200, 700)]
+    points = [(start, 100), (start, 950), (start + 1000, 4000), (start + 6000, 0)]
+    picture, highest, cut, every = drawings.diagram("x", start, end, [(hours[1], hours[2])], cycles, points)
+    out += "diagram: to %d s, %d cut, %d dots, 1 in %d\n" % (highest, cut, picture.count("h0M") + 1, every)
+    out += "diagram, thinned: %d dots, 1 in %d\n" % (lambda made: (made[0].count("h0M") + 1, made[3]))(
+        drawings.diagram("x", start, end, [], cycles, points * 5, most=4))
+    marks = [(hours[1], 2, "broken"), (hours[1] + 1, 2, "broken"), (hours[2], 2, "broken"), (hours[3], 5, "undecided")]
+    lanes = drawings.time_line("x", start, end, ([(hours[0], hours[1])], [(hours[2], hours[2] + 50)]), [],
+                               [(2, "two"), (5, "five")], marks)
+    drawn = re.search('<path d="([^"]*)" stroke="%s"' % drawings.BROKEN, lanes)[1]
+    width = drawings.WIDE - drawings.RIGHT - 290
+    out += "time line: broken at %s h\n" % [round((float(x) - 290) / width * 4, 2) for x in re.findall(r"M(\S+) ", drawn)]
+    return out + "%s" % [drawings.day_of(start), drawings.end_clock(logs.hour_of("2024-03-05T00"))] + "\n"
+
+
 SIGNAL, FILE = "<b>&'x", "<u>&amp;'_%s.csv"
 
 
@@ -315,23 +370,13 @@ def escaped(program):
     out += "title: %s\n" % next(page.root.all("title")).text()
     out += "elements of the names: %d\n" % sum(node.text() in (SIGNAL, "&'x") for node in page.root.all("b"))
     out += "files: %s\n" % sorted({code.text() for code in page.root.all("code")})
-    return out + page.check().said() + html_faults("m/report.html")
+    return out + page.check().said()
 
 
 def html_faults(path):
-    """What the checkers of HTML that are there say of a page: tidy, and html5lib."""
-    out = ""
-    if shutil.which("tidy"):
-        said = subprocess.run(["tidy", "-e", "-q", "-utf8", path], capture_output=True, text=True).stderr
-        out += "tidy: %d warnings and errors\n" % len(said.splitlines()) + said[:2000]
-    try:
-        import html5lib
-    except ImportError:
-        return out
-    parser = html5lib.HTMLParser(strict=False)
-    with open(path, "rb") as file:
-        parser.parse(file)
-    return out + "html5lib: %d errors\n" % len(parser.errors) + "".join("%s %s\n" % error[:2] for error in parser.errors[:10])
+    """What tidy says of a page."""
+    said = subprocess.run(["tidy", "-e", "-q", "-utf8", path], capture_output=True, text=True).stderr
+    return "%d warnings and errors\n" % len(said.splitlines()) + said[:2000]
 
 
 def browser_faults(folder, page="report.html", pictures=None):

@@ -258,8 +258,8 @@ def approach(audit, total):
         parts.append(element("p", "%s arrivals, %s of them on green, %s not, %s undecided, %s unseen, in %s known seconds%s." % (
             total.shown("arrivals"), total.shown("green"), total.shown("not_green"), total.shown("undecided"),
             total.shown("unseen"), total.shown("known_s"),
-            ": a share from %s to %s; platoon ratio %s" % (total.shown("least", True), total.shown("greatest", True),
-            total.shown("platoon_ratio") if total["platoon_ratio"] else "not to be told") if total["least"] else "")))
+            ": %s; platoon ratio %s" % (share(total, "least", "greatest"), total.shown("platoon_ratio")
+            if total["platoon_ratio"] else "not to be told") if total["least"] else "")))
         pictures.append(pages.figure(drawings.hours_band(
             "Approach %s: share of arrivals on green by hour" % name, session.start, session.end, session.unknown(),
             [(row.hour(), 100 * row.number("least"), None, 100 * row.number("greatest")) for row in rows if row["least"]],
@@ -271,8 +271,7 @@ def approach(audit, total):
         parts.append(element("p", "%s services: %s failed, %s passed, %s undecided, %s open at the end, %s with a detector's "
             "fault%s." % (total.shown("splits"), total.shown("split_fail"), total.shown("split_pass"),
             total.shown("split_undecided"), total.shown("split_open"), total.shown("split_fault"),
-            ": a share failed from %s to %s" % (total.shown("fail_least", True), total.shown("fail_greatest", True))
-            if total["fail_least"] else "")))
+            ": failed %s" % share(total, "fail_least", "fail_greatest") if total["fail_least"] else "")))
         stacked = [(fill, counts(rows, column)) for column, fill, _ in SERVICES]
         for row in rows:
             stacked[-1][1][row.hour()] += row.count("split_fault")
@@ -289,6 +288,13 @@ def approach(audit, total):
     parts.append(element("div", "".join(pictures), cls="pair"))
     parts.append(by_hour(audit, rows, columns, "Approach %s" % text(name)))
     return "\n".join(part for part in parts if part)
+
+
+def share(row, least, greatest):
+    """A share that lies between two, or is both."""
+    if row[least] == row[greatest]:
+        return "a share of %s" % row.shown(least, True)
+    return "a share from %s to %s" % (row.shown(least, True), row.shown(greatest, True))
 
 
 def loops(audit, name):

@@ -309,7 +309,7 @@ def pictures():
     scale = (170 - 40 - drawings.TOP) / 100
     out += "band: %s\n" % [(round((130 - top - tall) / scale), round((130 - top) / scale))
                            for _, top, _, tall in boxes(paths(band, drawings.SKY)[0][0])]
-    line = drawings.shifts("x", [5, 10, 0], 1, 12)
+    line = drawings.shifts("x", [5, 10, 0], 1)
     shown = re.search(r'd="(M[^"]*L[^"]*)"', line)[1]
     scale = (170 - 40 - drawings.TOP) / 10
     out += "shifts: %s\n" % [round((130 - float(y)) / scale, 1) for y in re.findall(r"[ML]\S+ ([\d.]+)", shown)]

@@ -292,7 +292,7 @@ def diagram(title, start, end, unknown, cycles, points, most=20000):
     return picture.svg(), highest // 10, cut, every
 
 
-def shifts(title, counts, best, arrivals):
+def shifts(title, counts, best):
     """Of an approach, how many arrivals meet green at each shift in seconds; the best, and the log's own, are marked."""
     picture = Picture(title, 0, max(len(counts), 1), 170, HALF)
     picture.value_axis(max(list(counts) + [1]), "arrivals on green")

@@ -1,4 +1,4 @@
-"""What the pages of the recipes share: HTML with its style, escaped texts, tables that say where they are from. Not proved.
+"""What the pages of the recipes share: HTML, its style, escaped texts, places of numbers. Not proved.
 
 A page is one file. It asks for nothing else: the style is inside, pictures are SVG inside (drawings.py), there is no
 script, and folded parts are `details`, which a keyboard opens. Colours are those of Okabe and Ito, which the
@@ -129,6 +129,17 @@ def link(target, inner):
 def folded(summary, inner, **given):
     """A part that is folded up until it is opened."""
     return element("details", element("summary", summary) + element("div", inner, cls="inner"), **given)
+
+
+def table(heads, rows, caption="", **given):
+    """A table of rows, of which heads and rows are HTML."""
+    caption = element("caption", caption) if caption else ""
+    return element("table", caption + element("thead", element("tr", heads)) + element("tbody", "\n".join(rows)), **given)
+
+
+def scrolled(inner):
+    """What is wider than a narrow screen, and is moved sideways there."""
+    return element("div", inner, cls="scroll")
 
 
 def figure(picture, caption):

@@ -91,20 +91,13 @@ def rows_of(path, signal, hour):
     return NumberedReader(signal).rows(path) if rows is None else rows
 
 
-def group_of(row):
-    """What a row can be a repeat in: its channel, where it has one; faults of a detector are rows of its channel."""
-    if 83 <= row.code <= 88 and 1 <= row.param <= 128:
-        return "detector", row.param
-    return logs.channel_of(row.code, row.param) or (row.code, row.param)
-
-
 def without_repeats(rows):
     """The rows by tenth, those of one tenth in their order, without those that sigaudit leaves out as repeats."""
     kept, tenth, last = [], None, {}
     for row in sorted(rows, key=lambda row: row.tenth):
         if row.tenth != tenth:
             tenth, last = row.tenth, {}
-        group = group_of(row)
+        group = logs.channel_of(row.code, row.param) or (row.code, row.param)
         if last.get(group) != (row.code, row.param):
             kept.append(row)
         last[group] = row.code, row.param

@@ -17,10 +17,8 @@ import sys
 
 HERE = os.path.dirname(os.path.dirname(os.path.abspath(__file__)))
 sys.path[:0] = [os.path.join(HERE, "examples"), os.path.join(HERE, "bench")]
-import answers
 import browser
 import drawings
-import explanations
 import logs
 
 EMPTY = {"meta", "link", "br", "col", "img", "input", "hr"}
@@ -116,11 +114,6 @@ class Page:
             self.script = [line.split() for line in file]
         window = next(row for row in self.tables["head"] if row["what"] == "window")["value"].split()
         self.start, self.end = map(stamp, window)
-        before = os.getcwd()
-        os.chdir(folder)
-        self.explained = list(explanations.explain_lines(answers.Session("config.toml", script, answer),
-                                                         ("broken", "undecided")))
-        os.chdir(before)
         self.looked_up = collections.Counter()
 
     def answer_to(self, *words):
@@ -146,7 +139,7 @@ class Page:
         if what == "refused":
             return str(sum(line[1:2] == ["refused"] for line in self.answer))
         if what == "known":
-            hours = {row["hour"]: float(row["known_s"]) for row in self.tables["phases"] if "T" in row["hour"]}
+            hours = {row["hour"]: float(row["known_s"]) for row in self.tables["phases"]}
             whole = (self.end - self.start).total_seconds()
             if rest == ["share"]:
                 return "%.1f\u00a0%%" % (int(1000 * round(sum(hours.values()), 1) / whole) / 10)
@@ -160,11 +153,19 @@ class Page:
             return {"best": best[1], "count": best[3], "of": best[5],
                     "logged": next(line for line in lines if line[:2] == ["shift", "0"])[3]}[rest[1]]
         if what == "explained":
-            one = self.explained[int(rest[0])]
-            span = one.silence[1] - one.silence[0] if one.silence else None
-            return one.measured() if rest[1] == "measured" else explanations.in_seconds(
-                {"bound": one.bound, "excess": one.excess, "silence": span}[rest[1]])
+            return self.explained(self.tables["verdicts"][int(rest[0])], rest[1])
         return self.tables[what][int(rest[0])][rest[1]]
+
+    def explained(self, row, what):
+        """A duration that a broken line is told in, from its fields."""
+        least, greatest = row["least_s"], row["greatest_s"]
+        if what == "excess":
+            return "%.1f s" % abs(float(row["bound_s"]) - float(least))
+        if what != "measured" or least == greatest:
+            return {"measured": least, "bound": row["bound_s"], "silence": row["silence_s"]}[what] + " s"
+        if not greatest:
+            return "at least %s s" % least if float(least) else "an unknown time"
+        return "at most %s s" % greatest if not float(least) else "from %s to %s s" % (least, greatest)
 
     def is_same(self, shown, field):
         """Whether a shown text is a field, as it stands or in per cent."""
@@ -198,7 +199,7 @@ class Page:
             if row.children[1].text() != seconds(high - low):
                 self.faults.append("a stretch of %s s is said to have %s" % (seconds(high - low), row.children[1].text()))
         known = sum(float(row["known_s"]) for row in self.tables["phases"]
-                    if "T" in row["hour"] and row["phase"] == self.tables["phases"][0]["phase"])
+                    if row["phase"] == self.tables["phases"][0]["phase"])
         unknown = (self.end - self.start).total_seconds() - sum((high - low).total_seconds() for low, high in shown)
         self.looked_up["stretches"] += len(shown)
         if abs(known - unknown) > 0.05:

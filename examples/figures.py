@@ -40,10 +40,6 @@ class Row:
         """The tenth at which the row's hour begins."""
         return logs.hour_of(self.fields["hour"])
 
-    def is_of_an_hour(self):
-        """Whether the row is of one hour, and not of the whole window."""
-        return "T" in self.fields["hour"]
-
     def text(self, column):
         """The field as a page shows it: escaped, a share in per cent."""
         return pages.percent(self[column]) if column in SHARES else pages.text(self[column])
@@ -75,12 +71,8 @@ class Tables:
         return [row for row in self.read[name] if all(row[key] == str(value) for key, value in wanted.items())]
 
     def window(self, name, **wanted):
-        """The rows of a table that are of the whole window."""
-        return [row for row in self.rows(name, **wanted) if not row.is_of_an_hour()]
-
-    def hours(self, name, **wanted):
-        """The rows of a table that are of one hour each."""
-        return [row for row in self.rows(name, **wanted) if row.is_of_an_hour()]
+        """The rows of the table over the whole window that stands beside one by hour."""
+        return self.rows("window_" + name, **wanted)
 
     def names(self):
         return sorted(name[:-4] for name in os.listdir(self.folder) if name.endswith(".csv"))

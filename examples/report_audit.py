@@ -1,6 +1,9 @@
-"""All that the page of a signal is made of: the session, its tables, its verdicts, what was found of holes. Not proved."""
+"""What the page of a signal is made of: a session, its tables and verdicts, what was found of holes. Not proved."""
+import functools
+
 import drawings
 import explanations
+import held
 import logs
 import pages
 
@@ -12,10 +15,17 @@ MOST_HOURS = 6
 class Verdict:
     """A broken or undecided line: its place in verdicts.csv, its figures, how far the log below it is trusted."""
 
-    def __init__(self, line, section, row):
-        self.line, self.section, self.row = line, section, row
+    def __init__(self, finder, line, section, row):
+        self.finder, self.line, self.section, self.row = finder, line, section, row
         self.verdict, self.rule, self.at = line.verdict, line.rule, line.stamp
-        self.explained = None
+
+    @functools.cached_property
+    def explained(self):
+        """What it is in figures; None where the hour files aren't there as they were."""
+        try:
+            return self.finder.explain(self.line, self.section)
+        except (held.OtherFile, OSError):
+            return None
 
     @property
     def grade(self):
@@ -27,8 +37,9 @@ class Verdict:
         return "line-%d" % self.row.place
 
     def severity(self):
-        """How far from the bound; of a rule without one, for how long it was broken."""
-        return self.explained.least if self.explained.excess is None else self.explained.excess
+        """How far from the bound, in seconds; of a rule without one, for how long it was broken."""
+        least, bound = self.row.get("least_s"), self.row.get("bound_s")
+        return abs(float(bound) - float(least)) if bound and least else float(least or 0)
 
 
 class Audit:
@@ -38,11 +49,8 @@ class Audit:
         self.session, self.tables, self.made = session, tables, made
         self.holes, self.pairs = lines_of(holes), pairs_of(pairs)
         finder = explanations.Finder(session)
-        self.verdicts = [Verdict(line, section, row) for (line, section), row in zip(
-            finder.lines(("broken", "undecided")), tables.rows("verdicts"))]
-        for verdict in self.verdicts:
-            if verdict.verdict == "broken":
-                verdict.explained = finder.explain(verdict.line, verdict.section)
+        self.verdicts = [Verdict(finder, line, section, row) for (line, section), row in zip(
+            finder.lines(("broken", "undecided")), tables.rows("verdicts"), strict=True)]
         self.graded = any(verdict.grade for verdict in self.verdicts)
 
     def of(self, rule, kind):

@@ -55,7 +55,7 @@ def bars(audit, title, caption, rows, entries, unit):
 
 def phase(audit, total):
     number = total["phase"]
-    rows = audit.tables.hours("phases", phase=number)
+    rows = audit.tables.rows("phases", phase=number)
     name = "Phase " + number
     parts = [heading("phase-" + number, name, "h3")]
     if total.count("services"):
@@ -108,7 +108,7 @@ def diagram(audit, number):
 
 def approach(audit, total):
     name = "Approach " + text(total["approach"])
-    rows = audit.tables.hours("approaches", approach=total["approach"])
+    rows = audit.tables.rows("approaches", approach=total["approach"])
     said, pictures, columns = [], [], {}
     if total["arrivals"]:
         said.append(arrived(total))
@@ -180,7 +180,7 @@ def best_shift(audit, name):
 
 def each_by_hour(audit, table, column, rows, columns, what):
     """By hour each channel of a table."""
-    return "".join(by_hour(audit, audit.tables.hours(table, **{column: row[column]}), columns, what + " " + row[column])
+    return "".join(by_hour(audit, audit.tables.rows(table, **{column: row[column]}), columns, what + " " + row[column])
                    for row in rows)
 
 
@@ -190,7 +190,7 @@ def pedestrians(audit):
         return ""
     pictures = []
     for row in rows:
-        called = [each for each in audit.tables.hours("peds", ped=row["ped"]) if each.count("delays")]
+        called = [each for each in audit.tables.rows("peds", ped=row["ped"]) if each.count("delays")]
         if called:
             name = "Pedestrian signal " + row["ped"]
             pictures.append(band(audit, name + ": mean and greatest delay by hour",
@@ -217,4 +217,4 @@ def coordination(audit):
         return ""
     return heading("coordination", "Coordination", "h3") + figures.table(
         rows, {"known_s": "known s", **COORDINATION}) + by_hour(
-            audit, audit.tables.hours("coordination"), COORDINATION, "Coordination")
+            audit, audit.tables.rows("coordination"), COORDINATION, "Coordination")

@@ -21,12 +21,13 @@ RESTS = (
 )
 ABOUT = {
     "head": "the window; configuration, script and answer with their SHA-256; each edit with its file’s, and the answer",
-    "phases": "each phase: services, splits, why greens ended, cycles",
-    "approaches": "each approach: arrivals on green, actuations on red, split failures",
-    "peds": "each pedestrian signal: walks, delays",
-    "preempts": "each preempt: entries, delays, dwells, states",
-    "coordination": "the coordination: seconds in each state",
-    "rules": "each rule: kept, broken, undecided",
+    "phases": "each phase by hour: services, splits, why greens ended, cycles",
+    "approaches": "each approach by hour: arrivals on green, actuations on red, split failures",
+    "peds": "each pedestrian signal by hour: walks, delays",
+    "preempts": "each preempt by hour: entries, delays, dwells, states",
+    "coordination": "the coordination by hour: seconds in each state",
+    "rules": "each rule by hour: kept, broken, undecided",
+    "window_rules": "each rule over the window",
     "verdicts": "each broken and undecided verdict, with the rule in words",
 }
 
@@ -155,12 +156,19 @@ def chances(audit):
         "found here isn’t found in earnest either.") + pages.scrolled(pages.table(heads, rows)), cls="said")
 
 
+def about(name):
+    """What a table has, in words."""
+    if name.startswith("window_") and name not in ABOUT:
+        return "the same as %s, over the window" % name[len("window_"):]
+    return ABOUT.get(name, "")
+
+
 def tables(audit):
     """The tables beside the page, and each file and edit with its digest."""
     items = []
     for name in audit.tables.names():
         count = element("span", "%d rows" % len(audit.tables.rows(name)), data_of="rows %s" % name)
-        items.append("%s: %s; %s" % (audit.tables.link(name), text(ABOUT.get(name, "")), count))
+        items.append("%s: %s; %s" % (audit.tables.link(name), text(about(name)), count))
     files = figures.table(audit.tables.rows("head"), {
         "what": "what", "hour": "hour", "value": "value", "answer": "answer", "sha256": "SHA-256"})
     return section(

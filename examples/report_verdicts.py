@@ -19,6 +19,7 @@ GRADE_IN_WORDS = {
     "sure": "rows are almost surely lost in it",
     "certain": "rows are lost in it: what is there can’t follow one another",
 }
+NO_FILES = "The hour files aren’t there as they were when the answer was made, so its rows can’t be shown."
 FORBIDDEN = {"conflict": " both served", "companion": " walk without its phase", "parents": " green without a parent"}
 CHANNELS = {"ped": "pedestrian signal", "ped_detector": "pedestrian detector", "preempt_input": "preempt input"}
 INTRODUCTION = (
@@ -32,6 +33,8 @@ INTRODUCTION = (
 def measured(verdict, with_bound=True):
     """What was measured, in a few words, beside the bound."""
     explained = verdict.explained
+    if not explained:
+        return "broken"
 
     def said(what, value, name="span"):
         return element(name, text(value), data_of="explained %d %s" % (verdict.row.place, what))
@@ -57,7 +60,9 @@ def broken(verdict):
     """One broken verdict: what was measured, and folded up the stretch that decides it with its rows."""
     grade = element("span", verdict.grade, cls="grade " + verdict.grade) if verdict.grade in GRADES else ""
     summary = element("span", day_and_clock(verdict.at), cls="mark") + element("span", measured(verdict)) + grade
-    inner = decided(verdict) + rows(verdict.explained) if verdict.explained.stretch else ""
+    if not verdict.explained or not verdict.explained.stretch:
+        return element("li", summary + paragraph(NO_FILES, cls="soft"), id=verdict.id, cls="plain")
+    inner = decided(verdict) + rows(verdict.explained)
     return element("li", pages.folded(summary, inner), id=verdict.id)
 
 

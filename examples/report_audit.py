@@ -8,6 +8,12 @@ import logs
 import pages
 
 GRADES = ("certain", "sure", "likely", "weak", "solid")
+FAULTS = {
+    "silent": "has no row, while the rest goes on",
+    "stuck on": "stays on without a change",
+    "stuck off": "stays off without a change",
+    "chatter": "goes on %d times, more often than vehicles make it",
+}
 # Of a detector without rows so many hours are named.
 MOST_HOURS = 6
 
@@ -43,11 +49,11 @@ class Verdict:
 
 
 class Audit:
-    """The session, its tables and verdicts, the words of the holes' file, fillings by rule and stamp."""
+    """The session, its tables and verdicts, the words of the holes' and detectors' files, fillings by rule and stamp."""
 
-    def __init__(self, session, tables, holes, pairs, made):
+    def __init__(self, session, tables, holes, detectors, pairs, made):
         self.session, self.tables, self.made = session, tables, made
-        self.holes, self.pairs = lines_of(holes), pairs_of(pairs)
+        self.holes, self.detectors, self.pairs = lines_of(holes), lines_of(detectors), pairs_of(pairs)
         finder = explanations.Finder(session)
         self.verdicts = [Verdict(finder, line, section, row) for (line, section), row in zip(
             finder.lines(("broken", "undecided")), tables.rows("verdicts"), strict=True)]
@@ -84,8 +90,8 @@ class Audit:
                  and low < tenths(words)[1]]
         return "; ".join(found) or "blanked by hand"
 
-    def detectors_without_rows(self):
-        """Sentences on detectors that have no row in the log, or in hours in which others have some."""
+    def quiet_detectors(self):
+        """Sentences on detectors that have no row in the log, or in hours in which others have, by the holes' file."""
         quiet = {}
         for words in self.holes:
             if words[0] == "never":
@@ -99,6 +105,27 @@ class Audit:
             more = " and %d more" % (len(hours) - MOST_HOURS) if len(hours) > MOST_HOURS else ""
             yield "%s has no row in the hour%s from %s%s, though others have: it was silent, or nobody came." % (
                 channel.capitalize(), "s" if len(hours) > 1 else "", named, more)
+
+    def faulty(self):
+        """What the detectors' file found: (grade, channel, what it is, from, to, whether the log has a fault's code)."""
+        for words in self.detectors:
+            if words[0] not in ("silent", "stuck", "chatter"):
+                continue
+            place = next(place for place, word in enumerate(words) if logs.parse_stamp(word))
+            low, high = (logs.parse_stamp(word)[0] for word in words[place:place + 2])
+            name = 2 if words[0] == "stuck" else 1
+            what = FAULTS[" ".join(words[:name])]
+            if words[0] == "chatter":
+                what %= int(words[words.index("actuations") + 1])
+            yield words[place + 2], " ".join(words[name:place]), what, low, high, "logged" in words
+
+    def approaches_of(self, channel):
+        """The approaches of the configuration that use a detector of a channel: `detector 5`, `detector 1,2`, `.. all`."""
+        kind, _, numbers = channel.partition(" ")
+        if kind != "detector":
+            return []
+        return [entry["name"] for entry in self.session.config.get("approach", []) if any(
+            key in entry and (numbers == "all" or str(entry[key]) in numbers.split(",")) for key in ("advance", "stop_bar"))]
 
     def chances(self):
         """What outages would have been found: (hours of the day, seconds, found, of), as the holes' file has them."""
@@ -126,7 +153,7 @@ def why(words):
 
 
 def lines_of(path):
-    """The lines of a file of examples/holes, as words."""
+    """The lines of a file as words; none where there is no file."""
     if not path:
         return []
     with open(path, encoding="utf-8", errors="replace") as file:

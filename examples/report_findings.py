@@ -2,7 +2,7 @@
 import figures
 import pages
 import report_verdicts
-from report_parts import approach_link, element, heading, link, listed, paragraph, section, text
+from report_parts import approach_link, element, heading, link, listed, paragraph, section, span, text
 
 # Conflicts, and the intervals that clear a crossing, stand first among broken rules.
 CLEARING = {"Yellow", "Clear", "Walk", "Clearance"}
@@ -70,13 +70,25 @@ def arrivals(audit):
 
 
 def detectors(audit):
-    items = []
+    items = [fault(audit, *found) for found in audit.faulty()]
     for row in audit.tables.window("approaches"):
         for column, words in (("fault", "advance"), ("red_fault", "stop bar")):
             if row[column] and row.count(column):
                 items.append("%s: %s actuations of its %s detector came while it reported a fault; they are left out." % (
                     approach_link(row), row.shown(column), words))
-    items += [element("span", text(said), cls="said") for said in audit.detectors_without_rows()]
-    nothing = "None in a fault, and none without a row for an hour in which others have some." if audit.holes else (
-        "None in a fault.")
-    return element("h3", "Detectors") + (listed(items) if items else paragraph(nothing))
+    if not audit.detectors:
+        items += [element("span", text(said), cls="said") for said in audit.quiet_detectors()]
+    return element("h3", "Detectors") + (listed(items) if items else paragraph("Nothing was found."))
+
+
+def fault(audit, grade, channel, what, low, high, logged):
+    """What was found of a channel, and which numbers it makes worthless."""
+    said = element("span", text("%s %s" % (channel.capitalize(), what)), cls="said")
+    words = "%s, from %s: %s." % (said, span(low, high), element("span", grade, cls="grade " + grade))
+    if logged:
+        words += " Its fault was logged too, and what it tells there is left out."
+    names = audit.approaches_of(channel)
+    if names and not logged:
+        words += " %srrivals and split failures of %s mean nothing there." % ("If it is so, a" if grade == "weak" else "A",
+            ", ".join(link("#approach-" + name, text(name)) for name in names))
+    return words

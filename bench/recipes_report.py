@@ -24,7 +24,11 @@ import logs
 EMPTY = {"meta", "link", "br", "col", "img", "input", "hr"}
 # Texts whose numbers are names, times, rows or fixed words.
 NAMED = {"time", "code", "pre", "svg", "h1", "h2", "h3", "h4", "nav", "title", "style", "caption", "script"}
-NAMES = re.compile(r"(?:[Pp]hases?|[Rr]ule|[Ss]ignal|detector|Preempt|Corridor) [^ ]+(?: and \d+)?|Approach [^ ]+|SHA-256")
+NAMES = re.compile(r"(?:[Pp]hases?|[Ss]ignal|detector|Preempt|Approach) [^ ]+|SHA-256")
+
+
+# Attributes that say where the numbers of an element are from.
+PLACES = {"data-of", "data-table", "data-stretches"}
 
 
 class Node:
@@ -186,18 +190,19 @@ class Page:
             for column, cell in zip(columns, cells, strict=True):
                 shown, times = cell.text(), list(cell.all("time"))
                 self.looked_up[node.given["data-table"] + " cells"] += 1
-                if not (self.is_same(shown, fields[column]) or (times and times[0].given["datetime"][:13] == fields[column])):
+                hour = times and times[0].given["datetime"][:13] == fields[column]
+                if not (hour or self.is_same(shown, fields[column])):
                     self.faults.append("%s %s %s: %r, and %r there" % (
                         node.given["data-table"], row.given["data-row"], column, shown, fields[column]))
 
     def check_stretches(self, node):
-        """The unknown stretches: those of the script's blanks that were taken, less what was unblanked, and missing hours."""
+        """The unknown stretches: each as long as it says, and together all that the hours don't know."""
         shown = []
         for row in next(node.all("tbody")).all("tr"):
             low, high = (stamp(time.given["datetime"]) for time in row.all("time"))
             shown.append((low, high))
             if row.children[1].text() != seconds(high - low):
-                self.faults.append("a stretch of %s s is said to have %s" % (seconds(high - low), row.children[1].text()))
+                self.faults.append("%s s are said to be %s" % (seconds(high - low), row.children[1].text()))
         known = sum(float(row["known_s"]) for row in self.tables["phases"]
                     if row["phase"] == self.tables["phases"][0]["phase"])
         unknown = (self.end - self.start).total_seconds() - sum((high - low).total_seconds() for low, high in shown)
@@ -206,7 +211,7 @@ class Page:
             self.faults.append("the stretches leave %.1f s, and %.1f are known" % (unknown, known))
 
     def check_rows(self, item):
-        """The rows below a broken line: each stands so in its file, and those of the stretch are all there or counted."""
+        """The rows below a broken line: each stands so in its file, and all of the stretch are there or counted."""
         files = {}
         for code in item.all("code"):
             with open(os.path.join(self.folder, code.text())) as file:
@@ -232,14 +237,14 @@ class Page:
     def check_texts(self, node):
         """No other text has a number, but in names, times and fixed words."""
         sentences = {row["in_words"] for row in self.tables["rules"]}
+        approaches = {row["approach"] for row in self.tables["approaches"]}
         for each in node.all():
-            if any(above.name in NAMED or above.is_of("said") or {"data-of", "data-table", "data-stretches"} & set(above.given)
-                   for above in each.above()):
+            if any(above.name in NAMED or above.is_of("said") or PLACES & set(above.given) for above in each.above()):
                 continue
             for child in each.children:
                 if isinstance(child, str) and child not in sentences:
                     left = NAMES.sub("", child)
-                    if re.search(r"\d", left) and not any(row["approach"] == child for row in self.tables["approaches"]):
+                    if re.search(r"\d", left) and child not in approaches:
                         self.faults.append("a number from nowhere: %r in %s" % (child.strip()[:80], each.name))
 
     def check(self):
@@ -306,7 +311,8 @@ def pictures():
     scale = (170 - 40 - drawings.TOP) / 10
     for fill in ("#111111", "#222222"):
         out += "bars: %s\n" % [round(box[3] / scale, 1) for box in boxes(paths(bars, fill)[0][0])]
-    band = drawings.hours_band("x", start, end, [], [(hours[0], 20, 50, 80), (hours[3], 0, None, 100)], "x", percent=True)
+    rows = [(hours[0], 20, 50, 80), (hours[3], 0, None, 100)]
+    band = drawings.hours_band("x", start, end, [], rows, "x", percent=True)
     scale = (170 - 40 - drawings.TOP) / 100
     out += "band: %s\n" % [(round((130 - top - tall) / scale), round((130 - top) / scale))
                            for _, top, _, tall in boxes(paths(band, drawings.SKY)[0][0])]
@@ -325,7 +331,8 @@ def pictures():
                                [(2, "two"), (5, "five")], marks)
     drawn = re.search('<path d="([^"]*)" stroke="%s"' % drawings.BROKEN, lanes)[1]
     width = drawings.WIDE - drawings.RIGHT - 290
-    out += "time line: broken at %s h\n" % [round((float(x) - 290) / width * 4, 2) for x in re.findall(r"M(\S+) ", drawn)]
+    at = [round((float(x) - 290) / width * 4, 2) for x in re.findall(r"M(\S+) ", drawn)]
+    out += "time line: broken at %s h\n" % at
     return out + "%s" % [drawings.day_of(start), drawings.end_clock(logs.hour_of("2024-03-05T00"))] + "\n"
 
 
@@ -339,11 +346,13 @@ def made(folder, names, program):
     given = ["--config", "config.toml", "--script", "session.txt", "--answer", "answer.txt"]
     recipe = lambda name, *words: subprocess.run([os.path.join(HERE, "examples", name), *words], capture_output=True,
                                                  text=True, check=True, env=dict(os.environ, SIGAUDIT=program)).stdout
-    for path, text in (("holes.txt", lambda: recipe("holes", "--config", "config.toml", "--no-chances", *names)),
-                       ("session.txt", lambda: recipe("session", "--config", "config.toml", "--blanks", "holes.txt", *names)),
-                       ("answer.txt", lambda: subprocess.run([program, *given[:4]], capture_output=True, text=True).stdout),
-                       ("pairs.txt", lambda: recipe("pairs", *given))):
-        said = text()
+    config = ["--config", "config.toml"]
+    steps = {"holes.txt": lambda: recipe("holes", *config, "--no-chances", *names),
+             "session.txt": lambda: recipe("session", *config, "--blanks", "holes.txt", *names),
+             "answer.txt": lambda: subprocess.run([program, *given[:4]], capture_output=True, text=True).stdout,
+             "pairs.txt": lambda: recipe("pairs", *given)}
+    for path, step in steps.items():
+        said = step()
         with open(path, "w") as file:
             file.write(said)
     recipe("tables", *given, "--out", "tables")
@@ -352,7 +361,7 @@ def made(folder, names, program):
 
 
 def escaped(program):
-    """The page of a signal and of files whose names are markup: they stay text, the page is sound, its numbers right."""
+    """The page of a signal and of files whose names are markup: they stay text, and its numbers are right."""
     os.mkdir("m")
     names = []
     for hour in ("05", "06"):
@@ -417,8 +426,8 @@ def keyboard(window):
     seen = 0
     for _ in range(20000):
         window.press("Tab", 9)
-        name = window.value("document.activeElement.tagName + (document.activeElement.closest('details[open]') ? ' open' : '')")
-        if name.startswith("BODY"):
+        name = window.value("document.activeElement.tagName")
+        if name == "BODY":
             break
         if name == "SUMMARY":
             seen += 1

@@ -49,7 +49,7 @@ class Verdict:
 
 
 class Audit:
-    """The session, its tables and verdicts, the words of the holes' and detectors' files, fillings by rule and stamp."""
+    """The session, its tables and verdicts, fillings by rule and stamp; the holes' and detectors' files as words."""
 
     def __init__(self, session, tables, holes, detectors, pairs, made):
         self.session, self.tables, self.made = session, tables, made
@@ -107,7 +107,7 @@ class Audit:
                 channel.capitalize(), "s" if len(hours) > 1 else "", named, more)
 
     def faulty(self):
-        """What the detectors' file found: (grade, channel, what it is, from, to, whether the log has a fault's code)."""
+        """What the detectors' file found: (grade, channel, what, from, to, whether the log has a code of the fault)."""
         for words in self.detectors:
             if words[0] not in ("silent", "stuck", "chatter"):
                 continue
@@ -120,12 +120,13 @@ class Audit:
             yield words[place + 2], " ".join(words[name:place]), what, low, high, "logged" in words
 
     def approaches_of(self, channel):
-        """The approaches of the configuration that use a detector of a channel: `detector 5`, `detector 1,2`, `.. all`."""
+        """The approaches that use a detector of a channel: `detector 5`, `detector 1,2`, `detector all`."""
         kind, _, numbers = channel.partition(" ")
         if kind != "detector":
             return []
-        return [entry["name"] for entry in self.session.config.get("approach", []) if any(
-            key in entry and (numbers == "all" or str(entry[key]) in numbers.split(",")) for key in ("advance", "stop_bar"))]
+        uses = lambda entry, key: key in entry and (numbers == "all" or str(entry[key]) in numbers.split(","))
+        return [entry["name"] for entry in self.session.config.get("approach", [])
+                if uses(entry, "advance") or uses(entry, "stop_bar")]
 
     def chances(self):
         """What outages would have been found: (hours of the day, seconds, found, of), as the holes' file has them."""

@@ -7,14 +7,16 @@ from report_parts import approach_link, element, heading, link, listed, paragrap
 # Conflicts, and the intervals that clear a crossing, stand first among broken rules.
 CLEARING = {"Yellow", "Clear", "Walk", "Clearance"}
 FAILURES = {"approach": "approach", "phase": "phase", "split_fail": "failed", "split_undecided": "undecided",
-            "split_pass": "passed", "fail_least": "share failed, least", "fail_greatest": "greatest", "known_s": "known s"}
+            "split_pass": "passed", "fail_least": "share failed, least", "fail_greatest": "greatest",
+            "known_s": "known s"}
 ARRIVALS = {"approach": "approach", "phase": "phase", "arrivals": "arrivals", "green": "on green",
             "undecided": "undecided", "unseen": "unseen", "least": "share, least", "greatest": "greatest",
             "platoon_ratio": "platoon ratio", "known_s": "known s"}
 
 
 def stands_out(audit):
-    return section(heading("out", "What stands out"), broken_rules(audit), failures(audit), arrivals(audit), detectors(audit))
+    return section(heading("out", "What stands out"), broken_rules(audit), failures(audit), arrivals(audit),
+                   detectors(audit))
 
 
 def is_clearing(name):
@@ -52,7 +54,8 @@ def failures(audit):
     rows = [row for row in audit.tables.window("approaches") if row["splits"]]
     failing = [row for row in rows if row.count("split_fail") or row.count("split_undecided")]
     if not failing:
-        return title + paragraph("No service of any approach failed." if rows else "No approach has a stop bar detector.")
+        return title + paragraph(
+            "No service of any approach failed." if rows else "No approach has a stop bar detector.")
     failing.sort(key=lambda row: -row.number("fail_greatest"))
     return title + figures.table(failing, FAILURES, label=approach_link, caption="A service failed where the stop bar "
         "detector was busy through its green and still in the first five seconds of red. The approach that failed most "
@@ -65,8 +68,8 @@ def arrivals(audit):
     if not rows:
         return title + paragraph("No approach has an advance detector.")
     rows.sort(key=lambda row: row.number("least"))
-    return title + figures.table(rows, ARRIVALS, label=approach_link, caption="The share lies between least and greatest, "
-                                 "by what the holes hide. The approach with the least share first.")
+    return title + figures.table(rows, ARRIVALS, label=approach_link, caption="The share lies between least and "
+                                 "greatest, by what the holes hide. The approach with the least share first.")
 
 
 def detectors(audit):
@@ -74,8 +77,8 @@ def detectors(audit):
     for row in audit.tables.window("approaches"):
         for column, words in (("fault", "advance"), ("red_fault", "stop bar")):
             if row[column] and row.count(column):
-                items.append("%s: %s actuations of its %s detector came while it reported a fault; they are left out." % (
-                    approach_link(row), row.shown(column), words))
+                items.append("%s: %s actuations of its %s detector came while it reported a fault; they are left out."
+                             % (approach_link(row), row.shown(column), words))
     if not audit.detectors:
         items += [element("span", text(said), cls="said") for said in audit.quiet_detectors()]
     return element("h3", "Detectors") + (listed(items) if items else paragraph("Nothing was found."))
@@ -89,6 +92,7 @@ def fault(audit, grade, channel, what, low, high, logged):
         words += " Its fault was logged too, and what it tells there is left out."
     names = audit.approaches_of(channel)
     if names and not logged:
-        words += " %srrivals and split failures of %s mean nothing there." % ("If it is so, a" if grade == "weak" else "A",
-            ", ".join(link("#approach-" + name, text(name)) for name in names))
+        links = ", ".join(link("#approach-" + name, text(name)) for name in names)
+        words += (" If it is so, arrivals" if grade == "weak" else " Arrivals") + (
+            " and split failures of %s mean nothing there." % links)
     return words

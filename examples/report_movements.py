@@ -1,4 +1,4 @@
-"""The page of a signal: its phases and approaches, pedestrian signals, preempts and coordination, by hour. Not proved."""
+"""The page of a signal: its phases, approaches, pedestrian signals, preempts and coordination by hour. Not proved."""
 import drawings
 import figures
 import logs
@@ -11,8 +11,8 @@ TERMINATIONS = (("gap_out", drawings.SKY, "gap out"), ("max_out", "url(#striped)
 SERVICES = (("split_fail", drawings.BROKEN, "failed"), ("split_undecided", "url(#dotted)", "undecided"),
             ("split_pass", drawings.SKY, "passed"), ("split_open", "#fff", "open"), ("split_fault", "#c4cad0", "fault"))
 PHASE = {"services": "services", "split_least_s": "least s", "split_mean_s": "mean s", "split_greatest_s": "greatest s",
-         "gap_out": "gap out", "max_out": "max out", "force_off": "force off", "unlogged": "not logged", "cycles": "cycles",
-         "cycle_mean_s": "cycle s"}
+         "gap_out": "gap out", "max_out": "max out", "force_off": "force off", "unlogged": "not logged",
+         "cycles": "cycles", "cycle_mean_s": "cycle s"}
 ARRIVALS = {"arrivals": "arrivals", "green": "on green", "undecided": "undecided", "unseen": "unseen",
             "least": "share, least", "greatest": "greatest", "platoon_ratio": "platoon ratio"}
 FAILURES = {"splits": "services", "split_fail": "failed", "split_pass": "passed", "split_undecided": "undecided",
@@ -62,13 +62,14 @@ def phase(audit, total):
         parts += [
             paragraph(total.say(
                 "{services} whole services in {known_s} known seconds, their splits from {split_least_s} to "
-                "{split_greatest_s} s, {split_mean_s} s in the mean; ended by gap out {gap_out}, max out {max_out}, force "
-                "off {force_off}, not logged {unlogged}. {cycles} whole cycles") + (
+                "{split_greatest_s} s, {split_mean_s} s in the mean; ended by gap out {gap_out}, max out {max_out}, "
+                "force off {force_off}, not logged {unlogged}. {cycles} whole cycles") + (
                     total.say(" of {cycle_mean_s} s in the mean.") if total["cycle_mean_s"] else ".")),
             pair([band(audit, name + ": least, mean and greatest split by hour",
                        "Splits by hour: from least to greatest, with the mean as a line. ", rows,
                        ("split_least_s", "split_mean_s", "split_greatest_s"), "split, seconds"),
-                  bars(audit, name + ": why its greens ended, by hour", "Why greens ended:", rows, TERMINATIONS, "greens")]),
+                  bars(audit, name + ": why its greens ended, by hour", "Why greens ended:", rows, TERMINATIONS,
+                       "greens")]),
             by_hour(audit, rows, PHASE, name)]
     else:
         parts.append(paragraph(total.say("No whole service in {known_s} known seconds.")))
@@ -92,11 +93,12 @@ def diagram(audit, number):
             points.append((begin, int(line[2])))
     if not cycles:
         return paragraph("No whole cycle of phase %s, so no coordination diagram." % number)
-    picture, highest, cut, every = drawings.diagram("Coordination diagram of phase %s" % number, session.start, session.end,
-                                                    session.unknown(found), cycles, points)
-    caption = ("Coordination diagram of phase %s: over the time of day, seconds since the end of yellow. Green area: green, "
-               "from its begin (line) to the begin of yellow (dashes); black line: the end of yellow that ends the cycle; "
-               "dots: arrivals at the advance detectors. " % number)
+    name = "Coordination diagram of phase " + number
+    picture, highest, cut, every = drawings.diagram(name, session.start, session.end, session.unknown(found), cycles,
+                                                    points)
+    caption = name + (": over the time of day, seconds since the end of yellow. Green area: green, from its begin "
+                      "(line) to the begin of yellow (dashes); black line: the end of yellow that ends the cycle; "
+                      "dots: arrivals at the advance detectors. ")
     if cut:
         caption += "A tip at the top is a cycle longer than %s, cut there: %s of them. " % (
             element("span", "%d s" % highest, cls="said"),
@@ -135,8 +137,8 @@ def share(row, least, greatest):
 
 
 def arrived(total):
-    said = total.say("{arrivals} arrivals, {green} of them on green, {not_green} not, {undecided} undecided, {unseen} unseen, "
-                     "in {known_s} known seconds")
+    said = total.say("{arrivals} arrivals, {green} of them on green, {not_green} not, {undecided} undecided, {unseen} "
+                     "unseen, in {known_s} known seconds")
     if total["least"]:
         said += ": " + share(total, "least", "greatest")
     if total["platoon_ratio"]:
@@ -145,8 +147,8 @@ def arrived(total):
 
 
 def served(total):
-    said = total.say("{splits} services: {split_fail} failed, {split_pass} passed, {split_undecided} undecided, {split_open} "
-                     "open at the end, {split_fault} with a detector’s fault")
+    said = total.say("{splits} services: {split_fail} failed, {split_pass} passed, {split_undecided} undecided, "
+                     "{split_open} open at the end, {split_fault} with a detector’s fault")
     if total["fail_least"]:
         said += "; failed " + share(total, "fail_least", "fail_greatest")
     return paragraph(said + ".")
@@ -155,8 +157,8 @@ def served(total):
 def loops(audit, name):
     """The detectors of an approach, from the configuration."""
     entry = next((entry for entry in audit.session.config.get("approach", []) if entry["name"] == name), {})
-    said = ["%s detector %d" % (words, entry[place]) for place, words in (("advance", "advance"), ("stop_bar", "stop bar"))
-            if place in entry]
+    said = ["%s detector %d" % (words, entry[place])
+            for place, words in (("advance", "advance"), ("stop_bar", "stop bar")) if place in entry]
     if entry.get("travel"):
         said.append("%.1f s from the advance detector to the stop bar" % (entry["travel"] / 10))
     return paragraph(", ".join(said).capitalize() + ".", cls="soft said") if said else ""
@@ -172,10 +174,11 @@ def best_shift(audit, name):
     if not counts:
         return ""
     number = lambda what, value: element("span", value, data_of="answer offsets/%s %s" % (name, what))
-    caption = ("Best shift: of %s arrivals in whole cycles %s would have met green %s s later in the cycle, %s as logged "
-               "(dashes). No forecast." % (number("of", best[5]), number("count", best[3]), number("best", best[1]),
-                                           number("logged", counts[0])))
-    return pages.figure(drawings.shifts("Approach %s: arrivals on green at each shift" % name, counts, int(best[1])), caption)
+    caption = ("Best shift: of %s arrivals in whole cycles %s would have met green %s s later in the cycle, %s as "
+               "logged (dashes). No forecast." % (number("of", best[5]), number("count", best[3]),
+                                                  number("best", best[1]), number("logged", counts[0])))
+    picture = drawings.shifts("Approach %s: arrivals on green at each shift" % name, counts, int(best[1]))
+    return pages.figure(picture, caption)
 
 
 def each_by_hour(audit, table, column, rows, columns, what):

@@ -20,7 +20,7 @@ RESTS = (
     "<b>undecided</b> neither. These verdicts are proved of the program; this page and the search for holes are not.",
 )
 ABOUT = {
-    "head": "the window; configuration, script and answer with their SHA-256; each edit with its file’s, and the answer",
+    "head": "the window; configuration, script, answer with their SHA-256; each edit with its file’s, and its answer",
     "phases": "each phase by hour: services, splits, why greens ended, cycles",
     "approaches": "each approach by hour: arrivals on green, actuations on red, split failures",
     "peds": "each pedestrian signal by hour: walks, delays",
@@ -55,7 +55,8 @@ def tiles(audit):
              (audit.count("broken"), link("#verdicts", "broken verdicts") + audit.grades()),
              (audit.count("undecided"), link("#verdicts", "undecided verdicts") + ": the log can’t tell")]
     rows = audit.tables.window("approaches")
-    failing = max((row for row in rows if row["fail_greatest"]), key=lambda row: row.number("fail_greatest"), default=None)
+    failing = max((row for row in rows if row["fail_greatest"]), key=lambda row: row.number("fail_greatest"),
+                  default=None)
     if failing:
         found.append((failing.shown("fail_greatest"),
                       "of the services of %s failed, at most: the worst approach" % approach_link(failing)))
@@ -77,7 +78,8 @@ def rests_on(audit):
         heading("rests", "What this page rests on"), refused(audit), listed(RESTS, cls="said"),
         paragraph("The configuration has %d floors." % floors, cls="said") if floors else "",
         blanked(audit), unlearned(audit), unknown(audit), chances(audit),
-        paragraph("Made %s by examples/report from %s." % (audit.made, link("#tables", "these files")), cls="soft said"),
+        paragraph("Made %s by examples/report from %s." % (audit.made, link("#tables", "these files")),
+                  cls="soft said"),
     ])), cls="rests")
 
 
@@ -116,11 +118,11 @@ def unlearned(audit):
     for words in audit.holes:
         if words[0] == "small":
             low, high = (logs.parse_stamp(stamp)[0] for stamp in words[1:3])
-            said.append("From %s the log has too few rows to learn from: there only what contradicts shows as a hole, and "
-                        "silence doesn’t." % span(low, high))
+            said.append("From %s the log has too few rows to learn from: there only what contradicts shows as a hole, "
+                        "and silence doesn’t." % span(low, high))
         elif words[0] == "misfit":
-            said.append("%s of %s rows of %s can’t follow those before them: the controller logs otherwise than is assumed "
-                        "here." % (words[4], words[6], " ".join(words[1:4])))
+            said.append("%s of %s rows of %s can’t follow those before them: the controller logs otherwise than is "
+                        "assumed here." % (words[4], words[6], " ".join(words[1:4])))
     return "".join(paragraph(words, cls="said") for words in said)
 
 
@@ -152,8 +154,8 @@ def chances(audit):
         element("td", counts.get((hours, length), ""), cls="n") for length in lengths))
         for hours in dict.fromkeys(hours for hours, _, _, _ in found)]
     return pages.folded("What holes would have been found, and what would not", paragraph(
-        "Of outages that were cut into this very log at random, so many were found. A hole of a length and hour that isn’t "
-        "found here isn’t found in earnest either.") + pages.scrolled(pages.table(heads, rows)), cls="said")
+        "Of outages that were cut into this very log at random, so many were found. A hole of a length and hour that "
+        "isn’t found here isn’t found in earnest either.") + pages.scrolled(pages.table(heads, rows)), cls="said")
 
 
 def about(name):

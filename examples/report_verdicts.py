@@ -1,4 +1,4 @@
-"""The page of a signal: its verdicts, each with what was measured and the rows that decide it; a time line. Not proved."""
+"""The page of a signal: its verdicts, what was measured, the rows that decide them; a time line. Not proved."""
 import answers
 import codes
 import drawings
@@ -10,7 +10,7 @@ from report_parts import clock, day_and_clock, element, heading, link, paragraph
 
 # So many verdicts of one rule are shown one by one, those furthest from the bound; the others stand in verdicts.csv.
 SHOWN = 40
-# A stretch of more rows is shown by those of the rule's channels, with so many others at its ends and around its silence.
+# A longer stretch is shown by the rows of the rule's channels, and so many others at its ends and around its silence.
 MOST_ROWS, ENDS = 60, 12
 GRADE_IN_WORDS = {
     "solid": "no lost rows are suspected in it",
@@ -23,11 +23,11 @@ NO_FILES = "The hour files aren’t there as they were when the answer was made,
 FORBIDDEN = {"conflict": " both served", "companion": " walk without its phase", "parents": " green without a parent"}
 CHANNELS = {"ped": "pedestrian signal", "ped_detector": "pedestrian detector", "preempt_input": "preempt input"}
 INTRODUCTION = (
-    "Each broken verdict opens on the rows of the log that decide it, to be checked by eye. A <em>conflict</em> says that two "
-    "phases were served at once, from Phase On to the end of the red clearance: it is no trip of a conflict monitor, and "
-    "mostly no two greens. Of the first undecided verdict of some rules two histories are shown, one that keeps the rule and "
-    "one that breaks it. Both agree with every known row; that either happened, or that a controller would do so, isn’t "
-    "claimed.")
+    "Each broken verdict opens on the rows of the log that decide it, to be checked by eye. A <em>conflict</em> says "
+    "that two phases were served at once, from Phase On to the end of the red clearance: it is no trip of a conflict "
+    "monitor, and mostly no two greens. Of the first undecided verdict of some rules two histories are shown, one that "
+    "keeps the rule and one that breaks it. Both agree with every known row; that either happened, or that a "
+    "controller would do so, isn’t claimed.")
 
 
 def measured(verdict, with_bound=True):
@@ -45,7 +45,8 @@ def measured(verdict, with_bound=True):
     if with_bound:
         words += ", at %s %s" % (explained.at, said("bound", explanations.in_seconds(explained.bound)))
     if explained.excess is not None and explained.excess > 0:
-        words += "%s %s too %s" % (":" if with_bound else ",", said("excess", explanations.in_seconds(explained.excess)),
+        words += "%s %s too %s" % (":" if with_bound else ",",
+                                  said("excess", explanations.in_seconds(explained.excess)),
                                   "short" if explained.at == "least" else "long")
     return words
 
@@ -72,13 +73,15 @@ def decided(verdict):
     said = "Decided by the stretch from %s to %s" % (clock(low), clock(high))
     if verdict.explained.silence and verdict.explained.silence[0] < verdict.explained.silence[1]:
         begin, end = verdict.explained.silence
-        length = element("span", explanations.in_seconds(end - begin), data_of="explained %d silence" % verdict.row.place)
+        length = element("span", explanations.in_seconds(end - begin),
+                         data_of="explained %d silence" % verdict.row.place)
         said += "; the longest time in it without a row is %s, from %s" % (length, clock(begin))
     said = paragraph(said + ".")
     if verdict.grade in GRADES:
         _, _, which = verdict.row["doubt"].partition(": ")
         which = " (%s)" % element("span", text(which), cls="said") if which else ""
-        said += paragraph("%s: %s%s." % (element("b", verdict.grade.capitalize()), GRADE_IN_WORDS[verdict.grade], which))
+        grade = element("b", verdict.grade.capitalize())
+        said += paragraph("%s: %s%s." % (grade, GRADE_IN_WORDS[verdict.grade], which))
     return said
 
 
@@ -89,7 +92,7 @@ def subject(code, param):
 
 
 def rows(explained):
-    """The rows of a stretch with their lines in the files, as they stand there; those of the rule's channels are bold."""
+    """The rows of a stretch as they stand in the files, with their lines; those of the rule's channels are bold."""
     found = explained.rows()
     if not found:
         return paragraph("No row stands in it.", cls="soft")
@@ -163,7 +166,7 @@ def violations(audit):
 
 
 def chosen(audit):
-    """The HTML of each broken verdict that is shown, by its place; in the order of time, so that files are read once."""
+    """The HTML of each broken verdict that is shown, by its place; in order of time, so that files are read once."""
     found = []
     for number in audit.rules():
         found += sorted(audit.of(number, "broken"), key=lambda verdict: (-verdict.severity(), verdict.at))[:SHOWN]
@@ -177,9 +180,10 @@ def rule(audit, number, row, shown, level):
     items = [shown[verdict.row.place] for verdict in all_broken if verdict.row.place in shown]
     items += [undecided(audit, verdict) for verdict in all_undecided[:SHOWN]]
     parts = [heading("rule-%d" % number, text(words[:1].upper() + words[1:]), level),
-             paragraph(row.say("Rule {rule}: {broken} broken, {undecided} undecided, {kept} kept."), cls="soft") if row else "",
+             row and paragraph(row.say("Rule {rule}: {broken} broken, {undecided} undecided, {kept} kept."), "soft"),
              element("ol", "\n".join(items), cls="lines")]
-    for every, which in ((all_broken, "The %d furthest from the bound are"), (all_undecided, "The first %d undecided are")):
+    for every, which in ((all_broken, "The %d furthest from the bound are"),
+                         (all_undecided, "The first %d undecided are")):
         if len(every) > SHOWN:
             parts.append(paragraph("%s shown; all stand in %s." % (which % SHOWN, audit.tables.link("verdicts")),
                                    cls="soft said"))
@@ -194,8 +198,8 @@ def time_line(audit):
         session.end, (session.missing(), session.blanked()), suspected,
         [(number, "%d  %s" % (number, answers.in_short(names[number]))) for number in audit.rules()],
         [(verdict.at, verdict.rule, verdict.verdict) for verdict in audit.verdicts])
-    caption = ("A filled bar is a broken verdict, an open ring an undecided one; where many fall on one spot one is drawn. "
-               "Hatched is what the log doesn’t tell: blanked, or in a frame without a file.")
+    caption = ("A filled bar is a broken verdict, an open ring an undecided one; where many fall on one spot one is "
+               "drawn. Hatched is what the log doesn’t tell: blanked, or in a frame without a file.")
     if suspected:
         caption += " A triangle is a weak suspicion of lost rows, which wasn’t blanked."
     return section(heading("timeline", "Time line"), pages.figure(picture, caption))

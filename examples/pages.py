@@ -87,14 +87,15 @@ pre.rows b { font-weight: 700; }
 .files td { overflow-wrap: anywhere; }
 code { font: 0.88em ui-monospace, "Liberation Mono", "DejaVu Sans Mono", Menlo, Consolas, monospace;
   overflow-wrap: anywhere; }
-.key { display: inline-block; width: 14px; height: 10px; margin: 0 5px 0 14px; vertical-align: baseline; }
+.entry { white-space: nowrap; margin: 0 12px 0 0; }
+.key { display: inline-block; width: 14px; height: 10px; margin: 0 5px 0 0; vertical-align: baseline; }
 .patterns { position: absolute; }
 footer { margin-top: 64px; padding-top: 14px; padding-bottom: 48px; color: var(--soft); font-size: 14px;
   border-top: 1px solid var(--line); }
 @media screen and (max-width: 760px) {
   body { font-size: 16px; } header, main, footer { padding-left: 16px; padding-right: 16px; }
   header { padding-top: 22px; } h1 { font-size: 25px; } h2 { font-size: 20px; margin-top: 44px; }
-  .pair { grid-template-columns: 1fr; } .picture svg { min-width: 620px; } .pair .picture svg { min-width: 420px; }
+  .pair { grid-template-columns: 1fr; } .picture svg { min-width: 620px; } .pair .picture svg { min-width: 360px; }
   .rests ul { columns: 1; }
   .tiles { grid-template-columns: 1fr 1fr; } .tiles li { padding: 10px 12px; } .tiles b { font-size: 22px; }
 }

@@ -70,8 +70,9 @@ def approach_link(row):
 
 def key(fill, words):
     """An entry of a picture's key."""
-    return ('<svg class="key" viewBox="0 0 14 10" aria-hidden="true"><rect x="0.5" y="0.5" width="13" height="9" '
-            'fill="%s" stroke="%s" stroke-width="0.7"/></svg>%s' % (fill, drawings.INK, text(words)))
+    box = ('<svg class="key" viewBox="0 0 14 10" aria-hidden="true"><rect x="0.5" y="0.5" width="13" height="9" '
+           'fill="%s" stroke="%s" stroke-width="0.7"/></svg>' % (fill, drawings.INK))
+    return " " + element("span", box + text(words), cls="entry")
 
 
 def keys(entries):

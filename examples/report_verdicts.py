@@ -127,11 +127,27 @@ def shown_rows(explained, found):
 
 def undecided(audit, verdict):
     """One undecided verdict, and its two fillings where they were asked for."""
-    summary = element("span", day_and_clock(verdict.at), cls="mark") + element("span", "undecided")
+    summary = element("span", day_and_clock(verdict.at), cls="mark")
+    summary += element("span", "undecided" + possible(verdict.row))
     pair = audit.pairs.get((verdict.rule, verdict.at))
     if not pair:
         return element("li", summary, id=verdict.id, cls="plain")
     return element("li", pages.folded(summary, "".join(history(*side, verdict.at) for side in pair)), id=verdict.id)
+
+
+def possible(row):
+    """Between what the duration of an undecided verdict lies, beside the bound, by its fields."""
+    least, greatest = row.get("least_s"), row.get("greatest_s")
+    if not row.get("bound_s"):
+        return row.say(": may have been so for {greatest_s} s at most") if greatest else ""
+    if least == greatest:
+        lasted = "{least_s} s"
+    elif greatest:
+        lasted = "{least_s} to {greatest_s} s"
+    else:
+        lasted = "{least_s} s or more"
+    words = ": if it ended here, after %s, at %s {bound_s} s" % (lasted, row["name"].split()[4])
+    return row.say(words) if least else ""
 
 
 def history(side, channels, upto):

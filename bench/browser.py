@@ -82,7 +82,8 @@ class Browser:
 
     def open(self, path, width=1280, height=900, scale=1, mobile=False):
         """Loads a file in a window of this size, and waits until it is there."""
-        self.call("Emulation.setDeviceMetricsOverride", width=width, height=height, deviceScaleFactor=scale, mobile=mobile)
+        self.call("Emulation.setDeviceMetricsOverride", width=width, height=height, deviceScaleFactor=scale,
+                  mobile=mobile)
         self.requests, self.said, self.events = [], [], []
         self.call("Page.navigate", url="file://" + os.path.abspath(path))
         while "Page.loadEventFired" not in self.events:

@@ -1,9 +1,9 @@
 """Tests of examples/report and of the corridor's index, for bench/recipes: the pages read back. Not proved.
 
-numbers(..) reads a page and looks up each of its numbers again: in the tables, in the answer, in the hour files, in the
-script, each by code of its own. A number that says nowhere where it is from, and isn't part of a name, a time or a fixed
-text, is a fault. escaped(..) makes a page of names with markup. html(..) has the page checked as HTML, browser(..) opens
-it in a browser without a window.
+numbers(..) reads a page and looks up each of its numbers again: in the tables, in the answer, in the hour files, in
+the script, each by code of its own. A number that says nowhere where it is from, and isn't part of a name, a time or a
+fixed text, is a fault. escaped(..) makes a page of names with markup; html_faults(..) has a page checked as HTML, and
+browser_faults(..) opens it in a browser without a window. pictures() reads the numbers of drawn pictures back.
 """
 import collections
 import csv
@@ -17,14 +17,18 @@ import sys
 
 HERE = os.path.dirname(os.path.dirname(os.path.abspath(__file__)))
 sys.path[:0] = [os.path.join(HERE, "examples"), os.path.join(HERE, "bench")]
-import answers
 import browser
-import explanations
+import drawings
+import logs
 
 EMPTY = {"meta", "link", "br", "col", "img", "input", "hr"}
 # Texts whose numbers are names, times, rows or fixed words.
 NAMED = {"time", "code", "pre", "svg", "h1", "h2", "h3", "h4", "nav", "title", "style", "caption", "script"}
-NAMES = re.compile(r"(?:[Pp]hases?|[Rr]ule|[Ss]ignal|detector|Preempt|Corridor) [^ ]+(?: and \d+)?|Approach [^ ]+|SHA-256")
+NAMES = re.compile(r"(?:[Pp]hases?|[Ss]ignal|detector|Preempt|Approach) [^ ]+|SHA-256")
+
+
+# Attributes that say where the numbers of an element are from.
+PLACES = {"data-of", "data-table", "data-stretches"}
 
 
 class Node:
@@ -114,11 +118,6 @@ class Page:
             self.script = [line.split() for line in file]
         window = next(row for row in self.tables["head"] if row["what"] == "window")["value"].split()
         self.start, self.end = map(stamp, window)
-        before = os.getcwd()
-        os.chdir(folder)
-        self.explained = list(explanations.explain_lines(answers.Session("config.toml", script, answer),
-                                                         ("broken", "undecided")))
-        os.chdir(before)
         self.looked_up = collections.Counter()
 
     def answer_to(self, *words):
@@ -144,7 +143,7 @@ class Page:
         if what == "refused":
             return str(sum(line[1:2] == ["refused"] for line in self.answer))
         if what == "known":
-            hours = {row["hour"]: float(row["known_s"]) for row in self.tables["phases"] if "T" in row["hour"]}
+            hours = {row["hour"]: float(row["known_s"]) for row in self.tables["phases"]}
             whole = (self.end - self.start).total_seconds()
             if rest == ["share"]:
                 return "%.1f\u00a0%%" % (int(1000 * round(sum(hours.values()), 1) / whole) / 10)
@@ -158,11 +157,19 @@ class Page:
             return {"best": best[1], "count": best[3], "of": best[5],
                     "logged": next(line for line in lines if line[:2] == ["shift", "0"])[3]}[rest[1]]
         if what == "explained":
-            one = self.explained[int(rest[0])]
-            span = one.silence[1] - one.silence[0] if one.silence else None
-            return one.measured() if rest[1] == "measured" else explanations.in_seconds(
-                {"bound": one.bound, "excess": one.excess, "silence": span}[rest[1]])
+            return self.explained(self.tables["verdicts"][int(rest[0])], rest[1])
         return self.tables[what][int(rest[0])][rest[1]]
+
+    def explained(self, row, what):
+        """A duration that a broken line is told in, from its fields."""
+        least, greatest = row["least_s"], row["greatest_s"]
+        if what == "excess":
+            return "%.1f s" % abs(float(row["bound_s"]) - float(least))
+        if what != "measured" or least == greatest:
+            return {"measured": least, "bound": row["bound_s"], "silence": row["silence_s"]}[what] + " s"
+        if not greatest:
+            return "at least %s s" % least if float(least) else "an unknown time"
+        return "at most %s s" % greatest if not float(least) else "from %s to %s s" % (least, greatest)
 
     def is_same(self, shown, field):
         """Whether a shown text is a field, as it stands or in per cent."""
@@ -183,27 +190,28 @@ class Page:
             for column, cell in zip(columns, cells, strict=True):
                 shown, times = cell.text(), list(cell.all("time"))
                 self.looked_up[node.given["data-table"] + " cells"] += 1
-                if not (self.is_same(shown, fields[column]) or (times and times[0].given["datetime"][:13] == fields[column])):
+                hour = times and times[0].given["datetime"][:13] == fields[column]
+                if not (hour or self.is_same(shown, fields[column])):
                     self.faults.append("%s %s %s: %r, and %r there" % (
                         node.given["data-table"], row.given["data-row"], column, shown, fields[column]))
 
     def check_stretches(self, node):
-        """The unknown stretches: those of the script's blanks that were taken, less what was unblanked, and missing hours."""
+        """The unknown stretches: each as long as it says, and together all that the hours don't know."""
         shown = []
         for row in next(node.all("tbody")).all("tr"):
             low, high = (stamp(time.given["datetime"]) for time in row.all("time"))
             shown.append((low, high))
             if row.children[1].text() != seconds(high - low):
-                self.faults.append("a stretch of %s s is said to have %s" % (seconds(high - low), row.children[1].text()))
+                self.faults.append("%s s are said to be %s" % (seconds(high - low), row.children[1].text()))
         known = sum(float(row["known_s"]) for row in self.tables["phases"]
-                    if "T" in row["hour"] and row["phase"] == self.tables["phases"][0]["phase"])
+                    if row["phase"] == self.tables["phases"][0]["phase"])
         unknown = (self.end - self.start).total_seconds() - sum((high - low).total_seconds() for low, high in shown)
         self.looked_up["stretches"] += len(shown)
         if abs(known - unknown) > 0.05:
             self.faults.append("the stretches leave %.1f s, and %.1f are known" % (unknown, known))
 
     def check_rows(self, item):
-        """The rows below a broken line: each stands so in its file, and those of the stretch are all there or counted."""
+        """The rows below a broken line: each stands so in its file, and all of the stretch are there or counted."""
         files = {}
         for code in item.all("code"):
             with open(os.path.join(self.folder, code.text())) as file:
@@ -229,14 +237,14 @@ class Page:
     def check_texts(self, node):
         """No other text has a number, but in names, times and fixed words."""
         sentences = {row["in_words"] for row in self.tables["rules"]}
+        approaches = {row["approach"] for row in self.tables["approaches"]}
         for each in node.all():
-            if any(above.name in NAMED or above.is_of("said") or {"data-of", "data-table", "data-stretches"} & set(above.given)
-                   for above in each.above()):
+            if any(above.name in NAMED or above.is_of("said") or PLACES & set(above.given) for above in each.above()):
                 continue
             for child in each.children:
                 if isinstance(child, str) and child not in sentences:
                     left = NAMES.sub("", child)
-                    if re.search(r"\d", left) and not any(row["approach"] == child for row in self.tables["approaches"]):
+                    if re.search(r"\d", left) and child not in approaches:
                         self.faults.append("a number from nowhere: %r in %s" % (child.strip()[:80], each.name))
 
     def check(self):
@@ -273,6 +281,61 @@ def numbers(folder, **where):
     return Page(folder, **where).check().said()
 
 
+def index(path):
+    """The lines of a corridor's page: each cell as text, with the folders to which links lead."""
+    reader = Reader(path)
+    out = "".join("HTML: %s\n" % fault for fault in reader.faults)
+    for row in next(reader.root.all("tbody")).all("tr"):
+        out += " | ".join(" ".join(cell.text().split()) for cell in row.children if not isinstance(cell, str))
+        out += " | %s\n" % " ".join(node.given["href"] for node in row.all("a"))
+    return out + "".join("%s%s\n" % (node.given["href"], "" if os.path.exists(os.path.join(
+        os.path.dirname(path), node.given["href"])) else " isn't there") for node in reader.root.all("a"))
+
+
+def boxes(path):
+    """The boxes of a path of bars: left, upper edge, width, height, those that are drawn upward too."""
+    for left, top, wide, how, tall in re.findall(r"M(\S+) (\S+?)h([\d.]+)([Vv])([-\d.]+)h-[\d.]+z", path):
+        below = float(tall) if how == "V" else float(top) + float(tall)
+        yield float(left), min(float(top), below), float(wide), abs(below - float(top))
+
+
+def pictures():
+    """Bars, bands, shifts, diagrams and time lines, drawn of known numbers, which are read back from their paths."""
+    start = logs.hour_of("2024-03-04T05")
+    hours = [start + place * logs.HOUR for place in range(4)]
+    end, out = start + 4 * logs.HOUR, ""
+    paths = lambda picture, fill: [found for found in re.findall(r'<path d="([^"]*)"[^>]*fill="([^"]*)"', picture)
+                                   if found[1] == fill]
+    failed, passed = {hours[0]: 3, hours[2]: 10}, {hours[0]: 7, hours[1]: 5}
+    bars = drawings.hours_bars("x", start, end, [], [("#111111", failed), ("#222222", passed)], "services")
+    scale = (170 - 40 - drawings.TOP) / 10
+    for fill in ("#111111", "#222222"):
+        out += "bars: %s\n" % [round(box[3] / scale, 1) for box in boxes(paths(bars, fill)[0][0])]
+    rows = [(hours[0], 20, 50, 80), (hours[3], 0, None, 100)]
+    band = drawings.hours_band("x", start, end, [], rows, "x", percent=True)
+    scale = (170 - 40 - drawings.TOP) / 100
+    out += "band: %s\n" % [(round((130 - top - tall) / scale), round((130 - top) / scale))
+                           for _, top, _, tall in boxes(paths(band, drawings.SKY)[0][0])]
+    line = drawings.shifts("x", [5, 10, 0], 1)
+    shown = re.search(r'd="(M[^"]*L[^"]*)"', line)[1]
+    scale = (170 - 40 - drawings.TOP) / 10
+    out += "shifts: %s\n" % [round((130 - float(y)) / scale, 1) for y in re.findall(r"[ML]\S+ ([\d.]+)", shown)]
+    cycles = [(start, 1000, 300, 900), (start + 1000, 5000, 0, 0), (start + 6000, 800, 200, 700)]
+    points = [(start, 100), (start, 950), (start + 1000, 4000), (start + 6000, 0)]
+    picture, highest, cut, every = drawings.diagram("x", start, end, [(hours[1], hours[2])], cycles, points)
+    out += "diagram: to %d s, %d cut, %d dots, 1 in %d\n" % (highest, cut, picture.count("h0M") + 1, every)
+    out += "diagram, thinned: %d dots, 1 in %d\n" % (lambda made: (made[0].count("h0M") + 1, made[3]))(
+        drawings.diagram("x", start, end, [], cycles, points * 5, most=4))
+    marks = [(hours[1], 2, "broken"), (hours[1] + 1, 2, "broken"), (hours[2], 2, "broken"), (hours[3], 5, "undecided")]
+    lanes = drawings.time_line("x", start, end, ([(hours[0], hours[1])], [(hours[2], hours[2] + 50)]), [],
+                               [(2, "two"), (5, "five")], marks)
+    drawn = re.search('<path d="([^"]*)" stroke="%s"' % drawings.BROKEN, lanes)[1]
+    width = drawings.WIDE - drawings.RIGHT - 290
+    at = [round((float(x) - 290) / width * 4, 2) for x in re.findall(r"M(\S+) ", drawn)]
+    out += "time line: broken at %s h\n" % at
+    return out + "%s" % [drawings.day_of(start), drawings.end_clock(logs.hour_of("2024-03-05T00"))] + "\n"
+
+
 SIGNAL, FILE = "<b>&'x", "<u>&amp;'_%s.csv"
 
 
@@ -283,11 +346,13 @@ def made(folder, names, program):
     given = ["--config", "config.toml", "--script", "session.txt", "--answer", "answer.txt"]
     recipe = lambda name, *words: subprocess.run([os.path.join(HERE, "examples", name), *words], capture_output=True,
                                                  text=True, check=True, env=dict(os.environ, SIGAUDIT=program)).stdout
-    for path, text in (("holes.txt", lambda: recipe("holes", "--config", "config.toml", "--no-chances", *names)),
-                       ("session.txt", lambda: recipe("session", "--config", "config.toml", "--blanks", "holes.txt", *names)),
-                       ("answer.txt", lambda: subprocess.run([program, *given[:4]], capture_output=True, text=True).stdout),
-                       ("pairs.txt", lambda: recipe("pairs", *given))):
-        said = text()
+    config = ["--config", "config.toml"]
+    steps = {"holes.txt": lambda: recipe("holes", *config, "--no-chances", *names),
+             "session.txt": lambda: recipe("session", *config, "--blanks", "holes.txt", *names),
+             "answer.txt": lambda: subprocess.run([program, *given[:4]], capture_output=True, text=True).stdout,
+             "pairs.txt": lambda: recipe("pairs", *given)}
+    for path, step in steps.items():
+        said = step()
         with open(path, "w") as file:
             file.write(said)
     recipe("tables", *given, "--out", "tables")
@@ -296,7 +361,7 @@ def made(folder, names, program):
 
 
 def escaped(program):
-    """The page of a signal and of files whose names are markup: they stay text, the page is sound, its numbers right."""
+    """The page of a signal and of files whose names are markup: they stay text, and its numbers are right."""
     os.mkdir("m")
     names = []
     for hour in ("05", "06"):
@@ -315,23 +380,13 @@ def escaped(program):
     out += "title: %s\n" % next(page.root.all("title")).text()
     out += "elements of the names: %d\n" % sum(node.text() in (SIGNAL, "&'x") for node in page.root.all("b"))
     out += "files: %s\n" % sorted({code.text() for code in page.root.all("code")})
-    return out + page.check().said() + html_faults("m/report.html")
+    return out + page.check().said()
 
 
 def html_faults(path):
-    """What the checkers of HTML that are there say of a page: tidy, and html5lib."""
-    out = ""
-    if shutil.which("tidy"):
-        said = subprocess.run(["tidy", "-e", "-q", "-utf8", path], capture_output=True, text=True).stderr
-        out += "tidy: %d warnings and errors\n" % len(said.splitlines()) + said[:2000]
-    try:
-        import html5lib
-    except ImportError:
-        return out
-    parser = html5lib.HTMLParser(strict=False)
-    with open(path, "rb") as file:
-        parser.parse(file)
-    return out + "html5lib: %d errors\n" % len(parser.errors) + "".join("%s %s\n" % error[:2] for error in parser.errors[:10])
+    """What tidy says of a page."""
+    said = subprocess.run(["tidy", "-e", "-q", "-utf8", path], capture_output=True, text=True).stderr
+    return "%d warnings and errors\n" % len(said.splitlines()) + said[:2000]
 
 
 def browser_faults(folder, page="report.html", pictures=None):
@@ -371,8 +426,8 @@ def keyboard(window):
     seen = 0
     for _ in range(20000):
         window.press("Tab", 9)
-        name = window.value("document.activeElement.tagName + (document.activeElement.closest('details[open]') ? ' open' : '')")
-        if name.startswith("BODY"):
+        name = window.value("document.activeElement.tagName")
+        if name == "BODY":
             break
         if name == "SUMMARY":
             seen += 1

@@ -180,29 +180,44 @@ def add_shown(parser):
 
 
 def shown(parser, given, session):
-    """The stretch of time that a picture shows: that of the words, or the window."""
+    """The stretch of time that a picture shows: that of the words, or the window. An hour is a number from 0, as in
+    `verdicts 7`, or YYYY-MM-DDTHH; --from alone is that hour, --hours alone the first hours of the window."""
     start = getattr(given, "from")
-    if (start is None) != (given.hours is None):
-        parser.error("--from and --hours go together")
-    if start is None:
+    if start is None and given.hours is None:
         return session.start, session.end
     try:
-        return logs.hour_of(start), logs.hour_of(start) + given.hours * logs.HOUR
+        begin = session.start + int(start or 0) * logs.HOUR if start is None or start.isdecimal() else logs.hour_of(start)
     except ValueError as error:
-        parser.error(str(error))
+        parser.error("%s, or a number from 0" % error)
+    end = begin + (1 if given.hours is None else given.hours) * logs.HOUR
+    if not session.start <= begin < end <= session.end:
+        parser.error("not in the window: hours 0 to %d are, from %s on" % (
+            session.config["hours"] - 1, logs.show_hour(session.start)))
+    return begin, end
+
+
+def title(session, what, start, end):
+    """The title of a picture: the signal, from when to when, and what is in it."""
+    return 'set title "Signal %s, %s to %s%s" noenhanced' % (
+        session.config["signal"].replace("\\", "\\\\"), logs.show(start, " ")[:16], logs.show(end, " ")[:16], what)
 
 
 def axis(start, end):
-    """The time axis of a picture."""
-    day = end - start > 24 * logs.HOUR
+    """The time axis of a picture, with the clock, and the day where there is more than one."""
+    hours = (end - start) // logs.HOUR
+    step = next((step for step in (0.5, 1, 2, 6, 12, 24) if hours / step <= 16), 48)
     return ["set xrange [%s:%s]" % (seconds(start), seconds(end)),
-            'set xtics time format "%s"' % ("%m-%d\\n%H:%M" if day else "%H:%M")]
+            'set xtics %d time format "%s"' % (step * 3600, "%m-%d\\n%H:%M" if hours > 24 else "%H:%M")]
+
+
+# Stretches that aren't known are grey with an edge, so that one of seconds shows in a day.
+UNKNOWN_KEY = ' NaN with boxes fillstyle solid border rgb "#909090" linecolor rgb "#e0e0e0" title "not known"'
 
 
 def shades(session, section):
     """Shades the stretches that weren't known at a section."""
-    return ['set object rectangle from %s, graph 0 to %s, graph 1 behind fillcolor rgb "#d0d0d0" '
-            "fillstyle solid noborder" % (seconds(low), seconds(high)) for low, high in session.unknown(section)]
+    return ['set object rectangle from %s, graph 0 to %s, graph 1 behind fillcolor rgb "#e0e0e0" fillstyle solid '
+            'border rgb "#909090"' % (seconds(low), seconds(high)) for low, high in session.unknown(section)]
 
 
 def block(name, rows):

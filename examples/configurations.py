@@ -218,6 +218,7 @@ class Checker:
             if other:
                 words += ", perhaps %s" % other
                 good.setdefault(other, entry[key])
+                self.lines.setdefault((table, index, other), self.line(table, index, key))
             elif table != "top" and key in TOP:
                 words += " of %s: it belongs above the first table" % table
             else:

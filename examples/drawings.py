@@ -95,7 +95,7 @@ class Picture:
             low, high = max(low, self.start), min(high, self.end)
             if low < high:
                 wide = max(self.x(high) - self.x(low), least)
-                d.append("M%s %sh%sV%sh-%sz" % (short(self.x(low)), short(top), short(wide), short(bottom), short(wide)))
+                d.append(box(self.x(low), top, wide, bottom))
         self.path(d, fill="url(#unknown)")
 
     def time_axis(self):
@@ -129,7 +129,7 @@ class Picture:
         self.write(at, self.bottom + down, words, anchor=anchor)
 
     def value_axis(self, greatest, unit, percent=False, exactly=False):
-        """Ticks of the numbers, with faint lines through the picture, up to a round number or exactly to the greatest."""
+        """Ticks of the numbers and faint lines through the picture, to a round number or exactly to the greatest."""
         self.highest, step = (100, 25) if percent else nice(greatest)
         self.highest = greatest if exactly else self.highest
         lines = []
@@ -145,6 +145,11 @@ class Picture:
     def svg(self):
         return ('<svg viewBox="0 0 %d %d" role="img"><title>%s</title>%s</svg>'
                 % (self.width, self.height, pages.text(self.title), "".join(self.parts)))
+
+
+def box(x, y, wide, to):
+    """The path of a box from a corner: so wide, and up or down to a height."""
+    return "M%s %sh%sV%sh-%sz" % (short(x), short(y), short(wide), short(to), short(wide))
 
 
 def ring(x, y, radius):
@@ -210,8 +215,7 @@ def hours_bars(title, start, end, unknown, parts, unit, width=HALF, height=170):
             if count:
                 gap = 0 if thin else min(3, (picture.x(hour + logs.HOUR) - picture.x(hour)) * 0.12)
                 wide = picture.x(hour + logs.HOUR) - picture.x(hour) - 2 * gap
-                d.append("M%s %sh%sV%sh-%sz" % (short(picture.x(hour) + gap), short(picture.y(below[hour])), short(wide),
-                                                short(picture.y(below[hour] + count)), short(wide)))
+                d.append(box(picture.x(hour) + gap, picture.y(below[hour]), wide, picture.y(below[hour] + count)))
                 below[hour] += count
         picture.path(d, fill=fill, stroke=None if thin else INK, stroke_width=None if thin else 0.6)
     picture.time_axis()
@@ -271,7 +275,7 @@ def diagram(title, start, end, unknown, cycles, points, most=20000):
         x, wide = picture.x(begin), picture.x(begin + length) - picture.x(begin)
         step = "M%s %sh%s"
         if green and yellow > green and green < highest:
-            greens.append("M%s %sh%sV%sh-%sz" % (short(x), short(scale(green)), short(wide), short(scale(yellow)), short(wide)))
+            greens.append(box(x, scale(green), wide, scale(yellow)))
             begins.append(step % (short(x), short(scale(green)), short(wide)))
             if yellow <= highest:
                 yellows.append(step % (short(x), short(scale(yellow)), short(wide)))
@@ -286,14 +290,14 @@ def diagram(title, start, end, unknown, cycles, points, most=20000):
     picture.path(ends, stroke=INK, stroke_width=1)
     shown = [(begin, offset) for begin, offset in points if offset <= highest]
     every = -(-len(shown) // most) or 1
-    picture.path(["M%s %sh0" % (short(picture.x(begin + offset)), short(scale(offset))) for begin, offset in shown[::every]],
-                 stroke=INK, stroke_width=2.4, stroke_linecap="round", opacity="0.75")
+    dots = ["M%s %sh0" % (short(picture.x(begin + offset)), short(scale(offset))) for begin, offset in shown[::every]]
+    picture.path(dots, stroke=INK, stroke_width=2.4, stroke_linecap="round", opacity="0.75")
     picture.time_axis()
     return picture.svg(), highest // 10, cut, every
 
 
-def shifts(title, counts, best, arrivals):
-    """Of an approach, how many arrivals meet green at each shift in seconds; the best, and the log's own, are marked."""
+def shifts(title, counts, best):
+    """How many arrivals of an approach meet green at each shift in seconds; the best and the log's own are marked."""
     picture = Picture(title, 0, max(len(counts), 1), 170, HALF)
     picture.value_axis(max(list(counts) + [1]), "arrivals on green")
     d = []
@@ -302,8 +306,10 @@ def shifts(title, counts, best, arrivals):
     picture.path(d, stroke=BLUE, stroke_width=2)
     if counts:
         own = picture.y(counts[0])
-        picture.path("M%s %sH%s" % (short(picture.left), short(own), short(picture.right)), stroke=INK, stroke_dasharray="5 4")
-        picture.path(ring(picture.x(best + 0.5), picture.y(counts[best]), 5), stroke=BROKEN, fill="#fff", stroke_width=2)
+        picture.path("M%s %sH%s" % (short(picture.left), short(own), short(picture.right)), stroke=INK,
+                     stroke_dasharray="5 4")
+        picture.path(ring(picture.x(best + 0.5), picture.y(counts[best]), 5), stroke=BROKEN, fill="#fff",
+                     stroke_width=2)
     picture.path("M%s %sH%s" % (short(picture.left), short(picture.bottom), short(picture.right)), stroke=INK)
     step = next(step for step in (10, 20, 30, 60, 120, 300) if len(counts) / step <= 8)
     for at in range(0, len(counts), step):
@@ -313,7 +319,7 @@ def shifts(title, counts, best, arrivals):
 
 
 def overview(title, start, end, known, marks):
-    """The window in three lanes: broken verdicts, undecided ones, and what the log tells. marks are (tenth, verdict)."""
+    """The window in three lanes: broken verdicts, undecided ones, what the log tells. marks are (tenth, verdict)."""
     missing, blanked = known
     picture = Picture(title, start, end, 118, left=92)
     lanes = {"broken": 4, "undecided": 28, "log": 52}
@@ -342,8 +348,7 @@ def small_hours(title, start, end, unknown, counts, width=220, height=34):
     for hour, count in sorted(counts.items()):
         if count:
             wide = max(picture.x(hour + logs.HOUR) - picture.x(hour) - 1, 1)
-            d.append("M%s %sh%sV%sh-%sz" % (short(picture.x(hour)), short(picture.bottom), short(wide),
-                                            short(picture.y(count)), short(wide)))
+            d.append(box(picture.x(hour), picture.bottom, wide, picture.y(count)))
     picture.path(d, fill=BROKEN)
     picture.path("M%s %sH%s" % (1, short(picture.bottom), short(picture.right)), stroke=INK)
     return picture.svg()

@@ -290,6 +290,7 @@ class Finder:
 
     def __init__(self, session):
         self.session, self.names = session, dict(enumerate(rules_of(session.config), 1))
+        self.told_names = session.names()
         audit = session.last("audit")
         self.sections = [audit] if audit else [section for _, section in session.by_hour("verdicts")]
         self.logs, self.courses = [], {}
@@ -332,7 +333,10 @@ class Finder:
     def explain(self, line, section=None):
         """The figures of a line of a section; of the last one that has verdicts where none is given."""
         section = section or self.sections[-1]
-        log, name = self.log(section), self.names[line.rule]
+        name = self.names.get(line.rule)
+        if not name or name != tuple(self.told_names.get(line.rule, name)):
+            raise held.OtherFile("%s: rule %d isn't one of %s" % (self.session.paths[2], line.rule, self.session.paths[0]))
+        log = self.log(section)
         figures = self.duration(log, name, line) if name[3:4] == ("at",) else self.together(log, name, line)
         low, high = line.stretch or (None, None)
         return Explanation(verdict=line.verdict, rule=line.rule, name=name, stamp=line.stamp, stretch=line.stretch,

@@ -1,13 +1,20 @@
 """The tables of an answer, looked up for a page: each number with the place it stands at. Not proved.
 
-A page makes no number: it shows fields of the tables that examples/tables wrote, and says of each where it stands.
+A page makes no number: it shows fields of the tables that examples/tables wrote, and says of each where it stands
+(pages.py says how).
 """
 import csv
 import os
+import re
 import urllib.parse
 
 import logs
 import pages
+
+# Columns of shares, which are shown in per cent, and of texts, which stand at the left.
+SHARES = {"least", "greatest", "red_least", "red_greatest", "fail_least", "fail_greatest"}
+TEXTS = {"hour", "approach", "ped", "preempt", "what", "value", "answer", "sha256"}
+WIDE = {"value", "answer", "sha256"}
 
 
 class Row:
@@ -20,7 +27,7 @@ class Row:
         return self.fields[column]
 
     def get(self, column):
-        return self.fields.get(column, "")
+        return self.fields.get(column) or ""
 
     def number(self, column):
         """The field as a number for a picture; 0 where it is empty."""
@@ -33,15 +40,17 @@ class Row:
         """The tenth at which the row's hour begins."""
         return logs.hour_of(self.fields["hour"])
 
-    def is_of_an_hour(self):
-        """Whether the row is of one hour, and not of the whole window."""
-        return "T" in self.fields["hour"]
+    def text(self, column):
+        """The field as a page shows it: escaped, a share in per cent."""
+        return pages.percent(self[column]) if column in SHARES else pages.text(self[column])
 
-    def shown(self, column, percent=False):
+    def shown(self, column):
         """The field as HTML that says where it stands."""
-        value = self.fields[column]
-        return pages.element("span", pages.percent(value) if percent else pages.text(value),
-                             data_of="%s %d %s" % (self.table, self.place, column))
+        return pages.element("span", self.text(column), data_of="%s %d %s" % (self.table, self.place, column))
+
+    def say(self, words, **more):
+        """Words in which `{column}` stands for that field; or for HTML that is given by this name."""
+        return re.sub(r"\{(\w+)\}", lambda found: more.get(found[1]) or self.shown(found[1]), words)
 
 
 class Tables:
@@ -50,11 +59,6 @@ class Tables:
     def __init__(self, folder, page="."):
         self.folder, self.read = folder, {}
         self.beside = os.path.relpath(folder, page or ".")
-
-    def link(self, name):
-        """A link to a table, from the page."""
-        path = os.path.normpath(os.path.join(self.beside, name + ".csv"))
-        return pages.link(urllib.parse.quote(path), pages.text(path))
 
     def rows(self, name, **wanted):
         """The rows of a table whose columns have these values."""
@@ -67,41 +71,36 @@ class Tables:
         return [row for row in self.read[name] if all(row[key] == str(value) for key, value in wanted.items())]
 
     def window(self, name, **wanted):
-        """The rows of a table that are of the whole window."""
-        return [row for row in self.rows(name, **wanted) if not row.is_of_an_hour()]
-
-    def hours(self, name, **wanted):
-        """The rows of a table that are of one hour each."""
-        return [row for row in self.rows(name, **wanted) if row.is_of_an_hour()]
+        """The rows of the table over the whole window that stands beside one by hour."""
+        return self.rows("window_" + name, **wanted)
 
     def names(self):
         return sorted(name[:-4] for name in os.listdir(self.folder) if name.endswith(".csv"))
 
+    def link(self, name):
+        """A link to a table, from the page."""
+        path = os.path.normpath(os.path.join(self.beside, name + ".csv"))
+        return pages.link(urllib.parse.quote(path), pages.text(path))
+
+
+def style(column):
+    """The class of a column's cells."""
+    return ("wide" if column in WIDE else None) if column in TEXTS else "n"
+
 
 def table(rows, columns, caption="", label=None):
-    """Rows of one table as HTML: columns are (column, head, kind), kind one of "", "n", "percent", "wide".
+    """Rows of one table as HTML: columns are {column: head}, the first of them the head of its row.
 
-    The first column is the head of its row. label makes another text of the first field.
+    label makes another text of the first field.
     """
     if not rows:
         return ""
-    head = "".join(pages.element("th", text, data_column=column, scope="col", cls=style(kind))
-                   for column, text, kind in columns)
+    heads = "".join(pages.element("th", head, data_column=column, scope="col", cls=style(column))
+                    for column, head in columns.items())
+    first, *others = columns
     body = []
     for row in rows:
-        cells = []
-        for place, (column, _, kind) in enumerate(columns):
-            value = row[column]
-            inner = pages.percent(value) if kind == "percent" else pages.text(value)
-            if place == 0:
-                cells.append(pages.element("th", label(row) if label else inner, scope="row", cls=style(kind)))
-            else:
-                cells.append(pages.element("td", inner, cls=style(kind)))
-        body.append(pages.element("tr", "".join(cells), data_row=row.place))
-    return pages.element("div", pages.element("table", (pages.element("caption", caption) if caption else "")
-        + pages.element("thead", pages.element("tr", head)) + pages.element("tbody", "\n".join(body)),
-        data_table=rows[0].table), cls="scroll")
-
-
-def style(kind):
-    return {"percent": "n", "": None}.get(kind, kind)
+        cells = pages.element("th", label(row) if label else row.text(first), scope="row", cls=style(first))
+        cells += "".join(pages.element("td", row.text(column), cls=style(column)) for column in others)
+        body.append(pages.element("tr", cells, data_row=row.place))
+    return pages.scrolled(pages.table(heads, body, caption, data_table=rows[0].table))

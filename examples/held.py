@@ -2,12 +2,11 @@
 
 HeldLog(session) reads the hour files that are held at the end of a session, or at one of its answers, when they are
 asked for, CSV or packed, and keeps the last few of them. A row at an unknown tenth isn't there, and neither is a
-repeat. A file with another number of rows than it had when the answer was made ends the program with a message.
+repeat. A file that isn't there, or has another number of rows than it had when the answer was made, raises OtherFile.
 """
 import bisect
 import collections
 import re
-import sys
 from typing import NamedTuple
 
 import answers
@@ -17,6 +16,10 @@ KEPT_HOURS = 8  # of one signal some 10,000 rows each
 PLAIN = re.compile(r"[^,\"]+,\d{4}-\d\d-\d\d[ T](\d\d):(\d\d):(\d\d)\.(\d)\d*,(\d{1,3}),(\d{1,5})\r?")
 HEADER = re.compile(r"(?i) *(signalid|locationidentifier) *,")
 MARK = b"\0SGP"
+
+
+class OtherFile(Exception):
+    """A file isn't as it was when the answer was made; in words."""
 
 
 class Row(NamedTuple):
@@ -91,20 +94,13 @@ def rows_of(path, signal, hour):
     return NumberedReader(signal).rows(path) if rows is None else rows
 
 
-def group_of(row):
-    """What a row can be a repeat in: its channel, where it has one; faults of a detector are rows of its channel."""
-    if 83 <= row.code <= 88 and 1 <= row.param <= 128:
-        return "detector", row.param
-    return logs.channel_of(row.code, row.param) or (row.code, row.param)
-
-
 def without_repeats(rows):
     """The rows by tenth, those of one tenth in their order, without those that sigaudit leaves out as repeats."""
     kept, tenth, last = [], None, {}
     for row in sorted(rows, key=lambda row: row.tenth):
         if row.tenth != tenth:
             tenth, last = row.tenth, {}
-        group = group_of(row)
+        group = logs.channel_of(row.code, row.param) or (row.code, row.param)
         if last.get(group) != (row.code, row.param):
             kept.append(row)
         last[group] = row.code, row.param
@@ -146,9 +142,9 @@ class HeldLog:
             try:
                 rows = without_repeats(rows_of(path, self.session.config["signal"], start))
             except OSError as error:
-                sys.exit("%s: %s" % (error.filename, error.strerror))
+                raise OtherFile("%s: %s" % (error.filename, error.strerror)) from error
             if len(rows) != count:
-                sys.exit("%s: has %d rows now, and had %d when the answer was made" % (path, len(rows), count))
+                raise OtherFile("%s: has %d rows now, and had %d when the answer was made" % (path, len(rows), count))
         found = Hour([row for row in rows if self.is_known(row.tenth)])
         self.hours[number] = found
         if len(self.hours) > KEPT_HOURS:

@@ -1,4 +1,4 @@
-"""What the pages of the recipes share: HTML with its style, escaped texts, tables that say where they are from. Not proved.
+"""What the pages of the recipes share: HTML, its style, escaped texts, places of numbers. Not proved.
 
 A page is one file. It asks for nothing else: the style is inside, pictures are SVG inside (drawings.py), there is no
 script, and folded parts are `details`, which a keyboard opens. Colours are those of Okabe and Ito, which the
@@ -14,7 +14,8 @@ STYLE = """
 :root { --ink: #1c2127; --soft: #59636e; --line: #d4d9de; --shade: #f5f7f8; --link: #00558a; --broken: #b34700; }
 * { box-sizing: border-box; }
 html { -webkit-text-size-adjust: 100%; scroll-behavior: auto; }
-body { margin: 0; color: var(--ink); background: #fff; font: 16px/1.5 system-ui, -apple-system, "Segoe UI", "Liberation Sans",
+body { margin: 0; color: var(--ink); background: #fff;
+  font: 16px/1.5 system-ui, -apple-system, "Segoe UI", "Liberation Sans",
   "DejaVu Sans", Arial, sans-serif; }
 header, main, footer { max-width: 1100px; margin: 0 auto; padding: 0 28px; }
 header { padding-top: 40px; }
@@ -33,24 +34,25 @@ nav ol { list-style: none; display: flex; flex-wrap: wrap; gap: 2px 22px; paddin
   border-top: 1px solid var(--line); border-bottom: 1px solid var(--line); max-width: none; }
 .tiles { display: grid; grid-template-columns: repeat(auto-fit, minmax(180px, 1fr)); gap: 0; margin: 20px 0;
   border: 1px solid var(--line); padding: 0; list-style: none; max-width: none; }
-.tiles li { padding: 14px 18px; border-right: 1px solid var(--line); border-bottom: 1px solid var(--line); margin: 0 -1px -1px 0; }
+.tiles li { padding: 14px 18px; border-right: 1px solid var(--line); border-bottom: 1px solid var(--line);
+  margin: 0 -1px -1px 0; }
 .tiles b { display: block; font-size: 27px; line-height: 1.2; font-weight: 650; font-variant-numeric: tabular-nums; }
 .tiles li > span { color: var(--soft); font-size: 14px; line-height: 1.35; display: block; }
 .tiles li > span a { color: inherit; }
 .rests ul { columns: 2; column-gap: 44px; max-width: none; padding-left: 20px; font-size: 15px; }
 .rests li { break-inside: avoid; margin-bottom: 6px; }
-.note { border-left: 4px solid var(--ink); padding: 2px 0 2px 16px; margin: 16px 0; }
-.warn { border-left: 4px solid var(--broken); background: var(--shade); padding: 10px 16px; margin: 16px 0; max-width: 84ch; }
+.warn { border-left: 4px solid var(--broken); background: var(--shade); padding: 10px 16px; margin: 16px 0;
+  max-width: 84ch; }
 .scroll { overflow-x: auto; margin: 8px 0 18px; }
 .scroll > table { margin: 0; }
 table { border-collapse: collapse; font-size: 14.5px; font-variant-numeric: tabular-nums; }
 caption { text-align: left; color: var(--soft); font-size: 14px; padding-bottom: 4px; }
 th, td { text-align: left; padding: 5px 14px 5px 0; border-bottom: 1px solid var(--line); vertical-align: top; }
-thead th { border-bottom: 1px solid var(--ink); font-weight: 600; font-size: 13.5px; vertical-align: bottom; line-height: 1.3; }
+thead th { border-bottom: 1px solid var(--ink); font-weight: 600; font-size: 13.5px; vertical-align: bottom;
+  line-height: 1.3; }
 th.n, td.n { text-align: right; } td.n { white-space: nowrap; }
 tbody th { font-weight: 500; }
 td.wide, th.wide { min-width: 15em; }
-tr.total th, tr.total td { border-top: 1px solid var(--ink); font-weight: 600; }
 figure { margin: 14px 0 24px; }
 header h2 { margin-top: 26px; border: 0; padding: 0; font-size: 19px; }
 figcaption { font-size: 14px; color: var(--soft); max-width: 92ch; margin-top: 4px; }
@@ -72,21 +74,28 @@ summary:hover { background: var(--shade); }
 .grade.certain, .grade.sure, .grade.likely { color: #fff; background: var(--broken); border-color: var(--broken); }
 .grade.weak { color: var(--broken); border-style: dashed; }
 .grade.solid { color: var(--soft); }
-pre.rows { font: 13px/1.45 ui-monospace, "Liberation Mono", "DejaVu Sans Mono", Menlo, Consolas, monospace; margin: 6px 0; padding: 10px 14px; background: var(--shade); overflow-x: auto; }
+pre.rows { font: 13px/1.45 ui-monospace, "Liberation Mono", "DejaVu Sans Mono", Menlo, Consolas, monospace;
+  margin: 6px 0; padding: 10px 14px; background: var(--shade); overflow-x: auto; }
 pre.rows b { font-weight: 700; }
 .small svg { display: block; width: 220px; height: 34px; }
 .window { white-space: nowrap; }
-.index { width: 100%; } .index td { vertical-align: middle; } .index thead th { max-width: 7.5em; } .index tbody th { vertical-align: middle; font-weight: 650; }
+.index { width: 100%; }
+.index td { vertical-align: middle; }
+.index thead th { max-width: 7.5em; }
+.index tbody th { vertical-align: middle; font-weight: 650; }
 .files { font-size: 13.5px; }
 .files td { overflow-wrap: anywhere; }
-code { font: 0.88em ui-monospace, "Liberation Mono", "DejaVu Sans Mono", Menlo, Consolas, monospace; overflow-wrap: anywhere; }
-.key { display: inline-block; width: 14px; height: 10px; margin: 0 5px 0 14px; vertical-align: baseline; }
+code { font: 0.88em ui-monospace, "Liberation Mono", "DejaVu Sans Mono", Menlo, Consolas, monospace;
+  overflow-wrap: anywhere; }
+.entry { white-space: nowrap; margin: 0 12px 0 0; }
+.key { display: inline-block; width: 14px; height: 10px; margin: 0 5px 0 0; vertical-align: baseline; }
 .patterns { position: absolute; }
-footer { margin-top: 64px; padding-top: 14px; padding-bottom: 48px; color: var(--soft); font-size: 14px; border-top: 1px solid var(--line); }
+footer { margin-top: 64px; padding-top: 14px; padding-bottom: 48px; color: var(--soft); font-size: 14px;
+  border-top: 1px solid var(--line); }
 @media screen and (max-width: 760px) {
   body { font-size: 16px; } header, main, footer { padding-left: 16px; padding-right: 16px; }
   header { padding-top: 22px; } h1 { font-size: 25px; } h2 { font-size: 20px; margin-top: 44px; }
-  .pair { grid-template-columns: 1fr; } .picture svg { min-width: 620px; } .pair .picture svg { min-width: 420px; }
+  .pair { grid-template-columns: 1fr; } .picture svg { min-width: 620px; } .pair .picture svg { min-width: 360px; }
   .rests ul { columns: 1; }
   .tiles { grid-template-columns: 1fr 1fr; } .tiles li { padding: 10px 12px; } .tiles b { font-size: 22px; }
 }
@@ -94,11 +103,20 @@ footer { margin-top: 64px; padding-top: 14px; padding-bottom: 48px; color: var(-
   @page { margin: 15mm 14mm; }
   body { font-size: 10pt; line-height: 1.4; } header, main, footer { max-width: none; padding: 0; }
   h1 { font-size: 19pt; } h2 { font-size: 14pt; margin-top: 22pt; } h3 { font-size: 11pt; margin-top: 14pt; }
-  h2, h3, h4, caption, h2 + p, h3 + p, h4 + p, .scroll caption { break-after: avoid; } figure, tr, .tiles li, .note, .warn, .lines > li > details > summary { break-inside: avoid; }
+  h2, h3, h4, caption, h2 + p, h3 + p, h4 + p, .scroll caption { break-after: avoid; }
+  figure, tr, .tiles li, .warn, .lines > li > details > summary { break-inside: avoid; }
   thead { display: table-header-group; } .scroll, .picture, pre.rows { overflow: visible; }
-  table { font-size: 8.5pt; } th, td { padding: 2.5pt 8pt 2.5pt 0; } .lines > li { font-size: 9pt; } pre.rows { font-size: 7.5pt; white-space: pre-wrap; }
-  figcaption, .tiles li > span, caption { font-size: 8.5pt; } .tiles b { font-size: 15pt; } .tiles { grid-template-columns: repeat(auto-fit, minmax(100px, 1fr)); }
-  .pair { gap: 0 18px; } figure { margin: 6pt 0 10pt; } h2 { break-before: auto; } .lines > li { break-inside: avoid; }
+  table { font-size: 8.5pt; }
+  th, td { padding: 2.5pt 8pt 2.5pt 0; }
+  .lines > li { font-size: 9pt; }
+  pre.rows { font-size: 7.5pt; white-space: pre-wrap; }
+  figcaption, .tiles li > span, caption { font-size: 8.5pt; }
+  .tiles b { font-size: 15pt; }
+  .tiles { grid-template-columns: repeat(auto-fit, minmax(100px, 1fr)); }
+  .pair { gap: 0 18px; }
+  figure { margin: 6pt 0 10pt; }
+  h2 { break-before: auto; }
+  .lines > li { break-inside: avoid; }
   a { color: inherit; } .skip { display: none; } .grade { border-color: #000; }
   .grade.certain, .grade.sure, .grade.likely { color: #000; background: none; border-width: 2px; }
 }
@@ -129,6 +147,18 @@ def link(target, inner):
 def folded(summary, inner, **given):
     """A part that is folded up until it is opened."""
     return element("details", element("summary", summary) + element("div", inner, cls="inner"), **given)
+
+
+def table(heads, rows, caption="", **given):
+    """A table of rows, of which heads and rows are HTML."""
+    caption = element("caption", caption) if caption else ""
+    body = element("thead", element("tr", heads)) + element("tbody", "\n".join(rows))
+    return element("table", caption + body, **given)
+
+
+def scrolled(inner):
+    """What is wider than a narrow screen, and is moved sideways there."""
+    return element("div", inner, cls="scroll")
 
 
 def figure(picture, caption):

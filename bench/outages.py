@@ -107,7 +107,7 @@ def draw(day, seed, count=A_DAY):
             last = first + int(BATCH[0] * (BATCH[1] / BATCH[0]) ** rng.random())
             length = tenths[min(last, len(tenths)) - 1] - tenths[first] + 1
         else:
-            low = day.start + rng.randrange(24 * logs.HOUR)
+            low = rng.randrange(tenths[0], tenths[-1])
             if kind == "tail":
                 low = low // logs.HOUR * logs.HOUR + logs.HOUR - length
             first, last = bisect.bisect_left(tenths, low), bisect.bisect_left(tenths, low + length)

@@ -16,8 +16,9 @@ what these scores are worth together by telling gaps that it cuts into the log i
    gap's own time is left out of what it is compared with. Lengths of yellow, least greens, walks, and that a detector
    goes on and off in turns come out of the counts; none stands here as a rule.
 3. What scores are worth together. Channels depend on one another, so their scores don't just add. CUTS stretches are
-   cut out of the log at random places with lengths from SHORTEST to LONGEST, and a logistic regression over the
-   numbers of `vector` tells the gaps that so come from the log's own. The log's own gaps may hide holes: the
+   cut out of the log at random places with lengths from SHORTEST to LONGEST, of those that leave no contradiction
+   (the others are found without a model), and a logistic regression over the numbers of `vector` tells the gaps that
+   so come from the log's own. The log's own gaps may hide holes: the
    regression is fitted again without those that look like cuts (the case of learning from positive and unlabelled
    examples: C. Elkan and K. Noto, Learning Classifiers from Only Positive and Unlabeled Data, 2008).
 4. Best first. The likeliest gap is taken as a hole, and rows on both sides of it count together no longer; so it
@@ -47,8 +48,9 @@ ROUNDS = 4            # of learning without the gaps that look like cuts
 RING_CODES = {0, 1, 3, 4, 5, 6, 7, 8, 9, 10, 11, 12}
 CALLS = {43: "call", 44: "call", 45: "ped_detector"}
 SUMMED = ("ring", "detector", "ped", "ped_detector", "call", "other")
-# Grades by the logarithm of the odds of a hole, were there one of the cuts' lengths a day.
-SURE, LIKELY, WEAK = 0.0, -4.0, -6.0
+# Grades by the logarithm of the odds of a hole, were there one cut a day that doesn't contradict. Without a hole, two
+# simulated days had one `likely` gap in a week, and six `weak` ones a day.
+SURE, LIKELY, WEAK = 0.0, -2.5, -5.0
 # The lengths and the parts of the day of `chances`, in tenths and hours; CHANCE_CUTS draws for each of both.
 LENGTHS = (50, 150, 600, 3000, 18000)
 PARTS = (0, 5, 9, 15, 19, 22, 24)
@@ -217,10 +219,11 @@ def longer(times, than, own):
 
 class Gaps:
     """The gaps of a log, each with its score. stretches are (begin, end, rows) of hours that follow one another without
-    one missing, rows (tenth, code, parameter) in order; rings says the ring of each phase."""
+    one missing, rows (tenth, code, parameter) in order; rings says the ring of each phase; contradicts says of a gap
+    whether the machines find a hole in it by themselves, were there a hole."""
 
-    def __init__(self, stretches, rings):
-        self.holes = []
+    def __init__(self, stretches, rings, contradicts=lambda gap: False):
+        self.holes, self.contradicts = [], contradicts
         self.stretches = [(begin, end) for begin, end, _ in stretches]
         missing = [(a[1], b[0]) for a, b in zip(self.stretches, self.stretches[1:])]
         self.days = sum(end - begin for begin, end in self.stretches) / (24 * logs.HOUR)
@@ -315,10 +318,13 @@ class Gaps:
         return (*gap, length) if gap[1] - gap[0] >= LEAST else None
 
     def learn(self, jobs=1):
-        """The weights: the log's own gaps against cuts, again without those of its own that look like cuts."""
+        """The weights: the log's own gaps against cuts, again without those of its own that look like cuts. False where
+        nearly all cuts contradict, so that there is nothing to learn."""
         rng = random.Random(1)
         draws = (self.draw(rng, SHORTEST, LONGEST) for _ in range(CUTS * 20))
-        cuts = [cut for _, cut in zip(range(CUTS), (draw for draw in draws if draw))]
+        cuts = [cut for _, cut in zip(range(CUTS), (draw for draw in draws if draw and not self.contradicts(draw[:2])))]
+        if len(cuts) < CUTS // 5:
+            return False
         made = [self.vector(cut[:2]) for cut in cuts]
         self.vectors = dict(zip(self.own, spread(self.vector, self.own, jobs)))
         step = max(1, len(self.own) // 4000)
@@ -330,6 +336,7 @@ class Gaps:
             if len(kept) == before:
                 break
             self.weights = regression(kept, made, step, self.weights)
+        return True
 
     def odds(self, vector):
         """The logarithm of the odds of a hole, were there one cut a day in the place of all of them."""
@@ -375,7 +382,7 @@ class Gaps:
                     if len(cuts) == CHANCE_CUTS:
                         break
                 if cuts:
-                    found = sum(self.score(*cut[:2]) >= LIKELY for cut in cuts)
+                    found = sum(self.contradicts(cut[:2]) or self.score(*cut[:2]) >= LIKELY for cut in cuts)
                     yield first, last, shortest, longest, found, len(cuts)
 
     def worst(self, begin, end, count=3):
@@ -386,7 +393,8 @@ class Gaps:
         """Why a gap has its odds: a line for the silence, then one for each channel, the worst first."""
         odds = self.score(begin, end)
         count, whole, _, _ = self.rank(begin, end)
-        yield "%s %.1f silence %d of %d gaps around this time of day last as long" % (grade_of(odds), odds, count, whole)
+        yield "%s %.1f silence %d of %d gaps around this time of day last as long" % (
+            grade_of(odds), odds, count, whole)
         for group, score in self.worst(begin, end, len(self.channels)):
             told = self.channels[group].explained(begin, end)
             if told:

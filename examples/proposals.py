@@ -1,4 +1,4 @@
-"""Which gaps of a log are proposed as holes, with grades: what `holes` rests on beside `gaps` and `machines`. Not proved.
+"""Which gaps of a log are proposed as holes, with grades: what `holes` rests on beside `gaps`, `machines`. Not proved.
 
 First what the machines and the configuration's floors contradict: a hole lies between the two rows, and is put over the
 likeliest gaps there. Then, these known, the gaps that the model of `gaps` finds likely.
@@ -14,11 +14,12 @@ import machines
 PORTION = 7     # days: a longer log is learned in portions, since traffic and plans change with the weeks
 EDGE = 9.0      # a silence at the log's begin or end is a hole where one in 8,000 (e^9) at this time of day is as long
 SHARE = 0.95    # a contradiction's hole is put over the likeliest gaps that have so much of the odds together
+BEFORE, BEHIND = 8, 8    # rows of a channel that tell its colour, and show whether it goes on from there: two services
 # So many contradictions by one code of a kind, and of so large a share of its rows, are the controller's way, no holes.
 MISFIT_LEAST, MISFIT_SHARE = 10, 0.05
 
 
-@dataclasses.dataclass(order=True)
+@dataclasses.dataclass
 class Hole:
     """A gap for which a blank is proposed: the row before, the row after, how sure it is, and why."""
     begin: int
@@ -122,20 +123,22 @@ def name_of(channel):
 def model_of(log, config, jobs=1):
     """The model of a log, learned; None where the log is too small."""
     rings = {entry["number"]: entry["ring"] for entry in (config or {}).get("phase", [])}
-    model = gaps.Gaps([(begin, end, log.rows(begin, end)) for begin, end in log.stretches()], rings)
-    if not model.enough():
-        return None
-    model.learn(jobs)
-    return model
+    rows, floors = machine_rows(log), machines.floors_of(config)
+    odd = {kind for kind, *_ in misfits(rows, contradictions(rows, floors, log.missing()))}
+    rows = {channel: mine for channel, mine in rows.items() if channel[0] not in odd}
+    stretches = [(begin, end, log.rows(begin, end)) for begin, end in log.stretches()]
+    model = gaps.Gaps(stretches, rings, contradicts(rows, floors))
+    return model if model.enough() and model.learn(jobs) else None
 
 
 def in_words(model, gap):
     return ", ".join("%s %.1f" % (name_of(channel), score) for channel, score in model.worst(*gap))
 
 
-def proposals(log, config, silence=None, jobs=1, chances=True):
-    """What is found in the whole log; with `silence`, silences of so many tenths are holes too."""
-    portions = log.portions()
+def proposals(log, config, silence=None, jobs=1, chances=True, certain=False):
+    """What is found in the whole log; with `silence`, silences of so many tenths are holes too; with `certain`, else
+    only contradictions."""
+    portions = [] if certain else log.portions()
     inner, outer = (1, jobs) if len(portions) > 1 else (jobs, 1)
     edges = {edge for stretch in log.stretches() for edge in stretch}
     parts = gaps.spread(lambda portion: proposals_of(*portion, edges, config, inner, chances), portions, outer)
@@ -147,7 +150,7 @@ def proposals(log, config, silence=None, jobs=1, chances=True):
         found.holes += [Hole(*s, "likely", None, "silence") for s in log.silences()
                         if s[1] - s[0] >= silence and s[0] not in known]
     settle(log, config, found, None)
-    found.holes.sort()
+    found.holes.sort(key=lambda hole: (hole.begin, hole.end))
     blanks = merged(hole.blank() for hole in found.holes)
     found.suspects = sorted((entry for entry in found.suspects
                              if not any(a < entry[2] and entry[1] < b for a, b in blanks)), reverse=True)
@@ -178,6 +181,28 @@ def proposals_of(log, end, edges, config, jobs, chances):
     return found
 
 
+def explained(log, config, stamp, jobs=1):
+    """Why the gap at a stamp has its grade: lines, of which the first has the gap; None where there is no gap, or where
+    the log is too small. The scores are those with which it was found: with the holes known that were taken before it."""
+    portion = next((portion for portion, end in log.portions() if stamp < end), log)
+    model, found = model_of(portion, config, jobs), Found()
+    gap = model and next((gap for gap in zip(model.tenths, model.tenths[1:]) if gap[0] <= stamp < gap[1]), None)
+    if not gap:
+        return None
+    settle(portion, config, found, model)
+    model.take(hole.blank() for hole in found.holes)
+    certain, taken = list(model.holes), []
+    for odds, other in model.find():
+        if other == gap:
+            model.holes = sorted(certain + taken)
+            break
+        if odds >= gaps.LIKELY:
+            taken.append(other)
+    told = list(model.explained(*gap))
+    told[0] = "gap %.1f %s %s %s" % ((gap[1] - gap[0]) / 10, logs.show(gap[0]), logs.show(gap[1]), told[0])
+    return ["certain %s" % hole.why for hole in found.holes if hole.begin < gap[1] and gap[0] < hole.end] + told
+
+
 def summed(chances):
     """The chances of all portions together."""
     whole = {}
@@ -205,6 +230,20 @@ def contradictions(rows, floors, blanks):
             low, high = mine[first][0], mine[last][0]
             found.append((high - low, low, high, channel, mine[last][1]))
     return sorted(found)
+
+
+def contradicts(rows, floors):
+    """Whether the rows on both sides of a gap contradict one another, as far as the next few of a channel tell."""
+    channels = [(machines.Machine(channel[0], floors.get(channel, {})), mine, [tenth for tenth, _ in mine])
+                for channel, mine in rows.items()]
+
+    def told(gap):
+        for machine, mine, tenths in channels:
+            i, j = bisect.bisect_right(tenths, gap[0]), bisect.bisect_left(tenths, gap[1])
+            if machine.first_wrong(mine[max(0, i - BEFORE):i] + mine[j:j + BEHIND]) is not None:
+                return True
+        return False
+    return told
 
 
 def misfits(rows, wrong):

@@ -133,7 +133,7 @@ def doubted_lines(session, suspicions):
         begin, end = tenth(words[4]), tenth(words[6])
         yield Doubted("broken", int(words[1]), tenth(words[2]), begin, end, suspicions.of(begin, end))
     kept = {(int(line[1]), line[2]) for section in by_hour for line in section.lines if line[0] == "kept"}
-    for rule, begin, end in kept_by_little(session):
+    for rule, begin, end in kept_by_little(session) if kept else ():
         if (rule, logs.show(end)) in kept:
             yield Doubted("kept", rule, end, begin, end, suspicions.of(begin, end))
 

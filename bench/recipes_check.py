@@ -118,12 +118,32 @@ def inlined(text):
     return ("\n".join(top) + "\n").encode()
 
 
+def limits():
+    """Each table with as many entries as it may have, and with one more, which repeats one where no other is left."""
+    phases = "".join("[[phase]]\nnumber = %d\nring = 1\nside = 1\n" % (n + 1) for n in range(16))
+    pairs = [(a, b) for a in range(1, 17) for b in range(a + 1, 17)]
+    colours = [("phase %d" % n, colour) for n in range(1, 17) for colour in configurations.machines.COLOURS["phase"]]
+    entries = {"phase": lambda n: "number = %d\nring = 1\nside = 1\n" % (n + 1), "ped": lambda n: "number = %d\n" % (n + 1),
+               "preempt": lambda n: "number = %d\n" % (n + 1),
+               "overlap": lambda n: "number = %d\nparents = [1]\n" % (n + 1),
+               "conflict": lambda n: "a = %d\nb = %d\n" % pairs[n % 120], "allow": lambda n: "a = %d\nb = %d\n" % pairs[n % 120],
+               "floor": lambda n: 'channel = "%s"\ncolour = "%s"\ntenths = 1\n' % colours[n % 128],
+               "interval": lambda n: 'channel = "%s"\ncolour = "%s"\nat_most = 1\n' % colours[n % 128],
+               "approach": lambda n: 'name = "A%d"\nphase = 1\n' % n}
+    for table, (limit, _) in configurations.TABLES.items():
+        for count in (limit, limit + 1):
+            text = "".join("[[%s]]\n%s" % (table, entries[table](n)) for n in range(count))
+            yield "%d of %s" % (count, table), TOP + ((phases if table != "phase" else "") + text).encode()
+
+
 def both(program, count):
     """All kinds, so many of each at random."""
     bench = Bench(program)
     for place, odd in enumerate(ODD_TOML):
         text = (TOP.replace(b"hours = 1\n", b"") if odd == "hours = 1" else TOP) + odd.encode()
         bench.compare("toml %d" % place, text)
+    for name, text in limits():
+        bench.compare(name, text)
     for turn in range(count):
         rng = random.Random("check %d" % turn)
         signal = hostile_data.Signal(rng)

@@ -102,10 +102,11 @@ def pack(program, name, signal, hour):
 
 
 def random_session(seed, program):
-    """A signal without floors, its hours and a script with blanks, and what the program answers; in the folder here."""
+    """A signal, of every third seed with floors, its hours and a script with blanks, and what the program answers; in
+    the folder here. Whether it has floors."""
     rng = random.Random("explain %d" % seed)
     signal = hostile_data.Signal(rng)
-    signal.floors = {}
+    signal.floors = signal.floors if seed % 3 == 2 else {}
     rows, end = hostile_data.legal_rows(rng, signal), signal.hours * logs.HOUR
     lines = []
     for _ in range(rng.choice([0, 1, 3, 6])):
@@ -126,19 +127,21 @@ def random_session(seed, program):
             file.write(data)
     with open("answer.txt", "wb") as file:
         subprocess.run([program, "--config", "config.toml", "--script", "script.txt"], stdout=file, check=True)
+    return bool(signal.floors)
 
 
 def by_program(program, count):
-    """Of each verdict of random sessions, kept ones too, the verdict that the figures show; how many, and the others."""
+    """Of each verdict of random sessions, kept ones too, the verdict that the figures show; how many, and the others.
+    With floors, of which the figures don't know, they may leave more undecided."""
     counts, wrong = {}, []
     for seed in range(count):
-        random_session(seed, program)
+        with_floors = random_session(seed, program)
         finder = explanations.Finder(answers.Session("config.toml", "script.txt", "answer.txt"))
         lines = list(finder.all_lines())
         for line, section in random.Random(seed).sample(lines, min(len(lines), LINES)):
             found = finder.explain(line, section)
             counts[line.verdict] = counts.get(line.verdict, 0) + 1
-            if found.shown != line.verdict:
+            if found.shown != line.verdict and not (with_floors and found.shown == "undecided"):
                 wrong.append("%d: %s %d %s %s %s to %s, shows %s" % (
                     seed, line.verdict, line.rule, logs.show(line.stamp), " ".join(found.name), found.least,
                     found.greatest, found.shown))

@@ -7,6 +7,7 @@
 
 `bench/check` runs sigaudit and this over configurations made at random, and wants the same refusals of both.
 """
+import bisect
 import calendar
 import dataclasses
 import datetime
@@ -106,7 +107,7 @@ def lines_of(text):
     ends = [found.start() for found in re.finditer("\n", text)]
 
     def line(place):
-        return 1 + sum(end < place for end in ends)
+        return 1 + bisect.bisect_left(ends, place)
 
     statement = re.compile(r"[ \t\r\n]*(?:#[^\n]*)?(?:\n|$)|[ \t]*(\[\[?)([^\n]*?)\]|[ \t]*((?:\"(?:\\.|[^\"\\\n])*\"|'[^'\n]*'|[^=\"'\n])+)=")
     while at < len(text):

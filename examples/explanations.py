@@ -14,6 +14,7 @@ of the configuration aren't used: with them less may be possible, and never more
 """
 import bisect
 import dataclasses
+import functools
 from typing import NamedTuple
 
 import answers
@@ -179,6 +180,20 @@ def forbidden(name, config):
     return [(channels[0], frozenset(("Green",)))] + [(channel, phase - SERVED) for channel in channels[1:]]
 
 
+@functools.cache
+def after_row(kind, code, colours):
+    """The colours to which a row leads from some."""
+    table = machines.MACHINES[kind][code]
+    return frozenset(table[colour] for colour in colours if colour in table)
+
+
+@functools.cache
+def before_row(kind, code, colours):
+    """The colours from which a row leads to one of some."""
+    table = machines.MACHINES[kind][code]
+    return frozenset(colour for colour in table if table[colour] in colours)
+
+
 class Course:
     """The colours that a channel can have had over some time, by its known rows there and nothing else.
 
@@ -194,14 +209,11 @@ class Course:
         self.events = [event for _, event in sorted(events, key=lambda event: event[0])]
         self.before = [self.every]
         for event in self.events:
-            table = self.table(event)
-            self.before.append(self.every if table is None else frozenset(
-                table[colour] for colour in self.before[-1] if colour in table))
+            self.before.append(after_row(channel[0], event.code, self.before[-1]) if isinstance(event, held.Row)
+                               else self.every)
         after = [self.every]
         for event in reversed(self.events):
-            table = self.table(event)
-            after.append(self.every if table is None else frozenset(
-                colour for colour in table if table[colour] in after[-1]))
+            after.append(before_row(channel[0], event.code, after[-1]) if isinstance(event, held.Row) else self.every)
         self.after = after[::-1]
         self.starts = [self.start_of(event) for event in self.events]
         self.pieces = self.cut()
@@ -351,8 +363,11 @@ class Finder:
             told = all(low == high and course.colours(place) == {colour} for place, low, high, *_ in found)
             if told or reach and all(low is not None and holes for _, low, _, _, holes in found):
                 break
-            if course.low == self.session.start and course.high == self.session.end:
+            if reach and course.low == self.session.start:
                 break
+        if not found:
+            raise held.OtherFile("%s: no row ends the %s of %s %d there: are the files as they were?" % (
+                logs.show(line.stamp), colour, *channel))
         figures = [{"bound": bound, "at": name[4], "least": line.stamp - high,
                     "greatest": None if low is None else line.stamp - low, "begin": begin, "end": course.events[place],
                     "unknown": () if low == high else tuple(holes[::-1]),

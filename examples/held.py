@@ -6,15 +6,18 @@ repeat. A file that isn't there, or has another number of rows than it had when 
 """
 import bisect
 import collections
+import itertools
+import operator
 import re
 from typing import NamedTuple
 
 import answers
 import logs
 
-KEPT_HOURS = 8  # of one signal some 10,000 rows each
-PLAIN = re.compile(r"[^,\"]+,\d{4}-\d\d-\d\d[ T](\d\d):(\d\d):(\d\d)\.(\d)\d*,(\d{1,3}),(\d{1,5})\r?")
-HEADER = re.compile(r"(?i) *(signalid|locationidentifier) *,")
+KEPT_HOURS = 16  # of one signal, each of some 10,000 rows and 2 MB
+PLAIN = re.compile(
+    r"^[^,\"\r\n]+,\d{4}-\d\d-\d\d[ T](\d\d):(\d\d):(\d\d)\.(\d)\d*,(\d{1,3}),(\d{1,5})\r?$", re.M | re.A)
+HEADER = re.compile(r"(?i) *(signalid|locationidentifier) *,[^\"\n]*\n")
 MARK = b"\0SGP"
 
 
@@ -33,24 +36,19 @@ class Row(NamedTuple):
 
     @property
     def channel(self):
-        return logs.channel_of(self.code, self.param)
+        return channel_of(self)
 
 
 def plain_rows(text, hour, file):
     """The rows of an hour file in its plain form, which is read quickest; None where a line has another form."""
-    lines = text.split("\n")
-    if lines[-1] in ("", "\r"):
-        lines.pop()
-    rows, first = [], 1 if lines and HEADER.match(lines[0]) else 0
-    for number, line in enumerate(lines[first:], first + 1):
-        found = PLAIN.fullmatch(line)
-        if not found:
-            return None
-        clock, minute, second, tenth, code, param = map(int, found.groups())
-        rows.append(Row(hour + minute * 600 + second * 10 + tenth, code, param, number, file))
-        if (hour // logs.HOUR) % 24 != clock:
-            return None
-    return rows
+    header = HEADER.match(text)
+    body = text[header.end():] if header else text
+    found = PLAIN.findall(body)
+    if len(found) != body.count("\n") + (body[-1:] not in ("\n", "")) or any(
+            clock != "%02d" % (hour // logs.HOUR % 24) for clock in {row[0] for row in found}):
+        return None
+    return [Row(hour + int(minute) * 600 + int(second) * 10 + int(tenth), int(code), int(param), line, file)
+            for line, (_, minute, second, tenth, code, param) in enumerate(found, 2 if header else 1)]
 
 
 class NumberedReader(logs.Reader):
@@ -94,16 +92,27 @@ def rows_of(path, signal, hour):
     return NumberedReader(signal).rows(path) if rows is None else rows
 
 
+def channel_of(row, known={}):
+    """The channel of a row; those that were asked for are kept, since a log has few codes and numbers."""
+    key = row.code, row.param
+    if key not in known:
+        known[key] = logs.channel_of(*key)
+    return known[key]
+
+
 def without_repeats(rows):
     """The rows by tenth, those of one tenth in their order, without those that sigaudit leaves out as repeats."""
-    kept, tenth, last = [], None, {}
-    for row in sorted(rows, key=lambda row: row.tenth):
-        if row.tenth != tenth:
-            tenth, last = row.tenth, {}
-        group = logs.channel_of(row.code, row.param) or (row.code, row.param)
-        if last.get(group) != (row.code, row.param):
-            kept.append(row)
-        last[group] = row.code, row.param
+    kept = []
+    for _, group in itertools.groupby(sorted(rows, key=operator.attrgetter("tenth")), operator.attrgetter("tenth")):
+        group, last = list(group), {}
+        if len(group) == 1 or len({row[1:3] for row in group}) == len(group):
+            kept += group
+            continue
+        for row in group:
+            among = channel_of(row) or row[1:3]
+            if last.get(among) != row[1:3]:
+                kept.append(row)
+            last[among] = row[1:3]
     return kept
 
 
@@ -115,7 +124,7 @@ class Hour:
         self.tenths = [row.tenth for row in rows]
         self.by_channel = {}
         for row in rows:
-            channel = logs.channel_of(row.code, row.param)
+            channel = channel_of(row)
             if channel:
                 self.by_channel.setdefault(channel, []).append(row)
 
@@ -134,10 +143,9 @@ class HeldLog:
         if number in self.hours:
             self.hours.move_to_end(number)
             return self.hours[number]
-        rows = []
+        rows, start = [], self.session.start + number * logs.HOUR
         if number in self.files:
             name, count = self.files[number]
-            start = self.session.start + number * logs.HOUR
             path = answers.find(name, self.session.paths[1])
             try:
                 rows = without_repeats(rows_of(path, self.session.config["signal"], start))
@@ -145,7 +153,9 @@ class HeldLog:
                 raise OtherFile("%s: %s" % (error.filename, error.strerror)) from error
             if len(rows) != count:
                 raise OtherFile("%s: has %d rows now, and had %d when the answer was made" % (path, len(rows), count))
-        found = Hour([row for row in rows if self.is_known(row.tenth)])
+        if self.unknown_in(start, start + logs.HOUR):
+            rows = [row for row in rows if self.is_known(row.tenth)]
+        found = Hour(rows)
         self.hours[number] = found
         if len(self.hours) > KEPT_HOURS:
             self.hours.popitem(last=False)

@@ -20,7 +20,8 @@ BAD_VALUES = ["-1", "99999", "0.5", "true", '"x y z"', "[]", "{}", "1979-05-27",
 BAD_KEYS = ["nmuber", "x", "Channel", "at-least", "colour2", "hours"]
 ODD_TOML = [
     'x = "\\e"', 'x = "\\x41"', "x = {a = 1,\n b = 2}", "x = {a = 1,}", "x = {,}", "x = 07:32", "x = 1979-05-27T07:32",
-    "x = 0000-01-01", "x = 2024-02-30", "x = 23:59:60", "x = 24:00:00", "x = [1,,2]", "x = [1,]", "x = 1__0", "x = 0b101",
+    "x = 0000-01-01", "x = 2024-02-30", "x = 23:59:60", "x = 24:00:00", "x = [1,,2]", "x = [1,]", "x = 1__0",
+    "x = 0b101",
     "x = +0x1", "x = 01", "x = 1.", "x = .5", "x = 1e5", "x = nan", "x = +inf", "x = 1e400", "y.x = 1\ny.z = 2",
     "y.x = 1\ny = 2", "[y]\n[y]", "[y]\na=1\n[y.b]\n[y]", "[[y]]\n[y]", "\u00e9 = 1", '"\u00e9" = 1', "'x y' = 1",
     "x = 1\r", "x\r= 1", "x = -9223372036854775808", "x = -9223372036854775809", "x = 9223372036854775808",
@@ -80,7 +81,8 @@ def slips(rng, text):
         if rng.random() < 0.4 and key not in ("advance", "stop_bar"):
             lines[at] = "%s = %s" % (rng.choice(BAD_KEYS), value)
         else:
-            lines[at] = "%s = %s" % (key, rng.choice([one for one in BAD_VALUES if (key, one) != ("coordination", "true")]))
+            values = [one for one in BAD_VALUES if (key, one) != ("coordination", "true")]
+            lines[at] = "%s = %s" % (key, rng.choice(values))
         changed.add(at + 1)
     return "\n".join(lines).encode(), changed
 
@@ -98,7 +100,8 @@ def respelled(rng, text):
             value = value.replace(",", ", # more = 1\n ").replace("]", ",\n]")
         if value.startswith('"') and len(value) > 2 and rng.random() < 0.2:
             value = '"\\x%02x%s' % (ord(value[1]), value[2:])
-        found.append(key + rng.choice(["=", " = ", "\t=  "]) + value + rng.choice(["", "", "  # ] }"]) if is_key else line)
+        spelled = key + rng.choice(["=", " = ", "\t=  "]) + value + rng.choice(["", "", "  # ] }"])
+        found.append(spelled if is_key else line)
         if rng.random() < 0.1:
             found.append(rng.choice(["", "# [[phase]]", "   "]))
     return (rng.choice(["", "", "\ufeff"]) + rng.choice(["\n", "\n", "\r\n"]).join(found)).encode()
@@ -123,10 +126,12 @@ def limits():
     phases = "".join("[[phase]]\nnumber = %d\nring = 1\nside = 1\n" % (n + 1) for n in range(16))
     pairs = [(a, b) for a in range(1, 17) for b in range(a + 1, 17)]
     colours = [("phase %d" % n, colour) for n in range(1, 17) for colour in configurations.machines.COLOURS["phase"]]
-    entries = {"phase": lambda n: "number = %d\nring = 1\nside = 1\n" % (n + 1), "ped": lambda n: "number = %d\n" % (n + 1),
+    entries = {"phase": lambda n: "number = %d\nring = 1\nside = 1\n" % (n + 1),
+               "ped": lambda n: "number = %d\n" % (n + 1),
                "preempt": lambda n: "number = %d\n" % (n + 1),
                "overlap": lambda n: "number = %d\nparents = [1]\n" % (n + 1),
-               "conflict": lambda n: "a = %d\nb = %d\n" % pairs[n % 120], "allow": lambda n: "a = %d\nb = %d\n" % pairs[n % 120],
+               "conflict": lambda n: "a = %d\nb = %d\n" % pairs[n % 120],
+               "allow": lambda n: "a = %d\nb = %d\n" % pairs[n % 120],
                "floor": lambda n: 'channel = "%s"\ncolour = "%s"\ntenths = 1\n' % colours[n % 128],
                "interval": lambda n: 'channel = "%s"\ncolour = "%s"\nat_most = 1\n' % colours[n % 128],
                "approach": lambda n: 'name = "A%d"\nphase = 1\n' % n}
@@ -270,8 +275,9 @@ def check(run, put, hour_files):
     names = hour_files()
     out += run("check", "odd.toml", *names)
     put("other.csv", "8,2024-03-04 06:00:00.0,1,2\n7,2024-03-04 11:00:00.0,1,2\n")
-    return out + run("check", "odd.toml", "other.csv") + run("check", "nothing.toml") + run("check", "odd.toml", "nothing") + run(
-        "check")
+    for words in (["odd.toml", "other.csv"], ["nothing.toml"], ["odd.toml", "nothing"], []):
+        out += run("check", *words)
+    return out
 
 
 def check_random(program):

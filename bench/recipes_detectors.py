@@ -95,8 +95,8 @@ def made_day():
     draws, rows = random.Random(7), []
     for cycle in range(0, silences.DAY, CYCLE):
         for phase, (begin, end) in GREENS.items():
-            rows += [(cycle + at, code, phase) for at, code in (
-                (begin, 0), (begin, 1), (end - 50, 7), (end - 50, 8), (end - 15, 9), (end - 15, 10), (end, 11), (end, 12))]
+            rows += [(cycle + at, code, phase) for at, code in ((begin, 0), (begin, 1), (end - 50, 7), (end - 50, 8),
+                                                                (end - 15, 9), (end - 15, 10), (end, 11), (end, 12))]
         if 6 * logs.HOUR <= cycle < 20 * logs.HOUR:
             rows += [(cycle, 150, 5), (cycle + 10, 150, 1)]
     rows += [(0, 131, 254), (0, 150, 0), (6 * logs.HOUR - 1, 131, 1), (20 * logs.HOUR, 131, 254),
@@ -122,7 +122,7 @@ def at(text):
 FAULTS = (("one", (2,), "09:00:00", "09:40:00"), ("coordination", (0,), "10:30:00", "11:00:00"),
           ("card", (11, 12), "12:00:00", "12:30:00"), ("stuck-on", (13,), "14:00:00", "14:25:00"),
           ("chatter", (4,), "16:00:00", "16:20:00"), ("all", (1, 2, 3, 4, 11, 12, 13, 14), "18:00:00", "18:20:00"),
-          ("stuck-off", (1,), "21:30:00", "24:00:00"))
+          ("stuck-off", (1,), "21:30:00", "23:59:59.9"))
 
 
 def write(log, put):
@@ -142,8 +142,7 @@ def detectors(run, put, get):
     log = made_day()
     put("config.toml", CONFIG)
     out = "as it is: " + run("detectors", "--config", "config.toml", *write(log, put))
-    drawn = [faults.Fault(kind, numbers, at(begin), min(at(end) if end < "24" else DAY + silences.DAY,
-                                                      DAY + silences.DAY)) for kind, numbers, begin, end in FAULTS]
+    drawn = [faults.Fault(kind, numbers, at(begin), at(end)) for kind, numbers, begin, end in FAULTS]
     names = write(faults.put(log, drawn, random.Random(7)), put)
     out += "with faults: " + run("detectors", "--config", "config.toml", "--card", "11,12", "--chances",
                                  "--out", "without", *names)
@@ -154,4 +153,5 @@ def detectors(run, put, get):
     out += "one hour: " + run("detectors", names[9]) + run("detectors", "--explain", "nothing", names[9])
     put("inline.toml", CONFIG.split("[[approach]]")[0].replace("coordination", "approach = [{name = \"A\", phase = 2, "
         "advance = 2}]\ncoordination", 1))
-    return out + "in one line: " + run("detectors", "--config", "inline.toml", "--out", "w", *names).splitlines()[1] + "\n"
+    inline = run("detectors", "--config", "inline.toml", "--out", "w", *names)
+    return out + "in one line: " + inline.splitlines()[1] + "\n"

@@ -96,7 +96,8 @@ def plain(config, script, answer, paths):
 
 def pack(program, name, signal, hour):
     """Packs an hour file, in its place."""
-    made = subprocess.run([program, "--pack", name, "--signal=" + signal, "--hour", hour], capture_output=True, check=True)
+    words = [program, "--pack", name, "--signal=" + signal, "--hour", hour]
+    made = subprocess.run(words, capture_output=True, check=True)
     with open(name, "wb") as file:
         file.write(made.stdout)
 
@@ -155,7 +156,8 @@ def explain(run):
     words = [word for pair in zip(("--config", "--script", "--answer"), paths) for word in pair]
     out = ""
     for rule, stamp in ((34, "05:03:39.8"), (52, "06:53:30.7"), (47, "05:02:38.0"), (34, "05:03:39.9"),
-                        (34, "05:03:27.8"), (34, "05:03:08.9"), (68, "05:00:00.0"), (34, "09:00:00.0"), (99, "05:00:00.0")):
+                        (34, "05:03:27.8"), (34, "05:03:08.9"), (68, "05:00:00.0"), (34, "09:00:00.0"),
+                        (99, "05:00:00.0")):
         out += run("explain", *words, "--rule", str(rule), "--at", "2024-03-04T" + stamp)
     out += run("explain", *words, "--rule", "60", "--rows") + run("explain", *words, "--rule", "1")
     right, wrong = plain(*paths, [os.path.join(folder, "h%02d.csv" % hour) for hour in (5, 6, 7)])
@@ -166,5 +168,5 @@ def explain(run):
 def explain_random(program):
     """Verdicts of random sessions, explained."""
     counts, wrong = by_program(os.path.abspath(program), SESSIONS)
-    return "%s\nshown otherwise: %d\n%s" % (
-        ", ".join("%s %d" % one for one in sorted(counts.items())), len(wrong), "".join(line + "\n" for line in wrong[:20]))
+    told = ", ".join("%s %d" % one for one in sorted(counts.items()))
+    return "%s\nshown otherwise: %d\n%s" % (told, len(wrong), "".join(line + "\n" for line in wrong[:20]))

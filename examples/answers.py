@@ -186,7 +186,8 @@ def shown(parser, given, session):
     if start is None and given.hours is None:
         return session.start, session.end
     try:
-        begin = session.start + int(start or 0) * logs.HOUR if start is None or start.isdecimal() else logs.hour_of(start)
+        is_number = start is None or start.isdecimal()
+        begin = session.start + int(start or 0) * logs.HOUR if is_number else logs.hour_of(start)
     except ValueError as error:
         parser.error("%s, or a number from 0" % error)
     end = begin + (1 if given.hours is None else given.hours) * logs.HOUR

@@ -101,6 +101,11 @@ def path_of(key):
     return parts
 
 
+# A line without anything, the head of a table, or a key up to its =.
+STATEMENT = re.compile(r"[ \t\r\n]*(?:#[^\n]*)?(?:\n|$)|[ \t]*(\[\[?)([^\n]*?)\]|"
+                       r"[ \t]*((?:\"(?:\\.|[^\"\\\n])*\"|'[^'\n]*'|[^=\"'\n])+)=")
+
+
 def lines_of(text):
     """The line of each key of the top, of each entry of a table and of each of its keys, in a text that is TOML."""
     lines, counts, here, at = {}, {}, ("top", 0), 0
@@ -109,9 +114,8 @@ def lines_of(text):
     def line(place):
         return 1 + bisect.bisect_left(ends, place)
 
-    statement = re.compile(r"[ \t\r\n]*(?:#[^\n]*)?(?:\n|$)|[ \t]*(\[\[?)([^\n]*?)\]|[ \t]*((?:\"(?:\\.|[^\"\\\n])*\"|'[^'\n]*'|[^=\"'\n])+)=")
     while at < len(text):
-        found = statement.match(text, at)
+        found = STATEMENT.match(text, at)
         if not found or found.end() == at:
             at += 1
         elif found[1]:
@@ -200,7 +204,8 @@ class Checker:
         self.phases, self.channels = [], []
 
     def line(self, table, index, key=None):
-        return self.lines.get((table, index, key)) or self.lines.get((table, index)) or self.lines.get(("top", 0, table))
+        places = (table, index, key), (table, index), ("top", 0, table)
+        return next((self.lines[place] for place in places if place in self.lines), None)
 
     def add(self, reason, table, index, key, words, at=None):
         """Notes a mistake; key is the one that sigaudit names, at the one whose line it is."""
@@ -235,7 +240,8 @@ class Checker:
 
     def whole(self, table, index, entry, key, low, high, required=True, tenths=False):
         """The number at a key; None where it isn't good or isn't there."""
-        if required and self.missing(table, index, entry, key, whole_number(None, low, high, tenths)) or key not in entry:
+        expected = whole_number(None, low, high, tenths)
+        if required and self.missing(table, index, entry, key, expected) or key not in entry:
             return None
         wrong = whole_number(entry[key], low, high, tenths)
         if wrong:
@@ -262,7 +268,8 @@ class Checker:
             if not isinstance(entries, list) or not all(isinstance(entry, dict) for entry in entries):
                 continue
             if len(entries) > limit:
-                self.add("too many", table, limit, "?", "a table of at most %d has %d entries" % (limit, len(entries)), "")
+                words = "a table of at most %d has %d entries" % (limit, len(entries))
+                self.add("too many", table, limit, "?", words, "")
             read, seen = getattr(self, "read_" + table), []
             for index, entry in enumerate(entries):
                 value = read(table, index, self.known_keys(table, index, entry, keys))
@@ -384,7 +391,8 @@ class Checker:
     def read_approach(self, table, index, entry):
         expected = "a text of 1 to 32 letters, digits, _ and -"
         name = entry.get("name")
-        if not self.missing(table, index, entry, "name", expected) and not (isinstance(name, str) and NAME.fullmatch(name)):
+        good = isinstance(name, str) and NAME.fullmatch(name)
+        if not self.missing(table, index, entry, "name", expected) and not good:
             self.bad(table, index, entry, "name", expected)
             name = None
         self.phase(table, index, entry, "phase")
@@ -413,15 +421,17 @@ class Checker:
 
 # sigaudit reads TOML 1.1, Python's tomllib TOML 1.0; and sigaudit's reader has limits of its own.
 DEEPEST = 80
-TOKEN = re.compile(r"""\"{3}(?:\\.|[^\\])*?\"{3,5}|'{3}.*?'{3,5}|"(?:\\.|[^"\\\n])*"|'[^'\n]*'|\#[^\n]*|[^"'#\n,{}\[\]]+|.""", re.S)
+TOKEN = re.compile(r"""\"{3}(?:\\.|[^\\])*?\"{3,5}|'{3}.*?'{3,5}|"(?:\\.|[^"\\\n])*"|'[^'\n]*'|"""
+                   r"""\#[^\n]*|[^"'#\n,{}\[\]]+|.""", re.S)
+ESCAPE = re.compile(r"(\\\\)|\\e|\\x([0-9A-Fa-f]{2})")
 
 
 def older(text):
-    """The text in TOML 1.0, where it is in TOML 1.1: escapes, times without seconds, inline tables over several lines."""
+    """The text in TOML 1.0, where it is in 1.1: escapes, times without seconds, inline tables over several lines."""
     found, open_brackets = [], []
     for token in TOKEN.findall(text.removeprefix("\ufeff")):
         if token[0] == '"':
-            token = re.sub(r"(\\\\)|\\e|\\x([0-9A-Fa-f]{2})", lambda part: part[1] or "\\u00" + (part[2] or "1b"), token)
+            token = ESCAPE.sub(lambda part: part[1] or "\\u00" + (part[2] or "1b"), token)
         elif token in "[{":
             open_brackets.append(token)
         elif token in "]}" and open_brackets:
@@ -465,7 +475,8 @@ def read(text):
     try:
         decoded = text.decode("utf-8")
     except UnicodeDecodeError as error:
-        return Mistake("not toml", "", text[:error.start].count(b"\n") + 1, "a byte that isn't UTF-8: save the file as UTF-8")
+        line = text[:error.start].count(b"\n") + 1
+        return Mistake("not toml", "", line, "a byte that isn't UTF-8: save the file as UTF-8")
     try:
         document = tomllib.loads(decoded, parse_float=finite)
     except (ValueError, RecursionError) as error:
@@ -478,7 +489,8 @@ def read(text):
     for key, value in document.items():
         wrong = too_much(value)
         if wrong:
-            return Mistake("not toml", "", lines_of(decoded.removeprefix("\ufeff")).get(("top", 0, key)), "%s: %s" % (key, wrong))
+            line = lines_of(decoded.removeprefix("\ufeff")).get(("top", 0, key))
+            return Mistake("not toml", "", line, "%s: %s" % (key, wrong))
     return document
 
 
@@ -494,8 +506,8 @@ def mistakes(text):
 
 # Colours of which a bound of less than a second is a slip: seconds, or a digit lost. A red clearance may be as short.
 LONG = ("Green", "Yellow", "Red", "Walk", "Clearance", "DontWalk", "Trailing", "Dwell", "Track")
-# A bound that is so many times less than all that the log shows, or more, tests nothing: a slip of seconds and tenths is
-# ten times, and plans of one signal seldom differ by four.
+# A bound that is so many times less than all that the log shows, or more, tests nothing: a slip of seconds and
+# tenths is ten times, and plans of one signal seldom differ by four.
 FAR = 4
 
 
@@ -537,9 +549,9 @@ def interval_oddities(config):
         if "at_least" in entry and floors.get(limit):
             yield "interval", index, "%s has a floor of %.1f s too: what is assumed can't be tested" % (
                 words, floors[limit] / 10)
-        if tuple(entry.items()) in seen:
-            yield "interval", index, "%s: the same was there before, in interval[%d]" % (words, seen[tuple(entry.items())])
-        seen.setdefault(tuple(entry.items()), index)
+        first = seen.setdefault(tuple(entry.items()), index)
+        if first < index:
+            yield "interval", index, "%s: the same was there before, in interval[%d]" % (words, first)
         side = least if "at_least" in entry else most
         side[limit] = (max if side is least else min)(side.get(limit, bound), bound)
         if limit in least and limit in most and least[limit] > most[limit]:

@@ -97,7 +97,8 @@ class Explanation:
         return row.channel in self.channels
 
     def measured(self):
-        """The duration in words: `12.0 s`, `from 2.0 to 3.5 s`, `at least 9.0 s`, `at most 2.1 s`, `an unknown time`."""
+        """The duration in words: `12.0 s`, `from 2.0 to 3.5 s`, `at least 9.0 s`, `at most 2.1 s`, `an unknown
+        time`."""
         if self.least == self.greatest:
             return in_seconds(self.least)
         if self.greatest is None:
@@ -124,11 +125,11 @@ class Explanation:
         """The sentence of a conflict, companion or parents rule."""
         kind, numbers = self.name[0], self.name[1:]
         if self.verdict == "kept":
-            return {"conflict": "phases %s and %s were not both served", "parents": "one of the phases of overlap %s was "
-                    "served, or the overlap not green", "companion": "phase %s was on or green, or its pedestrian signal "
-                    "showed no walk"}[kind] % numbers
+            return {"conflict": "phases %s and %s were not both served",
+                    "parents": "one of the phases of overlap %s was served, or the overlap not green",
+                    "companion": "phase %s was on or green, or its pedestrian signal showed no walk"}[kind] % numbers
         known = self.verdict == "broken"
-        what = {"conflict": "phases %s and %s were both served" if known else "phases %s and %s may both have been served",
+        what = {"conflict": "phases %s and %s " + ("were both" if known else "may both have been") + " served",
                 "companion": "pedestrian signal %s " + ("showed" if known else "may have shown") +
                              " walk while its phase was neither on nor green",
                 "parents": "overlap %s " + ("was" if known else "may have been") +
@@ -144,7 +145,8 @@ def rules_of(config):
     """The names of all rules of a configuration, in their order, each as its words."""
     found = [tuple(entry["channel"].split()) + (entry["colour"], "at", bound, str(entry["at_" + bound]))
              for entry in config.get("interval", []) for bound in ("least", "most") if "at_" + bound in entry]
-    named = {table: {frozenset((entry["a"], entry["b"])) for entry in config.get(table, [])} for table in ("conflict", "allow")}
+    named = {table: {frozenset((entry["a"], entry["b"])) for entry in config.get(table, [])}
+             for table in ("conflict", "allow")}
     phases = sorted(config.get("phase", []), key=lambda entry: entry["number"])
     for a in phases:
         for b in phases:
@@ -281,7 +283,7 @@ class Course:
         return found
 
     def run(self, tenth, holds):
-        """The longest time around a tenth in whose pieces the colours pass a test, as its ends; None where not there."""
+        """The longest time around a tenth in which the colours pass a test, as its ends; None where not there."""
         pieces, place = self.pieces, bisect.bisect_right(self.piece_starts, tenth) - 1
         if not holds(pieces[place][2]):
             return None
@@ -347,7 +349,8 @@ class Finder:
         section = section or self.sections[-1]
         name = self.names.get(line.rule)
         if not name or name != tuple(self.told_names.get(line.rule, name)):
-            raise held.OtherFile("%s: rule %d isn't one of %s" % (self.session.paths[2], line.rule, self.session.paths[0]))
+            config, _, answer = self.session.paths
+            raise held.OtherFile("%s: rule %d isn't one of %s" % (answer, line.rule, config))
         log = self.log(section)
         figures = self.duration(log, name, line) if name[3:4] == ("at",) else self.together(log, name, line)
         low, high = line.stretch or (None, None)
@@ -371,7 +374,8 @@ class Finder:
         figures = [{"bound": bound, "at": name[4], "least": line.stamp - high,
                     "greatest": None if low is None else line.stamp - low, "begin": begin, "end": course.events[place],
                     "unknown": () if low == high else tuple(holes[::-1]),
-                    "instead": tuple(one for one in machines.COLOURS[name[0]] if one in course.colours(place) - {colour})}
+                    "instead": tuple(one for one in machines.COLOURS[name[0]]
+                                     if one in course.colours(place) and one != colour)}
                    for place, low, high, begin, holes in found]
         fitting = [one for one in figures if line.verdict == verdict_of(
             name[4], bound, one["least"], one["greatest"], one["instead"])] or figures

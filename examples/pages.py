@@ -53,6 +53,7 @@ thead th { border-bottom: 1px solid var(--ink); font-weight: 600; font-size: 13.
 th.n, td.n { text-align: right; } td.n { white-space: nowrap; }
 tbody th { font-weight: 500; }
 td.wide, th.wide { min-width: 15em; }
+td.far { min-width: 14em; }
 figure { margin: 14px 0 24px; }
 header h2 { margin-top: 26px; border: 0; padding: 0; font-size: 19px; }
 figcaption { font-size: 14px; color: var(--soft); max-width: 92ch; margin-top: 4px; }

@@ -32,7 +32,7 @@ def broken_rules(audit):
     if not rows:
         return element("h3", "Rules") + paragraph(
             "No rule is broken in what is known." if judged else "The script asks for no audit, so no rule was judged.")
-    heads = [("rule", "wide"), ("broken", "n"), ("kept", "n"), ("undecided", "n"), ("furthest from the bound", None)]
+    heads = [("rule", "wide"), ("broken", "n"), ("kept", "n"), ("undecided", "n"), ("furthest from the bound", "far")]
     heads += [("on solid log", "n")] if audit.graded else []
     return element("h3", "Broken rules") + paragraph(
         "Conflicts and rules on clearing intervals stand first, then the rule that is broken most often.", cls="soft"
@@ -43,7 +43,7 @@ def broken_rules(audit):
 def broken_rule(audit, row):
     cells = element("th", link("#rule-" + row["rule"], text(row["in_words"])), scope="row", cls="wide")
     cells += "".join(element("td", row.shown(column), cls="n") for column in ("broken", "kept", "undecided"))
-    cells += element("td", report_verdicts.worst(audit, row["rule"]))
+    cells += element("td", report_verdicts.worst(audit, row["rule"]), cls="far")
     if audit.graded:
         cells += element("td", audit.count("broken", rule=row["rule"], doubt="solid"), cls="n")
     return element("tr", cells)

@@ -5,8 +5,8 @@ silences run from one of its rows to the next. Each is measured by what the rest
 witnesses: actuations of another detector or of all, calls, greens and walks of a phase. The log itself says how many
 are usual in such a silence. Of those silences that see the most, the twenty largest or one in fifty, the chance falls
 with each further event by a constant factor (a geometric tail); the factor is estimated from them and held for as
-uncertain as so few make it. The three largest a day count only as no smaller than the next, since they may be faults
-themselves, and the silence that is judged is left out. Quiet hours, free operation and coordination are learned apart.
+uncertain as so few make it. The three largest of a day count only as no smaller than the next, since they may be
+faults themselves, and the silence that is judged is left out. Quiet hours, free operation and coordination are learned apart.
 So clock time counts for nothing: at night, and where the whole log is lost, the witnesses stand still too.
 
 There are two teams of witnesses, what other detectors saw and what the controller did: where a loop is dead its calls
@@ -27,19 +27,23 @@ import statistics
 import logs
 
 DAY = 24 * logs.HOUR
-LEAST = 3000      # tenths: a shorter silence isn't judged; queues stand on a loop for minutes
-ENOUGH = 60       # silences: with fewer, a tail of twenty would be a third of all
-TOP, SHARE = 20, 50
-FAULTS = 3        # a day: so many of a channel's silences may be faults
-QUIET = 0.5       # of the mean: hours with fewer rows are quiet ones
-WITNESSES = 3     # of a team: the second of three is there where one is faulty
+LEAST = 3000         # tenths: a shorter silence isn't judged; queues stand on a loop for minutes
+PAUSE = 1200         # tenths: where the whole log is silent for longer than a cycle, no silence goes on over it
+QUIET = 0.5          # of the mean: hours with fewer rows are quiet ones
+ENOUGH = 60          # silences: with fewer, a tail of twenty would be more than a third of all
+TOP, SHARE = 20, 50  # silences in the tail: twenty a day, or one in fifty
+FAULTS = 3           # silences a day: so many of a channel may be faults
+CERTAINTY = 20       # silences: that a tail is geometric is no surer than so many make it, however many there are
 TEAMS = (("detector", "detectors", "ped_detector", "ped_detectors"),
          ("call", "ped_call", "ped_calls", "green", "greens", "walk"))
+WITNESSES = 3        # of a team: where one of three is faulty, there is still a second
+ANSWERS = (43, 45)   # codes of calls
+ANSWERED = 0.75      # of such calls come within half a second as the channel goes on: faults may take a quarter
 GRADES = (("sure", 3.0), ("likely", 1.0), ("weak", 0.5))
-SPARE = 1.5       # of the score: what a silence may lack and still belong to a common one
-COMMON = 0.5      # of their time: what two silences share that are told as one
-STEP = 600        # tenths: the mesh of time in which witnesses are chosen and chances told
-PATIENCE = 240    # steps: a silence that isn't seen by then isn't seen
+SPARE = 1.5          # of the score: what a silence may lack and still belong to a common one
+COMMON = 0.5         # of their time: what two silences share that are told as one
+STEP = 600           # tenths: the mesh of time in which witnesses are chosen and chances told
+PATIENCE = 240       # steps: a silence that isn't seen by then isn't seen
 
 COORDINATION = (131, 132, 150, 151, 152)
 CLOCKS = {82: "detector", 90: "ped_detector", 43: "call", 45: "ped_call", 1: "green", 21: "walk"}
@@ -48,11 +52,11 @@ SWITCHES = {81: "detector", 82: "detector", 89: "ped_detector", 90: "ped_detecto
 STATES = {81: "off", 82: "on", 89: "off", 90: "on"}
 
 MINUTE = 600
-TOO_MANY = 60     # actuations in a minute: vehicles that follow one another take 1.5 s or more each
-BOUNCE = 5        # tenths: vehicles don't follow one another that closely over one loop
-AROUND = 50       # actuations, added to those of the others, so that a share by night isn't one of five
-FAULTY_HOURS = 4  # a day: so many may be faulty, and tell nothing of the fullest minutes
-APART = 1200      # tenths: chatter goes on over pauses of two minutes
+TOO_MANY = 60        # actuations in a minute: vehicles that follow one another take 1.5 s or more each
+BOUNCE = 5           # tenths: vehicles don't follow one another that closely over one loop
+AROUND = 50          # actuations, added to those of the others, so that a share by night isn't one of five
+FAULTY_HOURS = 4     # a day: so many may be faulty, and tell nothing of the fullest minutes
+APART = 1200         # tenths: chatter goes on over pauses of two minutes
 
 
 def grade_of(score):
@@ -84,14 +88,22 @@ class Log:
         return made
 
     def stretches(self):
-        """The hours that follow one another without one missing: begin and end of each stretch."""
-        found = []
+        """From where to where the log goes on: its hours that follow one another, cut at each pause."""
+        hours = []
         for hour in sorted(self.hours):
-            if found and found[-1][1] == hour:
-                found[-1][1] += logs.HOUR
+            if hours and hours[-1][1] == hour:
+                hours[-1][1] += logs.HOUR
             else:
-                found.append([hour, hour + logs.HOUR])
-        return [tuple(stretch) for stretch in found]
+                hours.append([hour, hour + logs.HOUR])
+        found = []
+        for begin, end in hours:
+            rows = self.tenths[bisect.bisect_left(self.tenths, begin):bisect.bisect_left(self.tenths, end)]
+            for before, after in zip(rows, rows[1:]):
+                if after - before >= PAUSE:
+                    found.append((begin, before + 1))
+                    begin = after
+            found.append((begin, end))
+        return found
 
     def days(self):
         return len(self.hours) / 24
@@ -100,20 +112,28 @@ class Log:
         """The numbers of the detectors, or of the pedestrian inputs, of which there is a row."""
         return tuple(sorted({key & 65535 for key in set(self.keys) if SWITCHES.get(key >> 16) == kind}))
 
+    def faults_logged(self, detectors, begin, end):
+        """The codes 84 to 88 that the log has of some detectors between two tenths."""
+        rows = range(bisect.bisect_left(self.tenths, begin), bisect.bisect_left(self.tenths, end))
+        return sorted({self.keys[row] >> 16 for row in rows
+                       if 84 <= self.keys[row] >> 16 <= 88 and self.keys[row] & 65535 in detectors})
+
 
 class Usual:
     """The silences of a channel after one kind of row: how many, and how many of them saw how much of each witness."""
 
-    __slots__ = ("count", "seen", "in_order", "teams", "needs")
+    __slots__ = ("count", "seen", "in_order", "mixed", "top", "faults", "teams", "needs", "answers")
 
     def __init__(self, size):
-        self.count, self.seen, self.in_order = 0, [{} for _ in range(size)], {}
-        self.teams, self.needs = [], {}
+        self.count, self.seen, self.in_order, self.mixed = 0, [{} for _ in range(size)], {}, False
+        self.top, self.faults = TOP, 0
+        self.teams, self.needs, self.answers = [], {}, set()
 
     @classmethod
     def joint(cls, several, size):
-        """What several tell together."""
+        """What several parts of a log tell together."""
         made = cls(size)
+        made.mixed = True
         for usual in several:
             made.count += usual.count
             for amounts, more in zip(made.seen, usual.seen):
@@ -127,7 +147,12 @@ class Usual:
             if amount:
                 amounts[amount] = amounts.get(amount, 0) + 1
 
-    def tail(self, witness, faults, without=None, top=TOP):
+    def settle(self, days):
+        """How many silences are in the tail, and how many of them may be faults: so many a day, as far as it goes."""
+        self.top = max(TOP, min(round(TOP * days), self.count // 3), self.count // SHARE)
+        self.faults = max(1, min(round(FAULTS * days), FAULTS * self.count // ENOUGH))
+
+    def tail(self, witness, without=None):
         """Where the tail begins, how many are in it, how it falls with each event, and from how many that is learned.
 
         The largest, so many as may be faults, count as the next one; a silence that saw `without` is left out.
@@ -136,15 +161,15 @@ class Usual:
             self.in_order[witness] = sorted(self.seen[witness].items(), reverse=True)
         amounts = self.in_order[witness]
         count = self.count - (without is not None)
-        edge, reached, wanted = 0, 0, max(top, count // SHARE)
+        edge, reached = 0, 0
         for amount, times in amounts:
             reached += times - (amount == without)
-            if reached >= wanted:
+            if reached >= self.top:
                 edge = amount
                 break
         if edge == 0:
             reached = count
-        spare = min(faults, reached // 2)
+        spare = min(self.faults, reached // 2)
         excess, largest, left = 0, edge, spare
         for amount, times in amounts:
             if amount <= edge:
@@ -158,21 +183,21 @@ class Usual:
         excess += spare * (largest - edge)
         learned = reached - spare + 1
         mean = (excess + 1) / learned
-        return edge, reached, math.log1p(1 / mean), learned
+        return edge, reached, math.log1p(1 / mean), min(learned, CERTAINTY)
 
-    def expected(self, witness, amount, faults, without=None, top=TOP):
+    def expected(self, witness, amount, without=None):
         """The natural logarithm of how many silences of the log would see so much by chance.
 
         With the factor known it would fall by `fall` for each event; it is known from `learned` silences alone.
         """
-        edge, reached, fall, learned = self.tail(witness, faults, without, top)
+        edge, reached, fall, learned = self.tail(witness, without)
         if amount <= edge:
             return math.log(self.count + 1)
         return math.log(reached + 1) - learned * math.log1p((amount - edge) * fall / learned)
 
-    def need(self, witness, expected, faults):
+    def need(self, witness, expected):
         """The least that a witness has to see so that no more than expected (its logarithm) are."""
-        edge, reached, fall, learned = self.tail(witness, faults)
+        edge, reached, fall, learned = self.tail(witness)
         more = learned * math.expm1((math.log(reached + 1) - expected) / learned) / fall
         return edge + max(1, math.ceil(more))
 
@@ -196,7 +221,7 @@ class Watch:
 
     def __init__(self, log, groups=(), hush=None, singles=True):
         self.log, self.hush = log, hush or {}
-        self.days, self.faults = log.days(), max(1, round(FAULTS * log.days()))
+        self.days = log.days()
         present = sorted({(key >> 16, key & 65535) for key in set(log.keys)})
         self.witnesses = [(CLOCKS[code], number) for code, number in present if code in CLOCKS]
         self.witnesses += sorted({(TOTALS[code], None) for code, _ in present if code in TOTALS})
@@ -208,6 +233,7 @@ class Watch:
         self.usual, self.silences, self.open = {}, [], []
         self.mesh, self.columns = array.array("q"), [array.array("l") for _ in self.witnesses]
         self.walk()
+        self.answers = self.all_answers()
         self.learned = self.enough()
         self.tests = math.log10(max(1, len(self.learned) * len(TEAMS)))
         self.choose()
@@ -295,6 +321,7 @@ class Watch:
                 usual = Usual.joint([self.usual[which, mark, other] for other in ("free", "coordinated")
                                      if (which, mark, other) in self.usual], len(self.witnesses))
             if usual.count >= ENOUGH:
+                usual.settle(self.days)
                 found[which, mark, part] = usual
         return found
 
@@ -307,22 +334,51 @@ class Watch:
         wanted = math.log(self.days) - math.log(10) * (dict(GRADES)["likely"] + self.tests)
         for (which, _, part), usual in self.learned.items():
             others = [witness for witness in range(len(self.witnesses)) if self.is_other(witness, self.channels[which])]
-            usual.needs = {witness: usual.need(witness, wanted, self.faults) for witness in others}
+            usual.needs = {witness: usual.need(witness, wanted) for witness in others}
             waits = {witness: [math.log(self.wait(witness, usual.needs[witness], start))
                                for start in starts.get(part, [0])] for witness in others}
-            usual.teams = [team for team in (self.team(kinds, waits) for kinds in TEAMS) if len(team) > 1]
+            answers = {witness for channel, witness in self.answers if channel == which}
+            teams = [self.team(kinds, waits, usual.mixed, answers) for kinds in TEAMS]
+            usual.teams, usual.answers = [team for team in teams if team], answers
 
-    def team(self, kinds, waits):
-        """The witnesses of these kinds of which the second sees a silence soonest, in the geometric mean."""
-        chosen, rest = [], [witness for witness in waits if self.witnesses[witness][0] in kinds]
+    def team(self, kinds, waits, mixed, answers):
+        """The witnesses of these kinds of which the second sees a silence soonest, in the geometric mean.
+
+        The soonest answer is one of them. Greens and calls come as the signal runs, free or coordinated; where both
+        are mixed, answers alone are asked.
+        """
+        rest = [witness for witness in waits if self.witnesses[witness][0] in kinds]
+        if mixed and kinds == TEAMS[1]:
+            rest = [witness for witness in rest if witness in answers]
+        chosen = sorted(answers.intersection(rest), key=lambda witness: (sum(waits[witness]), witness))[:1]
         first = [(math.log(PATIENCE),) * 2] * len(next(iter(waits.values()), ()))
-        while rest and len(chosen) < WITNESSES:
+        for witness in chosen:
+            first = [(wait, two[1]) for two, wait in zip(first, waits[witness])]
+        while len(chosen) < min(WITNESSES, len(rest)):
             sums = [(sum(min(two[1], max(two[0], wait)) for two, wait in zip(first, waits[witness])),
-                     sum(waits[witness]), witness) for witness in rest]
+                     sum(waits[witness]), witness) for witness in rest if witness not in chosen]
             chosen.append(min(sums)[2])
-            rest.remove(chosen[-1])
             first = [tuple(sorted((*two, wait))[:2]) for two, wait in zip(first, waits[chosen[-1]])]
-        return chosen
+        return chosen if len(chosen) > 1 or set(chosen) & answers else []
+
+    def all_answers(self):
+        """The pairs of a channel and a witness where most calls come as the channel goes on: they are its answer."""
+        found, moments, ons = set(), {}, {}
+        for tenth, key in zip(self.log.tenths, self.log.keys):
+            code, number = key >> 16, key & 65535
+            if code in ANSWERS:
+                for witness in self.plan[key][1]:
+                    moments.setdefault(witness, []).append(tenth)
+            elif STATES.get(code) == "on":
+                for which, _ in self.plan[key][0]:
+                    ons.setdefault(which, []).append(tenth)
+        for which, goes_on in ons.items():
+            for witness, calls in moments.items():
+                at_once = sum(bisect.bisect_left(goes_on, tenth - BOUNCE) < bisect.bisect_right(goes_on, tenth)
+                              for tenth in calls)
+                if len(calls) >= ENOUGH and at_once >= ANSWERED * len(calls):
+                    found.add((which, witness))
+        return found
 
     def is_other(self, witness, channel):
         """Whether a witness isn't of the channel itself, nor the sum over inputs that are mostly its own."""
@@ -340,22 +396,34 @@ class Watch:
         return PATIENCE if seen == stop else max(1, seen - start)
 
     def judge(self, silence):
-        """Gives a silence its score, and the witness that counts; where it isn't known what it follows, the least."""
+        """Gives a silence its score, and the witness that counts.
+
+        Where it isn't known what it follows, or a row between two on or two off is lost, it gets the least.
+        """
         which, part = self.channels.index(silence.channel), self.part(silence.begin)
-        marks = [silence.mark] if silence.mark is not None else [
+        lacks_row = len(silence.channel[1]) == 1 and silence.mark in ("on", "off") and silence.mark == silence.next
+        marks = [silence.mark] if silence.mark is not None and not lacks_row else [
             mark for channel, mark, when in self.usual if (channel, when) == (which, part)]
         found = []
         for mark in marks:
             usual = self.learned.get((which, mark, part))
-            teams = usual.teams if usual else []
-            found.append(max((sorted((self.score(usual, witness, silence), witness) for witness in team)[-2]
-                              for team in teams), default=(-math.inf, None)))
-        silence.score, silence.witness = min(found, key=lambda each: each[0], default=(-math.inf, None))
+            scores = ([(-self.score(usual, witness, silence), witness) for witness in team]
+                      for team in (usual.teams if usual else ()))
+            found.append(min((self.second(team, usual) for team in scores), key=lambda each: each[0],
+                             default=(math.inf, None)))
+        score, silence.witness = max(found, key=lambda each: each[0], default=(math.inf, None))
+        silence.score = -score
+
+    @staticmethod
+    def second(each, usual):
+        """Of a team (number, witness) with the second least number; an answer needs no second."""
+        alone = [one for one in each if one[1] in usual.answers]
+        return min(sorted(each)[1:2] + alone, key=lambda one: one[0])
 
     def score(self, usual, witness, silence):
         amount = silence.seen[witness]
         counted = silence.mark is not None and silence.next is not None
-        expected = usual.expected(witness, amount, self.faults, amount if counted else None)
+        expected = usual.expected(witness, amount, amount if counted else None)
         return math.log10(self.days) - expected / math.log(10) - self.tests
 
     def judged(self, least):
@@ -375,8 +443,9 @@ class Watch:
 
     def found_after(self, usual, start):
         """The steps from one of the mesh on until a silence that begins there is likely."""
-        return min((sorted(self.wait(witness, usual.needs[witness], start) for witness in team)[1]
-                    for team in usual.teams), default=PATIENCE)
+        waits = ([(self.wait(witness, usual.needs[witness], start), witness) for witness in team]
+                 for team in usual.teams)
+        return min((self.second(team, usual)[0] for team in waits), default=PATIENCE)
 
     def learned_channels(self):
         return {self.channels[which] for (which, _, _), usual in self.learned.items() if usual.teams}
@@ -406,7 +475,7 @@ class Watch:
     def evidence(self, silence):
         """By mark that it may follow: the part of the log, the silences there, and a line for each witness, or None.
 
-        A line: witness, what it saw, where the tail begins, how many are in it, the need, how many are expected.
+        A line: witness, what it saw; so much was seen, or more, by so many others; the need; how many are expected.
         """
         which, part = self.channels.index(silence.channel), self.part(silence.begin)
         for mark in sorted({mark for channel, mark, when in self.usual if (channel, when) == (which, part)}, key=str):
@@ -420,10 +489,12 @@ class Watch:
             for witness in (witness for team in usual.teams for witness in team):
                 amount = silence.seen[witness]
                 without = amount if silence.mark is not None and silence.next is not None else None
-                edge, reached, _, _ = usual.tail(witness, self.faults, without)
-                expected = math.exp(usual.expected(witness, amount, self.faults, without))
+                edge, reached, _, _ = usual.tail(witness, without)
+                if edge == 0:
+                    edge, reached = 1, sum(usual.seen[witness].values()) - bool(without)
+                expected = math.exp(usual.expected(witness, amount, without))
                 lines.append((self.witnesses[witness], amount, edge, reached, usual.needs[witness], expected))
-            yield mark, part, usual.count, lines
+            yield mark, "free or coordinated" if usual.mixed else part, usual.count, lines
 
 
 def channel_of(code, number):
@@ -508,11 +579,11 @@ def too_many(log, counts, tests, least):
     usual, faulty = Usual(1), FAULTY_HOURS * math.ceil(log.days())
     if len(log.hours) < 2 * faulty:
         return
-    usual.count = len(log.hours)
+    usual.count, usual.faults, usual.top = len(log.hours), faulty, 3 * faulty
     for count in fullest(counts).values():
         usual.seen[0][count] = usual.seen[0].get(count, 0) + 1
     for begin, count in counts.items():
-        expected = usual.expected(0, count, faulty, None, 3 * faulty)
+        expected = usual.expected(0, count)
         score = math.log10(log.days()) - expected / math.log(10) - tests
         if score >= least:
             yield begin, score

@@ -99,7 +99,7 @@ class Channel:
         self.known_of_bin, self.tables, self.sorted = known_of_bin, {}, {}
         self.after, self.pair, self.before = ([{} for _ in range(BINS)] for _ in range(3))
         for t, u, x, y in zip(self.tenths, self.tenths[1:], self.marks, self.marks[1:]):
-            if not any(t < end and begin < u for begin, end in missing):
+            if u - t < logs.HOUR or not any(t < end and begin < u for begin, end in missing):
                 time, place = u - t, bin_of(t)
                 self.after[place].setdefault(x, []).append(time)
                 self.pair[place].setdefault((x, y), []).append(time)
@@ -248,8 +248,8 @@ class Gaps:
         for tenth in self.tenths:
             self.every.add(tenth, 0)
         self.every.count(known, missing)
-        self.own = [gap for gap in zip(self.tenths, self.tenths[1:]) if gap[1] - gap[0] >= LEAST and not any(
-            gap[0] < end and begin < gap[1] for begin, end in missing)]
+        self.own = [(t, u) for t, u in zip(self.tenths, self.tenths[1:]) if u - t >= LEAST and not any(
+            t < end and begin < u for begin, end in missing)]
 
     def enough(self):
         """Whether there is something to learn from: gaps enough to tell twenty numbers, rows enough to cut."""

@@ -36,8 +36,8 @@ class Hole:
 
 @dataclasses.dataclass
 class Found:
-    """holes; suspects as (odds, begin, end, why); chances as in gaps; misfits as (kind, code, count, rows, first tenth),
-    contradictions that are no holes; small as (begin, end, gaps, tenths) of what was too small to learn from."""
+    """holes; suspects as (odds, begin, end, why); chances as in gaps; misfits, contradictions that are no holes, as
+    (kind, code, count, rows, first tenth); small, what was too small to learn from, as (begin, end, tenths)."""
     holes: list = dataclasses.field(default_factory=list)
     suspects: list = dataclasses.field(default_factory=list)
     chances: list = dataclasses.field(default_factory=list)
@@ -78,12 +78,13 @@ class Log:
         return [s for begin, end in self.stretches() for s in silences(begin, end, self.tenths(begin, end))]
 
     def portions(self):
-        """Logs of at most PORTION days each, about as long as one another, each with the first tenth that it isn't asked
-        about: that of its last hour, which stands in the next one too, so that no gap lies between two of them."""
+        """Logs of at most PORTION days each, about as long as one another, each with the first tenth that it isn't
+        asked about: that of its last hour, which stands in the next one too, so that no gap lies between two of them."""
         hours = list(self.hours.items())
         count = -(-len(hours) // (24 * PORTION))
         cuts = [len(hours) * i // count for i in range(count + 1)]
-        return [(Log(dict(hours[a:b + 1])), hours[b][0] if b < len(hours) else math.inf) for a, b in zip(cuts, cuts[1:])]
+        return [(Log(dict(hours[a:b + 1])), hours[b][0] if b < len(hours) else math.inf)
+                for a, b in zip(cuts, cuts[1:])]
 
 
 def silences(begin, end, tenths):
@@ -183,7 +184,7 @@ def proposals_of(log, end, edges, config, jobs, chances):
 
 def explained(log, config, stamp, jobs=1):
     """Why the gap at a stamp has its grade: lines, of which the first has the gap; None where there is no gap, or where
-    the log is too small. The scores are those with which it was found: with the holes known that were taken before it."""
+    the log is too small. Scores are those with which it was found: with the holes known that were taken before it."""
     portion = next((portion for portion, end in log.portions() if stamp < end), log)
     model, found = model_of(portion, config, jobs), Found()
     gap = model and next((gap for gap in zip(model.tenths, model.tenths[1:]) if gap[0] <= stamp < gap[1]), None)

@@ -70,7 +70,7 @@ def tenth(word):
 
 
 class Suspicions:
-    """The holes and suspects of a file of examples/holes, less what blanks cover: (first tenth, first one not), merged."""
+    """The holes and suspects of a file of examples/holes, less what blanks cover (first tenth, first one not)."""
 
     def __init__(self, path, blanks=()):
         self.blanks = sorted(blanks)

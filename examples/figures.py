@@ -6,6 +6,7 @@ A page makes no number: it shows fields of the tables that examples/tables wrote
 import csv
 import os
 import re
+import sys
 import urllib.parse
 
 import logs
@@ -67,7 +68,10 @@ class Tables:
             path = os.path.join(self.folder, name + ".csv")
             if os.path.exists(path):
                 with open(path, newline="") as file:
-                    self.read[name] = [Row(name, place, fields) for place, fields in enumerate(csv.DictReader(file))]
+                    reader = csv.DictReader(file)
+                    if ";" in (reader.fieldnames or [""])[0]:
+                        sys.exit("%s: has semicolons; a page wants tables made without --decimal" % path)
+                    self.read[name] = [Row(name, place, fields) for place, fields in enumerate(reader)]
         return [row for row in self.read[name] if all(row[key] == str(value) for key, value in wanted.items())]
 
     def window(self, name, **wanted):

@@ -27,10 +27,10 @@ class Verdict:
 
     @functools.cached_property
     def explained(self):
-        """What it is in figures; None where the hour files aren't there as they were."""
+        """What it is in figures; None where the hour files aren't there as they were, or no audit names the rule."""
         try:
             return self.finder.explain(self.line, self.section)
-        except (held.OtherFile, OSError):
+        except (held.OtherFile, OSError, ValueError):
             return None
 
     @property
@@ -61,6 +61,10 @@ class Audit:
 
     def of(self, rule, kind):
         return [verdict for verdict in self.verdicts if verdict.rule == int(rule) and verdict.verdict == kind]
+
+    def name(self, rule):
+        """The name of a rule as words; none where no audit names it."""
+        return self.session.names().get(rule, [])
 
     def rules(self):
         """The numbers of the rules with a broken or undecided verdict."""

@@ -19,7 +19,7 @@ GRADE_IN_WORDS = {
     "sure": "rows are almost surely lost in it",
     "certain": "rows are lost in it: what is there can’t follow one another",
 }
-NO_FILES = "The hour files aren’t there as they were when the answer was made, so its rows can’t be shown."
+NO_FILES = "Its rows can’t be shown: the hour files aren’t there as they were, or the script asks for no audit."
 FORBIDDEN = {"conflict": " both served", "companion": " walk without its phase", "parents": " green without a parent"}
 CHANNELS = {"ped": "pedestrian signal", "ped_detector": "pedestrian detector", "preempt_input": "preempt input"}
 INTRODUCTION = (
@@ -191,7 +191,7 @@ def chosen(audit):
 
 def rule(audit, number, row, shown, level):
     """A rule in words, its counts, and its verdicts."""
-    words = answers.in_words(audit.session.names()[number])
+    words = answers.in_words(audit.name(number)) or "rule %d" % number
     all_broken, all_undecided = audit.of(number, "broken"), audit.of(number, "undecided")
     items = [shown[verdict.row.place] for verdict in all_broken if verdict.row.place in shown]
     items += [undecided(audit, verdict) for verdict in all_undecided[:SHOWN]]
@@ -207,12 +207,12 @@ def rule(audit, number, row, shown, level):
 
 
 def time_line(audit):
-    session, names = audit.session, audit.session.names()
+    session = audit.session
     suspected = audit.suspected()
     picture = drawings.time_line(
         "Time line of signal %s: rules with broken or undecided verdicts" % session.config["signal"], session.start,
         session.end, (session.missing(), session.blanked()), suspected,
-        [(number, "%d  %s" % (number, answers.in_short(names[number]))) for number in audit.rules()],
+        [(number, "%d  %s" % (number, answers.in_short(audit.name(number)))) for number in audit.rules()],
         [(verdict.at, verdict.rule, verdict.verdict) for verdict in audit.verdicts])
     caption = ("A filled bar is a broken verdict, an open ring an undecided one; where many fall on one spot one is "
                "drawn. Hatched is what the log doesn’t tell: blanked, or in a frame without a file.")

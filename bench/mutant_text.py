@@ -281,7 +281,8 @@ def early_ends(function, body):
     if not gives_up:
         return
     for first, last, depth in statements(body):
-        if depth == 1 and body[last + 1].text != "}":
+        rest = function.source.data[body[last].end:body[-1].start].decode().strip()
+        if depth == 1 and rest not in ("", gives_up[len("return "):-1]):
             yield Mutant(function, "early", body[last].end, body[last].end, " " + gives_up)
 
 

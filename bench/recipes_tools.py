@@ -73,7 +73,9 @@ def cost():
         lines = re.sub(r"(?m)^[\d.]+ ", "", file.read())
     lines = re.sub(r"(?m)^(begun) \d+", r"\1 N", lines)
     lines = re.sub(r"(?m)^(took \w+ \w+) [\d.]+ [\d.]*[1-9][\d.]*$", r"\1 from T some", lines)
-    return out + re.sub(r"(?m)^(ended \d+) [\d.]*[1-9][\d.]*$", r"\1 some", lines)
+    lines = re.sub(r"(?m)^(ended \d+) [\d.]*[1-9][\d.]*$", r"\1 some", lines)
+    # the end of a check and what is printed then come in either order
+    return out + "\n".join(sorted(lines.splitlines())) + "\n"
 
 
 PLAIN = """-- Plain things.

@@ -33,7 +33,7 @@ QUIET = 0.5          # of the mean: hours with fewer rows are quiet ones
 ENOUGH = 60          # silences: with fewer, a tail of twenty would be more than a third of all
 TOP, SHARE = 20, 50  # silences in the tail: twenty a day, or one in fifty
 FAULTS = 3           # silences a day: so many of a channel may be faults
-CERTAINTY = 20       # silences: that a tail is geometric is no surer than so many make it, however many there are
+CERTAINTY = 40       # silences: that a tail is geometric is no surer than so many make it, however many there are
 TEAMS = (("detector", "detectors", "ped_detector", "ped_detectors"),
          ("call", "ped_call", "ped_calls", "green", "greens", "walk"))
 WITNESSES = 3        # of a team: where one of three is faulty, there is still a second

@@ -29,7 +29,7 @@ COORDINATION = {"free_s": "free s", "in_step_s": "in step s", "add_s": "adding s
 def movements(audit):
     rows = audit.tables.window("phases")
     said = ("Numbers are of whole services in known seconds; what a hole cuts isn’t in them. Hours by the clock of the "
-            "controller." if rows else "The script asks for no measures, so there are none.")
+            "controller." if rows else "No phase is configured, or the script asks for no `measures`.")
     return section(heading("phases", "Phases and approaches"), paragraph(said, cls="soft"),
                    *[phase(audit, row) for row in rows], pedestrians(audit), preempts(audit), coordination(audit))
 

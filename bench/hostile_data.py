@@ -5,49 +5,21 @@ A legal log comes from walks over the machines of docs/FORMATS.md, channel by ch
 since the walks are one, whatever is blanked or isn't held. The same seed gives the same bytes.
 """
 import datetime
+import os
+import sys
+
+sys.path.insert(0, os.path.join(os.path.dirname(os.path.dirname(os.path.abspath(__file__))), "examples"))
+import machines
 
 HOUR = 36000
 
-# The machines: for each code, from which colour it leads to which. A colour that isn't listed makes it illegal.
-PHASE = {
-    0: {"Red": "On", "YellowDone": "On", "ClearDone": "On", "Green": "Green"},
-    1: {"Red": "Green", "On": "Green", "Term": "Green", "YellowDone": "Green", "ClearDone": "Green"},
-    7: {"Green": "Term", "Yellow": "Yellow"},
-    8: {"Green": "Yellow", "Term": "Yellow"},
-    9: {"Yellow": "YellowDone", "Clear": "Clear"},
-    10: {"Yellow": "Clear", "YellowDone": "Clear"},
-    11: {"Clear": "ClearDone", "Red": "Red"},
-    12: {"Term": "Red", "YellowDone": "Red", "Clear": "Red", "ClearDone": "Red", "Red": "Red"},
-}
-PHASE_COLOURS = ["Red", "On", "Green", "Term", "Yellow", "YellowDone", "Clear", "ClearDone"]
-PED_COLOURS = ["DontWalk", "Walk", "Clearance", "Dark"]
-OVERLAP_COLOURS = ["Off", "Green", "Trailing", "Yellow", "Clear", "Dark"]
-SERVICE_COLOURS = ["Rest", "Entry", "Track", "Dwell"]
+PHASE = machines.MACHINES["phase"]
+COLOURS = {kind: list(machines.COLOURS[kind]) for kind in machines.STRICT}
 
-
-def from_any(colours, colour):
-    return dict.fromkeys(colours, colour)
-
-
-PED = {21: from_any(PED_COLOURS, "Walk"), 22: {"Walk": "Clearance"}, 23: from_any(PED_COLOURS, "DontWalk"),
-       24: from_any(PED_COLOURS, "Dark")}
-OVERLAP = {61: from_any(["Off", "Green", "Trailing", "Clear", "Dark"], "Green"), 62: {"Green": "Trailing"},
-           63: from_any(["Green", "Trailing"], "Yellow"), 64: {"Yellow": "Clear"},
-           65: from_any(OVERLAP_COLOURS, "Off"), 66: from_any(OVERLAP_COLOURS, "Dark")}
-DETECTOR_COLOURS = ["Off", "On", "Fault"]
-DETECTOR = {81: from_any(DETECTOR_COLOURS, "Off"), 82: from_any(DETECTOR_COLOURS, "On"),
-            83: {"Off": "Off", "Fault": "Off", "On": "On"}, 84: from_any(DETECTOR_COLOURS, "Fault")}
-SERVICE = {105: from_any(SERVICE_COLOURS, "Entry"), 106: from_any(["Entry", "Track"], "Track"),
-           107: from_any(["Entry", "Track", "Dwell"], "Dwell"), 111: from_any(SERVICE_COLOURS, "Rest")}
-COLOURS = {"phase": PHASE_COLOURS, "ped": PED_COLOURS, "overlap": OVERLAP_COLOURS, "preempt": SERVICE_COLOURS}
-
+OTHER_CODES = [code for kind in ("ped", "overlap", "detector", "preempt") for code in machines.MACHINES[kind]] + [150]
 # Rows of these codes belong to no machine.
 LOOSE = [2, 3, 4, 5, 6, 31, 43, 44, 45, 131, 132, 151, 152, 173, 200, 255]
 STARTS = [(2024, 3, 4, 6), (2024, 2, 28, 22), (1999, 12, 31, 23), (1, 1, 1, 0), (9999, 12, 30, 20), (2023, 2, 28, 21)]
-
-
-def switch(off, on):
-    return {off: from_any(["Off", "On"], "Off"), on: from_any(["Off", "On"], "On")}
 
 
 class Signal:
@@ -159,15 +131,11 @@ def legal_rows(rng, signal):
     end, rows, wait = signal.hours * HOUR, [], rng.choice([100, 400, 400, 1500, 1500, 6000])
     for kind, n in signal.channels():
         floors = {colour: least for (k, m, colour), least in signal.floors.items() if (k, m) == (kind, n)}
-        machine = {"phase": PHASE, "ped": PED, "overlap": OVERLAP, "preempt": SERVICE}[kind]
-        walks = [walk(rng, machine, floors, end, wait)]
-        if kind == "ped":
-            walks.append(walk(rng, switch(89, 90), {}, end, wait))
-        if kind == "preempt":
-            walks.append(walk(rng, switch(104, 102), {}, end, wait))
+        kinds = {"ped": ["ped", "ped_detector"], "preempt": ["preempt", "preempt_input"]}.get(kind, [kind])
+        walks = [walk(rng, machines.MACHINES[one], floors if one == kind else {}, end, wait) for one in kinds]
         rows += [(at, code, n) for one in walks for at, code in one]
     for d in sorted({d for a in signal.approaches for d in a[2:] if d}):
-        rows += [(at, code, d) for at, code in walk(rng, DETECTOR, {}, end, wait)]
+        rows += [(at, code, d) for at, code in walk(rng, machines.MACHINES["detector"], {}, end, wait)]
     if signal.coordination:
         rows += [(rng.randrange(end), 150, rng.randrange(7)) for _ in range(rng.randrange(30))]
     for _ in range(rng.randrange(200)):
@@ -187,7 +155,7 @@ def nearly(rng, signal, rows):
             made = [[], [], [(rng.randrange(end), code, param)], [(at, code, param)] * 2, [(at, other, param)]]
             rows[i:i] = rng.choice(made)
         else:
-            code = rng.choice(list(PHASE) * 3 + LOOSE + [*PED, *OVERLAP, *DETECTOR, *SERVICE, 150])
+            code = rng.choice(list(PHASE) * 3 + LOOSE + OTHER_CODES)
             rows.append((rng.randrange(end), code, rng.choice(signal.phases * 3 + [0, 1, 2, 6, 128])))
     return sorted(rows, key=lambda row: row[0])
 

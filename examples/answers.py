@@ -15,7 +15,8 @@ class Section:
 
 
 class Session:
-    """The configuration, script and answer; edits are (line number, words, answer) in order."""
+    """The configuration, script and answer; edits are (line number, words, answer) in order. What is known at the
+    end, and at a section: the held hours, each with its file and rows, and the blanks."""
 
     def __init__(self, config, script, answer):
         self.config = logs.read_config(config)
@@ -31,7 +32,7 @@ class Session:
         except OSError as error:
             sys.exit("%s: %s" % (error.filename, error.strerror))
         asked = {number for number, words in lines.items() if words and words[0][0] != "#"}
-        held, blanks, answered = set(), [], set()
+        held, blanks, answered = {}, [], set()
         for line in answers:
             found = re.match(r"(\d+) ([a-z]+)\b(.*)", line)
             if not found:
@@ -48,18 +49,19 @@ class Session:
             if what in ("ok", "refused"):
                 self.edits.append((number, words, what + found[3]))
                 if what == "ok":
-                    self.edit(words, held, blanks)
+                    self.edit(words, found[3].split(), held, blanks)
             else:
-                self.sections.append(Section(words, (set(held), list(blanks))))
+                self.sections.append(Section(words, (dict(held), list(blanks))))
         if answered != asked or answers[-1]:
             sys.exit("%s: not the whole answer to %s" % (answer, script))
         self.known = held, blanks
 
-    def edit(self, words, held, blanks):
+    def edit(self, words, said, held, blanks):
+        """Carries out an edit that the answer took: held has the file and the rows of each hour, by its number."""
         if words[0] in ("load", "replace"):
-            held.add(int(words[1]))
+            held[int(words[1])] = words[2], int(said[1])
         elif words[0] == "withdraw":
-            held.discard(int(words[1]))
+            held.pop(int(words[1]), None)
         else:
             low, high = (logs.parse_stamp(word)[0] for word in words[1:3])
             if words[0] == "blank":
@@ -88,16 +90,17 @@ class Session:
 
     def unknown(self, section=None):
         """The stretches of the window that weren't known at a section, or at the end: from and up to, in order."""
-        held, blanks = (section or self).known
-        cuts = [(self.start + h * logs.HOUR, self.start + (h + 1) * logs.HOUR)
-                for h in range(self.config["hours"]) if h not in held]
-        merged = []
-        for low, high in sorted(cuts + blanks):
-            if merged and low <= merged[-1][1]:
-                merged[-1] = merged[-1][0], max(high, merged[-1][1])
-            else:
-                merged.append((low, high))
-        return merged
+        return merged(self.missing(section) + self.blanked(section))
+
+    def missing(self, section=None):
+        """The stretches of the window of which no file was held at a section, or at the end."""
+        held = (section or self).known[0]
+        return merged([(self.start + h * logs.HOUR, self.start + (h + 1) * logs.HOUR)
+                       for h in range(self.config["hours"]) if h not in held])
+
+    def blanked(self, section=None):
+        """The stretches that were blanked at a section, or at the end."""
+        return merged((section or self).known[1])
 
     def names(self):
         """The name of each rule by its number, by the audits of the answer."""
@@ -109,9 +112,21 @@ class Session:
         return found
 
 
+def merged(stretches):
+    """Stretches of time in order, those that touch or overlap as one."""
+    found = []
+    for low, high in sorted(stretches):
+        if found and low <= found[-1][1]:
+            found[-1] = found[-1][0], max(high, found[-1][1])
+        else:
+            found.append((low, high))
+    return found
+
+
 COLOURS = {"Term": "end of green", "YellowDone": "time after yellow", "Clear": "red clearance",
            "ClearDone": "time after red clearance", "DontWalk": "don't walk", "On": "time between on and green",
            "Clearance": "pedestrian clearance"}
+CHANNELS = {"ped": "pedestrian signal", "preempt": "preempt service"}
 
 
 def in_words(name):
@@ -126,7 +141,7 @@ def in_words(name):
     if name[0] == "parents":
         return "overlap %s is green only while one of its phases is served" % name[1]
     kind, number, colour, _, bound, tenths = name
-    channel = {"ped": "pedestrian signal", "preempt": "preempt service"}.get(kind, kind)
+    channel = CHANNELS.get(kind, kind)
     return "the %s of %s %s lasts at %s %.1f s" % (
         COLOURS.get(colour, colour.lower()), channel, number, bound, int(tenths) / 10)
 
@@ -165,29 +180,45 @@ def add_shown(parser):
 
 
 def shown(parser, given, session):
-    """The stretch of time that a picture shows: that of the words, or the window."""
+    """The stretch of time that a picture shows: that of the words, or the window. An hour is a number from 0, as in
+    `verdicts 7`, or YYYY-MM-DDTHH; --from alone is that hour, --hours alone the first hours of the window."""
     start = getattr(given, "from")
-    if (start is None) != (given.hours is None):
-        parser.error("--from and --hours go together")
-    if start is None:
+    if start is None and given.hours is None:
         return session.start, session.end
     try:
-        return logs.hour_of(start), logs.hour_of(start) + given.hours * logs.HOUR
+        is_number = start is None or start.isdecimal()
+        begin = session.start + int(start or 0) * logs.HOUR if is_number else logs.hour_of(start)
     except ValueError as error:
-        parser.error(str(error))
+        parser.error("%s, or a number from 0" % error)
+    end = begin + (1 if given.hours is None else given.hours) * logs.HOUR
+    if not session.start <= begin < end <= session.end:
+        parser.error("not in the window: hours 0 to %d are, from %s on" % (
+            session.config["hours"] - 1, logs.show_hour(session.start)))
+    return begin, end
+
+
+def title(session, what, start, end):
+    """The title of a picture: the signal, from when to when, and what is in it."""
+    return 'set title "Signal %s, %s to %s%s" noenhanced' % (
+        session.config["signal"].replace("\\", "\\\\"), logs.show(start, " ")[:16], logs.show(end, " ")[:16], what)
 
 
 def axis(start, end):
-    """The time axis of a picture."""
-    day = end - start > 24 * logs.HOUR
+    """The time axis of a picture, with the clock, and the day where there is more than one."""
+    hours = (end - start) // logs.HOUR
+    step = next((step for step in (0.5, 1, 2, 6, 12, 24) if hours / step <= 16), 48)
     return ["set xrange [%s:%s]" % (seconds(start), seconds(end)),
-            'set xtics time format "%s"' % ("%m-%d\\n%H:%M" if day else "%H:%M")]
+            'set xtics %d time format "%s"' % (step * 3600, "%m-%d\\n%H:%M" if hours > 24 else "%H:%M")]
+
+
+# Stretches that aren't known are grey with an edge, so that one of seconds shows in a day.
+UNKNOWN_KEY = ' NaN with boxes fillstyle solid border rgb "#909090" linecolor rgb "#e0e0e0" title "not known"'
 
 
 def shades(session, section):
     """Shades the stretches that weren't known at a section."""
-    return ['set object rectangle from %s, graph 0 to %s, graph 1 behind fillcolor rgb "#d0d0d0" '
-            "fillstyle solid noborder" % (seconds(low), seconds(high)) for low, high in session.unknown(section)]
+    return ['set object rectangle from %s, graph 0 to %s, graph 1 behind fillcolor rgb "#e0e0e0" fillstyle solid '
+            'border rgb "#909090"' % (seconds(low), seconds(high)) for low, high in session.unknown(section)]
 
 
 def block(name, rows):

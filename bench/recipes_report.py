@@ -229,7 +229,9 @@ class Page:
             if not any(len(rows) >= int(number) and rows[int(number) - 1][1][11:] == clock
                        and rows[int(number) - 1][2:] == [code, param] for rows in files.values()):
                 self.faults.append("no such row: " + line)
-        plain = sum(low <= row[1].replace(" ", "T") <= high for rows in files.values() for row in rows)
+        stamps = [row[1].replace(" ", "T") for rows in files.values() for row in rows]
+        plain = sum(low <= stamp <= high and not any(begin <= stamp < end for begin, end in self.unknown)
+                    for stamp in stamps)
         self.looked_up["rows of stretches"] += count
         if count != plain:
             self.faults.append("%s to %s: %d rows are told of %d" % (low, high, count, plain))
@@ -247,7 +249,13 @@ class Page:
                     if re.search(r"\d", left) and child not in approaches:
                         self.faults.append("a number from nowhere: %r in %s" % (child.strip()[:80], each.name))
 
+    def stretches(self):
+        """The unknown stretches that the page names, as stamps from and up to."""
+        return [tuple(time.given["datetime"] for time in row.all("time")) for node in self.root.all()
+                if "data-stretches" in node.given for row in next(node.all("tbody")).all("tr")]
+
     def check(self):
+        self.unknown = self.stretches()
         for node in self.root.all():
             if "data-of" in node.given:
                 self.check_place(node)

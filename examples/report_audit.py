@@ -9,10 +9,10 @@ import pages
 
 GRADES = ("certain", "sure", "likely", "weak", "solid")
 FAULTS = {
-    "silent": "has no row, while the rest goes on",
-    "stuck on": "stays on without a change",
-    "stuck off": "stays off without a change",
-    "chatter": "goes on %d times, more often than vehicles make it",
+    "silent": "no row, while the rest goes on",
+    "stuck on": "on without a change",
+    "stuck off": "off without a change",
+    "chatter": "comes on %d times, more often than vehicles make it",
 }
 # Of a detector without rows so many hours are named.
 MOST_HOURS = 6

@@ -84,9 +84,17 @@ def detectors(audit):
     return element("h3", "Detectors") + (listed(items) if items else paragraph("Nothing was found."))
 
 
+def named(channel):
+    """A channel of the detectors' file in words: `ped_detector 2`, `detector 1,2`, `detector all`, `coordination`."""
+    kind, _, numbers = channel.replace("ped_detector", "pedestrian detector").rpartition(" ")
+    if numbers == "all":
+        return "all %ss" % kind
+    return ("%s %s" % (kind, numbers.replace(",", ", "))).strip()
+
+
 def fault(audit, grade, channel, what, low, high, logged):
     """What was found of a channel, and which numbers it makes worthless."""
-    said = element("span", text("%s %s" % (channel.capitalize(), what)), cls="said")
+    said = element("span", text("%s: %s" % (named(channel).capitalize(), what)), cls="said")
     words = "%s, from %s: %s." % (said, span(low, high), element("span", grade, cls="grade " + grade))
     if logged:
         words += " Its fault was logged too, and what it tells there is left out."

@@ -76,6 +76,8 @@ def decided(verdict):
         length = element("span", explanations.in_seconds(end - begin),
                          data_of="explained %d silence" % verdict.row.place)
         said += "; the longest time in it without a row is %s, from %s" % (length, clock(begin))
+    if verdict.explained.log.unknown_in(low, high + 1):
+        said += "; part of it isn’t known, and no row is shown from there"
     said = paragraph(said + ".")
     if verdict.grade in GRADES:
         _, _, which = verdict.row["doubt"].partition(": ")

@@ -74,6 +74,7 @@ summary:hover { background: var(--shade); }
 .grade { border: 1px solid currentColor; border-radius: 3px; padding: 0 6px; font-size: 13px; white-space: nowrap; }
 .grade.certain, .grade.sure, .grade.likely { color: #fff; background: var(--broken); border-color: var(--broken); }
 .grade.weak { color: var(--broken); border-style: dashed; }
+.grade.unlearned { color: var(--soft); border-style: dotted; }
 .grade.solid { color: var(--soft); }
 pre.rows { font: 13px/1.45 ui-monospace, "Liberation Mono", "DejaVu Sans Mono", Menlo, Consolas, monospace;
   margin: 6px 0; padding: 10px 14px; background: var(--shade); overflow-x: auto; }

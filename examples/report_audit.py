@@ -7,7 +7,8 @@ import held
 import logs
 import pages
 
-GRADES = ("certain", "sure", "likely", "weak", "solid")
+GRADES = ("certain", "sure", "likely", "weak", "unlearned", "solid")
+ON_LOG = {"solid": "on solid log", "unlearned": "on log too small to learn from"}
 FAULTS = {
     "silent": "no row, while the rest goes on",
     "stuck on": "on without a change",
@@ -80,7 +81,7 @@ class Audit:
     def grades(self):
         """How many broken verdicts stand on log of which grade, as the end of a sentence."""
         there = {verdict.grade for verdict in self.verdicts if verdict.verdict == "broken"}
-        said = ["%s %s" % (self.count("broken", doubt=grade), "on solid log" if grade == "solid" else grade)
+        said = ["%s %s" % (self.count("broken", doubt=grade), ON_LOG.get(grade, grade))
                 for grade in reversed(GRADES) if grade in there]
         return ", of them " + ", ".join(said) if said else ""
 

@@ -14,6 +14,7 @@ SHOWN = 40
 MOST_ROWS, ENDS = 60, 12
 GRADE_IN_WORDS = {
     "solid": "no lost rows are suspected in it",
+    "unlearned": "the log is too small to tell whether rows are lost in it",
     "weak": "a faint suspicion of lost rows in it, which wasn’t blanked",
     "likely": "rows are likely lost in it",
     "sure": "rows are almost surely lost in it",

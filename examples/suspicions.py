@@ -11,7 +11,8 @@ A verdict is decided by a stretch of log; nothing outside matters, whatever rows
 between rows is a doubt as `holes` grades it, unless it is blanked: what was in a blank can't undo a verdict. Two doubts
 are left then, both `weak`. A hole of which only the contradiction is certain may lie elsewhere between the two rows
 that contradict. And where a blank leaves out the tenths of the rows at its ends, other rows of these may be lost, so
-that a stretch which begins or ends there is off by a tenth.
+that a stretch which begins or ends there is off by a tenth. Where the log was too small to learn from, no gap has a
+grade: a stretch there without another doubt is `unlearned` and not `solid`.
 """
 import bisect
 import collections
@@ -21,14 +22,14 @@ import held
 import logs
 import machines
 
-GRADES = ("certain", "sure", "likely", "weak", "solid")
+GRADES = ("certain", "sure", "likely", "weak", "unlearned", "solid")
 NEAR = 10    # a line is kept by little where it is within a tenth of its bound
 
 
 @dataclasses.dataclass(frozen=True)
 class Doubt:
     """The strongest suspicion in a stretch: its grade, the logarithm of its odds (None where it has none), the row
-    before the gap and the row after it, and why; None and an empty text where it is solid."""
+    before the gap and the row after it, and why; None and an empty text where it is solid or unlearned."""
 
     grade: str
     odds: float | None = None
@@ -44,13 +45,13 @@ class Doubt:
 
     def in_words(self):
         """As a table has it."""
-        if self.grade == "solid":
+        if self.begin is None:
             return self.grade
         return "%s: %.1f s from %s to %s, %s" % (
             self.grade, (self.end - self.begin) / 10, logs.show(self.begin), logs.show(self.end), self.why)
 
 
-SOLID = Doubt("solid")
+SOLID, UNLEARNED = Doubt("solid"), Doubt("unlearned")
 
 
 @dataclasses.dataclass(frozen=True)
@@ -74,12 +75,14 @@ class Suspicions:
 
     def __init__(self, path, blanks=()):
         self.blanks = sorted(blanks)
-        self.gaps, self.edges, self.holes = [], {}, []
+        self.gaps, self.edges, self.holes, self.small = [], {}, [], []
         with open(path, encoding="latin-1") as file:
             for line in file:
                 words = line.split()
                 if words[:1] in (["hole"], ["suspect"]):
                     self.take(words)
+                elif words[:1] == ["small"]:
+                    self.small.append((tenth(words[1]), tenth(words[2])))
         self.gaps.sort(key=lambda doubt: doubt.begin)
         self.begins = [doubt.begin for doubt in self.gaps]
         self.longest = max((doubt.end - doubt.begin for doubt in self.gaps), default=0)
@@ -120,7 +123,8 @@ class Suspicions:
         near = self.gaps[bisect.bisect_left(self.begins, begin - self.longest):bisect.bisect_left(self.begins, end)]
         found = [doubt for doubt in near if doubt.end > begin] + [
             self.edges[tenth] for tenth in (begin, end) if tenth in self.edges]
-        return min(found, key=Doubt.rank, default=SOLID)
+        is_learned = not any(low <= end and begin < high for low, high in self.small)
+        return min(found, key=Doubt.rank, default=SOLID if is_learned else UNLEARNED)
 
 
 def doubted_lines(session, suspicions):
@@ -217,6 +221,6 @@ def summary(lines):
     """What is to be told of the broken lines: how many, and of them by grade."""
     count = collections.Counter(line.doubt.grade for line in lines if line.verdict == "broken")
     told = ["%d %s" % (count[grade], words) for grade, words in (
-        ("solid", "on solid log"), ("weak", "weak"), ("likely", "likely a hole"), ("sure", "surely a hole"),
-        ("certain", "over a certain hole")) if count[grade] or grade == "solid"]
+        ("solid", "on solid log"), ("unlearned", "on log too small to learn from"), ("weak", "weak"),
+        ("likely", "likely a hole"), ("sure", "surely a hole"), ("certain", "over a certain hole")) if count[grade] or grade == "solid"]
     return "broken %d, of them %s" % (sum(count.values()), ", ".join(told))

@@ -164,8 +164,8 @@ pub fn aheads_hour(
     Ok(Aheads { aheads, alloc })
 }
 
-// The states of one channel, entered before the tenth, from which its moves lead to one that is
-// admitted.
+/// The states of one channel, entered before the tenth, from which its moves lead to one that is
+/// admitted.
 pub fn ahead_before(spec: &Spec, after: &Ahead, moves: &[Move], first: u32) -> Ahead
     requires fits { IsSpec spec.now }
     requires order { InOrder (rules_of spec.now) 0 moves.now }
@@ -199,7 +199,7 @@ fn walk_any(machine: AnyMachine, ahead: &mut Ahead, moves: &[Move])
     }
 }
 
-// Those of the states that were entered before the tenth.
+/// Those of the states that were entered before the tenth.
 pub fn lower_before(ahead: &mut Ahead, first: u32)
     ensures states { (s : State) → Admits ahead.new s ↔ (Admits ahead.old s
         × (s.entry <ℤ pos first)) }

@@ -167,7 +167,7 @@ pub fn pasts_hour(
     }
 }
 
-// The tenth after the last stretch.
+/// The tenth after the last stretch.
 pub fn end_of(stretches: &[Stretch]) -> u32
     requires { 1 ≤ length stretches.now }
     ensures { (f t : ℕ) → FollowOn f t stretches.now → result ≡ t }
@@ -183,14 +183,14 @@ fn clamp_all(pasts: &mut [Past], point: u32)
     }
 }
 
-// Makes the entries of one channel that are older than an hour at the point one.
+/// Makes the entries of one channel that are older than an hour at the point one.
 pub fn clamp_past(past: &mut Past, point: u32)
     ensures { AreClamped (pos point -ℤ pos 36001) past.old past.new }
 {
     past.clamp(i64::from(point));
 }
 
-// The states after an hour, and the number of the first row after which its channel has no state.
+/// The states after an hour, and the number of the first row after which its channel has no state.
 #[derive(Drop)]
 pub struct After {
     pub pasts: Pasts,
@@ -232,7 +232,7 @@ fn pasts_walked(
     })
 }
 
-// The states of one channel after its moves. Answers the row after which there is none.
+/// The states of one channel after its moves. Answers the row after which there is none.
 pub fn walk_spec(
     alloc: Global,
     spec: &Spec,
@@ -310,7 +310,7 @@ fn number_of(one: Move) -> u32
     }
 }
 
-// The lesser of two numbers, or the one that there is.
+/// The lesser of two numbers, or the one that there is.
 pub fn earlier(a: Option<u32>, b: Option<u32>) -> Option<u32>
     ensures { IsEarlier a b result }
 {

@@ -52,7 +52,7 @@ fn move_ahead<M: Machine>(machine: &M, ahead: &mut Ahead, one: Move)
     }
 }
 
-// The Aheads of the places.
+/// The Aheads of the places.
 #[derive(Drop)]
 pub struct PlaceAheads {
     // The first admits nearly everything, and stands where one state alone is kept and can be
@@ -65,10 +65,10 @@ pub struct PlaceAheads {
 // Later than every entry.
 const FAR: i64 = 500_000_000_000;
 
-// An Ahead for the place before no move, before the last move, before the last two and so on. Where
-// some run goes on after the moves, it goes through each place. So where a place has one state
-// alone, that goes on, and nothing need be known of what comes after the place: between two such
-// places a letter is passed over.
+/// An Ahead for the place before no move, before the last move, before the last two and so on.
+/// Where some run goes on after the moves, it goes through each place. So where a place has one
+/// state alone, that goes on, and nothing need be known of what comes after the place: between two
+/// such places a letter is passed over.
 pub fn aheads_of<M: Machine>(
     alloc: Global,
     machine: &M,

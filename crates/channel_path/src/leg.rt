@@ -12,7 +12,7 @@ use span_set::Span;
 // All moves end at this tenth or before.
 pub const END: Tenth = 1 << 32;
 
-// The end of the leg that begins at the place.
+/// The end of the leg that begins at the place.
 pub fn leg_end(moves: &[Move], place: usize) -> usize
     requires { place < length moves.now }
     ensures some { place < result }
@@ -28,7 +28,7 @@ pub fn leg_end(moves: &[Move], place: usize) -> usize
     moves.len()
 }
 
-// The beginning of the leg that ends at the place.
+/// The beginning of the leg that ends at the place.
 pub fn leg_begin(moves: &[Move], place: usize) -> usize
     requires some { 0 < place }
     requires within { place ≤ length moves.now }
@@ -56,7 +56,7 @@ fn are_apart(one: Move, next: Move) -> bool
     to < from
 }
 
-// Puts the gaps as holes in place of what was there.
+/// Puts the gaps as holes in place of what was there.
 pub fn put_holes(holes: &mut Vec<Span>, gaps: &[Move]) -> Result<(), NoMemory>
     requires { AreGaps gaps.now }
     ensures holes { OnOk result (AreGapsOf holes.new.items gaps.now) }

@@ -107,7 +107,7 @@ fn gap_past<M: Machine>(machine: &M, past: &mut Past, from: u32, to: u32) -> Res
     past_gap(machine, past, i64::from(from), i64::from(to))
 }
 
-// The Pasts of the runs of gaps: each is that before the next letter, or after the last move.
+/// The Pasts of the runs of gaps: each is that before the next letter, or after the last move.
 #[derive(Drop)]
 pub struct RunPasts {
     pub pasts: Vec<Past>,
@@ -115,7 +115,7 @@ pub struct RunPasts {
     pub runs: Vec<usize>,
 }
 
-// The Past of the place's run.
+/// The Past of the place's run.
 pub fn past_at(pasts: &RunPasts, place: usize) -> &Past
     requires place { place < length pasts.now.runs.items }
     requires run { HasPast pasts.now place }
@@ -124,7 +124,7 @@ pub fn past_at(pasts: &RunPasts, place: usize) -> &Past
     &pasts.pasts[pasts.runs[place]]
 }
 
-// One Past for each run of gaps, and the run of each place.
+/// One Past for each run of gaps, and the run of each place.
 pub fn pasts_of<M: Machine>(
     alloc: Global,
     machine: &M,

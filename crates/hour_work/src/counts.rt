@@ -25,7 +25,7 @@ impl RuleCount {
     }
 }
 
-// The counts of so many rules by the lines of an hour.
+/// The counts of so many rules by the lines of an hour.
 pub fn counts_of(
     alloc: Global,
     rules: usize,

@@ -76,13 +76,14 @@ impl Ahead {
     }
 }
 
+/// Whether two lists of latest entries are the same.
 pub fn same_entries(a: &[Option<Tenth>], b: &[Option<Tenth>]) -> bool
     ensures { IsTrue result ↔ (a.now ≡ b.now) }
 {
     a == b
 }
 
-// The latest entries, each of them at most the limit.
+/// The latest entries, each of them at most the limit.
 pub fn lower_all(latest: &[Option<Tenth>; 16], limit: Tenth) -> [Option<Tenth>; 16]
     ensures { IsLower limit latest.now result 16 }
 {
@@ -93,6 +94,7 @@ pub fn lower_all(latest: &[Option<Tenth>; 16], limit: Tenth) -> [Option<Tenth>; 
     new
 }
 
+/// A latest entry that is at most the limit.
 pub fn lowered(latest: Option<Tenth>, limit: Tenth) -> Option<Tenth>
     ensures { (e : ℤ) → NotLater result e ↔ (NotLater latest e × (e ≤ℤ limit)) }
 {

@@ -121,8 +121,8 @@ fn first_leave(set: &SpanSet, floor: u32, from: Tenth, to: Tenth) -> Tenth
 }
 
 /// The earliest arrivals in a gap from `from` up to but without `to`, of any sets with these
-/// departures: for each colour the tenth from which on it may be entered, or `to`. They are found by
-/// rounds, until one changes nothing.
+/// departures: for each colour the tenth from which on it may be entered, or `to`. They are found
+/// by rounds, until one changes nothing.
 pub fn arrivals<M: Machine>(
     machine: &M,
     departure: &[Tenth; 16],
@@ -173,8 +173,8 @@ fn leave_one(departure: Tenth, arrival: Tenth, floor: u32) -> Tenth
     departure.min(arrival + i64::from(floor))
 }
 
-/// Lowers the arrivals to those by one change of a colour at the tenth at which it may be left. None
-/// of them is after the end.
+/// Lowers the arrivals to those by one change of a colour at the tenth at which it may be left.
+/// None of them is after the end.
 pub fn relax<M: Machine>(machine: &M, leave: &[Tenth; 16], to: Tenth, arrival: &mut [Tenth; 16])
     requires { (d : ℕ) → d < 16 → at arrival.old d ≤ℤ to }
     ensures { IsLowered arrival.old arrival.new (ByColours (M.rules machine.now)
@@ -241,6 +241,7 @@ fn lower_at(arrival: &mut [Tenth; 16], colour: u8, leave: Tenth)
     }
 }
 
+/// Whether two lists of tenths are the same.
 pub fn same_tenths(a: &[Tenth], b: &[Tenth]) -> bool
     ensures { IsTrue result ↔ (a.now ≡ b.now) }
 {

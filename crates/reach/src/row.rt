@@ -137,7 +137,7 @@ fn change(sets: &mut [SpanSet], keep: Mask, enter: Mask, at: Tenth) -> Result<()
     Ok(())
 }
 
-// Whether the sets hold a state.
+/// Whether the sets hold a state.
 pub fn is_some_state(sets: &[SpanSet]) -> bool
     ensures { IsTrue result ↔ ((u : State) × Holds sets.now u) }
 {
@@ -166,7 +166,7 @@ fn has_old(set: &SpanSet, floor: u32, at: Tenth) -> bool
     false
 }
 
-// The colours that may be left at the tenth.
+/// The colours that may be left at the tenth.
 pub fn leaving<M: Machine>(machine: &M, sets: &[SpanSet], at: Tenth) -> Mask
     requires low { negsuc (2 ^ 39) ≤ℤ at }
     requires high { at ≤ℤ pos (2 ^ 39) }

@@ -8,7 +8,7 @@ use colour_machine::Mask;
 use sig_base::{NoMemory, Tenth};
 use span_set::SpanSet;
 
-// Adds to each set the tenths from its start up to `to`, or changes none of them.
+/// Adds to each set the tenths from its start up to `to`, or changes none of them.
 pub fn add_each(sets: &mut [SpanSet], starts: &[Tenth; 16], to: Tenth) -> Result<(), NoMemory>
     requires few { length sets.old ≤ 16 }
     requires low { (c : ℕ) → c < 16 → negsuc (2 ^ 39) ≤ℤ at starts.now c }
@@ -80,7 +80,7 @@ fn take_back(sets: &mut [SpanSet], firsts: &[Tenth; 16], count: usize)
     }
 }
 
-// The tenth for the colours of the mask, and the one after it for the others.
+/// The tenth for the colours of the mask, and the one after it for the others.
 pub fn starts_of(enter: Mask, tenth: Tenth) -> [Tenth; 16]
     requires low { negsuc (2 ^ 39) ≤ℤ tenth }
     requires high { tenth ≤ℤ pos (2 ^ 39) }
@@ -105,7 +105,7 @@ fn start_of(enter: Mask, colour: u8, tenth: Tenth) -> Tenth
     tenth + 1
 }
 
-// Keeps the sets of the one mask, and of the others the tenth where the other mask has them.
+/// Keeps the sets of the one mask, and of the others the tenth where the other mask has them.
 pub fn settle_each(sets: &mut [SpanSet], keep: Mask, enter: Mask, tenth: Tenth)
     requires few { length sets.old ≤ 16 }
     requires low { negsuc (2 ^ 39) ≤ℤ tenth }

@@ -46,7 +46,7 @@ fn lines_between<L>(
     audit_over(alloc, config, rules, &place, between)
 }
 
-// The lines of the audit of an hour. No other hour is opened.
+/// The lines of the audit of an hour. No other hour is opened.
 pub fn lines_of<L>(
     alloc: Global,
     config: &Config,
@@ -152,8 +152,9 @@ fn broken_hour(lines: &[AuditLine]) -> Option<Hour>
     None
 }
 
-// The lines of an hour, each broken one with its decisive window, from the states at the point
-// before the hour. Where one is broken the hour is opened, and those in which a window is looked for.
+/// The lines of an hour, each broken one with its decisive window, from the states at the point
+/// before the hour. Where one is broken the hour is opened, and those in which a window is looked
+/// for.
 pub fn with_windows<L>(
     alloc: Global,
     config: &Config,

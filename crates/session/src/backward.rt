@@ -59,8 +59,8 @@ fn previous_future<L>(
     future_again(alloc, config, store, hour, after, &was, reads)
 }
 
-// What is kept going back at the points up to the last hour that is changed, from the last one
-// before the first hour at which nothing changes, or from the window's start.
+/// What is kept going back at the points up to the last hour that is changed, from the last one
+/// before the first hour at which nothing changes, or from the window's start.
 pub fn go_back<L>(
     alloc: Global,
     config: &Config,

@@ -57,7 +57,7 @@ fn no_parts(alloc: Global, hours: u32) -> Result<Report, NoMemory>
     Report::new(alloc, parts)
 }
 
-// What is kept of a window of so many hours of which none is held.
+/// What is kept of a window of so many hours of which none is held.
 pub fn begin(alloc: Global, config: &Config, rules: &[Rule], hours: u32) -> Result<Worked, NoMemory>
     requires some { 1 ≤ hours }
     requires few { hours ≤ 744 }

@@ -6,7 +6,7 @@ ghost use Rattle.session.specs.Ranges.{IsEdited, With, Without};
 use sig_base::{NoMemory, Tenth};
 use span_set::SpanSet;
 
-// What an edit makes of the tenths of a range.
+/// What an edit makes of the tenths of a range.
 #[derive(Clone, Copy)]
 pub enum RangeEdit {
     // It blanks them.
@@ -15,7 +15,7 @@ pub enum RangeEdit {
     Unblank,
 }
 
-// Whether the range begins before a window of so many hours, or ends past it.
+/// Whether the range begins before a window of so many hours, or ends past it.
 pub fn reaches_out(hours: u32, from: Tenth, to: Tenth) -> bool
     ensures { result ≡ reaches_out hours from to }
 {
@@ -45,7 +45,7 @@ fn without_range(blanks: &SpanSet, from: Tenth, to: Tenth) -> Result<SpanSet, No
     Ok(rest)
 }
 
-// These tenths after the edit of the range.
+/// These tenths after the edit of the range.
 pub fn edited(
     blanks: &SpanSet,
     edit: RangeEdit,

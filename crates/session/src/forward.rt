@@ -77,8 +77,8 @@ fn next_states<L>(
     states_again(alloc, config, store, hour, before, &was, reads)
 }
 
-// The states of each channel at the points after the first hour that is changed, up to the first
-// one after the last hour at which they are those that are kept, or up to the window's end.
+/// The states of each channel at the points after the first hour that is changed, up to the first
+/// one after the last hour at which they are those that are kept, or up to the window's end.
 pub fn go_forward<L>(
     alloc: Global,
     config: &Config,

@@ -7,14 +7,14 @@ use hour_store::HourStore;
 use sig_base::{Hour, HourRows, Tenth};
 use span_set::SpanSet;
 
-// What is held of an hour, or which tenths are blanked.
+/// What is held of an hour, or which tenths are blanked.
 #[derive(Drop)]
 pub enum Put<L> {
     Hour(Hour, Option<HourRows<L>>),
     Blanks(SpanSet),
 }
 
-// Puts it into the store, and answers what was there.
+/// Puts it into the store, and answers what was there.
 pub fn exchange<L>(store: &mut HourStore<L>, put: Put<L>) -> Put<L>
     requires { IsPlaced (length store.old.hours) put }
     ensures store { store.new ≡ put_into store.old put }
@@ -28,7 +28,7 @@ pub fn exchange<L>(store: &mut HourStore<L>, put: Put<L>) -> Put<L>
     }
 }
 
-// The hour of a tenth of a window.
+/// The hour of a tenth of a window.
 pub fn hour_at(tenth: Tenth) -> Hour
     requires low { pos 0 ≤ℤ tenth }
     requires high { tenth <ℤ pos (36000 * 744) }

@@ -12,7 +12,7 @@ use rule_audit::{AuditLine, Rule};
 use sig_base::{NoMemory, Reads, Verdict};
 use std::alloc::Global;
 
-// A rule by its number, and a tenth.
+/// A rule by its number, and a tenth.
 #[derive(Clone, Copy)]
 pub struct Asked {
     pub rule: u16,
@@ -35,8 +35,8 @@ fn is_open_at(line: &AuditLine, asked: Asked) -> bool
     line.rule == asked.rule && line.at == asked.at && is_undecided(line.verdict)
 }
 
-// A pair for each of the lines that says undecided there. The hours of the window are opened for
-// each.
+/// A pair for each of the lines that says undecided there. The hours of the window are opened for
+/// each.
 #[tactic(auto, using(crate::proofs::GrowLaws::grow_same))]
 pub fn pairs_of<L>(
     alloc: Global,

@@ -71,7 +71,7 @@ fn add_hour<L>(
     Ok(())
 }
 
-// The diagrams of a phase in the whole window. Each hour is opened once.
+/// The diagrams of a phase in the whole window. Each hour is opened once.
 pub fn phase_diagrams<L>(
     alloc: Global,
     config: &Config,

@@ -23,7 +23,8 @@ use rule_audit::Rule;
 use sig_base::{Applied, Hour, NoMemory, Reads};
 use std::alloc::Global;
 
-// What is kept at each hour point of the hours before it and after it, and the numbers of each hour.
+/// What is kept at each hour point of the hours before it and after it, and the numbers of each
+/// hour.
 #[derive(Drop)]
 pub struct Worked {
     pub carries: Vec<Carry>,
@@ -31,8 +32,8 @@ pub struct Worked {
     pub report: Report,
 }
 
-// What is new at hour points: the carries of the points after the hour `first`, and the futures of
-// the points from `from` on.
+/// What is new at hour points: the carries of the points after the hour `first`, and the futures of
+/// the points from `from` on.
 #[derive(Drop)]
 pub struct Points {
     pub first: Hour,
@@ -41,8 +42,8 @@ pub struct Points {
     pub futures: Vec<Future>,
 }
 
-// What comes in the place of what is kept: what is new at hour points, the numbers of the hours from
-// `start` on, and the sums that they change.
+/// What comes in the place of what is kept: what is new at hour points, the numbers of the hours
+/// from `start` on, and the sums that they change.
 #[derive(Drop)]
 pub struct Fresh {
     pub points: Points,
@@ -51,14 +52,14 @@ pub struct Fresh {
     pub sums: Sums,
 }
 
-// The hours from the first to the last that an edit touches.
+/// The hours from the first to the last that an edit touches.
 #[derive(Clone, Copy)]
 pub struct Touched {
     pub first: Hour,
     pub last: Hour,
 }
 
-// The hours between the points at which nothing changes.
+/// The hours between the points at which nothing changes.
 pub fn moved(points: &Points) -> Applied
     requires { points.now.first + length points.now.carries.items ≤ 744 }
     ensures from { result.from ≡ points.now.from }
@@ -318,8 +319,8 @@ fn ways_of<L>(
     })
 }
 
-// What comes in the place of what is kept, where that fits the store but for the hours from `first`
-// to `last`. `Contradiction` comes where the log contradicts itself.
+/// What comes in the place of what is kept, where that fits the store but for the hours from
+/// `first` to `last`. `Contradiction` comes where the log contradicts itself.
 pub fn renew<L>(
     alloc: Global,
     config: &Config,
@@ -362,7 +363,7 @@ pub fn renew<L>(
     })
 }
 
-// Puts it in the place of what is kept. It takes no memory.
+/// Puts it in the place of what is kept.
 pub fn adopt(worked: &mut Worked, fresh: Fresh)
     requires carry_room { fresh.points.first + 1 + length fresh.points.carries.items
         ≤ length worked.old.carries.items }

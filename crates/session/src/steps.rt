@@ -21,7 +21,7 @@ use sig_base::{Hour, NoMemory, Reads};
 use signal_log::{About, Place, pasts_over, pasts_over_again};
 use std::alloc::Global;
 
-// The states of each channel at the point after the hour.
+/// The states of each channel at the point after the hour.
 pub fn states_over<L>(
     alloc: Global,
     config: &Config,
@@ -46,7 +46,7 @@ pub fn states_over<L>(
     }
 }
 
-// The same of an hour that is as it was told before, from other states at the point before it.
+/// The same of an hour that is as it was told before, from other states at the point before it.
 pub fn states_again<L>(
     alloc: Global,
     config: &Config,
@@ -73,7 +73,7 @@ pub fn states_again<L>(
     }
 }
 
-// What is kept going back at the point before the hour.
+/// What is kept going back at the point before the hour.
 pub fn future_before<L>(
     alloc: Global,
     config: &Config,
@@ -93,7 +93,7 @@ pub fn future_before<L>(
     backward_over(alloc, config, &place, after)
 }
 
-// The same of an hour that is as it was told before, from other states at the point after it.
+/// The same of an hour that is as it was told before, from other states at the point after it.
 pub fn future_again<L>(
     alloc: Global,
     config: &Config,
@@ -116,7 +116,7 @@ pub fn future_again<L>(
     backward_again(alloc, config, &place, after, was)
 }
 
-// The numbers of the hour.
+/// The numbers of the hour.
 pub fn part_between<L>(
     alloc: Global,
     config: &Config,
@@ -141,14 +141,14 @@ pub fn part_between<L>(
     partial_over(alloc, config, rules, &place, between)
 }
 
-// An hour, and the states of each channel at the point after it.
+/// An hour, and the states of each channel at the point after it.
 #[derive(Drop)]
 pub struct Step {
     pub hour: Hour,
     pub pasts: Pasts,
 }
 
-// What is kept at the point after the hour, and its numbers.
+/// What is kept at the point after the hour, and its numbers.
 pub fn work_between<L>(
     alloc: Global,
     config: &Config,

@@ -8,7 +8,7 @@ use crate::search::{all_ended, begins_by, ended_by};
 use crate::set::Span;
 use sig_base::{NoMemory, Tenth};
 
-// A range after all others is added in one step.
+/// A range after all others is added in one step.
 pub fn add(spans: &mut Vec<Span>, from: Tenth, to: Tenth) -> Result<(), NoMemory>
     requires low { negsuc (2 ^ 40) <ℤ from }
     requires ordered { AreRanges spans.old.items }
@@ -96,6 +96,7 @@ fn take_out(spans: &mut Vec<Span>, first: usize, last: usize)
     }
 }
 
+/// Takes out the tenths of `from` up to but without `to`.
 pub fn remove(spans: &mut Vec<Span>, from: Tenth, to: Tenth) -> Result<(), NoMemory>
     requires { from <ℤ to }
     ensures ok { OnOk result (spans.new.items ≡ cut from to spans.old.items) }
@@ -171,7 +172,7 @@ fn begin_at(spans: &mut Vec<Span>, at: usize, to: Tenth)
     }
 }
 
-// Takes out all from the tenth on.
+/// Takes out all from the tenth on.
 pub fn cut_from(spans: &mut Vec<Span>, from: Tenth)
     ensures { spans.new.items ≡ keep_to from spans.old.items }
 {
@@ -198,7 +199,7 @@ fn trim(spans: &mut Vec<Span>, kept: usize, from: Tenth)
     spans.truncate(kept + 1);
 }
 
-// Puts the limit in place of all below it.
+/// Puts the limit in place of all below it.
 pub fn clamp(spans: &mut Vec<Span>, limit: Tenth)
     requires low { negsuc (2 ^ 40) <ℤ limit }
     requires high { limit ≤ℤ pos (2 ^ 40) }

@@ -7,12 +7,14 @@ ghost use Rattle.span_set.specs.Changes.{AllEnd};
 use crate::set::Span;
 use sig_base::Tenth;
 
+/// Whether two lists of ranges are the same.
 pub fn are_equal(a: &[Span], b: &[Span]) -> bool
     ensures { IsTrue result ↔ (a.now ≡ b.now) }
 {
     a == b
 }
 
+/// The least tenth, or `None` of no ranges.
 pub fn least_in(spans: &[Span]) -> Option<Tenth>
     requires { AreRanges spans.now }
     ensures { MatchOption result ((e : ℤ) → Member spans.now e → ⊥) (λ m. Member spans.now m
@@ -24,6 +26,7 @@ pub fn least_in(spans: &[Span]) -> Option<Tenth>
     }
 }
 
+/// Whether a tenth lies in one of the ranges.
 pub fn contains_in(spans: &[Span], at: Tenth) -> bool
     ensures { IsTrue result ↔ Member spans.now at }
 {
@@ -35,6 +38,7 @@ pub fn contains_in(spans: &[Span], at: Tenth) -> bool
     false
 }
 
+/// Whether a tenth of `from` up to but without `to` lies in one of the ranges.
 #[tactic(auto, using(crate::proofs::Sets::any_found, crate::proofs::Sets::any_skip))]
 pub fn any_within(spans: &[Span], from: Tenth, to: Tenth) -> bool
     requires { AreRanges spans.now }
@@ -48,6 +52,7 @@ pub fn any_within(spans: &[Span], from: Tenth, to: Tenth) -> bool
     false
 }
 
+/// Whether the first range begins below the limit.
 pub fn begins_below(spans: &[Span], limit: Tenth) -> bool
     ensures { IsTrue result ↔ BeginsBelow limit spans.now }
 {
@@ -57,7 +62,7 @@ pub fn begins_below(spans: &[Span], limit: Tenth) -> bool
     }
 }
 
-// How many of the first ranges end at the tenth or before.
+/// How many of the first ranges end at the tenth or before.
 pub fn ended_by(spans: &[Span], at: Tenth) -> usize
     ensures within { result ≤ length spans.now }
     ensures ended { AllEnd at (take result spans.now) }
@@ -72,7 +77,7 @@ pub fn ended_by(spans: &[Span], at: Tenth) -> usize
     spans.len()
 }
 
-// Whether all ranges end at the tenth or before, by the last one.
+/// Whether all ranges end at the tenth or before, by the last one.
 pub fn all_ended(spans: &[Span], at: Tenth) -> bool
     requires { AreRanges spans.now }
     ensures { IsTrue result → AllEnd at spans.now }
@@ -89,7 +94,7 @@ fn is_by(a: Tenth, b: Tenth) -> bool
     a <= b
 }
 
-// Whether there is a range at the place, and it begins at the tenth or before.
+/// Whether there is a range at the place, and it begins at the tenth or before.
 pub fn begins_by(spans: &[Span], at: usize, tenth: Tenth) -> bool
     ensures within { IsTrue result → at < length spans.now }
     ensures yes { IsTrue result → (d : Span) → (slice_index_or spans.now at d).from ≤ℤ tenth }

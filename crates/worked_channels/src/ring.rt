@@ -2,8 +2,8 @@ ghost use Rattle.worked_channels.specs.Ring.{ring, ring_laws};
 
 use colour_machine::Machine;
 
-// Three colours in a ring: each is entered from the one before it, by the letter of its number,
-// five tenths or more after that one was entered.
+/// Three colours in a ring: each is entered from the one before it, by the letter of its number,
+/// five tenths or more after that one was entered.
 pub struct Ring;
 
 impl Machine for Ring {

@@ -11,7 +11,7 @@ use span_set::SpanSet;
 use std::alloc::Global;
 use std::test::Fail;
 
-// The mark of the rows of these tests.
+/// The mark of the rows of these tests.
 #[derive(Drop)]
 pub struct Mark;
 
@@ -27,13 +27,13 @@ const YELLOW: Row = Row {
     param: 2,
 };
 
-// Green of phase 2 from 1000 to 1200.
+/// Green of phase 2 from 1000 to 1200.
 pub fn green(alloc: Global) -> Result<HourRows<Mark>, Fail> {
     let rows = HourRows::new(0, vec![in alloc; GREEN, YELLOW]?, 0).ok_or("rows")?;
     Ok(rows)
 }
 
-// The same, where the tenths from 1050 up to 1070 are blanked.
+/// The same, where the tenths from 1050 up to 1070 are blanked.
 pub fn store_with_a_hole(alloc: Global) -> Result<HourStore<Mark>, Fail> {
     let mut store = HourStore::new(alloc, 2)?;
     let rows = green(alloc)?;
@@ -56,6 +56,7 @@ fn held_rows<'a>(rows: Option<&'a [Row]>) -> &'a [Row]
     }
 }
 
+/// The rows of an hour, none where it isn't held.
 pub fn rows_of_hour<'a>(
     store: &'a HourStore<Mark>,
     hour: Hour,
@@ -67,6 +68,7 @@ pub fn rows_of_hour<'a>(
     held_rows(store.open_hour(hour, reads))
 }
 
+/// Whether the tenth is known.
 pub fn is_known(store: &HourStore<Mark>, at: u32) -> bool
     requires { at / 36000 < length store.now.hours }
     ensures { result ≡ is_known store.now at }
@@ -83,7 +85,7 @@ fn is_place(rows: &[Row], at: u32, place: Place) -> bool
     }
 }
 
-// Whether the line is of one of the rules, at a place of a known tenth.
+/// Whether the line is of one of the rules, at a place of a known tenth.
 pub fn is_line(
     rules: &[Rule],
     store: &HourStore<Mark>,

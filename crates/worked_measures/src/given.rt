@@ -32,12 +32,13 @@ pub const WHOLE: [Stretch; 1] = [Stretch {
     known: true,
 }];
 
+/// The configuration that a text gives.
 pub fn configured(alloc: Global, text: &str) -> Result<Config, Fail> {
     let config: Config = read_config(alloc, text.as_bytes())?;
     Ok(config)
 }
 
-// A channel without floors.
+/// A channel without floors.
 pub fn free(kind: Kind, number: u8) -> Spec
     ensures fit { IsSpec result }
     ensures channel { result.channel ≡ record { kind = kind; number = number } }
@@ -48,14 +49,14 @@ pub fn free(kind: Kind, number: u8) -> Spec
     }
 }
 
-// A row of phase 2 or of pedestrian signal 2.
+/// A row of phase 2 or of pedestrian signal 2.
 pub fn row(at: u32, code: u8) -> Row
     ensures { result ≡ record { at = at; code = code; param = 2 } }
 {
     Row { at, code, param: 2 }
 }
 
-// What is told of detector 5 in an hour before which nothing is known of it.
+/// What is told of detector 5 in an hour before which nothing is known of it.
 pub fn told(alloc: Global, rows: &[Row], stretches: &[Stretch]) -> Result<Switched, NoMemory> {
     let detector = Channel {
         kind: Kind::Detector,
@@ -65,7 +66,7 @@ pub fn told(alloc: Global, rows: &[Row], stretches: &[Stretch]) -> Result<Switch
     switched(alloc, detector, &before, rows, stretches)
 }
 
-// A row of detector 5.
+/// A row of detector 5.
 pub fn at_detector(at: u32, code: u8) -> Row
     ensures { result ≡ record { at = at; code = code; param = 5 } }
 {

@@ -4,11 +4,11 @@ use sigaudit::{Status, Words, run};
 use std::alloc::Global;
 use std::test::Fail;
 
-// The mark of the rows of these tests.
+/// The mark of the rows of these tests.
 #[derive(Drop)]
 pub struct Mark;
 
-// The words of a count of the file f.
+/// The words of a count of the file f.
 pub fn count_words(alloc: Global) -> Result<Words, NoMemory> {
     let mut words = Words::new(alloc);
     for word in ["--count", "f", "--signal", "7", "--hour", "2024-03-04T06"] {
@@ -17,7 +17,7 @@ pub fn count_words(alloc: Global) -> Result<Words, NoMemory> {
     Ok(words)
 }
 
-// The words of a run of the script s with the configuration c.
+/// The words of a run of the script s with the configuration c.
 pub fn run_words(alloc: Global) -> Result<Words, NoMemory> {
     let mut words = Words::new(alloc);
     for word in ["--config", "c", "--script=s"] {
@@ -26,7 +26,7 @@ pub fn run_words(alloc: Global) -> Result<Words, NoMemory> {
     Ok(words)
 }
 
-// How a run ends.
+/// How a run ends.
 pub fn end_of(
     alloc: Global,
     words: &Words,
@@ -37,7 +37,7 @@ pub fn end_of(
     run(alloc, words, shelf, sink, reads)
 }
 
-// How a run over this shelf ends, and what it writes, which is at most so long.
+/// How a run over this shelf ends, and what it writes, which is at most so long.
 pub fn ran_over(
     alloc: Global,
     words: &Words,
@@ -52,7 +52,7 @@ pub fn ran_over(
     Ok((status, text))
 }
 
-// The same over files of these names.
+/// The same over files of these names.
 pub fn ran(
     alloc: Global,
     words: &Words,
@@ -65,7 +65,7 @@ pub fn ran(
     ran_over(alloc, words, &mut shelf, 2000)
 }
 
-// How the run of a script over the files f and g ends, and what it writes.
+/// How the run of a script over the files f and g ends, and what it writes.
 pub fn script_ran(
     alloc: Global,
     config: &str,

@@ -1,5 +1,5 @@
 // How often the rows of each hour were shown.
-ghost use Rattle.std.specs.Prelude.{◌≡◌, ◌<◌, replicate, slice_index};
+ghost use Rattle.std.specs.Prelude.{◌≡◌, ◌<◌, replicate, length, slice_index};
 ghost use Rattle.sig_base.specs.Reads.{raised};
 
 use crate::Hour;
@@ -18,6 +18,8 @@ impl<L> Model for Reads<L> {
     ghost Value = { List ℕ };
 
     ghost view = { λ r. r.counts };
+
+    ghost invariant = { λ r. length r.counts ≡ 744 };
 }
 
 impl<L> Reads<L> {
@@ -34,7 +36,8 @@ impl<L> Reads<L> {
     /// How often the rows of this hour, 0 to 743, were handed out.
     pub fn count(&self, hour: Hour) -> u64
         requires { hour < 744 }
-        ensures { result ≡ slice_index self.now hour }
+        ensures value { result ≡ slice_index self.now hour }
+        ensures hours { length self.now ≡ 744 }
     {
         self.counts[hour as usize]
     }
@@ -42,7 +45,8 @@ impl<L> Reads<L> {
     /// Adds one to the count of this hour, up to the last value of a u64.
     pub fn raise(&mut self, hour: Hour)
         requires { hour < 744 }
-        ensures { self.new ≡ raised self.old hour }
+        ensures raised { self.new ≡ raised self.old hour }
+        ensures hours { length self.new ≡ 744 }
     {
         let at = hour as usize;
         self.counts[at] = self.counts[at].saturating_add(1);

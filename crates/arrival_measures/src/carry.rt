@@ -30,7 +30,7 @@ impl Model for Tenths {
 }
 
 impl Tenths {
-    /// No tenth. Takes no memory.
+    /// No tenth. Can't run out of memory.
     pub(crate) fn new(alloc: Global) -> Tenths
         ensures { result ≡ [] }
     {
@@ -71,7 +71,7 @@ pub(crate) struct Crossing {
 }
 
 impl Crossing {
-    /// Nothing. Takes no memory.
+    /// Nothing. Can't run out of memory.
     pub(crate) fn none(alloc: Global) -> Crossing
         ensures { result ≡ no_crossing }
     {

@@ -41,7 +41,7 @@ impl Model for ArrivalSums {
 }
 
 impl ArrivalSums {
-    /// The numbers of no approach. Takes no memory.
+    /// The numbers of no approach. Can't run out of memory.
     pub fn new(alloc: Global) -> ArrivalSums
         ensures { result ≡ [] }
     {

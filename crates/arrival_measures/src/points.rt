@@ -37,7 +37,7 @@ impl Model for Points {
 }
 
 impl Points {
-    /// No points. Takes no memory.
+    /// No points. Can't run out of memory.
     pub fn new(alloc: Global) -> Points
         ensures { result ≡ [] }
     {

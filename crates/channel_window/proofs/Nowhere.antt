@@ -132,13 +132,13 @@ until m sets kept xs K ys (Ok (Some n)) are h = end_of m sets kept xs K ys n are
 until m sets kept xs K ys (Err e) are h = tt
 
 pub decides : EndDecides
-decides m sets xs colour bound at ys n e c = (
+decides m sets xs keep at ys n e c = (
   (λ none. elim (cases_lt c n) [ inl lt ↦ absurd (e.least c lt none) | inr ge ↦ ge ]),
   λ le v u a k w. let (z, r) = walk_take m ys n c v u le w in e.none v z a k r,
 )
 
 pub is_letter : EndIsLetter
-is_letter m sets xs colour bound at ys n low f t o e is =
+is_letter m sets xs keep at ys n low f t o e is =
     let lt : n < length ys = let w = e.within in omega arith in
     let fits : f < t = subst (λ (y : Move). IsMove m y) is (one_fits m low n ys (Letter 0 0 0) lt o) in
     let whole : take (n + 1) ys ≡ take n ys ++ get_or ys n (Letter 0 0 0) ∷ [] = take_more ys n (Letter 0 0 0) lt in

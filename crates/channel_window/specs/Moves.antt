@@ -60,8 +60,8 @@ NoneKeepsFrom m t xs K ys = (s v u : State) → IsFreeAt m t s → Walk m xs s v
 
 -- with the end it is told of any number of first moves whether a walk that keeps the rule is left
 abbrev pub EndDecides : Type 0
-EndDecides = (m : Rules) (sets : List (List Span)) (xs : List Move) (colour : ℕ) (bound : AgeBound) (at : ℤ) (ys : List Move) (n : ℕ) → IsEnd m sets xs (KeepsColour colour bound at) ys n → (c : ℕ) → NoneKeeps m sets xs (KeepsColour colour bound at) (take c ys) ↔ (n ≤ c)
+EndDecides = (m : Rules) (sets : List (List Span)) (xs : List Move) (keep : Keep) (at : ℤ) (ys : List Move) (n : ℕ) → IsEnd m sets xs (KeepsBy keep at) ys n → (c : ℕ) → NoneKeeps m sets xs (KeepsBy keep at) (take c ys) ↔ (n ≤ c)
 
 -- the move with which none is left is a letter
 abbrev pub EndIsLetter : Type 0
-EndIsLetter = (m : Rules) (sets : List (List Span)) (xs : List Move) (colour : ℕ) (bound : AgeBound) (at : ℤ) (ys : List Move) (n low f t : ℕ) → InOrder m low ys → IsEnd m sets xs (KeepsColour colour bound at) ys (n + 1) → slice_index_or ys n (Letter 0 0 0) ≡ Gap f t → ⊥
+EndIsLetter = (m : Rules) (sets : List (List Span)) (xs : List Move) (keep : Keep) (at : ℤ) (ys : List Move) (n low f t : ℕ) → InOrder m low ys → IsEnd m sets xs (KeepsBy keep at) ys (n + 1) → slice_index_or ys n (Letter 0 0 0) ≡ Gap f t → ⊥

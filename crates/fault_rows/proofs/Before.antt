@@ -34,7 +34,7 @@ use Rattle.stop_bar.specs.Own.{detector}
 use Rattle.stop_bar.proofs.ToldAt.{place_channel}
 use Rattle.rule_audit.proofs.Tracked.{channels_are}
 use Rattle.arrival_measures.specs.Faults.{begins_fault, faulty, is_arrival, is_fault_row, is_of}
-use Rattle.fault_rows.specs.Sure.{FaultRowsAreSure, FaultyIsSure, IsInFault}
+use Rattle.fault_rows.specs.Sure.{FaultRowsAreSure, FaultyByStates, FaultyIsSure, IsInFault}
 use Rattle.fault_rows.proofs.Letters.{letter_of, other_letter, own_letter}
 use Rattle.fault_rows.proofs.Masks.{IsDetector, kind_is}
 use Rattle.fault_rows.proofs.Tenths.{tenths_told, told_on}
@@ -197,4 +197,18 @@ fault_rows_are_sure c s d i before x rest sound store has at parts on =
           | inr none ↦ free ∙ ap (λ b. not b) none
         ],
       ),
+    )
+
+-- ---- at the start of a tenth
+
+pub faulty_by_states : FaultyByStates
+faulty_by_states c s d i t before rest sound store at parts low high =
+    let log : Log = log_of c.specs s in
+    let place = is_place c.specs d i (channels_are c sound) at in
+    let spec : Spec = get_or c.specs i no_spec in
+    let (mask, is, told) = tenths_told (track_at log i) (mixed spec d place.is place.low place.high place.fits) (spec_machine spec place.fits) (spec_lettered spec) (machine spec d place.is place.low place.high) d (own spec d place.is place.low place.high) (other spec d place.is place.low place.high) log.known log.rows (window_end log) t before rest parts low high in
+    let (c, has_c, e) = told.some in
+    let (v, r, f) = (is c).0 has_c in (
+      (λ fault u reached. told.sure fault u.colour ((is u.colour).1 (u, reached, refl))),
+      λ all. sym (ap (λ n. eqb n 2) f ∙ e) ∙ eq-eqb v.colour 2 (all v r),
     )

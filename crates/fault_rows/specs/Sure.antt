@@ -3,9 +3,10 @@ use Rattle.std.specs.Prelude.{ℕ, ◌≡◌, ◌≢◌, ◌↔◌, true, List, 
 use Rattle.sig_base.specs.declared.values.Row.{Row}
 use Rattle.reach.specs.Runs.{State}
 use Rattle.board.specs.History.{events_at}
+use Rattle.board.specs.Moves.{RowsIn}
 use Rattle.hour_store.specs.Store.{IsStore, Store, is_known, known_rows}
-use Rattle.signal_log.specs.Log.{HasHistory, Log, log_of}
-use Rattle.signal_log.specs.States.{MayBeAfter}
+use Rattle.signal_log.specs.Log.{HasHistory, Log, log_of, window_end}
+use Rattle.signal_log.specs.States.{IsReached, MayBeAfter}
 use Rattle.ring_config.specs.Settings.{Settings, spec_place}
 use Rattle.ring_config.specs.Sound.{IsSound}
 use Rattle.stop_bar.specs.Own.{detector}
@@ -42,3 +43,14 @@ FaultRowsAreSure = (c : Settings) (s : Store) (d i : ℕ) (before : List Row) (x
     → spec_place c.specs (detector d) ≡ Some i → known_rows s ≡ before ++ x ∷ rest → is_on d x ≡ true
     → ((is_fault_row (is_known s) before x ≡ true) ↔ IsInFault (log_of c.specs s) i before x)
     × ((is_arrival (is_known s) before x ≡ true) ↔ MayWork (log_of c.specs s) i before x)
+
+-- each run of channel i from before the window up to tenth t that agrees leads to a fault
+abbrev pub LeadsToFault : Log → ℕ → ℕ → Type 0
+LeadsToFault log i t = (v : State) → IsReached log i t v → v.colour ≡ fault
+
+-- at the start of a tenth, as at an hour point, a detector is faulty by the known rows before it exactly where each run up to it that agrees leads to a fault
+abbrev pub FaultyByStates : Type 0
+FaultyByStates = (c : Settings) (s : Store) (d i t : ℕ) (before rest : List Row)
+    → IsSound c → IsStore s → spec_place c.specs (detector d) ≡ Some i
+    → known_rows s ≡ before ++ rest → RowsIn 0 t before → RowsIn t (window_end (log_of c.specs s)) rest
+    → (faulty (is_known s) t before d ≡ true) ↔ LeadsToFault (log_of c.specs s) i t

@@ -1,5 +1,5 @@
 // Laws: functions that do nothing, whose contracts say what holds of every log.
-ghost use Rattle.fault_rows.specs.Sure.{FaultRowsAreSure, FaultyIsSure};
+ghost use Rattle.fault_rows.specs.Sure.{FaultRowsAreSure, FaultyByStates, FaultyIsSure};
 
 /// Law: before a known row a detector is faulty exactly where it is in a fault in all histories
 /// that agree.
@@ -11,4 +11,11 @@ pub fn faulty_is_sure()
 /// that agree; the arrivals are those before which it is not in one of them.
 pub fn fault_rows_are_sure()
     ensures { FaultRowsAreSure }
+{}
+
+/// Law: at the start of a tenth, as at an hour point, a detector is faulty by the known rows before
+/// it exactly where it is in a fault in each of the states that it may have there by them. So what
+/// is kept of faults at an hour point follows from the states that are kept there.
+pub fn faulty_by_states()
+    ensures { FaultyByStates }
 {}

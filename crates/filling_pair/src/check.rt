@@ -98,8 +98,8 @@ fn check_each<L>(
 }
 
 /// Whether these are strands of the line's rule, and with them it is kept at the line's place
-/// exactly as `kept` says. It takes no memory. The line's hour is opened, and for each strand with
-/// a good start and good fills each hour of the window.
+/// exactly as `kept` says. It can't run out of memory. The line's hour is opened, and for each
+/// strand with a good start and good fills each hour of the window.
 #[tactic(auto, using(crate::proofs::Growing::grow_on, crate::proofs::Growing::grow_same))]
 pub fn check_strands<L>(
     config: &Config,

@@ -30,7 +30,7 @@ impl Model for Fills {
 }
 
 impl Fills {
-    /// No fills. It takes no memory.
+    /// No fills. It can't run out of memory.
     pub fn new(alloc: Global) -> Fills
         ensures { result ≡ [] }
     {
@@ -84,7 +84,7 @@ impl Model for Strands {
 }
 
 impl Strands {
-    /// No strands. It takes no memory.
+    /// No strands. It can't run out of memory.
     pub fn new(alloc: Global) -> Strands
         ensures { result ≡ [] }
     {
@@ -133,7 +133,7 @@ impl Model for Pairs {
 }
 
 impl Pairs {
-    /// No pairs. It takes no memory.
+    /// No pairs. It can't run out of memory.
     pub fn new(alloc: Global) -> Pairs
         ensures { result ≡ [] }
     {

@@ -65,8 +65,8 @@ fn any_repeat(hour: Hour, rows: &[Row]) -> bool
 }
 
 /// Whether a row of this hour is a repeat: the last row of its group before it at its tenth has its
-/// code and parameter. It takes no memory. The time is that of a pass over the rows, and for each
-/// row over those of its tenth before it.
+/// code and parameter. It can't run out of memory. The time is that of a pass over the rows, and for
+/// each row over those of its tenth before it.
 pub fn has_repeat<L>(rows: &HourRows<L>, reads: &mut Reads<L>) -> bool
     ensures value { IsTrue result ↔ HasRepeat rows.now.rows }
     ensures none { (result ≡ false) ↔ HasNoRepeat [] rows.now.rows }

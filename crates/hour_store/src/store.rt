@@ -117,7 +117,7 @@ impl<L> HourStore<L> {
         }
     }
 
-    /// Holds these rows for their hour, and answers what was held of it. It takes no memory.
+    /// Holds these rows for their hour, and answers what was held of it. It can't run out of memory.
     pub fn put(&mut self, rows: HourRows<L>) -> Option<HourRows<L>>
         requires { rows.hour < length self.old.hours }
         ensures store { self.new ≡ with_hour self.old rows.hour (Some rows) }
@@ -130,7 +130,7 @@ impl<L> HourStore<L> {
         mem::replace(&mut self.hours[hour], Some(rows))
     }
 
-    /// Holds nothing for an hour, and answers what was held of it. It takes no memory.
+    /// Holds nothing for an hour, and answers what was held of it. It can't run out of memory.
     pub fn take(&mut self, hour: Hour) -> Option<HourRows<L>>
         requires { hour < length self.old.hours }
         ensures store { self.new ≡ with_hour self.old hour None }
@@ -142,7 +142,8 @@ impl<L> HourStore<L> {
         mem::replace(&mut self.hours[hour], None)
     }
 
-    /// Blanks these tenths and no others, and answers those that were blanked. It takes no memory.
+    /// Blanks these tenths and no others, and answers those that were blanked. It can't run out of
+    /// memory.
     pub fn set_blanks(&mut self, blanks: SpanSet) -> SpanSet
         requires within { LieWithin (length self.old.hours) blanks }
         ensures store { self.new ≡ with_blanks self.old blanks }

@@ -17,7 +17,7 @@ pub fn pick<'a, T>(own: &'a [T], from: usize, fresh: &'a [T], place: usize) -> &
     &own[place]
 }
 
-/// Exchanges as many elements of the list from a place on for these. Takes no memory.
+/// Exchanges as many elements of the list from a place on for these. Can't run out of memory.
 pub fn put_in<T>(own: &mut Vec<T>, from: usize, fresh: &mut [T])
     requires { from + length fresh.old ≤ length own.old.items }
     ensures { own.new.items ≡ patched own.old.items from fresh.old }

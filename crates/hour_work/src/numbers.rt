@@ -42,7 +42,7 @@ impl Model for Partial {
 }
 
 impl Partial {
-    /// The sums over no hours. Takes no memory.
+    /// The sums over no hours. Can't run out of memory.
     pub fn nothing(alloc: Global) -> Partial
         ensures sums { IsTotal [] result }
         ensures small { FitHours 1 result }

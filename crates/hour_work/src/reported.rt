@@ -97,7 +97,7 @@ impl Report {
     }
 
     /// Exchanges the numbers of as many hours from this one on for these, with the sums that they
-    /// change. Takes no memory.
+    /// change. Can't run out of memory.
     pub fn exchange(&mut self, from: usize, parts: &mut [Partial], sums: Sums)
         requires within { from + length parts.old ≤ length self.old }
         requires small { All (FitHours 1) parts.old }

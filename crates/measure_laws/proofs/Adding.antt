@@ -43,6 +43,7 @@ use Rattle.arrival_measures.specs.Hours.{AreArrivals, HasArrivals, counts_in, du
 use Rattle.hour_work.specs.Rows.{earlier_rows, own_rows}
 use Rattle.hour_work.specs.Measures.{MayBeIn}
 use Rattle.hour_work.proofs.OneLaws.{end_state}
+use Rattle.measure_laws.proofs.Totals.{few_upto}
 use Rattle.measure_laws.specs.Sums.{AddsUp, AreCountable, ArrivalsAddUp, SplitsAddUp, SumsKeepAddingUp, all_verdicts}
 
 -- ---- services
@@ -209,7 +210,8 @@ no_approach : Approach
 no_approach = record { name = []; phase = 0; advance = None; stop_bar = None; travel = 0; high = record { num = 0; den = 0 } }
 
 pub arrivals_add_up : ArrivalsAddUp
-arrivals_add_up c s hour sums i d has few are lt =
+arrivals_add_up c s hour sums i d store within has are lt =
+    let few = few_upto s hour store within in
     let here = are.each i no_approach d lt in
     let a = get_or c.approaches i no_approach in
     approach_adds c s hour has few a a.advance (get_or sums i d) here.arrivals

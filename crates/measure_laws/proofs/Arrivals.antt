@@ -254,14 +254,14 @@ module _ (c : Settings) (s : Store) where
     arrivals : HaveUpto n a sum a.advance
     actuations : HaveActedUpto n a sum a.stop_bar
 
-  module _ (store : IsStore s) (size : length s.hours ≡ c.window.hours) (few_all : AreCountable (known_rows s)) where
+  module _ (store : IsStore s) (size : length s.hours ≡ c.window.hours) where
     first_arrivals : (a : Approach) (p : ArrivalSum) (o : Option ℕ) → HasArrivals (MayBeIn c s) (is_known s) c a (earlier_rows s 0) (own_rows s 0) 0 p o → HaveUpto 1 a p o
     first_arrivals a p None is = is
     first_arrivals a p (Some d) is =
         let some = store.some in
         let lt : 0 < length s.hours = omega arith in
         let v = a.travel in
-        let part = part_numbers c s 0 store size lt a d p (few_upto s 0 store lt few_all) is in
+        let part = part_numbers c s 0 store size lt a d p (few_upto s 0 store lt) is in
         let due_is : due c s 0 store size lt d v ≡ upto c s d v 1 = sym (upto_more c s 0 store size lt d v ∙ ap (λ zs. zs ++ due c s 0 store size lt d v) (none_first (is_known s) d v (point 0) (nat_le c.window.hours 0))) in
         let faults : ons_of d (faults_from (is_known s) [] (own_rows s 0)) ≡ ons_of d (faults_from (is_known s) [] (earlier_rows s 1)) = ap (λ rs. ons_of d (faults_from (is_known s) [] rs)) (sym (more_rows s 0 lt)) in
         subst (λ zs. AreNumbersOf c s a zs (ons_of d (faults_from (is_known s) [] (earlier_rows s 1))) p) due_is (subst (λ fs. AreNumbersOf c s a (due c s 0 store size lt d v) fs p) faults part)
@@ -277,7 +277,7 @@ module _ (c : Settings) (s : Store) where
     )
     more_arrivals n lt a t p (Some d) so is =
         let v = a.travel in
-        let few = few_upto s n store lt few_all in
+        let few = few_upto s n store lt in
         let old = earlier_rows s n in
         let own = own_rows s n in
         let test = is_fault_row (is_known s) in
@@ -321,7 +321,7 @@ module _ (c : Settings) (s : Store) where
       none_both t.red_fault p.red_fault so.4 is.4,
     )
     more_acted n lt a t p (Some d) so is =
-        subst (λ rs. AreActuations (MayBeIn c s) (is_known s) c a d [] rs (added t p)) (sym (more_rows s n lt)) (acted_both a d (earlier_rows s n) (own_rows s n) t p (few_upto s n store lt few_all) so is)
+        subst (λ rs. AreActuations (MayBeIn c s) (is_known s) c a d [] rs (added t p)) (sym (more_rows s n lt)) (acted_both a d (earlier_rows s n) (own_rows s n) t p (few_upto s n store lt) so is)
 
     first_upto : (a : Approach) (p : ArrivalSum) → HasJudged (MayBeIn c s) (is_known s) c (earlier_rows s 0) (own_rows s 0) 0 a p → AreUpto 1 a p
     first_upto a p is =
@@ -355,15 +355,15 @@ module _ (c : Settings) (s : Store) where
     }
 
 pub arrival_totals : ArrivalTotals
-arrival_totals c s all store size few is =
+arrival_totals c s all store size is =
     let Part : ℕ → Approach → ArrivalSum → Type 0 = λ n a p. HasJudged (MayBeIn c s) (is_known s) c (earlier_rows s n) (own_rows s n) n a p in
     let Total : ℕ → Approach → ArrivalSum → Type 0 = λ n a t. AreUpto c s n a t in
     let same = is.size in
     let some = store.some in
     let whole_log = all_total added (λ (n : Numbers). n.arrivals) refl (λ x y. refl) Part Total c.approaches all
     (λ n d lt. let here = (is.each n d (omega arith)).measures.judged in each_of_places (Part n) c.approaches (get_or all n d).arrivals here.size here.each)
-    (λ a p one. first_upto c s store size few a p one)
-    (λ n lt a t p so one. more_upto c s store size few n (omega arith) a t p so one)
+    (λ a p one. first_upto c s store size a p one)
+    (λ n lt a t p so one. more_upto c s store size n (omega arith) a t p so one)
     (omega arith) in
     let last = subst (λ (n : ℕ). Each (Total n) c.approaches (total_of all).arrivals) same whole_log in
-    each_as (Total (length s.hours)) (AreTotalsOf c s) c.approaches (total_of all).arrivals (λ a t so. at_end c s store size few a t so) last
+    each_as (Total (length s.hours)) (AreTotalsOf c s) c.approaches (total_of all).arrivals (λ a t so. at_end c s store size a t so) last

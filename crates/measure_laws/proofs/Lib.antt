@@ -1,5 +1,5 @@
-pub mod Adding
 pub mod Totals
+pub mod Adding
 pub mod Splits
 pub mod Arrivals
 pub mod OpenGreen

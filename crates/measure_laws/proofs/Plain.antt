@@ -7,13 +7,12 @@ use Rattle.std.proofs.lemmas.List.{get_or-map, length-map}
 use Rattle.std.proofs.lemmas.List.Elements.{All-cons, All-filter, All-head, All-nil, All-tail, All-weaker, filter_passes}
 use Rattle.std.proofs.lemmas.List.Filters.{length-filter_both}
 use Rattle.std.proofs.lemmas.List.Sums.{count_by-le-length, sum-map, sum_by-append, sum_by-cons, sum_by-le}
-use Rattle.sig_base.specs.HourRows.{Shown}
 use Rattle.sig_base.specs.declared.values.Frac.{Frac}
 use Rattle.sig_base.specs.declared.values.Row.{Row}
 use Rattle.sig_base.specs.Numbers.{has_number, has_phase}
 use Rattle.board.specs.Logs.{end_tenth, first_tenth}
 use Rattle.signal_log.specs.Log.{Log, log_of, window_end}
-use Rattle.hour_store.specs.Store.{IsStore, Store, is_known, known_rows, rows_of}
+use Rattle.hour_store.specs.Store.{IsStore, Store, is_known, known_rows}
 use Rattle.hour_sums.specs.Numbers.{by_number, capped, one_if, own}
 use Rattle.hour_sweep.specs.Hours.{AreOrdered, point}
 use Rattle.hour_sweep.specs.Numbers.{given, outs_from}
@@ -70,13 +69,12 @@ use Rattle.hour_work.specs.Reports.{IsReport}
 use Rattle.hour_work.proofs.Totals.{log_total}
 use Rattle.hour_work.proofs.WholeLog.{all_rows, earlier_ordered, hour_within, own_ordered}
 use Rattle.measure_laws.specs.Plain.{ArePlain, ArePlainCycles, ArePlainVerdicts, HasPlainRows, HavePlainActuations, HavePlainArrivals, HavePlainCycles, HavePlainVerdicts, IsPlainHour, IsPlainPed, IsPlainPhase, IsPlainPreempt, IsPlainTotal, SumsArePlain, no_verdicts}
-use Rattle.measure_laws.specs.Sums.{AreCountable}
 use Rattle.measure_laws.specs.Totals.{AreTotalsOf, HaveTotals, IsApproachTotal}
 use Rattle.measure_laws.proofs.Adding.{all_few, arrivals_few, cons_few, open_few, outs_few, two_few}
 use Rattle.measure_laws.proofs.States.{state_totals}
 use Rattle.measure_laws.proofs.Arrivals.{arrival_totals, ons_few}
 use Rattle.measure_laws.proofs.Splits.{split_totals}
-use Rattle.measure_laws.proofs.Totals.{each_as as each_of, each_of_places}
+use Rattle.measure_laws.proofs.Totals.{each_as as each_of, each_of_places, known_few}
 
 -- ---- how many rows a store has, and at which tenths
 
@@ -88,22 +86,6 @@ record IsPart (before rows : List Row) : Type 0 where
   earlier : AreOrdered 0 from before
   own : AreOrdered from to rows
   few : length (before ++ rows) ≤ 297600000
-
-rows_few : (hours : List (Option Shown)) → ((j : ℕ) (h : Shown) → get_or hours j None ≡ Some h → length h.rows ≤ 400000) → length (rows_of hours) ≤ 400000 * length hours
-rows_few [] f = omega arith
-rows_few (None ∷ hs) f = let rest = rows_few hs (λ j h e. f (suc j) h e) in omega (arith, rest)
-rows_few (Some h ∷ hs) f =
-    let rest = rows_few hs (λ j x e. f (suc j) x e) in
-    let one = f 0 h refl in
-    let both = length-append h.rows (rows_of hs) in
-    omega (arith, rest, one, both)
-
-known_few : (s : Store) → IsStore s → length (known_rows s) ≤ 297600000
-known_few s store =
-    let all = rows_few s.hours (λ j h e. (store.in_place j h e).rows_are.few) in
-    let kept = length_filter (λ (r : Row). is_known s r.at) (rows_of s.hours) in
-    let most = store.few in
-    omega (arith, all, kept, most)
 
 hour_part : (s : Store) (hour : ℕ) → IsStore s → hour < length s.hours → IsPart (earlier_rows s hour) (own_rows s hour)
 hour_part s hour store lt =
@@ -573,10 +555,8 @@ total_plain : (c : Settings) (s : Store) (all : List Numbers) → IsStore s → 
 total_plain c s all store size is =
     let total = log_total c s all store is in
     let part = log_part s store in
-    let low = known_few s store in
-    let few : AreCountable (known_rows s) = omega (arith, low) in
     let n = total_of all in
-    let arrived = arrival_totals c s all store size few is in
+    let arrived = arrival_totals c s all store size is in
     record {
       all = part_plain c s [] (known_rows s) n part total.splits total.others total.arrivals
           (each_of (AreTotalsOf c s) (λ a x. HavePlainActuations c s [] (known_rows s) a x a.stop_bar) c.approaches n.arrivals (λ a x so. acted_plain c s [] (known_rows s) a x a.stop_bar part so.actuations) arrived);

@@ -1,13 +1,15 @@
 -- The sums over the hours of a report, approach by approach.
-use Rattle.std.proofs.Common.{◌≡◌, ◌∙◌, refl, ap, sym, subst, ℕ, zero, suc, ◌<◌, Bool, true, List, [], ◌∷◌, ◌++◌, length, take, get_or, length-append, arith}
+use Rattle.std.proofs.Common.{◌≡◌, ◌∙◌, refl, ap, sym, subst, ℕ, zero, suc, ◌+◌, ◌*◌, ◌<◌, ◌≤◌, Bool, true, Option, Some, None, List, [], ◌∷◌, ◌++◌, length, take, get_or, length-append, arith}
 use Rattle.std.specs.Prelude.{All}
 use Rattle.std.specs.List.{filter}
 use Rattle.std.proofs.lemmas.List.{take_all}
 use Rattle.std.proofs.lemmas.List.Elements.{All-head, All-tail}
+use Rattle.sig_base.specs.HourRows.{Shown}
 use Rattle.sig_base.specs.declared.values.Row.{Row}
-use Rattle.hour_store.specs.Store.{IsStore, Store, known_rows}
+use Rattle.hour_store.specs.Store.{IsStore, Store, is_known, known_rows, rows_of}
 use Rattle.hour_sums.specs.Numbers.{merged}
 use Rattle.ring_config.specs.declared.items.Approach.{Approach}
+use Rattle.ring_config.proofs.SpecLaws.{length_filter}
 use Rattle.stop_bar.specs.Lists.{Each}
 use Rattle.hour_work.specs.Numbers.{Numbers, numbers_sum, total_of}
 use Rattle.hour_work.specs.Rows.{earlier_rows, own_rows}
@@ -79,13 +81,30 @@ module _ {S : Type 0} (put : S → S → S) (of : Numbers → List S) (none : of
   pub all_total : 0 < length all → Each (Total (length all)) xs (of (total_of all))
   all_total some = all_sums (λ n t. Each (Total n) xs (of t)) all first_sum more_sum some
 
--- ---- the rows up to an hour's end are no more than all
+-- ---- the rows of a store, and those up to an hour's end, are fewer than a count has numbers
 
-pub few_upto : (s : Store) (hour : ℕ) → IsStore s → hour < length s.hours → AreCountable (known_rows s) → AreCountable (earlier_rows s hour ++ own_rows s hour)
-few_upto s hour store lt few =
+rows_few : (hours : List (Option Shown)) → ((j : ℕ) (h : Shown) → get_or hours j None ≡ Some h → length h.rows ≤ 400000) → length (rows_of hours) ≤ 400000 * length hours
+rows_few [] f = omega arith
+rows_few (None ∷ hs) f = let rest = rows_few hs (λ j h e. f (suc j) h e) in omega (arith, rest)
+rows_few (Some h ∷ hs) f =
+    let rest = rows_few hs (λ j x e. f (suc j) x e) in
+    let one = f 0 h refl in
+    let both = length-append h.rows (rows_of hs) in
+    omega (arith, rest, one, both)
+
+pub known_few : (s : Store) → IsStore s → length (known_rows s) ≤ 297600000
+known_few s store =
+    let all = rows_few s.hours (λ j h e. (store.in_place j h e).rows_are.few) in
+    let kept = length_filter (λ (r : Row). is_known s r.at) (rows_of s.hours) in
+    let most = store.few in
+    omega (arith, all, kept, most)
+
+pub few_upto : (s : Store) (hour : ℕ) → IsStore s → hour < length s.hours → AreCountable (earlier_rows s hour ++ own_rows s hour)
+few_upto s hour store lt =
     let w = hour_within s hour store lt in
     let a = length-append (earlier_rows s hour) (own_rows s hour ++ w.later) in
     let b = length-append (own_rows s hour) w.later in
     let c = length-append (earlier_rows s hour) (own_rows s hour) in
     let e = ap (λ (rs : List Row). length rs) w.parts in
+    let few = known_few s store in
     omega (arith, a, b, c, e, few)

@@ -2,7 +2,7 @@
 use Rattle.std.specs.Prelude.{ℕ, ◌≡◌, ◌+◌, ◌^◌, ◌<◌, ◌++◌, List, length, slice_index_or}
 use Rattle.sig_base.specs.declared.values.Row.{Row}
 use Rattle.board.specs.Logs.{end_tenth, first_tenth}
-use Rattle.hour_store.specs.Store.{Store, is_known}
+use Rattle.hour_store.specs.Store.{IsStore, Store, is_known}
 use Rattle.signal_log.specs.Log.{HasHistory, Log, log_of}
 use Rattle.ring_config.specs.Settings.{Settings}
 use Rattle.stop_bar.specs.declared.bars.StopBar.{StopBar}
@@ -27,6 +27,7 @@ services_counted log c b hour upto = let all = services_upto log.known c.phases 
 abbrev pub AreCountable : List Row → Type 0
 AreCountable rows = length rows < 2 ^ 64
 
+-- the verdicts of a sum of services are as many as the services that count, where there are fewer rows than a count has numbers
 abbrev pub SplitsAddUp : Type 0
 SplitsAddUp = (log : Log) (c : Settings) (i : ℕ) (b : StopBar) (hour : ℕ) (upto : List Row) (sum : SplitSum) → AreCountable upto → IsSplitSum log c i b hour upto sum → all_verdicts sum ≡ services_counted log c b hour upto
 
@@ -34,8 +35,9 @@ SplitsAddUp = (log : Log) (c : Settings) (i : ℕ) (b : StopBar) (hour : ℕ) (u
 abbrev pub AddsUp : ArrivalSum → Type 0
 AddsUp a = a.arrivals ≡ a.green + a.not_green + a.undecided + a.unseen
 
+-- the arrivals of each approach in an hour are those of each verdict, and those that are unseen
 abbrev pub ArrivalsAddUp : Type 0
-ArrivalsAddUp = (c : Settings) (s : Store) (hour : ℕ) (sums : List ArrivalSum) (i : ℕ) (d : ArrivalSum) → HasHistory (log_of c.specs s) → AreCountable (earlier_rows s hour ++ own_rows s hour) → AreAllJudged (MayBeIn c s) (is_known s) c (earlier_rows s hour) (own_rows s hour) hour sums → i < length c.approaches → AddsUp (slice_index_or sums i d)
+ArrivalsAddUp = (c : Settings) (s : Store) (hour : ℕ) (sums : List ArrivalSum) (i : ℕ) (d : ArrivalSum) → IsStore s → hour < length s.hours → HasHistory (log_of c.specs s) → AreAllJudged (MayBeIn c s) (is_known s) c (earlier_rows s hour) (own_rows s hour) hour sums → i < length c.approaches → AddsUp (slice_index_or sums i d)
 
 -- as long as no count is at its end
 abbrev pub SumsKeepAddingUp : Type 0

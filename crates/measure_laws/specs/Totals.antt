@@ -28,7 +28,6 @@ use Rattle.hour_work.specs.Numbers.{Numbers, total_of}
 use Rattle.hour_work.specs.Measures.{MayBeIn, over_hours}
 use Rattle.hour_work.specs.Reports.{IsReport}
 use Rattle.hour_work.specs.Verdicts.{AreAuditLines}
-use Rattle.measure_laws.specs.Sums.{AreCountable}
 
 -- ---- services at stop bars
 
@@ -68,7 +67,7 @@ pub record AreTotalsOf (c : Settings) (s : Store) (a : Approach) (sum : ArrivalS
 
 -- the totals of the approaches, in file order, are those of the whole store
 abbrev pub ArrivalTotals : Type 0
-ArrivalTotals = (c : Settings) (s : Store) (all : List Numbers) → IsStore s → length s.hours ≡ c.window.hours → AreCountable (known_rows s) → IsReport c s all → Each (AreTotalsOf c s) c.approaches (total_of all).arrivals
+ArrivalTotals = (c : Settings) (s : Store) (all : List Numbers) → IsStore s → length s.hours ≡ c.window.hours → IsReport c s all → Each (AreTotalsOf c s) c.approaches (total_of all).arrivals
 
 -- ---- rules
 

@@ -32,8 +32,8 @@ pub fn split_totals_are_of_the_log()
 {}
 
 /// Law: the totals of a report of arrivals and actuations are those of the whole log, approach by
-/// approach, where it has fewer than 2^64 known rows: all its arrivals, judged where their arrival
-/// tenths are known and unseen where they aren't, all its actuations, and its fault rows.
+/// approach: all its arrivals, judged where their arrival tenths are known and unseen where they
+/// aren't, all its actuations, and its fault rows.
 pub fn arrival_totals_are_of_the_log()
     ensures { ArrivalTotals }
 {}

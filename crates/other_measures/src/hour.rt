@@ -51,7 +51,7 @@ impl Model for OtherSums {
 }
 
 impl OtherSums {
-    /// The numbers of nothing. Takes no memory.
+    /// The numbers of nothing. Can't run out of memory.
     pub fn new(alloc: Global) -> OtherSums
         ensures { result ≡ no_numbers }
     {

@@ -44,7 +44,7 @@ impl Ahead {
         Ahead { latest, colours }
     }
 
-    /// An equal value. It takes no memory.
+    /// An equal value. It can't run out of memory.
     pub fn copy(&self) -> Ahead
         ensures { result ≡ self.now }
     {

@@ -61,7 +61,7 @@ impl Past {
         })
     }
 
-    /// An equal value. It takes no memory where only one state is kept.
+    /// An equal value.
     pub fn copy(&self) -> Result<Past, NoMemory>
         ensures { IfOk result (λ p. p ≡ self.now) }
     {
@@ -95,7 +95,8 @@ impl Past {
     }
 
     /// Makes the entries before the tenth `point` - 36,001 that tenth: at the point all of them are
-    /// older than an hour, which no floor and no bound of an age tells apart. It takes no memory.
+    /// older than an hour, which no floor and no bound of an age tells apart. It can't run out of
+    /// memory.
     pub fn clamp(&mut self, point: Tenth)
         requires low { negsuc (2 ^ 39) ≤ℤ point }
         requires high { point ≤ℤ pos (2 ^ 39) }

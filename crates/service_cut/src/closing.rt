@@ -25,7 +25,7 @@ impl Model for Closing {
 }
 
 impl Closing {
-    /// Those at the window's start: none. Takes no memory.
+    /// Those at the window's start: none. Can't run out of memory.
     pub fn start(alloc: Global) -> Closing
         ensures { result ≡ [] }
     {

@@ -38,7 +38,7 @@ impl Model for SpanSet {
 }
 
 impl SpanSet {
-    /// The empty set. It takes no memory.
+    /// The empty set. It can't run out of memory.
     pub fn new(alloc: Global) -> SpanSet
         ensures { result ≡ [] }
     {
@@ -124,7 +124,7 @@ impl SpanSet {
         search::are_equal(&self.spans, &other.spans)
     }
 
-    /// Takes out all members from the tenth on. It takes no memory.
+    /// Takes out all members from the tenth on. It can't run out of memory.
     #[tactic(auto, using(crate::proofs::Cutting::keep_above, crate::proofs::Cutting::keep_members))]
     pub fn cut_from(&mut self, from: Tenth)
         ensures members { (e : ℤ) → Member self.new e ↔ (Member self.old e × (e <ℤ from)) }
@@ -141,7 +141,7 @@ impl SpanSet {
         self.spans.clear();
     }
 
-    /// Puts the limit in place of all members below it. It takes no memory.
+    /// Puts the limit in place of all members below it. It can't run out of memory.
     pub fn clamp_below(&mut self, limit: Tenth)
         requires low { negsuc (2 ^ 40) <ℤ limit }
         requires high { limit ≤ℤ pos (2 ^ 40) }

@@ -34,7 +34,7 @@ impl Model for SplitSums {
 }
 
 impl SplitSums {
-    /// The numbers of no phase and no approach. Takes no memory.
+    /// The numbers of no phase and no approach. Can't run out of memory.
     pub fn new(alloc: Global) -> SplitSums
         ensures { result ≡ no_splits }
     {

@@ -28,7 +28,7 @@ impl Model for AtBar {
 }
 
 impl AtBar {
-    /// What crosses the window's start: nothing. Takes no memory.
+    /// What crosses the window's start: nothing. Can't run out of memory.
     pub fn start(alloc: Global) -> AtBar
         ensures { (log : Log) (i p : ℕ) (phases : List PhaseItem)
             → IsAtBar log i phases p [] 0 result }

@@ -24,7 +24,7 @@ impl Model for OwnRows {
 }
 
 impl OwnRows {
-    // None. Takes no memory.
+    // None. Can't run out of memory.
     fn new(alloc: Global) -> OwnRows
         ensures { result ≡ [] }
     {

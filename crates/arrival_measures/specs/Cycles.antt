@@ -5,6 +5,7 @@ use Rattle.hour_sums.specs.Numbers.{capped}
 use Rattle.service_cut.specs.declared.items.Cycle.{Cycle}
 use Rattle.cycle_arrivals.specs.Green.{arrivals_in, green_arrivals_in, green_tenths_in}
 
+-- how many tenths a cycle lasts
 abbrev pub cycle_tenths : Cycle → ℕ
 cycle_tenths c = c.to - c.from
 

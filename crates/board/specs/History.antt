@@ -13,6 +13,7 @@ pub record Event : Type 0 where
 abbrev pub IsEvent : Event → Type 0
 IsEvent a = (a.code < 256) × (a.param < 65536)
 
+-- each of these is an event that a log could have
 abbrev pub AreEvents : List Event → Type 0
 AreEvents [] = Unit {0}
 AreEvents (a ∷ acts) = IsEvent a × AreEvents acts
@@ -22,6 +23,7 @@ pub record Track : Type 0 where
   pub rules : Rules
   pub letter : ℕ → ℕ → Option ℕ
 
+-- a letter in front of others, where there is one
 abbrev pub put : Option ℕ → List ℕ → List ℕ
 put None ls = ls
 put (Some l) ls = l ∷ ls
@@ -31,6 +33,7 @@ abbrev pub letters : Track → List Event → List ℕ
 letters k [] = []
 letters k (a ∷ acts) = put (k.letter a.code a.param) (letters k acts)
 
+-- the event that a row logs: its code and its parameter
 abbrev pub event_of : Row → Event
 event_of r = record { code = r.code; param = r.param }
 
@@ -54,6 +57,7 @@ pub record History : Type 0 where
   pub starts : List State
   pub events : List (List Event)
 
+-- the state with which channel i comes into a history
 abbrev pub start_of : History → ℕ → State
 start_of h i = slice_index_or h.starts i (state 0 (pos 0))
 

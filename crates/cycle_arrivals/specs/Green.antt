@@ -6,13 +6,15 @@ use Rattle.std.specs.Prelude.{ℕ, zero, suc, ◌+◌, ◌-◌, ◌==◌, Bool, 
 use Rattle.sig_base.specs.declared.values.Row.{Row}
 use Rattle.cycle_arrivals.specs.Arrivals.{is_on, ons_of, rows_within}
 
--- the row is of phase p and begins green, with code 1; it ends it, with code 7 or 8
+-- the row begins the green of phase p: code 1
 abbrev pub begins_green : ℕ → Row → Bool
 begins_green p x = x.param == p && x.code == 1
 
+-- the row ends the green of phase p: code 7 or 8
 abbrev pub ends_green : ℕ → Row → Bool
 ends_green p x = x.param == p && (x.code == 7 || x.code == 8)
 
+-- whether the phase is green after a row, where it was or wasn't before
 abbrev pub green_after : ℕ → Row → Bool → Bool
 green_after p x g = if begins_green p x then true else (if ends_green p x then false else g)
 

@@ -19,6 +19,7 @@ use Rattle.signal_log.specs.Rows.{rows_before}
 
 -- ---- less of a log
 
+-- tenth t is one of those from u to v, both among them
 abbrev pub is_from_to : ℕ → ℕ → ℕ → Bool
 is_from_to u v t = not (nat_lt t u) && not (nat_lt v t)
 

@@ -14,6 +14,7 @@ pub record Line : Type 0 where
   pub least : ℕ
   pub most : ℕ
 
+-- a line of the table by its four parts
 abbrev pub line : Kind → List ℕ → ℕ → ℕ → Line
 line kind cs least most = record { kind = kind; codes_of = cs; least = least; most = most }
 

@@ -85,10 +85,11 @@ pub record IsLineOf (s : Store) (rules : List Rule) (line : AuditLine) : Type 0 
 abbrev pub StandsAtLine : List Spec → Store → AuditLine → Strand → State → Type 0
 StandsAtLine specs s line z v = StandsAt (log_of specs s) (line_rows s line) line.at line.place z v
 
--- with the strand, and with one of the strands, the rule is kept at the line's place, where these are the rows of its hour
+-- with the strand the rule is kept at the line's place, where these are the rows of its hour
 abbrev pub KeepsLine : List Spec → Store → List Row → AuditLine → Rule → Strand → Type 0
 KeepsLine specs s rows line rule z = KeepsAt (log_of specs s) rows line.at line.place rule z
 
+-- with one of the strands the rule is kept at the line's place
 abbrev pub KeepLine : List Spec → Store → List Row → AuditLine → Rule → List Strand → Type 0
 KeepLine specs s rows line rule ss = AreKept (log_of specs s) rows line.at line.place rule ss
 

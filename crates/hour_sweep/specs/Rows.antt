@@ -2,6 +2,7 @@
 use Rattle.std.specs.Prelude.{ℕ, zero, suc, nat_le, Bool, true, false, if◌then◌else◌, List, [], ◌∷◌, Option, Some, None, option_map, filter}
 use Rattle.sig_base.specs.declared.values.Row.{Row}
 
+-- the last find of the rest of a list, or else this element with the rest, where it passes
 abbrev pub kept_last : {X : Type 0} → Option (X × List X) → Bool → X → List X → Option (X × List X)
 kept_last (Some found) b x xs = Some found
 kept_last None true x xs = Some (x, xs)

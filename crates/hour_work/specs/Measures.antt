@@ -23,10 +23,11 @@ use Rattle.board.specs.Channels.{AreSpecs}
 use Rattle.arrival_measures.specs.Judged.{phase_channel}
 use Rattle.cycle_arrivals.specs.Green.{shows_green}
 
--- the whole services, and the whole cycles, whose last row is in the hour
+-- the whole services whose last row is in the hour
 abbrev pub services_in : Settings → Store → ℕ → List Service
 services_in c s hour = services_from (is_known s) c.phases (earlier_rows s hour) (own_rows s hour)
 
+-- the whole cycles whose last row is in the hour
 abbrev pub cycles_in : Settings → Store → ℕ → List Cycle
 cycles_in c s hour = cycles_from (is_known s) c.phases (earlier_rows s hour) (own_rows s hour)
 

@@ -43,7 +43,7 @@ pub record FitPoint (c : Settings) (k : ℕ) (carry : Carried) : Type 0 where
   pub shape : AreBefore c.specs carry.pasts
   pub early : AllEarly (first_tenth k) carry.pasts
 
--- what is under way of phases at point k of a store, at stop bars, of arrivals, and of pedestrian signals and preempts
+-- what is under way of phases at point k of a store: services, yellows and cycles
 abbrev pub AreCutsAt : Settings → Store → ℕ → List (Option Part) → Type 0
 AreCutsAt c s k cuts = IsCut (is_known s) c.phases (earlier_rows s k) k cuts
 
@@ -51,12 +51,15 @@ AreCutsAt c s k cuts = IsCut (is_known s) c.phases (earlier_rows s k) k cuts
 abbrev pub AreClosingAt : Settings → Store → ℕ → List Served → Type 0
 AreClosingAt c s k closing = closing ≡ closing_at (first_tenth k) (served_from (is_known s) c.phases [] (earlier_rows s k))
 
+-- what is under way at the stop bars: the open greens and the red windows that aren't over, with how long the detectors were on in them
 abbrev pub AreBarsAt : Settings → Store → ℕ → List AtBar → Type 0
 AreBarsAt c s k splits = AreAtBars (log_of c.specs s) c (earlier_rows s k) k splits
 
+-- what is under way of the arrivals of approaches: the cycles so far, the vehicles still to come and the detectors in a fault
 abbrev pub AreOpenAt : Settings → Store → ℕ → CarryParts → Type 0
 AreOpenAt c s k arrivals = AreOpen (is_known s) c (earlier_rows s k) k arrivals
 
+-- what is under way of pedestrian signals and preempts: waiting calls, and services
 abbrev pub AreCrossingAt : Settings → Store → ℕ → Crossing → Type 0
 AreCrossingAt c s k others = IsCrossing (is_known s) c (earlier_rows s k) k others
 

@@ -20,10 +20,11 @@ abbrev pub places : List ℕ → ℕ
 places [] = 0
 places (n ∷ ns) = max (n + 1) (places ns)
 
--- the parts of all pedestrian signals, and of all preempts, each at the place of its number
+-- what is under way of all pedestrian signals, each at the place of its number
 abbrev pub peds_of : (ℕ → Bool) → ℕ → Settings → List Row → List (Option PedPart)
 peds_of known t c before = table (has_number c.peds) (places c.peds) (ped_of known t before)
 
+-- what is under way of all preempts, each at the place of its number
 abbrev pub preempts_of : (ℕ → Bool) → ℕ → Settings → List Row → List (Option PreemptPart)
 preempts_of known t c before = table (has_number c.preempts) (places c.preempts) (preempt_of known t before)
 

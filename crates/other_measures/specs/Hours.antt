@@ -37,13 +37,15 @@ code_after s x = record s { count = if x.code == s.code then capped (s.count + 1
 abbrev pub with_detector : PedSum → ℕ → ℕ → PedSum
 with_detector s on undecided = record s { detector_on = on; detector_undecided = undecided }
 
+-- the first sum with the tenths of states of the second
 abbrev pub with_states : PreemptSum → PreemptSum → PreemptSum
 with_states s t = record s { input_on = t.input_on; input_undecided = t.input_undecided; rest = t.rest; entry = t.entry; track = t.track; dwell = t.dwell; undecided = t.undecided }
 
--- but for the tenths of its states, the numbers are those of its delays, or of its entries and exits
+-- but for the tenths of its detector, the numbers of a pedestrian signal are those of its delays
 abbrev pub HasDelays : List Delay → ℕ → PedSum → Type 0
 HasDelays ds p s = s ≡ with_detector (ped_sum_of (delays_of p ds)) s.detector_on s.detector_undecided
 
+-- but for the tenths of its states, the numbers of a preempt are those of its entries and exits
 abbrev pub HasEvents : List PreemptEvent → ℕ → PreemptSum → Type 0
 HasEvents es p s = s ≡ with_states (preempt_sum_of (events_of p es)) s
 

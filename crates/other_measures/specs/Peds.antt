@@ -5,10 +5,11 @@ use Rattle.other_measures.specs.declared.peds.Delay.{Delay}
 use Rattle.other_measures.specs.declared.peds.PedPart.{PedPart}
 use Rattle.other_measures.specs.LastRows.{last_row_of, lapse_of}
 
--- a row 21, and a row 45, of pedestrian signal p
+-- the row begins the walk of pedestrian signal p: code 21
 unfoldable pub is_walk : ℕ → Row → Bool
 is_walk p x = (x.param == p) && (x.code == 21)
 
+-- the row is a call of pedestrian signal p: code 45
 unfoldable pub is_call : ℕ → Row → Bool
 is_call p x = (x.param == p) && (x.code == 45)
 

@@ -44,15 +44,19 @@ MetBy None = λ _ _ _. ⊥
 abbrev pub HasTenths : (ℕ → Asked → ℕ → Type 0) → ℕ → Settings → Channel → Asked → ℕ → Type 0
 HasTenths At from c channel asked k = (i : ℕ) × (spec_place c.specs channel ≡ Some i) × IsCount (At i asked) from 36000 k
 
+-- the detector of pedestrian signal p, as a channel
 abbrev pub ped_detector : ℕ → Channel
 ped_detector p = record { kind = PedDetector; number = p }
 
+-- the call input of preempt p, as a channel
 abbrev pub input : ℕ → Channel
 input p = record { kind = PreemptInput; number = p }
 
+-- the service of preempt p, as a channel
 abbrev pub service : ℕ → Channel
 service p = record { kind = PreemptService; number = p }
 
+-- the coordination, as a channel
 abbrev pub coordination : Channel
 coordination = record { kind = Coordination; number = 0 }
 

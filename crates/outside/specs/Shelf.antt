@@ -8,6 +8,7 @@ use Rattle.outside.specs.declared.shelf.FetchError.TheVariants.{Missing, Failed,
 abbrev pub Files : Type 0
 Files = List ℕ → Option (List ℕ)
 
+-- how often a file was missing, couldn't be read, and was too long
 pub record Counts : Type 0 where
   pub missing : ℕ
   pub failed : ℕ

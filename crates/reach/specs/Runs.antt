@@ -7,6 +7,7 @@ pub record State : Type 0 where
   pub colour : ℕ
   pub entry : ℤ
 
+-- a state by its two parts
 abbrev pub state : ℕ → ℤ → State
 state c e = record { colour = c; entry = e }
 

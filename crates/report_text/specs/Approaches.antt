@@ -26,13 +26,16 @@ abbrev pub arrival_shares : ArrivalSum → List ℕ
 arrival_shares s =
     line_of (codes " share " ∷ fraction s.green (s.arrivals - s.unseen) ∷ codes " platoon " ∷ fraction (s.cycle_green * s.cycle_tenths) (s.cycle_arrivals * s.green_tenths) ∷ [])
 
+-- the line of an approach's arrivals
 abbrev pub arrivals_line : List ℕ → ArrivalSum → List ℕ
 arrivals_line name s = arrival_counts name s ++ arrival_shares s
 
+-- the line of the actuations at an approach's stop bar: how many came on red, and how many in a fault of the detector
 abbrev pub actuations_line : List ℕ → ArrivalSum → List ℕ
 actuations_line name s =
     line_of (codes "approach " ∷ name ∷ codes " actuations " ∷ decimal s.actuations ∷ codes " red " ∷ decimal s.red ∷ codes " not " ∷ decimal s.not_red ∷ codes " undecided " ∷ decimal s.red_undecided ∷ codes " fault " ∷ decimal s.red_fault ∷ [])
 
+-- the text, where there is something to tell
 abbrev pub line_if : Bool → List ℕ → List ℕ
 line_if there text = if there then text else []
 
@@ -62,13 +65,16 @@ approaches_text (a ∷ more) (s ∷ ss) (f ∷ fs) = approach_text a s f ++ appr
 
 -- ---- diagrams
 
+-- the name of an approach
 abbrev pub name_of : Option Approach → List ℕ
 name_of None = []
 name_of (Some a) = a.name
 
+-- the line of an arrival in a diagram: its approach, and when in the cycle it came
 abbrev pub point_line : Settings → Point → List ℕ
 point_line c x = line_of (codes "point " ∷ name_of (slice_get c.approaches x.approach) ∷ codes " " ∷ decimal x.offset ∷ [])
 
+-- the line of a cycle in a diagram: when it began, how long it was, and when in it green and yellow began
 abbrev pub cycle_line : Span → Cycle → List ℕ
 cycle_line w x =
     line_of (codes "cycle " ∷ stamp_at w x.from ∷ codes " length " ∷ decimal (x.to - x.from) ∷ codes " green " ∷ decimal x.green ∷ codes " yellow " ∷ decimal x.yellow ∷ [])
@@ -77,5 +83,6 @@ cycle_line w x =
 abbrev pub diagram_text : Settings → Diagram → List ℕ
 diagram_text c d = cycle_line c.window d.cycle ++ flat_map (point_line c) d.points
 
+-- the diagrams one after another
 abbrev pub diagrams_text : Settings → List Diagram → List ℕ
 diagrams_text c ds = flat_map (diagram_text c) ds

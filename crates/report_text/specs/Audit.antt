@@ -18,12 +18,15 @@ use Rattle.report_text.specs.Rules.{joined, rule_name}
 abbrev pub none_counted : RuleCount
 none_counted = record { kept = 0; broken = 0; undecided = 0 }
 
+-- the rule has no verdict
 abbrev pub is_none_counted : RuleCount → Bool
 is_none_counted n = n.kept == 0 && (n.broken == 0 && n.undecided == 0)
 
+-- the begin of a rule's line
 abbrev pub rule_head : ℕ → List ℕ
 rule_head number = joined (codes "rule " ∷ decimal number ∷ codes " " ∷ [])
 
+-- the end of a rule's line: how many verdicts of each kind
 abbrev pub counts_tail : RuleCount → List ℕ
 counts_tail n = line_of (codes " kept " ∷ decimal n.kept ∷ codes " broken " ∷ decimal n.broken ∷ codes " undecided " ∷ decimal n.undecided ∷ [])
 
@@ -52,6 +55,7 @@ abbrev pub window_text : Span → Option (ℕ × ℕ) → List ℕ
 window_text w None = line_of []
 window_text w (Some ends) = line_of (codes " from " ∷ stamp_at w ends.0 ∷ codes " to " ∷ stamp_at w ends.1 ∷ [])
 
+-- the line of a verdict: this word, the rule, when, and its window
 abbrev pub verdict_text : Span → List ℕ → AuditLine → List ℕ
 verdict_text w word l = due_text w word l ++ window_text w l.window
 
@@ -64,6 +68,7 @@ pub record IsLineIn (w : Span) (l : AuditLine) : Type 0 where
   pub at : l.at < 36000 * w.hours
   pub ends : EndIn w l.window
 
+-- the line of a verdict by what it is; an idle one has none
 abbrev pub text_by : Verdict → Span → AuditLine → List ℕ
 text_by Idle w l = []
 text_by Kept w l = verdict_text w (codes "kept ") l

@@ -22,6 +22,7 @@ table_text tables.Floor = codes "floor"
 table_text tables.Interval = codes "interval"
 table_text tables.Approach = codes "approach"
 
+-- the table is the file itself
 abbrev pub is_top : TableName → Bool
 is_top tables.Top = true
 is_top tables.Phase = false
@@ -44,6 +45,7 @@ place_text table entry key =
 abbrev pub fault_head : List ℕ → List ℕ
 fault_head fault = codes "config refused: " ++ (fault ++ [])
 
+-- the line of a fault at a key
 abbrev pub fault_text : List ℕ → KeyAt → List ℕ
 fault_text fault at = fault_head fault ++ place_text at.table at.entry at.key
 

@@ -15,6 +15,7 @@ code_count_line code count =
     if count == 0 then []
     else line_of (codes "code " ∷ decimal code ∷ codes " " ∷ code_name code ∷ codes " " ∷ decimal count ∷ [])
 
+-- the line of a code, by the rows
 abbrev pub code_line : List Row → ℕ → List ℕ
 code_line rows code = code_count_line code (count_of rows code)
 

@@ -29,6 +29,7 @@ start_line (Some spec) s = channel_line spec.channel s.colour (unsigned_abs s.en
 abbrev pub strand_text : Settings → Strand → List ℕ
 strand_text c s = start_line (slice_get c.specs s.spec) s ++ flat_map (fill_line c.window) s.fills
 
+-- the lines of these channels
 abbrev pub strands_text : Settings → List Strand → List ℕ
 strands_text c ss = flat_map (strand_text c) ss
 

@@ -7,6 +7,7 @@ use Rattle.report_text.specs.Line.{line_of}
 abbrev pub greatest : List ℕ → ℕ
 greatest counts = fold max 0 counts
 
+-- the least shift with which the most arrivals meet green
 abbrev pub best_shift : List ℕ → ℕ
 best_shift counts = position_or_len (λ c. c == greatest counts) counts
 
@@ -16,6 +17,7 @@ best_line [] arrivals = line_of (codes "best -" ∷ [])
 best_line (c ∷ cs) arrivals =
     line_of (codes "best " ∷ decimal (best_shift (c ∷ cs)) ∷ codes " count " ∷ decimal (greatest (c ∷ cs)) ∷ codes " of " ∷ decimal arrivals ∷ [])
 
+-- the line of a shift: how many arrivals meet green with it
 abbrev pub shift_line : ℕ → ℕ → List ℕ
 shift_line shift count = line_of (codes "shift " ∷ decimal shift ∷ codes " count " ∷ decimal count ∷ [])
 

@@ -26,6 +26,7 @@ abbrev pub within : ℕ → ℕ → Option ℤ → Option ℕ
 within low high (Some (pos n)) = if nat_le low n && nat_le n high then Some n else None
 within low high _ = None
 
+-- a value that is a whole number from low to high
 unfoldable pub whole : ℕ → ℕ → Data → Option ℕ
 whole low high d = within low high (as_integer d)
 
@@ -76,9 +77,11 @@ window first d = option_and_then (window_from first) (whole 1 744 d)
 unfoldable pub configured : List PhaseItem → Data → Option ℕ
 configured phases d = passing (has_phase phases) (whole 1 16 d)
 
+-- the pair is of phases a and b, in either order
 abbrev pub is_pair : Pair → ℕ → ℕ → Bool
 is_pair p a b = (p.a == a && p.b == b) || (p.a == b && p.b == a)
 
+-- one of the pairs is of phases a and b
 abbrev pub has_pair : List Pair → ℕ → ℕ → Bool
 has_pair pairs a b = list_any (λ p. is_pair p a b) pairs
 
@@ -104,6 +107,7 @@ mask_of numbers = fold (λ mask n. bit_or mask (2 ^ (n - 1))) 0 numbers
 abbrev pub phases_in : ℕ → List ℕ
 phases_in mask = filter (λ n. bit_at mask (n - 1) == 1) (range_with_len 1 16)
 
+-- 1 to 8 of them
 abbrev pub few_parents : List ℕ → Bool
 few_parents found = nat_le 1 (length found) && nat_le (length found) 8
 
@@ -121,6 +125,7 @@ kind_word kinds.Overlap = Some (codes "overlap ")
 kind_word kinds.PreemptService = Some (codes "preempt ")
 kind_word _ = None
 
+-- the text is the word and the number
 abbrev pub is_word_and : Option (List ℕ) → ℕ → List ℕ → Bool
 is_word_and None number text = false
 is_word_and (Some word) number text = bytes_eq text (word ++ decimal number)
@@ -154,5 +159,6 @@ tables_from found no_items = Some found
 tables_from found (item (table ms) ds) = tables_from (found ++ ms ∷ []) ds
 tables_from found (item _ ds) = None
 
+-- a value that is an array of tables
 unfoldable pub tables : Data → Option (List Members)
 tables d = option_and_then (tables_from []) (as_array d)

@@ -17,6 +17,7 @@ pub record Rules (X : Type 0) : Type 0 where
   pub repeats : X → X → Bool
   pub repeated : KeyName
 
+-- the entry of a table at this place, from 0
 abbrev pub entry_at : {X : Type 0} → Rules X → ℕ → Members → EntryData
 entry_at rules i ms = record { table = rules.table; index = i; members = ms }
 
@@ -24,6 +25,7 @@ entry_at rules i ms = record { table = rules.table; index = i; members = ms }
 abbrev pub unrepeated : {X : Type 0} → Rules X → EntryData → List X → X → Read X
 unrepeated rules e earlier x = if list_any (λ y. rules.repeats y x) earlier then Err (Repeated (place rules.repeated e)) else Ok x
 
+-- an entry after earlier ones: no key but the table's, good values, and none of the earlier ones again
 unfoldable pub read_entry : {X : Type 0} → Rules X → List X → EntryData → Read X
 read_entry rules earlier e = do
   _ ← only rules.listed e

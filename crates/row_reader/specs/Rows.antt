@@ -62,6 +62,7 @@ record_row w headers number fields =
     else if length fields == 4 then row_of w number (field fields 0) (field fields 1) (field fields 2) (field fields 3)
     else Err (Fields number)
 
+-- what comes of a row, or the refusal in its place
 abbrev pub on_row : Result Row RowError → (Row → Result (List Row) RowError) → Result (List Row) RowError
 on_row (Ok row) more = more row
 on_row (Err refusal) more = Err refusal
@@ -85,6 +86,7 @@ shown_of hour rows = record {
   repeats = repeats_of (in_row_order hour rows);
 }
 
+-- the rows of an hour in row order without repeats, or the refusal in their place
 abbrev pub on_rows : ℕ → Result (List Row) RowError → Result Shown RowError
 on_rows hour (Ok rows) = Ok (shown_of hour rows)
 on_rows hour (Err refusal) = Err refusal

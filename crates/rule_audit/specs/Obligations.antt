@@ -19,6 +19,7 @@ pub record Obligation : Type 0 where
   pub at : ℕ
   pub place : Place
 
+-- an obligation by its four parts
 abbrev pub obligation : ℕ → Rule → ℕ → Place → Obligation
 obligation n rule t p = record { number = n; rule = rule; at = t; place = p }
 

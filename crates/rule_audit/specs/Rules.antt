@@ -42,9 +42,11 @@ is_in_none specs kind n cs = is_in specs kind n (others kind cs)
 abbrev pub served : List ℕ
 served = phase.on ∷ phase.green ∷ phase.term ∷ phase.yellow ∷ phase.clear ∷ []
 
+-- phase p is served, as a term of a rule
 abbrev pub is_served : List Spec → ℕ → Term
 is_served specs p = is_in specs kinds.Phase p served
 
+-- phase p isn't served, as a term of a rule
 abbrev pub is_not_served : List Spec → ℕ → Term
 is_not_served specs p = is_in_none specs kinds.Phase p served
 
@@ -74,6 +76,7 @@ parents_terms specs o = is_in_none specs kinds.Overlap o.number (overlap.green �
 abbrev pub is_conflict : Settings → ℕ → ℕ → Bool
 is_conflict c a b = (nat_lt a b && has_phase c.phases a) && (has_phase c.phases b && in_conflict c a b)
 
+-- the rule that phases a and b aren't served together, where they conflict
 abbrev pub conflict_rule : Settings → ℕ → ℕ → List Rule
 conflict_rule c a b = if is_conflict c a b then Conflict a b (conflict_terms c.specs a b) ∷ [] else []
 
@@ -81,6 +84,7 @@ conflict_rule c a b = if is_conflict c a b then Conflict a b (conflict_terms c.s
 abbrev pub conflict_rules : Settings → List Rule
 conflict_rules c = each_number (λ a. each_number (conflict_rule c a))
 
+-- the rule that pedestrian signal p shows walk only while its phase is on or green, where there is one
 abbrev pub companion_rule : Settings → ℕ → List Rule
 companion_rule c p = if has_number c.peds p then Companion p (companion_terms c.specs p) ∷ [] else []
 
@@ -92,6 +96,7 @@ companion_rules c = each_number (companion_rule c)
 abbrev pub parents_rule_of : Settings → ℕ → OverlapItem → List Rule
 parents_rule_of c n o = if o.number == n then Parents n (parents_terms c.specs o) ∷ [] else []
 
+-- the rule that overlap n is green only while one of its parents is served, where there is one
 abbrev pub parents_rule : Settings → ℕ → List Rule
 parents_rule c n = flat_map (parents_rule_of c n) c.overlaps
 

@@ -11,11 +11,12 @@ unfoldable pub skip_spaces : List ℕ → List ℕ
 skip_spaces [] = []
 skip_spaces (b ∷ bs) = if b == 32 then skip_spaces bs else b ∷ bs
 
--- the bytes up to the first space, and those from it on
+-- the bytes up to the first space
 unfoldable pub word : List ℕ → List ℕ
 word [] = []
 word (b ∷ bs) = if b == 32 then [] else b ∷ word bs
 
+-- the bytes from the first space on
 unfoldable pub after_word : List ℕ → List ℕ
 after_word [] = []
 after_word (b ∷ bs) = if b == 32 then b ∷ bs else after_word bs
@@ -48,19 +49,23 @@ phase_at text = number_of 1 2 99 text
 abbrev pub name_at : List ℕ → Option (List ℕ)
 name_at text = if nat_le 1 (length text) && nat_le (length text) 255 then Some text else None
 
+-- a line with an hour; bad where that isn't readable
 abbrev pub by_hour : (ℕ → Said) → Option ℕ → Said
 by_hour make None = bad
 by_hour make (Some h) = make h
 
+-- a line with an hour and a name; bad where one of them isn't readable
 abbrev pub by_name : (ℕ → List ℕ → Said) → Option ℕ → Option (List ℕ) → Said
 by_name make None name = bad
 by_name make (Some h) None = bad
 by_name make (Some h) (Some name) = make h name
 
+-- a line with a name; bad where that isn't readable
 abbrev pub by_text : (List ℕ → Said) → Option (List ℕ) → Said
 by_text make None = bad
 by_text make (Some name) = make name
 
+-- a line with two stamps; bad where one of them isn't readable
 abbrev pub by_range : (ℤ → ℤ → Said) → Option ℤ → Option ℤ → Said
 by_range make None to = bad
 by_range make (Some from) None = bad

@@ -31,6 +31,7 @@ pub record IsCarry (known : ℕ → Bool) (phases : List PhaseItem) (before : Li
   pub earlier : All (λ x. x.at < point k) before
   pub parts_are : parts ≡ parts_of known (point k) phases before
 
+-- an open service by its tenths
 abbrev pub open_service_of : ℕ → Option ServiceBegun → Option OpenService
 open_service_of p None = None
 open_service_of p (Some s) = Some (record { phase = p; b = s.b.at; g = option_map (λ x. x.at) s.g })
@@ -40,6 +41,7 @@ unfoldable pub open_service : Option Part → Option OpenService
 open_service None = None
 open_service (Some a) = open_service_of a.phase a.service
 
+-- an open cycle by its tenth
 abbrev pub open_cycle_of : ℕ → Option CycleBegun → Option OpenCycle
 open_cycle_of p None = None
 open_cycle_of p (Some s) = Some (record { phase = p; from = s.from.at })

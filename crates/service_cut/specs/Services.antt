@@ -16,6 +16,7 @@ abbrev pub is_over : ℕ → List Row → Bool
 is_over p [] = false
 is_over p (x ∷ xs) = if is_yellow (sign p x) then list_any (λ z. is_end (sign p z)) xs else is_over p xs
 
+-- the row isn't at a later tenth than g, where that has come
 abbrev pub is_within : Option Row → Row → Bool
 is_within None z = true
 is_within (Some g) z = nat_le z.at g.at
@@ -30,6 +31,7 @@ service_begun p b after =
     let g = find (λ z. is_change (sign p z)) after in
     record { b = b; g = g; y = find (λ z. is_yellow (sign p z)) after; cause = cause_in p g after }
 
+-- a service by the begin of green that was found, where every tenth since is known and the service isn't over
 abbrev pub service_begun_in : (ℕ → Bool) → ℕ → ℕ → Option (Row × List Row) → Option ServiceBegun
 service_begun_in known t p None = None
 service_begun_in known t p (Some (b, after)) = if live known b.at t && not (is_over p after) then Some (service_begun p b after) else None
@@ -38,14 +40,17 @@ service_begun_in known t p (Some (b, after)) = if live known b.at t && not (is_o
 unfoldable pub service_begun_of : (ℕ → Bool) → ℕ → ℕ → List Row → Option ServiceBegun
 service_begun_of known t p before = service_begun_in known t p (last_with (λ z. is_begin (sign p z)) before)
 
+-- how the green ended, by the row that says why: 4 gap out, 5 max out, 6 force off; unlogged without one
 abbrev pub termination : Option Row → Termination
 termination None = Unlogged
 termination (Some x) = if x.code == 4 then GapOut else (if x.code == 5 then MaxOut else ForceOff)
 
+-- the service that ends with row r, where its end of green and its begin of yellow have come
 abbrev pub service_of : ℕ → ServiceBegun → Row → List Row → Option Row → Option Row → Option Service
 service_of p s r rest (Some g) (Some y) = Some (record { phase = p; b = s.b.at; g = g.at; y = y.at; r = r.at; end = termination (option_or (cause_in p (Some g) rest) s.cause) })
 service_of p s r rest _ _ = None
 
+-- the service under way that ends with row r, where there is one
 abbrev pub whole_service : ℕ → Option ServiceBegun → Row → List Row → Option Service
 whole_service p None r rest = None
 whole_service p (Some s) r rest = service_of p s r rest s.g s.y
@@ -54,10 +59,12 @@ whole_service p (Some s) r rest = service_of p s r rest s.g s.y
 unfoldable pub service_at : (ℕ → Bool) → ℕ → List Row → Row → List Row → Option Service
 service_at known p before r rest = if is_end (sign p r) then whole_service p (service_begun_of known r.at p before) r rest else None
 
+-- the four rows of the service that ends with row r, where its end of green and its begin of yellow have come
 abbrev pub served_of : ℕ → ServiceBegun → Row → Option Row → Option Row → Option Served
 served_of p s r (Some g) (Some y) = Some (record { phase = p; b = s.b; g = g; y = y; r = r })
 served_of p s r _ _ = None
 
+-- the four rows of the service under way that ends with row r, where there is one
 abbrev pub whole_served : ℕ → Option ServiceBegun → Row → Option Served
 whole_served p None r = None
 whole_served p (Some s) r = served_of p s r s.g s.y

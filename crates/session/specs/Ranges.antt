@@ -25,6 +25,7 @@ ranges_from test from (suc n) =
 abbrev pub ranges_of : ℕ → (ℕ → Bool) → List Span
 ranges_of hours test = ranges_from test 0 (36000 * hours)
 
+-- tenth t is blanked in the store
 abbrev pub is_blanked : Store → ℕ → Bool
 is_blanked s t = is_member s.blanks (pos t)
 

@@ -16,16 +16,18 @@ use Rattle.report_text.specs.Heads.{verdicts_head}
 use Rattle.report_text.specs.Audit.{audit_start, lines_text}
 use Rattle.sigaudit.specs.Turns.{Turn, refuses, writes}
 
+-- the verdict is kept
 abbrev pub is_kept : Verdict → Bool
 is_kept Idle = false
 is_kept Kept = true
 is_kept Broken = false
 is_kept Undecided = false
 
--- a line, unless it is kept; those of lines in their order
+-- a line, unless it is kept
 abbrev pub failing_at : AuditLine → List AuditLine
 failing_at l = if is_kept l.verdict then [] else l ∷ []
 
+-- the lines that aren't kept, in their order
 abbrev pub failing_of : List AuditLine → List AuditLine
 failing_of lines = flat_map failing_at lines
 

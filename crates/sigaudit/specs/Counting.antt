@@ -55,10 +55,11 @@ abbrev pub FetchTally : Settings → ℕ → (Shown → Change) → Store → Re
 FetchTally c hour make s (Ok bytes) h m k = ReadTally c make s (hour_said (wanted_for c hour) bytes) h m k
 FetchTally c hour make s (Err refusal) h m k = (m ≡ 0) × (k ≡ 0)
 
--- by the line of a load or a replacement, of these bytes of its file, or of this at its name
+-- by the line of a load or a replacement, where these are the bytes of its file
 abbrev pub BytesTally : Settings → LoadLine → Store → List ℕ → ℕ → ℕ → ℕ → Type 0
 BytesTally c load s bytes h m k = ReadTally c (hour_change load.replaces) s (hour_said (wanted_for c load.hour) bytes) h m k
 
+-- by the line of a load or a replacement, where this is at its name
 abbrev pub LoadTally : Settings → LoadLine → Store → Result (List ℕ) Refusal → ℕ → ℕ → ℕ → Type 0
 LoadTally c load s want h m k = FetchTally c load.hour (hour_change load.replaces) s want h m k
 
@@ -100,16 +101,18 @@ abbrev pub AreCounted : (ℕ → ℕ → ℕ → Type 0) → List ℕ → List �
 AreCounted Tally old new =
     (length new ≡ length old) × ((h : ℕ) → h < length old → (m : ℕ) × (k : ℕ) × Tally h m k × IsOpened m (3 * (m + k)) (slice_index old h) (slice_index new h))
 
--- where all lines of a script are such lines, and it is carried out for their texts
+-- where all lines of a script are such lines, and it is carried out for their texts, each hour is opened as said; nothing is said where the script isn't there
 abbrev pub OpensText : Files → Settings → Aim → List ℕ → List ℕ → Option (List ℕ) → Type 0
 OpensText files c for_lines old new None = ⊤
 OpensText files c for_lines old new (Some script) = ArePlain c (lines_of script) → AreCounted (ScriptTally files c (lines_of script) (nothing_held c.window.hours)) old new
 OpensText files c (for_rule rule at) old new script = ⊤
 
+-- under a configuration that is read, each hour is opened as said by the lines of the script's file; nothing is said where it is refused
 abbrev pub OpensConfig : Files → Aim → List ℕ → List ℕ → List ℕ → Read Settings → Type 0
 OpensConfig files aim script old new (Err e) = ⊤
 OpensConfig files aim script old new (Ok c) = OpensText files c aim old new (limited (4 * 2 ^ 20) (files script))
 
+-- by the bytes of a configuration's file, each hour is opened as said; nothing is said where there is no such file
 abbrev pub OpensFile : Files → Aim → List ℕ → List ℕ → List ℕ → Option (List ℕ) → Type 0
 OpensFile files aim script old new None = ⊤
 OpensFile files aim script old new (Some bytes) = OpensConfig files aim script old new (config_of bytes)

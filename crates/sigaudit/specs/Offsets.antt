@@ -26,6 +26,7 @@ advance_of c name = option_and_then (λ place. by_advance place (slice_get c.app
 abbrev pub is_taken : Cycle → Bool
 is_taken x = (nat_le 1 (x.to - x.from) && nat_le (x.to - x.from) 3000) && nat_le x.green x.yellow
 
+-- a point of a cycle as an arrival that may be shifted
 abbrev pub arrival_of : Cycle → Point → Arrival
 arrival_of x p = record { length = x.to - x.from; green = x.green; yellow = x.yellow; offset = p.offset }
 
@@ -33,10 +34,11 @@ arrival_of x p = record { length = x.to - x.from; green = x.green; yellow = x.ye
 abbrev pub arrivals_at : ℕ → Cycle → Point → List Arrival
 arrivals_at place x p = if p.approach == place then arrival_of x p ∷ [] else []
 
--- the arrivals in a diagram at this approach, and those in all of them
+-- the arrivals in a diagram at this approach
 abbrev pub arrivals_in : ℕ → Diagram → List Arrival
 arrivals_in place d = if is_taken d.cycle then flat_map (arrivals_at place d.cycle) d.points else []
 
+-- the arrivals in these diagrams at this approach
 abbrev pub arrivals_of : ℕ → List Diagram → List Arrival
 arrivals_of place ds = flat_map (arrivals_in place) ds
 
@@ -48,6 +50,7 @@ store_arrivals c s at = arrivals_of at.0 (diagrams_of (is_known s) c at.1 (known
 abbrev pub offsets_text : ℕ → List ℕ → List Arrival → List ℕ
 offsets_text n name arrivals = shifts_text n name (counts_of arrivals) (length arrivals)
 
+-- the answer to a line that asks for the shifts of an approach
 abbrev pub offsets_turn : Settings → ℕ → List ℕ → Store → Option (ℕ × ℕ) → Turn
 offsets_turn c n name s None = refuses c n BadLine s
 offsets_turn c n name s (Some at) = writes (offsets_text n name (store_arrivals c s at)) s

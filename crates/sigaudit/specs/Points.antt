@@ -14,5 +14,6 @@ abbrev pub points_turn : Settings → ℕ → ℕ → Store → Bool → Turn
 points_turn c n p s true = writes (points_head n p ++ diagrams_text c (diagrams_of (is_known s) c p (known_rows s))) s
 points_turn c n p s false = refuses c n BadLine s
 
+-- the answer to a line that asks for the diagrams of phase p
 abbrev pub points_of_phase : Settings → ℕ → ℕ → Store → Turn
 points_of_phase c n p s = points_turn c n p s (has_phase c.phases p)

@@ -32,6 +32,7 @@ pub record World : Type 0 where
   pub written : Option (List ℕ)
   pub faults : ℕ
 
+-- what a run sees of the outside, by the shelf's counts and what the sink took
 abbrev pub world : Counts → Taken → World
 world counts taken = record { counts = counts; written = taken.written; faults = taken.faults }
 

@@ -51,6 +51,7 @@ IsMade c n loaded s ch (Ok new) t =
     (HasHistory (log_of c.specs new) × (moved : Applied) × Moves c s new ch moved × (t ≡ accepts n loaded moved new))
     ⊎ ((row : Row) × IsContradiction (log_of c.specs new) row × (HasHistory (log_of c.specs new) → ⊥) × (t ≡ refuses c n (Edit (Contradiction row)) s))
 
+-- the turn of a line that makes this change of the store
 abbrev pub IsEdited : Settings → ℕ → Option (ℕ × ℕ) → Store → Change → Turn → Type 0
 IsEdited c n loaded s ch t = IsMade c n loaded s ch (step_of s ch) t
 
@@ -97,6 +98,7 @@ abbrev pub numbers_turn : Settings → ℕ → ℕ → Store → Option Numbers 
 numbers_turn c n hour s (Some numbers) = writes (hour_measures n hour c numbers) s
 numbers_turn c n hour s None = refuses c n (Edit OutOfWindow) s
 
+-- the turn of a line that asks for the measures of one hour: those of the store's report
 abbrev pub IsMeasuredOf : Settings → ℕ → ℕ → Store → Turn → Type 0
 IsMeasuredOf c n hour s t = (report : List Numbers) × IsReportOf c s report × (t ≡ numbers_turn c n hour s (slice_get report hour))
 

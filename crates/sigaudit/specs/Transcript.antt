@@ -34,6 +34,7 @@ pub record Outcome : Type 0 where
   pub bytes : List ℕ
   pub ended : Ended
 
+-- an outcome by its two parts
 abbrev pub outcome : List ℕ → Ended → Outcome
 outcome bytes ended = record { bytes = bytes; ended = ended }
 
@@ -75,6 +76,7 @@ abbrev pub ended_by : Bool → Ended
 ended_by true = ended.SomeRefused
 ended_by false = ended.Done
 
+-- the outcome of a script's lines: their texts, and whether one was refused
 abbrev pub told_outcome : Told → Outcome
 told_outcome told = outcome told.text (ended_by told.refused)
 

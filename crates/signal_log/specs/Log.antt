@@ -38,6 +38,7 @@ pub record AgreesWith (log : Log) (h : History) : Type 0 where
   pub starts : (i : ℕ) → i < length log.specs → IsBeforeWindow (track_at log i).rules (start_of h i)
   pub agrees : Agrees (length log.specs) (track_at log) log.known (events_at log.rows) 0 h
 
+-- some history agrees with the log
 abbrev pub HasHistory : Log → Type 0
 HasHistory log = (h : History) × AgreesWith log h
 

@@ -33,9 +33,11 @@ pub record Splits : Type 0 where
   pub phases : List PhaseSum
   pub approaches : List SplitSum
 
+-- the numbers of no hour
 abbrev pub no_splits : Splits
 no_splits = record { phases = []; approaches = [] }
 
+-- the numbers of two parts of a log together
 abbrev pub splits_added : Splits → Splits → Splits
 splits_added a b = record { phases = merged added a.phases b.phases; approaches = merged both_sums a.approaches b.approaches }
 
@@ -43,6 +45,7 @@ splits_added a b = record { phases = merged added a.phases b.phases; approaches 
 abbrev pub open_in : ℕ → ℕ → List Service → List Service
 open_in hours hour ss = if nat_le hours (hour + 1) then left (end_tenth hour) ss else []
 
+-- these services are open: the window ends before their red window does
 abbrev pub opens_of : List Service → List SplitVerdict
 opens_of ss = map (λ s. Open) ss
 

@@ -26,6 +26,7 @@ verdict_of num den width gl gg rl rg = if are_enough num den width gl rl then Fa
 abbrev pub verdict_by : Frac → Windows → SplitVerdict
 verdict_by high w = if w.green.fault || w.red.fault then Fault else verdict_of high.num high.den (w.service.g - w.service.b) w.green.least w.green.greatest w.red.least w.red.greatest
 
+-- the verdict of each of these services, by what its windows say
 abbrev pub verdicts_by : Frac → List Windows → List SplitVerdict
 verdicts_by high [] = []
 verdicts_by high (w ∷ ws) = verdict_by high w ∷ verdicts_by high ws

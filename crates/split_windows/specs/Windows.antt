@@ -28,6 +28,7 @@ pub record IsPending (log : Log) (i t : ℕ) (w : Windows) : Type 0 where
 abbrev pub IsEnded : Log → ℕ → Windows → Type 0
 IsEnded log i w = IsPending log i (w.service.r + 50) w
 
+-- these are the numbers of services whose red windows have come to tenth t
 abbrev pub ArePending : Log → ℕ → ℕ → List Windows → Type 0
 ArePending log i t [] = Unit {0}
 ArePending log i t (w ∷ ws) = IsPending log i t w × ArePending log i t ws
@@ -56,13 +57,15 @@ AreServicesOf first end begun (s ∷ ss) = IsServiceOf first end begun s × AreS
 abbrev pub AreFit : ℕ → Option OpenGreen → List Windows → List Service → Type 0
 AreFit hour begun pending services = EndIn (first_tenth hour) (end_tenth hour) pending × AreServicesOf (first_tenth hour) (end_tenth hour) begun services
 
--- the services whose red window is over by tenth `end`, and the others
+-- the services whose red window is over by tenth `end`
 abbrev pub due : ℕ → List Service → List Service
 due end ss = filter (λ s. nat_le (s.r + 50) end) ss
 
+-- the services whose red window isn't over by tenth `end`
 abbrev pub left : ℕ → List Service → List Service
 left end ss = filter (λ s. not (nat_le (s.r + 50) end)) ss
 
+-- the services of these windows
 abbrev pub services_of : List Windows → List Service
 services_of [] = []
 services_of (w ∷ ws) = w.service ∷ services_of ws

@@ -26,6 +26,7 @@ use Rattle.stop_bar.specs.Crossing.{Crossing}
 use Rattle.stop_bar.specs.Bars.{AreOver, IsAtBar}
 use Rattle.stop_bar.specs.Lists.{Each}
 
+-- the stop bar of an approach, where it has a detector there
 abbrev pub bar_with : Approach → Option ℕ → Option StopBar
 bar_with a None = None
 bar_with a (Some d) = Some (record { phase = a.phase; detector = d; high = a.high })

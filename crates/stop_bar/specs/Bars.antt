@@ -24,6 +24,7 @@ use Rattle.split_windows.specs.declared.items.OpenGreen.{OpenGreen}
 abbrev pub without_end : Service → Service
 without_end s = record s { end = Unlogged }
 
+-- these services without their terminations
 abbrev pub without_ends : List Service → List Service
 without_ends ss = map without_end ss
 

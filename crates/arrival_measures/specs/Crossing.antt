@@ -36,7 +36,7 @@ pending_with known t before a (Some d) = map (λ x. x.at) (from_tenth t (arrival
 abbrev pub crossing_of : (ℕ → Bool) → ℕ → List Row → Approach → Crossing
 crossing_of known t before a = record { begun = open_with known t before a a.advance; pending = pending_with known t before a a.advance }
 
--- it is a detector of an approach
+-- the detector is one of an approach
 abbrev pub has_detector : Settings → ℕ → Bool
 has_detector c d = nat_lt d 129 && is_tracked_as c Detector d
 
@@ -48,12 +48,12 @@ flag_of known t before d = record { fault = faulty known t before d }
 abbrev pub flags_of : (ℕ → Bool) → Settings → ℕ → List Row → List (Option Flag)
 flags_of known c t before = table (has_detector c) 129 (flag_of known t before)
 
--- what is seen of what crosses a point
+-- what is under way of arrivals at a point between two hours: of each approach the cycle so far and the vehicles still to come, and which detectors are sure to have a fault
 pub record CarryParts : Type 0 where
   pub crossings : List Crossing
   pub flags : List (Option Flag)
 
--- this crosses point k, where these are the known rows before it
+-- these parts are what is under way of arrivals at point k, where these are the known rows before it
 pub record IsCarry (known : ℕ → Bool) (c : Settings) (before : List Row) (k : ℕ) (carry : CarryParts) : Type 0 where
   pub earlier : All (λ x. x.at < point k) before
   pub ordered : AreOrdered 0 (point k) before

@@ -55,7 +55,7 @@ counts_in c hour x = nat_le (point hour) x.at && (is_last c hour || nat_lt x.at 
 abbrev pub due_in : (ℕ → Bool) → Settings → ℕ → ℕ → ℕ → List Row → List Row
 due_in known c hour d v rows = filter (counts_in c hour) (arrivals_at known d v rows)
 
--- what its phase shows at the end of its tenth is seen: the tenth is known, and in the window
+-- what the phase shows when a vehicle arrives can be asked: the arrival's tenth is known, and in the hour or before it
 abbrev pub is_seen : (ℕ → Bool) → ℕ → Row → Bool
 is_seen known hour x = known x.at && nat_lt x.at (point (hour + 1))
 
@@ -94,7 +94,7 @@ abbrev pub HasActuations : (ℕ → ℕ → State → Type 0) → (ℕ → Bool)
 HasActuations May known c a before rows s None = no_actuations s
 HasActuations May known c a before rows s (Some d) = AreActuations May known c a d before rows s
 
--- the numbers of whole cycles among those of an approach
+-- of an approach's numbers those of whole cycles
 abbrev pub cycle_part : ArrivalSum → CycleNumbers
 cycle_part s = record { arrivals = s.cycle_arrivals; green = s.cycle_green; green_tenths = s.green_tenths; tenths = s.cycle_tenths }
 
@@ -102,7 +102,7 @@ cycle_part s = record { arrivals = s.cycle_arrivals; green = s.cycle_green; gree
 abbrev pub no_cycles : CycleNumbers
 no_cycles = record { arrivals = 0; green = 0; green_tenths = 0; tenths = 0 }
 
--- those of an approach with an advance detector: of all cycles of its phase that end among the rows
+-- what an approach with an advance detector has of whole cycles: over all cycles of its phase that end among the rows; without the detector nothing
 abbrev pub cycle_numbers : (ℕ → Bool) → Settings → List Row → List Row → Approach → Option ℕ → CycleNumbers
 cycle_numbers known c before rows a None = no_cycles
 cycle_numbers known c before rows a (Some d) = numbers_of a.phase d (told known a.phase d a.travel (before ++ rows)) (cycles_of known c a.phase before rows)

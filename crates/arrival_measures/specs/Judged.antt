@@ -27,7 +27,7 @@ NonePass test May = (v : State) → May v → test v.colour ≡ false
 abbrev pub OnlySomePass : (ℕ → Bool) → (State → Type 0) → Type 0
 OnlySomePass test May = (AllPass test May → ⊥) × (NonePass test May → ⊥)
 
--- P holds of n of these
+-- exactly n of these have the property P
 unfoldable pub CountOf : {X : Type 0} → (X → Type 0) → List X → ℕ → Type 0
 CountOf P [] n = n ≡ 0
 CountOf P (x ∷ xs) n = (P x × ((m : ℕ) × (n ≡ suc m) × CountOf P xs m)) ⊎ ((P x → ⊥) × CountOf P xs n)

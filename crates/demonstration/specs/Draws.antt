@@ -1,7 +1,7 @@
 -- The draws that the demonstration is made of.
 use Rattle.std.specs.Prelude.{◌+◌, ◌*◌, ◌/◌, ◌%◌, ◌^◌, ℕ, zero, suc}
 
--- the number that follows in a sequence
+-- the number that follows x in the sequence from which the demonstration is drawn
 unfoldable pub next : ℕ → ℕ
 next x = (1103515245 * x + 12345) % 2 ^ 31
 

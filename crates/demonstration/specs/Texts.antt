@@ -14,7 +14,7 @@ calendar = record { day = pos 19723; hour = 0; hours = 169 }
 unfoldable pub spaced_stamp : ℕ → List ℕ
 spaced_stamp at = slice_set (stamp_at calendar at) 10 32
 
--- a record of a file
+-- a row as the record of an hour file
 unfoldable pub record_of : Row → List ℕ
 record_of r =
     codes "9000," ++ spaced_stamp r.at ++ codes "," ++ decimal r.code ++ codes "," ++ decimal r.param ++ codes "\n"
@@ -81,12 +81,12 @@ each_hour line by rest zero hour = []
 each_hour line by rest (suc n) hour =
     (if hour % by == rest then line hour else []) ++ each_hour line by rest n (hour + 1)
 
--- even hours are loaded, then odd ones; a part of each fourth hour is blanked
+-- the script's edits: even hours are loaded, then odd ones; a part of each fourth hour is blanked
 abbrev pub edit_lines : ℕ → List ℕ
 edit_lines hours =
     each_hour load_line 2 0 hours 0 ++ each_hour load_line 2 1 hours 0 ++ each_hour blank_line 4 0 hours 0
 
--- one hour is withdrawn and measured without; then it is loaded again and all is known
+-- the script's end: one hour is withdrawn and measured without; then it is loaded again and all is known
 abbrev pub end_lines : ℕ → ℕ → List ℕ
 end_lines hours middle =
     withdraw_line middle ++ measures_line ++ load_line middle ++ unblank_line hours ++ measures_line

@@ -29,7 +29,7 @@ abbrev pub StandsAt : Log → List Row → ℕ → Place → Strand → State �
 StandsAt log rows t (BeforeRow n) s v = LeadsInto log s t (rows_before rows n) v
 StandsAt log rows t EndOfTenth s v = Leads log s (t + 1) v
 
--- in the colour some term of the channel holds
+-- some term is of channel i and has the colour
 abbrev pub HoldsIn : List Term → ℕ → ℕ → Type 0
 HoldsIn [] i colour = ⊥
 HoldsIn (c ∷ cs) i colour = ((c.spec ≡ i) × Has c.colours colour) ⊎ HoldsIn cs i colour
@@ -46,12 +46,12 @@ KeepsBy specs rows place rule i v = ⊥
 abbrev pub KeepsAt : Log → List Row → ℕ → Place → Rule → Strand → Type 0
 KeepsAt log rows t place rule s = (v : State) × StandsAt log rows t place s v × KeepsBy log.specs rows place rule s.spec v
 
--- one of the strands does
+-- with one of the strands the rule is kept at the place
 abbrev pub AreKept : Log → List Row → ℕ → Place → Rule → List Strand → Type 0
 AreKept log rows t place rule [] = ⊥
 AreKept log rows t place rule (s ∷ ss) = KeepsAt log rows t place rule s ⊎ AreKept log rows t place rule ss
 
--- it holds or doesn't, as said
+-- P holds, or doesn't, as said
 abbrev pub IsAsSaid : Bool → Type 0 → Type 0
 IsAsSaid true P = P
 IsAsSaid false P = P → ⊥

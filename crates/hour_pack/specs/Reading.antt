@@ -41,7 +41,7 @@ GivesInMemory view (Err e) read = IsFault read e
 
 -- ---- what stands in front of the rows
 
--- the bytes behind the mark
+-- the bytes behind the mark; without it they are no packed hour
 abbrev pub after_mark : List ℕ → Result (List ℕ) PackError
 after_mark bytes = if starts_with nat_eq bytes mark then Ok (drop 4 bytes) else Err NotPacked
 
@@ -52,7 +52,7 @@ after_part wrong part bytes =
     else if starts_with nat_eq part bytes then Err Short
     else Err wrong
 
--- the bytes behind the hour
+-- the bytes behind the signal and the hour, which have to be those that are wanted
 unfoldable pub after_head : List ℕ → Span → ℕ → List ℕ → Result (List ℕ) PackError
 after_head signal window hour bytes = do
   body ← after_mark bytes
@@ -111,7 +111,7 @@ param_by row param = if nat_lt param.0 65536 then Ok param else Err (BadRow row)
 unfoldable pub param_at : ℕ → List ℕ → Result (ℕ × List ℕ) PackError
 param_at row bytes = number_at row bytes >>= param_by row
 
--- a row behind those that are kept, where it is no repeat
+-- a row that is read isn't a repeat of those before it
 abbrev pub fresh : List Row → Row → List ℕ → Result (Row × List ℕ) PackError
 fresh kept row bytes = if is_repeat kept row then Err (BadRow (length kept + 1)) else Ok (row, bytes)
 

@@ -26,6 +26,6 @@ abbrev pub since : (ℕ → Bool) → ℕ → ℕ
 since known zero = 0
 since known (suc t) = if known t then since known t else suc t
 
--- each tenth from a up to t is known
+-- each tenth from a up to t is known, so that nothing can have happened since a that isn't a row
 unfoldable pub live : (ℕ → Bool) → ℕ → ℕ → Bool
 live known a t = nat_le (since known t) a

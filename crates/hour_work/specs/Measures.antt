@@ -36,7 +36,7 @@ abbrev pub over_hours : {X : Type 0} → (ℕ → List X) → ℕ → List X
 over_hours of zero = []
 over_hours of (suc n) = over_hours of n ++ of n
 
--- tenth t is known, and at its end the channel with this place meets what is asked in the histories that agree with the store
+-- tenth t is known, and at its end channel i meets what is asked in all histories that agree with the store
 abbrev pub MeetsIn : Settings → Store → ℕ → Asked → ℕ → Type 0
 MeetsIn c s i asked t = (is_known s t ≡ true) × Meets asked (MayBeAtEndOf (log_of c.specs s) i t)
 

@@ -43,7 +43,7 @@ ped_sum_of ds = record {
   detector_undecided = 0;
 }
 
--- sums add, and the greatest is the greatest of both
+-- a pedestrian signal's numbers of two parts of a log together
 abbrev pub ped_added : PedSum → PedSum → PedSum
 ped_added a b = record {
   walks = capped (a.walks + b.walks);
@@ -109,7 +109,7 @@ preempt_sum_of es = record {
   undecided = 0;
 }
 
--- the numbers of two parts of a log together
+-- a preempt's numbers of two parts of a log together
 abbrev pub preempt_added : PreemptSum → PreemptSum → PreemptSum
 preempt_added a b = record {
   entries = capped (a.entries + b.entries);

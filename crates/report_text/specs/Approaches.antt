@@ -12,16 +12,16 @@ use Rattle.arrival_measures.specs.declared.points.Diagram.{Diagram}
 use Rattle.report_text.specs.Line.{line_of}
 use Rattle.report_text.specs.Rules.{joined}
 
--- a fraction, not reduced, or `-` where its denominator is 0
+-- a fraction as it is printed: not reduced, and `-` where its denominator is 0
 abbrev pub fraction : ℕ → ℕ → List ℕ
 fraction num den = if den == 0 then codes "-" else decimal num ++ (codes "/" ++ decimal den)
 
--- how many vehicles came, what the phase showed, how many came unseen, and how often the detector went on in a fault
+-- the begin of the line of an approach's arrivals: how many came, what the phase showed, how many came unseen, and how often the detector went on in a fault
 abbrev pub arrival_counts : List ℕ → ArrivalSum → List ℕ
 arrival_counts name s =
     joined (codes "approach " ∷ name ∷ codes " arrivals " ∷ decimal s.arrivals ∷ codes " green " ∷ decimal s.green ∷ codes " not " ∷ decimal s.not_green ∷ codes " undecided " ∷ decimal s.undecided ∷ codes " unseen " ∷ decimal s.unseen ∷ codes " fault " ∷ decimal s.fault ∷ [])
 
--- the share of those on green among the arrivals that are seen; the platoon ratio, by which arrivals in whole cycles are more on green than an even stream would be
+-- the end of that line: the share on green of the arrivals that are seen, and the platoon ratio, by which arrivals in whole cycles are more on green than an even stream would be
 abbrev pub arrival_shares : ArrivalSum → List ℕ
 arrival_shares s =
     line_of (codes " share " ∷ fraction s.green (s.arrivals - s.unseen) ∷ codes " platoon " ∷ fraction (s.cycle_green * s.cycle_tenths) (s.cycle_arrivals * s.green_tenths) ∷ [])
@@ -43,7 +43,7 @@ line_if there text = if there then text else []
 abbrev pub all_splits : SplitSum → ℕ
 all_splits f = f.fail + f.pass + f.undecided + f.left_open + f.fault
 
--- how many of them have which verdict
+-- the line of the services at an approach's stop bar, by their verdicts as split failures
 abbrev pub splits_line : List ℕ → SplitSum → List ℕ
 splits_line name f =
     line_of (codes "approach " ∷ name ∷ codes " splits " ∷ decimal (all_splits f) ∷ codes " fail " ∷ decimal f.fail ∷ codes " pass " ∷ decimal f.pass ∷ codes " undecided " ∷ decimal f.undecided ∷ codes " open " ∷ decimal f.left_open ∷ codes " fault " ∷ decimal f.fault ∷ [])
@@ -56,7 +56,7 @@ stop_bar_text a s f = line_if (is_some a.stop_bar) (actuations_line a.name s ++ 
 abbrev pub approach_text : Approach → ArrivalSum → SplitSum → List ℕ
 approach_text a s f = line_if (is_some a.advance) (arrivals_line a.name s) ++ stop_bar_text a s f
 
--- those of the first approach with the first sums, those of the second with the second, and so on
+-- the lines of the approaches, each with its own sums, in file order
 abbrev pub approaches_text : List Approach → List ArrivalSum → List SplitSum → List ℕ
 approaches_text [] sums splits = []
 approaches_text (a ∷ more) [] splits = []
@@ -79,7 +79,7 @@ abbrev pub cycle_line : Span → Cycle → List ℕ
 cycle_line w x =
     line_of (codes "cycle " ∷ stamp_at w x.from ∷ codes " length " ∷ decimal (x.to - x.from) ∷ codes " green " ∷ decimal x.green ∷ codes " yellow " ∷ decimal x.yellow ∷ [])
 
--- a cycle, and its points in their order
+-- the lines of a cycle and of its points in their order
 abbrev pub diagram_text : Settings → Diagram → List ℕ
 diagram_text c d = cycle_line c.window d.cycle ++ flat_map (point_line c) d.points
 

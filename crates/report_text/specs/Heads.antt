@@ -18,6 +18,6 @@ audit_head n = line_of (decimal n ∷ codes " audit" ∷ [])
 abbrev pub verdicts_head : ℕ → ℕ → List ℕ
 verdicts_head n hour = line_of (decimal n ∷ codes " verdicts " ∷ decimal hour ∷ [])
 
--- before the diagrams of a phase
+-- before the diagrams of phase p
 abbrev pub points_head : ℕ → ℕ → List ℕ
 points_head n p = line_of (decimal n ∷ codes " points " ∷ decimal p ∷ [])

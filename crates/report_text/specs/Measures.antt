@@ -13,26 +13,26 @@ use Rattle.report_text.specs.Heads.{hour_head, window_head}
 use Rattle.report_text.specs.Rules.{joined}
 use Rattle.report_text.specs.Approaches.{approaches_text}
 
--- how many hours and rows are held, and how many tenths are known
+-- the line that says how many hours and rows are held, and how many tenths are known
 abbrev pub held_line : Numbers → List ℕ
 held_line n = line_of (codes "held " ∷ decimal n.held_hours ∷ codes " rows " ∷ decimal n.held_rows ∷ codes " known " ∷ decimal n.known_tenths ∷ [])
 
--- the number, or `-` where there is none
+-- a number as it is printed, or `-` where there is none
 abbrev pub number_or_dash : Option ℕ → List ℕ
 number_or_dash None = codes "-"
 number_or_dash (Some n) = decimal n
 
 -- ---- a line for each number
 
--- the numbers of those that there are, from n to 16, ascending
+-- of the numbers from n to 16 those that there are
 unfoldable pub numbers_from : (ℕ → Bool) → ℕ → List ℕ
 numbers_from has n = filter has (range_with_len n (17 - n))
 
--- all of them
+-- the numbers that there are, up to 16, ascending
 abbrev pub numbers_of : (ℕ → Bool) → List ℕ
 numbers_of has = numbers_from has 0
 
--- the line of the first number with the first sums, that of the second number with the second, and so on
+-- a line for each number with its own sums, in order
 unfoldable pub each_line : {A : Type 0} → (ℕ → A → List ℕ) → List ℕ → List A → List ℕ
 each_line line [] sums = []
 each_line line (n ∷ ns) [] = []
@@ -102,7 +102,7 @@ coordination_rows s =
 abbrev pub coordination_line : CoordSum → List ℕ
 coordination_line s = coordination_states s ++ coordination_rows s
 
--- the line, where it is on
+-- the line of the coordination, where it is on
 abbrev pub coordination_text : Bool → CoordSum → List ℕ
 coordination_text on s = if on then coordination_line s else []
 
@@ -120,7 +120,7 @@ peds_text c n = each_line ped_line (numbers_of (has_number c.peds)) n.others.ped
 abbrev pub preempts_text : Settings → Numbers → List ℕ
 preempts_text c n = each_line preempt_line (numbers_of (has_number c.preempts)) n.others.preempts
 
--- those of the pedestrian signals, the preempts and the coordination
+-- the lines of the pedestrian signals, the preempts and the coordination
 abbrev pub others_text : Settings → Numbers → List ℕ
 others_text c n = peds_text c n ++ (preempts_text c n ++ coordination_text c.coordination n.others.coordination)
 

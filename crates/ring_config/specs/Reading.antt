@@ -85,7 +85,7 @@ abbrev pub all_among : List KeyName → Members → Bool
 all_among listed no_members = true
 all_among listed (member text d ms) = is_among listed text && all_among listed ms
 
--- an entry has no key but those listed
+-- the entry has no key but those listed; else one is unknown
 unfoldable pub only : List KeyName → EntryData → Read (Unit {0})
 only listed e = if all_among listed e.members then Ok tt else Err (Unknown (place keys.Other e))
 
@@ -95,7 +95,7 @@ only listed e = if all_among listed e.members then Ok tt else Err (Unknown (plac
 abbrev pub value_at : KeyName → EntryData → Option Data
 value_at key e = get_member (key_text key) e.members
 
--- a value is good where it stands for something
+-- what a value stands for; where it stands for nothing it is bad
 abbrev pub good : {X : Type 0} → KeyAt → Option X → Read X
 good at None = Err (BadValue at)
 good at (Some x) = Ok x
@@ -109,7 +109,7 @@ or_missing at (Some d) = Ok d
 unfoldable pub present : KeyName → EntryData → Read Data
 present key e = or_missing (place key e) (value_at key e)
 
--- what the value at such a key stands for
+-- what the value at a key stands for that every entry has
 unfoldable pub required : {X : Type 0} → (Data → Option X) → KeyName → EntryData → Read X
 required means key e = present key e >>= λ d. good (place key e) (means d)
 

@@ -24,7 +24,7 @@ use Rattle.ring_config.specs.Values.{has_pair}
 use Rattle.ring_config.specs.Walk.{entries_of}
 use Rattle.ring_config.specs.Tables.{Top, LayoutArrays, DetailArrays, top_keys, top_of, layout_arrays_of, detail_arrays_of, phase_rules, ped_rules, overlap_rules, preempt_rules, conflict_rules, allow_rules, floor_rules, interval_rules, approach_rules}
 
--- what an accepted configuration says
+-- an accepted configuration: the window, the signal, what the intersection has, what is said of it, and the tracked channels with their floors
 pub record Settings : Type 0 where
   pub window : Span
   pub signal : List ℕ
@@ -41,7 +41,7 @@ pub record Settings : Type 0 where
 
 -- ---- the tracked channels
 
--- what the intersection has
+-- what the intersection has: phases, pedestrian signals, overlaps, preempts
 pub record Layout : Type 0 where
   pub phases : List PhaseItem
   pub peds : List ℕ
@@ -52,7 +52,7 @@ pub record Layout : Type 0 where
 unfoldable pub numbered : Kind → ℕ → List ℕ → List Channel
 numbered kind most numbers = filter (λ c. has_number numbers c.number) (map (λ n. record { kind = kind; number = n }) (range_with_len 1 most))
 
--- the channels that floors and intervals may name, with the preempt inputs between them
+-- the channels that floors and intervals may name, and the preempt inputs, which stand among them
 unfoldable pub signal_channels : Layout → List Channel
 signal_channels l =
     numbered kinds.Phase 16 (map (λ p. p.number) l.phases) ++ numbered kinds.Ped 16 l.peds
@@ -72,7 +72,7 @@ detectors a = some_number a.advance ++ some_number a.stop_bar
 abbrev pub coordination_channel : Bool → List Channel
 coordination_channel on = if on then record { kind = kinds.Coordination; number = 0 } ∷ [] else []
 
--- all tracked channels: those, and then the inputs of pedestrians and vehicles and the coordination
+-- all tracked channels in their order: those of the signal, the detectors of pedestrians and of vehicles, and the coordination
 unfoldable pub all_channels : Layout → List Approach → Bool → List Channel
 all_channels layout approaches coordination =
     signal_channels layout ++ numbered kinds.PedDetector 16 layout.peds ++ numbered kinds.Detector 128 (flat_map detectors approaches) ++ coordination_channel coordination
@@ -141,11 +141,11 @@ settings_of top layout details = record {
   approaches = details.approaches;
 }
 
--- the document as an entry
+-- the document itself as an entry without a table
 abbrev pub document : Members → EntryData
 document ms = record { table = tables.Top; index = 0; members = ms }
 
--- what all tables say
+-- what all tables of a document say
 pub record Parts : Type 0 where
   pub top : Top
   pub layout : Layout
@@ -225,12 +225,12 @@ approach_place approaches name = position (λ a. bytes_eq name a.name) approache
 abbrev pub phase_of : List PhaseItem → ℕ → Option PhaseItem
 phase_of phases number = find (λ p. p.number == number) phases
 
--- two phases are in one ring, or on different sides of the barrier
+-- by rings and sides two phases can't be served together: they are in one ring, or on different sides of the barrier
 abbrev pub clash : Option PhaseItem → Option PhaseItem → Bool
 clash (Some p) (Some q) = p.ring == q.ring || not (p.side == q.side)
 clash _ _ = false
 
--- two phases conflict: by an entry, else unless they are allowed by one, by their rings and sides
+-- two phases conflict: by an entry; else unless an entry allows them, by their rings and sides
 unfoldable pub conflict_by : List Pair → List Pair → List PhaseItem → ℕ → ℕ → Bool
 conflict_by conflicts allows phases a b =
     if has_pair conflicts a b then true

@@ -25,20 +25,20 @@ use Rattle.ring_config.specs.Walk.{Rules}
 
 -- ---- the document itself
 
--- the keys of the document that are no arrays
+-- the single values of a document
 pub record Top : Type 0 where
   pub signal : List ℕ
   pub window : Span
   pub coordination : Bool
 
--- the arrays of tables of what the intersection has
+-- the tables of a document that say what the intersection has
 pub record LayoutArrays : Type 0 where
   pub phase : List Members
   pub ped : List Members
   pub overlap : List Members
   pub preempt : List Members
 
--- the arrays of tables of what is said of it
+-- the tables of a document that say more of it
 pub record DetailArrays : Type 0 where
   pub conflict : List Members
   pub allow : List Members
@@ -149,7 +149,7 @@ pair_values phases barred e = do
   b ← required (values.partner phases barred a) keys.B e
   Ok (record { a = a; b = b })
 
--- the pairs of one of the two tables, of which none is barred
+-- one of the two tables of pairs of phases: at most 120, no pair twice and none that is barred
 abbrev pub pair_rules : TableName → List PhaseItem → List Pair → Rules Pair
 pair_rules table phases barred = record {
   table = table;
@@ -164,7 +164,7 @@ pair_rules table phases barred = record {
 abbrev pub conflict_rules : List PhaseItem → Rules Pair
 conflict_rules phases = pair_rules tables.Conflict phases []
 
--- no pair is both in conflict and allowed
+-- the table of pairs that are allowed: phases that may be served together; none is in conflict too
 abbrev pub allow_rules : List PhaseItem → List Pair → Rules Pair
 allow_rules phases conflicts = pair_rules tables.Allow phases conflicts
 
@@ -189,7 +189,7 @@ floor_rules channels = record {
   repeated = keys.Channel;
 }
 
--- exactly one of the two bounds
+-- the bound on a colour's age: exactly one of at_least and at_most
 abbrev pub bound_of : EntryData → Option Data → Option Data → Read AgeBound
 bound_of e None None = Err (Missing (place keys.AtLeast e))
 bound_of e None (Some most) = good (place keys.AtMost e) (whole 1 36000 most) >>= λ n. Ok (AtMost n)
@@ -208,7 +208,7 @@ interval_values channels e = do
   bound ← bound_at e
   Ok (record { spec = channel.spec; colour = colour; bound = bound })
 
--- interval entries may repeat
+-- the table of rules on durations: at most 256; an entry may repeat another
 abbrev pub interval_rules : List Channel → Rules IntervalItem
 interval_rules channels = record {
   table = tables.Interval;
@@ -221,16 +221,16 @@ interval_rules channels = record {
 
 -- ---- approaches
 
--- the number is over another one, where there is one
+-- the number is greater than the other one, where there is one
 abbrev pub is_over : ℕ → Option ℤ → Bool
 is_over n None = false
 is_over n (Some d) = int_lt d (pos n)
 
--- the first number of a share: not over what stands at the key of the second, where that is a number
+-- the first number of a share: not over the second one, where that is a number
 abbrev pub numerator : EntryData → Data → Option ℕ
 numerator e d = values.passing (λ n. not (is_over n (option_and_then as_integer (value_at keys.HighDen e)))) (whole 1 1000 d)
 
--- a share as both of its numbers, or 4/5 where neither is there
+-- a share by both of its numbers, or 4/5 where neither is there
 abbrev pub high_of : EntryData → Option Data → Option Data → Read Frac
 high_of e None None = Ok (record { num = 4; den = 5 })
 high_of e None (Some den) = Err (Missing (place keys.HighNum e))
@@ -243,7 +243,7 @@ high_of e (Some num) den = do
 unfoldable pub high_at : EntryData → Read Frac
 high_at e = high_of e (value_at keys.HighNum e) (value_at keys.HighDen e)
 
--- the travel time from the advance detector, which is there, to the stop bar
+-- how many tenths a vehicle takes from the advance detector to the stop bar; only where there is such a detector
 abbrev pub travel_with : Option ℕ → Data → Option ℕ
 travel_with None d = None
 travel_with (Some v) d = whole 0 300 d

@@ -15,13 +15,13 @@ use Rattle.row_reader.specs.Repeats.{without_repeats, repeats_of}
 use Rattle.row_reader.specs.Stamp.{stamp_in}
 use Rattle.row_reader.specs.Trim.{trimmed}
 
--- what rows are wanted: those of this signal and this hour of the window
+-- what rows a file is read for: those of this signal and this hour of the window
 pub record Wanted : Type 0 where
   pub signal : List ℕ
   pub hour : ℕ
   pub window : Span
 
--- the place of a tenth in the window, where it lies in this hour
+-- the tenth, where it lies in this hour of the window
 abbrev pub at_in_hour : ℕ → ℤ → Option ℕ
 at_in_hour hour (pos at) = if nat_le (36000 * hour) at && nat_lt at (36000 * hour + 36000) then Some at else None
 at_in_hour hour (negsuc n) = None

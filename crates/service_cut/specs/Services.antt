@@ -11,7 +11,7 @@ use Rattle.service_cut.specs.declared.items.Termination.TheVariants.{GapOut, Max
 use Rattle.service_cut.specs.declared.services.ServiceBegun.{ServiceBegun}
 use Rattle.service_cut.specs.Signs.{sign, is_begin, is_change, is_yellow, is_end, is_cause}
 
--- a row 9 or 10 comes after the first row 8
+-- after the first begin of yellow an end of yellow or a begin of red clearance has come
 abbrev pub is_over : ℕ → List Row → Bool
 is_over p [] = false
 is_over p (x ∷ xs) = if is_yellow (sign p x) then list_any (λ z. is_end (sign p z)) xs else is_over p xs
@@ -21,11 +21,11 @@ abbrev pub is_within : Option Row → Row → Bool
 is_within None z = true
 is_within (Some g) z = nat_le z.at g.at
 
--- the last row 4, 5 or 6, not at a later tenth than g where it has come
+-- the row that says why the green ends: the last of code 4, 5 or 6, not at a later tenth than the green's end where that has come
 abbrev pub cause_in : ℕ → Option Row → List Row → Option Row
 cause_in p g rows = last (λ z. is_cause (sign p z) && is_within g z) rows
 
--- a row 1, with the first row 7 or 8 and the first row 8 after it
+-- the service that begins with row b, as far as the rows after it tell: its end of green, its begin of yellow, and why the green ends
 abbrev pub service_begun : ℕ → Row → List Row → ServiceBegun
 service_begun p b after =
     let g = find (λ z. is_change (sign p z)) after in
@@ -36,7 +36,7 @@ abbrev pub service_begun_in : (ℕ → Bool) → ℕ → ℕ → Option (Row × 
 service_begun_in known t p None = None
 service_begun_in known t p (Some (b, after)) = if live known b.at t && not (is_over p after) then Some (service_begun p b after) else None
 
--- the last row 1, where each tenth from its own up to t is known and its r hasn't come
+-- the service of phase p that is under way at t: since its last begin of green, where every tenth since is known and the service isn't over
 unfoldable pub service_begun_of : (ℕ → Bool) → ℕ → ℕ → List Row → Option ServiceBegun
 service_begun_of known t p before = service_begun_in known t p (last_with (λ z. is_begin (sign p z)) before)
 

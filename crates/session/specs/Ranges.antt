@@ -8,7 +8,7 @@ use Rattle.hour_store.specs.Store.{Store}
 use Rattle.session.specs.declared.blanks.RangeEdit.{RangeEdit}
 use Rattle.session.specs.declared.blanks.RangeEdit.TheVariants as range
 
--- ranges that all begin after a tenth, with this tenth too
+-- tenth t put in front of ranges that all begin after it
 abbrev pub with_first : ℕ → List Span → List Span
 with_first t [] = record { from = pos t; to = pos (t + 1) } ∷ []
 with_first t (s ∷ ss) =

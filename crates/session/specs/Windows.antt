@@ -29,7 +29,7 @@ HasWindow log rules rows l (Some w) = (is_broken l.verdict ≡ true) × IsDecisi
 abbrev pub with_window : AuditLine → Option (ℕ × ℕ) → AuditLine
 with_window l w = record l { window = w }
 
--- the second lines are the first ones, each with its window
+-- the second lines are the first ones, each broken one with its decisive window
 abbrev pub AreWithWindows : Log → List Rule → List Row → List AuditLine → List AuditLine → Type 0
 AreWithWindows log rules rows [] [] = ⊤
 AreWithWindows log rules rows [] (l ∷ ls) = ⊥

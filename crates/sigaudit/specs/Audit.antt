@@ -45,13 +45,13 @@ AddsHour c s hour old new = (lines : List AuditLine) × AreHourLines c s hour tr
 abbrev pub IsReportOf : Settings → Store → List Numbers → Type 0
 IsReportOf c s all = HasHistory (log_of c.specs s) × IsReport c s all
 
--- an audit: how many verdicts each rule has in the window, by the store's report, and then the broken and undecided ones hour by hour, each broken one with its window
+-- the turn of a line that asks for an audit: how many verdicts each rule has in the window, by the store's report, and then the broken and undecided ones hour by hour, each broken one with its window
 abbrev pub IsAudited : Settings → ℕ → Store → Turn → Type 0
 IsAudited c n s t =
     (report : List Numbers) × (lines : List AuditLine) × IsReportOf c s report × AreFailing c s 0 c.window.hours lines
     × (t ≡ writes (audit_start n c.specs (rules_for c) (total_of report).rules ++ lines_text c.window lines) s)
 
--- the verdicts of one hour, the kept ones among them; an hour past the window is refused
+-- the turn of a line that asks for the verdicts of one hour, the kept ones among them; an hour past the window is refused
 abbrev pub AreVerdicts : Settings → ℕ → ℕ → Store → Bool → Turn → Type 0
 AreVerdicts c n hour s true t = (lines : List AuditLine) × HasHistory (log_of c.specs s) × AreHourLines c s hour true lines × (t ≡ writes (verdicts_head n hour ++ lines_text c.window lines) s)
 AreVerdicts c n hour s false t = t ≡ refuses c n (Edit OutOfWindow) s

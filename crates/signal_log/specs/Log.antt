@@ -9,7 +9,7 @@ use Rattle.board.specs.History.{Agrees, History, Track, events_at, start_of}
 use Rattle.board.specs.Channels.{track}
 use Rattle.board.specs.Logs.{no_row, no_spec}
 
--- what is told of a signal: its channels, how many hours its window has, which tenths are known, and the known rows in their order
+-- what is told of a signal over its window: its channels, how many hours the window has, which tenths are known, and the known rows in their order
 pub record Log : Type 0 where
   pub specs : List Spec
   pub hours : ℕ

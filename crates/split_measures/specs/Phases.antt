@@ -29,7 +29,7 @@ split s = s.r - s.b
 abbrev pub cycle_length : Cycle → ℕ
 cycle_length c = c.to - c.from
 
--- the numbers of these services and cycles
+-- the numbers of these services and cycles of one phase
 unfoldable pub phase_sum_of : List Service → List Cycle → PhaseSum
 phase_sum_of ss cs = record {
   services = capped (length ss);
@@ -44,7 +44,7 @@ phase_sum_of ss cs = record {
   cycle_sum = capped (sum (map cycle_length cs));
 }
 
--- sums add, the least is the least of both and the greatest the greatest
+-- the numbers of a phase in two parts of a log together
 abbrev pub added : PhaseSum → PhaseSum → PhaseSum
 added a b = record {
   services = capped (a.services + b.services);

@@ -9,7 +9,7 @@ use Rattle.detector_state.specs.Hours.{AreTenths, IsSwitched, TellsEach}
 use Rattle.split_windows.specs.declared.items.OpenGreen.{OpenGreen}
 use Rattle.split_windows.specs.declared.items.Windows.{Windows}
 
--- the numbers of the open green so far, where there is one
+-- how long the detector was on in the green that is open, where one is
 abbrev pub IsOpen : Log → ℕ → Option OpenGreen → Type 0
 IsOpen log i None = Unit {0}
 IsOpen log i (Some o) = AreTenths log i o.b o.to o.tenths
@@ -19,7 +19,7 @@ abbrev pub IsOpened : ℕ → ℕ → ℕ → Option OpenGreen → Type 0
 IsOpened first b g None = ⊥
 IsOpened first b g (Some o) = (o.b ≡ b) × (o.to ≡ min g first)
 
--- the numbers of a service whose red window has come to tenth t
+-- how long the detector was on in the green of a service and in its red window, which has come to tenth t
 pub record IsPending (log : Log) (i t : ℕ) (w : Windows) : Type 0 where
   pub green : AreTenths log i w.service.b w.service.g w.green
   pub red : AreTenths log i w.service.r t w.red

@@ -16,15 +16,18 @@ use Rattle.arrival_measures.specs.declared.faults.Flag.{Flag}
 use Rattle.arrival_measures.specs.Faults.{faulty}
 use Rattle.arrival_measures.specs.Travel.{arrivals_at, from_tenth, told}
 
+-- what a cycle of phase p that is under way has given so far at detector d, by the rows up to t; nothing where none is under way
 abbrev pub open_since : ℕ → ℕ → ℕ → List Row → Option OpenCycle → Option Open
 open_since p d t told None = None
 open_since p d t told (Some s) = Some (open_at p d s.from t told)
 
+-- what the cycle that an approach's phase has begun, and not ended by t, has given so far at its advance detector; nothing without such a detector
 abbrev pub open_with : (ℕ → Bool) → ℕ → List Row → Approach → Option ℕ → Option Open
 open_with known t before a None = None
 open_with known t before a (Some d) =
     open_since a.phase d t (told known a.phase d a.travel before) (open_cycle_of a.phase (cycle_begun_of known t a.phase before))
 
+-- the arrival tenths, at t or later, of vehicles that have passed an approach's advance detector before t; none without such a detector
 abbrev pub pending_with : (ℕ → Bool) → ℕ → List Row → Approach → Option ℕ → List ℕ
 pending_with known t before a None = []
 pending_with known t before a (Some d) = map (λ x. x.at) (from_tenth t (arrivals_at known d a.travel before))
@@ -33,23 +36,24 @@ pending_with known t before a (Some d) = map (λ x. x.at) (from_tenth t (arrival
 abbrev pub crossing_of : (ℕ → Bool) → ℕ → List Row → Approach → Crossing
 crossing_of known t before a = record { begun = open_with known t before a a.advance; pending = pending_with known t before a a.advance }
 
--- it is a detector of an approach
+-- the detector is one of an approach
 abbrev pub has_detector : Settings → ℕ → Bool
 has_detector c d = nat_lt d 129 && is_tracked_as c Detector d
 
--- of each detector of an approach, at its number, whether it is sure to have a fault
+-- of a detector, whether it is sure to have a fault at t
 abbrev pub flag_of : (ℕ → Bool) → ℕ → List Row → ℕ → Flag
 flag_of known t before d = record { fault = faulty known t before d }
 
+-- of each detector of an approach, at the place of its number, whether it is sure to have a fault at t
 abbrev pub flags_of : (ℕ → Bool) → Settings → ℕ → List Row → List (Option Flag)
 flags_of known c t before = table (has_detector c) 129 (flag_of known t before)
 
--- what is seen of what crosses a point
+-- what is under way of arrivals at a point between two hours: of each approach the cycle so far and the vehicles still to come, and which detectors are sure to have a fault
 pub record CarryParts : Type 0 where
   pub crossings : List Crossing
   pub flags : List (Option Flag)
 
--- this crosses point k, where these are the known rows before it
+-- these parts are what is under way of arrivals at point k, where these are the known rows before it
 pub record IsCarry (known : ℕ → Bool) (c : Settings) (before : List Row) (k : ℕ) (carry : CarryParts) : Type 0 where
   pub earlier : All (λ x. x.at < point k) before
   pub ordered : AreOrdered 0 (point k) before

@@ -5,17 +5,18 @@ use Rattle.hour_sums.specs.Numbers.{capped}
 use Rattle.service_cut.specs.declared.items.Cycle.{Cycle}
 use Rattle.cycle_arrivals.specs.Green.{arrivals_in, green_arrivals_in, green_tenths_in}
 
+-- how many tenths a cycle lasts
 abbrev pub cycle_tenths : Cycle → ℕ
 cycle_tenths c = c.to - c.from
 
--- what the cycles of a phase give for one detector
+-- what whole cycles of a phase give for one detector: arrivals, those on green, and the tenths of green and of all
 pub record CycleNumbers : Type 0 where
   pub arrivals : ℕ
   pub green : ℕ
   pub green_tenths : ℕ
   pub tenths : ℕ
 
--- the sums over these cycles of phase p, of detector d
+-- the sums over these cycles of phase p, for detector d
 unfoldable pub numbers_of : ℕ → ℕ → List Row → List Cycle → CycleNumbers
 numbers_of p d rows cs = record {
   arrivals = capped (sum (map (λ c. arrivals_in d c.from c.to rows) cs));

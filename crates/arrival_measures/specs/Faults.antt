@@ -4,10 +4,11 @@ use Rattle.std.specs.Prelude.{ℕ, ◌==◌, nat_le, not, Bool, false, if◌then
 use Rattle.sig_base.specs.declared.values.Row.{Row}
 use Rattle.hour_sweep.specs.Rows.{last, live}
 
--- the code is one of a detector's own; it begins a fault
+-- the code is one of a detector's own: 81 to 88
 abbrev pub is_own : ℕ → Bool
 is_own code = nat_le 81 code && nat_le code 88
 
+-- of a detector's own codes, the code begins a fault
 abbrev pub begins_fault : ℕ → Bool
 begins_fault code = nat_le 84 code
 
@@ -15,6 +16,7 @@ begins_fault code = nat_le 84 code
 abbrev pub is_of : ℕ → Row → Bool
 is_of d x = x.param == d && is_own x.code
 
+-- the detector's last own row begins a fault, and every tenth from it up to t is known, so that nothing can have ended the fault
 abbrev pub faulty_since : (ℕ → Bool) → ℕ → Option Row → Bool
 faulty_since known t None = false
 faulty_since known t (Some x) = begins_fault x.code && live known x.at t
@@ -23,10 +25,11 @@ faulty_since known t (Some x) = begins_fault x.code && live known x.at t
 unfoldable pub faulty : (ℕ → Bool) → ℕ → List Row → ℕ → Bool
 faulty known t before d = faulty_since known t (last (is_of d) before)
 
--- a detector that has no fault goes on, where these known rows stand before the row; one that is sure to have a fault does
+-- a vehicle is counted: the row says that a detector goes on, and the detector isn't sure to have a fault there, by the known rows before
 abbrev pub is_arrival : (ℕ → Bool) → List Row → Row → Bool
 is_arrival known before x = x.code == 82 && not (faulty known x.at before x.param)
 
+-- a row that is left out as a fault's: a detector goes on that is sure to have a fault there
 abbrev pub is_fault_row : (ℕ → Bool) → List Row → Row → Bool
 is_fault_row known before x = x.code == 82 && faulty known x.at before x.param
 
@@ -37,9 +40,10 @@ passing_from test before (x ∷ xs) =
     if test before x then x ∷ passing_from test (before ++ x ∷ []) xs
     else passing_from test (before ++ x ∷ []) xs
 
--- the arrivals of all detectors among the known rows, and their fault rows
+-- the actuations among these known rows, of all detectors, that aren't left out as a fault's
 abbrev pub arrivals_from : (ℕ → Bool) → List Row → List Row → List Row
 arrivals_from known before rows = passing_from (is_arrival known) before rows
 
+-- the actuations among these known rows, of all detectors, that are left out as a fault's
 abbrev pub faults_from : (ℕ → Bool) → List Row → List Row → List Row
 faults_from known before rows = passing_from (is_fault_row known) before rows

@@ -15,21 +15,24 @@ is_green c = c == green
 abbrev pub is_red : ℕ → Bool
 is_red c = c == red || c == yellow_done || c == clear || c == clear_done
 
--- all states that may be have a colour that passes; none has; some have, and others haven't
+-- in each state that may be, the colour passes
 abbrev pub AllPass : (ℕ → Bool) → (State → Type 0) → Type 0
 AllPass test May = (v : State) → May v → test v.colour ≡ true
 
+-- in none of the states that may be, the colour passes
 abbrev pub NonePass : (ℕ → Bool) → (State → Type 0) → Type 0
 NonePass test May = (v : State) → May v → test v.colour ≡ false
 
+-- the colour passes in some of the states that may be and not in others: neither all pass nor none does
 abbrev pub OnlySomePass : (ℕ → Bool) → (State → Type 0) → Type 0
 OnlySomePass test May = (AllPass test May → ⊥) × (NonePass test May → ⊥)
 
--- P holds of n of these
+-- exactly n of these have the property P
 unfoldable pub CountOf : {X : Type 0} → (X → Type 0) → List X → ℕ → Type 0
 CountOf P [] n = n ≡ 0
 CountOf P (x ∷ xs) n = (P x × ((m : ℕ) × (n ≡ suc m) × CountOf P xs m)) ⊎ ((P x → ⊥) × CountOf P xs n)
 
+-- the phase with this number, as a channel
 abbrev pub phase_channel : ℕ → Channel
 phase_channel p = record { kind = Phase; number = p }
 

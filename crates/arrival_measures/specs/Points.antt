@@ -19,6 +19,7 @@ use Rattle.arrival_measures.specs.Faults.{arrivals_from}
 use Rattle.arrival_measures.specs.Hours.{cycles_of}
 use Rattle.arrival_measures.specs.Judged.{AllPass}
 
+-- the row says that this detector goes on, where there is one
 abbrev pub is_on_at : Option ℕ → Row → Bool
 is_on_at None x = false
 is_on_at (Some d) x = is_on d x
@@ -40,6 +41,7 @@ points_from known c p before rows = flat_map (points_at p 0 c.approaches) (arriv
 abbrev pub is_fault : ℕ → Bool
 is_fault c = c == 2
 
+-- the vehicle detector with this number, as a channel
 abbrev pub detector_channel : ℕ → Channel
 detector_channel d = record { kind = Detector; number = d }
 
@@ -86,6 +88,7 @@ pub record IsByTenth (points sorted : List Point) : Type 0 where
   pub rise : IsNonDecreasingBy (λ x. x.offset) sorted
   pub same : (t : ℕ) → at_tenth t sorted ≡ at_tenth t points
 
+-- a point with its arrival told as tenths since the cycle's begin
 abbrev pub since_begin : Cycle → Point → Point
 since_begin cycle x = record { approach = x.approach; offset = x.offset - cycle.from }
 

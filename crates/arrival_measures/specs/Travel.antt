@@ -5,7 +5,7 @@ use Rattle.cycle_arrivals.specs.Arrivals.{ons_of}
 use Rattle.cycle_arrivals.specs.Own.{turns_green}
 use Rattle.arrival_measures.specs.Faults.{arrivals_from}
 
--- an arrival as a row at its arrival tenth
+-- an arrival as a row at its arrival tenth, v tenths after the detector's row
 abbrev pub shifted : ℕ → Row → Row
 shifted v x = record { at = x.at + v; code = x.code; param = x.param }
 
@@ -13,10 +13,10 @@ shifted v x = record { at = x.at + v; code = x.code; param = x.param }
 unfoldable pub arrivals_at : (ℕ → Bool) → ℕ → ℕ → List Row → List Row
 arrivals_at known d v rows = map (shifted v) (ons_of d (arrivals_from known [] rows))
 
--- those at tenth t or later
+-- the rows at tenth t or later
 abbrev pub from_tenth : ℕ → List Row → List Row
 from_tenth t rows = filter (λ x. nat_le t x.at) rows
 
--- what the known rows tell of the cycles of phase p: its begins and ends of green, and the arrivals
+-- what the known rows tell of arrivals in the cycles of phase p: its begins and ends of green, and the arrivals at their arrival tenths
 unfoldable pub told : (ℕ → Bool) → ℕ → ℕ → ℕ → List Row → List Row
 told known p d v rows = filter (turns_green p) rows ++ arrivals_at known d v rows

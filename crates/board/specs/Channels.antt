@@ -8,7 +8,7 @@ use Rattle.channel_tables.specs.Spec.{IsSpec, rules_of}
 use Rattle.channel_tables.specs.Letters.{letter_in_table, IsNumber}
 use Rattle.board.specs.History.{Track}
 
--- there is a channel, and it is this one
+-- a code and a parameter belong to this channel: they have a channel, and it is this one
 abbrev pub is_channel : Channel → Option Channel → Bool
 is_channel c None = false
 is_channel c (Some d) = nat_eq (kind_number c.kind) (kind_number d.kind) && nat_eq c.number d.number
@@ -17,7 +17,7 @@ is_channel c (Some d) = nat_eq (kind_number c.kind) (kind_number d.kind) && nat_
 abbrev pub letter_in : Spec → ℕ → ℕ → Option ℕ
 letter_in s c p = if is_channel s.channel (channel_in_table c p) then letter_in_table c p else None
 
--- the track that the spec stands for
+-- what is followed of a channel: its machine, and which codes and parameters are its letters
 abbrev pub track : Spec → Track
 track s = record { rules = rules_of s; letter = letter_in s }
 

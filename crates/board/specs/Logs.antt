@@ -8,10 +8,11 @@ use Rattle.gap_map.specs.declared.stretch.Stretch.{Stretch}
 use Rattle.gap_map.specs.Stretches.{FollowOn}
 use Rattle.channel_tables.specs.declared.spec.Spec.{Spec}
 
--- the first tenth of an hour, and the tenth after its last
+-- the first tenth of an hour
 abbrev pub first_tenth : ℕ → ℕ
 first_tenth h = 36000 * h
 
+-- the tenth after an hour's last
 abbrev pub end_tenth : ℕ → ℕ
 end_tenth h = 36000 * h + 36000
 
@@ -32,9 +33,10 @@ pub record HourLog : Type 0 where
 abbrev pub hour_log : ℕ → List Spec → List Row → List Stretch → List (List (List Span)) → List (List (Option ℤ)) → HourLog
 hour_log h specs rows ss before after = record { hour = h; specs = specs; rows = rows; stretches = ss; before = before; after = after }
 
--- stands where a list has no spec or no row
+-- stands where a list has no spec
 abbrev pub no_spec : Spec
 no_spec = record { channel = record { kind = Phase; number = 0 }; floors = [] }
 
+-- stands where a list has no row
 abbrev pub no_row : Row
 no_row = record { at = 0; code = 0; param = 0 }

@@ -110,7 +110,7 @@ HaveSameStates a b = (length a ≡ length b) × ((s : State) → Holds a s ↔ H
 abbrev pub AreSamePasts : List (List (List Span)) → List (List (List Span)) → Type 0
 AreSamePasts a b = (length a ≡ length b) × ((i : ℕ) → i < length a → HaveSameStates (slice_index_or a i []) (slice_index_or b i []))
 
--- each channel has as many colours as its machine
+-- for each channel stands, colour by colour of its machine, a latest entry or none
 abbrev pub AreAheadsOf : List Spec → List (List (Option ℤ)) → Type 0
 AreAheadsOf specs after = (length after ≡ length specs) × ((i : ℕ) (d : Spec) → i < length specs → length (slice_index_or after i []) ≡ (rules_at specs i d).colours)
 

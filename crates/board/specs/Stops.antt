@@ -35,7 +35,7 @@ Survives m sets xs = (u : State) × AfterMoves m sets xs u
 abbrev pub IsWalked : Rules → List (List Span) → List Move → List (List Span) → Option ℕ → Type 0
 IsWalked m old xs new r = MatchOption r (((u : State) → Holds new u ↔ AfterMoves m old xs u) × Survives m old xs) (λ n. StopRow m old xs n)
 
--- the rules, the moves and the states before the hour of the channel with this place
+-- the machine of the channel with this place
 abbrev pub rules_at : List Spec → ℕ → Spec → Rules
 rules_at specs i d = (track (slice_index_or specs i d)).rules
 
@@ -63,6 +63,6 @@ IsFirstStop specs rows ss before n o = (d : Spec) → IsFirst (GoesOnAt specs ro
 abbrev pub AreAfter : List Spec → List Row → List Stretch → List (List (List Span)) → ℕ → List (List (List Span)) → Type 0
 AreAfter specs rows ss before n pasts = (i : ℕ) (d : Spec) → i < n → (u : State) → Holds (slice_index_or pasts i []) u ↔ AfterMoves (rules_at specs i d) (slice_index_or before i []) (moves_at specs rows ss i d) u
 
--- each channel has a state and as many colours as its machine
+-- for each channel stands, colour by colour of its machine, a set of entries, and some state is in one
 abbrev pub AreBefore : List Spec → List (List (List Span)) → Type 0
 AreBefore specs before = (length before ≡ length specs) × ((i : ℕ) (d : Spec) → i < length specs → (length (slice_index_or before i []) ≡ (rules_at specs i d).colours) × ((s : State) × Holds (slice_index_or before i []) s))

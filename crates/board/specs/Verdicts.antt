@@ -29,12 +29,12 @@ PassesState k f x before after s events v = Holds before s × IsLegal k f (take 
 abbrev pub ArePassed : ℕ → (ℕ → Track) → (ℕ → Bool) → (ℕ → List Event) → ℕ → ℕ → ℕ → (ℕ → List (List Span)) → (ℕ → List (Option ℤ)) → (ℕ → State) → Type 0
 ArePassed n tracks known given f x t before after v = (h : History) × Agrees n tracks known given f h × (f + length h.events ≡ t) × ((i : ℕ) → i < n → PassesState (tracks i) f x (before i) (after i) (start_of h i) h.events (v i))
 
--- some term holds in the states
+-- in these states, one of each channel, some term of the clause holds: its channel is in one of the term's colours
 abbrev pub Keeps : List Term → (ℕ → State) → Type 0
 Keeps [] v = ⊥
 Keeps (c ∷ cs) v = Has c.colours (v c.spec).colour ⊎ Keeps cs v
 
--- some term is of the channel
+-- some term of the clause is of the channel
 abbrev pub HasSpec : ℕ → List Term → Type 0
 HasSpec i [] = ⊥
 HasSpec i (c ∷ cs) = (c.spec ≡ i) ⊎ HasSpec i cs
@@ -70,7 +70,7 @@ abbrev pub HoldOne : (ℕ → State → Type 0) → List Term → Type 0
 HoldOne A [] = ⊥
 HoldOne A (c ∷ cs) = SomeIn A c ⊎ HoldOne A cs
 
--- the verdict on what is kept in the states of the histories; none is idle
+-- the verdict on a clause, by the states P that the channels may have together and by K of which the clause holds: kept in all, broken in none, or undecided
 abbrev pub IsVerdict : Verdict → ((ℕ → State) → Type 0) → ((ℕ → State) → Type 0) → Type 0
 IsVerdict Idle P K = ⊥
 IsVerdict Kept P K = (v : ℕ → State) → P v → K v

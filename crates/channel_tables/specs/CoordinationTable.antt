@@ -2,27 +2,35 @@
 use Rattle.std.specs.Prelude.{ℕ, List, [], ◌∷◌, codes}
 use Rattle.channel_tables.specs.Table.{Table, line}
 
+-- the signal runs free
 abbrev pub free : ℕ
 free = 0
 
+-- in step with its plan
 abbrev pub in_step : ℕ
 in_step = 1
 
+-- in transition, adding time to cycles
 abbrev pub transition_add : ℕ
 transition_add = 2
 
+-- in transition, taking time from cycles
 abbrev pub transition_subtract : ℕ
 transition_subtract = 3
 
+-- in transition, dwelling
 abbrev pub transition_dwell : ℕ
 transition_dwell = 4
 
+-- at the local zero of its cycle
 abbrev pub local_zero : ℕ
 local_zero = 5
 
+-- beginning to pick up coordination
 abbrev pub begin_pickup : ℕ
 begin_pickup = 6
 
+-- all states of the coordination: each may follow each
 abbrev pub any_coordination_colour : List ℕ
 any_coordination_colour =
     free ∷ in_step ∷ transition_add ∷ transition_subtract ∷ transition_dwell ∷ local_zero ∷ begin_pickup ∷ []

@@ -2,13 +2,15 @@
 use Rattle.std.specs.Prelude.{ℕ, [], ◌∷◌, codes}
 use Rattle.channel_tables.specs.Table.{Line, Table, line}
 
--- the colours
+-- a fault has been reported, and neither the detector's restoration nor an actuation since
 abbrev fault : ℕ
 fault = 2
 
+-- the detector is occupied
 abbrev on : ℕ
 on = 1
 
+-- the detector isn't occupied
 abbrev off : ℕ
 off = 0
 

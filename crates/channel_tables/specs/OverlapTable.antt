@@ -2,24 +2,31 @@
 use Rattle.std.specs.Prelude.{ℕ, List, [], ◌∷◌, codes}
 use Rattle.channel_tables.specs.Table.{Table, line}
 
+-- the overlap is inactive and shows red
 abbrev pub off : ℕ
 off = 0
 
+-- it shows green
 abbrev pub green : ℕ
 green = 1
 
+-- its green goes on after that of its phases
 abbrev pub trailing : ℕ
 trailing = 2
 
+-- it shows yellow
 abbrev pub yellow : ℕ
 yellow = 3
 
+-- its red clearance runs
 abbrev pub clear : ℕ
 clear = 4
 
+-- it shows nothing
 abbrev pub dark : ℕ
 dark = 5
 
+-- all colours of an overlap
 abbrev pub any_overlap_colour : List ℕ
 any_overlap_colour = off ∷ green ∷ trailing ∷ yellow ∷ clear ∷ dark ∷ []
 

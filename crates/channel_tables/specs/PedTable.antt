@@ -2,18 +2,23 @@
 use Rattle.std.specs.Prelude.{ℕ, List, [], ◌∷◌, codes}
 use Rattle.channel_tables.specs.Table.{Table, line}
 
+-- solid don't walk
 abbrev pub dont_walk : ℕ
 dont_walk = 0
 
+-- walk
 abbrev pub walk : ℕ
 walk = 1
 
+-- the pedestrian clearance, with don't walk flashing
 abbrev pub clearance : ℕ
 clearance = 2
 
+-- the signal shows nothing
 abbrev pub dark : ℕ
 dark = 3
 
+-- all colours of a pedestrian signal
 abbrev pub any_ped_colour : List ℕ
 any_ped_colour = dont_walk ∷ walk ∷ clearance ∷ dark ∷ []
 

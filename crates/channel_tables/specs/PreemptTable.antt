@@ -2,18 +2,23 @@
 use Rattle.std.specs.Prelude.{ℕ, List, [], ◌∷◌, codes}
 use Rattle.channel_tables.specs.Table.{Table, line}
 
+-- no service: none has begun, or its exit has
 abbrev pub rest : ℕ
 rest = 0
 
+-- the service has begun, and neither track clearance nor dwell
 abbrev pub entry : ℕ
 entry = 1
 
+-- the track is being cleared
 abbrev pub track : ℕ
 track = 2
 
+-- the signal dwells
 abbrev pub dwell : ℕ
 dwell = 3
 
+-- all states of a preempt's service
 abbrev pub any_preempt_colour : List ℕ
 any_preempt_colour = rest ∷ entry ∷ track ∷ dwell ∷ []
 

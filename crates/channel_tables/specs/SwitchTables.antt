@@ -2,9 +2,11 @@
 use Rattle.std.specs.Prelude.{ℕ, [], ◌∷◌, codes}
 use Rattle.channel_tables.specs.Table.{Table, line}
 
+-- the input is off
 abbrev pub off : ℕ
 off = 0
 
+-- the input is on
 abbrev pub on : ℕ
 on = 1
 

@@ -9,6 +9,7 @@ pub record Line : Type 0 where
   pub legal_in : List ℕ
   pub to : ℕ
 
+-- a line of a table by its three parts
 abbrev pub line : ℕ → List ℕ → ℕ → Line
 line n cs d = record { sign = n; legal_in = cs; to = d }
 

@@ -50,6 +50,7 @@ pub record Given : Type 0 where
   pub pack : Option Text
   pub demo : Option Text
 
+-- the values that the words give to the nine options
 abbrev pub given_by : List Row → Given
 given_by found = record {
   config = first_of (codes "config") found;
@@ -76,10 +77,11 @@ pairs_asked config script rule at =
 abbrev pub hour_asked : Text → Text → Option (ℤ × ℕ)
 hour_asked signal hour = if is_signal signal then hour_stamp_of hour else None
 
--- the count of this file, signal and hour, and its packed bytes, where the last two are readable
+-- the count of this file, signal and hour, where the last two are readable
 abbrev pub count_asked : Text → Text → Text → Option Asked
 count_asked file signal hour = option_map (λ at. for_count file signal at.0 at.1) (hour_asked signal hour)
 
+-- the packed bytes of this file, signal and hour, where the last two are readable
 abbrev pub pack_asked : Text → Text → Text → Option Asked
 pack_asked file signal hour = option_map (λ at. for_pack file signal at.0 at.1) (hour_asked signal hour)
 
@@ -105,10 +107,11 @@ file_asked None (Some i) (Some h) (Some f) None = pack_asked f i h
 file_asked None None None None (Some n) = demo_asked n
 file_asked _ _ _ _ _ = None
 
--- only options of a script have values, or none of them has one
+-- none of the options that go with one file, or with the demonstration, has a value
 abbrev pub is_of_script : Given → Bool
 is_of_script g = is_none g.count && is_none g.signal && is_none g.hour && is_none g.pack && is_none g.demo
 
+-- none of the options that go with a script has a value
 abbrev pub is_of_file : Given → Bool
 is_of_file g = is_none g.config && is_none g.script && is_none g.rule && is_none g.at
 
@@ -118,10 +121,11 @@ asked_for g =
     if is_of_script g then script_asked g.config g.script g.rule g.at
     else (if is_of_file g then file_asked g.count g.signal g.hour g.pack g.demo else None)
 
--- what the command says of the words: the kinds of error that they give, and the matches
+-- the errors that the command finds in the words
 unfoldable pub faults : List Text → Kinds
 faults words = fault_of sigaudit words
 
+-- what the words match of the command's options
 unfoldable pub rows : List Text → List Row
 rows words = matches_of sigaudit words
 

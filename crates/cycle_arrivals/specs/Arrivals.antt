@@ -2,11 +2,11 @@
 use Rattle.std.specs.Prelude.{ℕ, ◌==◌, nat_le, nat_lt, Bool, ◌&&◌, List, filter}
 use Rattle.sig_base.specs.declared.values.Row.{Row}
 
--- detector d goes on
+-- the row says that detector d goes on: code 82
 abbrev pub is_on : ℕ → Row → Bool
 is_on d x = x.code == 82 && x.param == d
 
--- the rows at which it goes on
+-- the rows at which detector d goes on
 abbrev pub ons_of : ℕ → List Row → List Row
 ons_of d rows = filter (is_on d) rows
 

@@ -6,7 +6,7 @@ use Rattle.cycle_arrivals.specs.declared.open.Open.{Open}
 use Rattle.cycle_arrivals.specs.Arrivals.{rows_within}
 use Rattle.cycle_arrivals.specs.Green.{arrivals_in, green_arrivals_in, green_tenths_in, greens}
 
--- of a cycle of phase p that has begun at tenth a, and of detector d, what the tenths up to b give
+-- what a cycle of phase p that began at tenth a has given up to tenth b at detector d
 unfoldable pub open_at : ℕ → ℕ → ℕ → ℕ → List Row → Open
 open_at p d a b rows = record {
   from = a;

@@ -19,10 +19,11 @@ use Rattle.signal_log.specs.Rows.{rows_before}
 
 -- ---- less of a log
 
+-- tenth t is one of those from u to v, both among them
 abbrev pub is_from_to : ℕ → ℕ → ℕ → Bool
 is_from_to u v t = not (nat_lt t u) && not (nat_lt v t)
 
--- the log of which only the tenths from u to v, both with them, are known
+-- the log as if only the tenths from u to v were known of it, both among them
 abbrev pub only : ℕ → ℕ → Log → Log
 only u v log = record log {
   known = λ t. log.known t && is_from_to u v t;
@@ -58,25 +59,25 @@ pub record HasRowAt (log : Log) (rule : Rule) (t : ℕ) : Type 0 where
   pub at : (slice_index_or log.rows place no_row).at ≡ t
   pub own : IsTrue (is_row_of_rule log.specs (slice_index_or log.rows place no_row) rule)
 
--- a tenth with which a window may begin or end
+-- a tenth with which a decisive window may begin or end: the obligation's own, one with a known row of the rule's channels, and the window's first and last
 abbrev pub IsCandidate : Log → Obligation → ℕ → Type 0
 IsCandidate log o t = ((t ≡ o.at) ⊎ (t ≡ 0)) ⊎ ((t + 1 ≡ window_end log) ⊎ HasRowAt log o.rule t)
 
--- of the candidates from low on the least at which it holds
+-- of the candidates C from low on, v is the least with which B holds
 pub record IsLeastFrom (C B : ℕ → Type 0) (low v : ℕ) : Type 0 where
   pub candidate : C v
   pub late : low ≤ v
   pub holds : B v
   pub least : (w : ℕ) → C w → low ≤ w → w < v → B w → ⊥
 
--- of the candidates up to high the greatest at which it holds
+-- of the candidates C up to high, u is the greatest with which B holds
 pub record IsGreatestTo (C B : ℕ → Type 0) (high u : ℕ) : Type 0 where
   pub candidate : C u
   pub early : u ≤ high
   pub holds : B u
   pub greatest : (w : ℕ) → C w → w ≤ high → u < w → B w → ⊥
 
--- from tenth u to tenth v is the decisive window of the obligation
+-- the stretch from u to v decides that the obligation is broken: v is the least end with which it is broken by the log up to there alone, and u then the greatest begin with which it still is
 pub record IsDecisive (log : Log) (rows : List Row) (o : Obligation) (u v : ℕ) : Type 0 where
   pub end : IsLeastFrom (IsCandidate log o) (λ w. HasLogVerdict (only 0 w log) rows o Broken) o.at v
   pub begin : IsGreatestTo (IsCandidate log o) (λ w. HasLogVerdict (only w v log) rows o Broken) o.at u

@@ -1,7 +1,7 @@
 -- The draws that the demonstration is made of.
 use Rattle.std.specs.Prelude.{◌+◌, ◌*◌, ◌/◌, ◌%◌, ◌^◌, ℕ, zero, suc}
 
--- the number that follows in a sequence
+-- the number that follows x in the sequence from which the demonstration is drawn
 unfoldable pub next : ℕ → ℕ
 next x = (1103515245 * x + 12345) % 2 ^ 31
 
@@ -9,10 +9,11 @@ next x = (1103515245 * x + 12345) % 2 ^ 31
 abbrev pub drawn : ℕ → ℕ
 drawn x = x / 65536
 
--- the next draw of a sequence that stands at this number, and the one after it
+-- the next draw of a sequence that stands at this number
 abbrev pub first_draw : ℕ → ℕ
 first_draw x = drawn (next x)
 
+-- the draw after the next
 abbrev pub second_draw : ℕ → ℕ
 second_draw x = drawn (next (next x))
 

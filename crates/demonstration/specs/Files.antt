@@ -10,10 +10,11 @@ unfoldable pub hour_named : ℕ → ℕ → List ℕ → Option ℕ
 hour_named zero hour name = None
 hour_named (suc n) hour name = if bytes_eq (decimal hour) name then Some hour else hour_named n (hour + 1) name
 
--- the names of the configuration and of the script, which no line of the script has
+-- the name of the configuration
 abbrev pub config_name : List ℕ
 config_name = codes "config"
 
+-- the name of the script; no line of the script names it, nor the configuration
 abbrev pub script_name : List ℕ
 script_name = codes "script"
 

@@ -12,7 +12,7 @@ unfoldable pub placed : Row → List Row → List Row
 placed r [] = r ∷ []
 placed r (x ∷ xs) = if is_before r x then r ∷ x ∷ xs else x ∷ placed r xs
 
--- these rows in order
+-- these rows in the order of a file
 unfoldable pub ordered : List Row → List Row
 ordered [] = []
 ordered (r ∷ rs) = placed r (ordered rs)

@@ -3,13 +3,15 @@ use Rattle.std.specs.Prelude.{◌+◌, ◌%◌, ◌==◌, ◌++◌, nat_lt, if�
 use Rattle.sig_base.specs.declared.values.Row.{Row}
 use Rattle.demonstration.specs.Draws.{first_draw, second_draw, after_two}
 
+-- a row by its three parts
 abbrev pub row : ℕ → ℕ → ℕ → Row
 row at code param = record { at = at; code = code; param = param }
 
--- of the next two draws: the tenths of green, and the code by which the green ends, 4 to 6
+-- of the next two draws the first: how many tenths the green lasts
 abbrev pub green : ℕ → ℕ
 green x = 100 + first_draw x % 200
 
+-- of the next two draws the second: the code by which the green ends, 4 to 6
 abbrev pub ending : ℕ → ℕ
 ending x = 4 + second_draw x % 3
 
@@ -21,6 +23,7 @@ service_rows at phase green ending =
     ∷ row (at + green + 35) 9 phase ∷ row (at + green + 35) 10 phase
     ∷ row (at + green + 50) 11 phase ∷ row (at + green + 50) 12 phase ∷ []
 
+-- phases 2 and 4 take turns
 abbrev pub other_phase : ℕ → ℕ
 other_phase phase = if phase == 2 then 4 else 2
 
@@ -32,10 +35,11 @@ services (suc k) end x at phase =
     then service_rows at phase (green x) (ending x) ++ services k end (after_two x) (at + green x + 50) (other_phase phase)
     else []
 
--- of the next two draws: the tenths until the detector goes on, and those until it goes off again
+-- of the next two draws the first: the tenths until the detector goes on
 abbrev pub quiet : ℕ → ℕ
 quiet x = 20 + first_draw x % 100
 
+-- of the next two draws the second: the tenths that it stays on
 abbrev pub held : ℕ → ℕ
 held x = 5 + second_draw x % 40
 

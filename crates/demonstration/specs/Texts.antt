@@ -14,15 +14,17 @@ calendar = record { day = pos 19723; hour = 0; hours = 169 }
 unfoldable pub spaced_stamp : ℕ → List ℕ
 spaced_stamp at = slice_set (stamp_at calendar at) 10 32
 
--- a record of a file
+-- a row as the record of an hour file
 unfoldable pub record_of : Row → List ℕ
 record_of r =
     codes "9000," ++ spaced_stamp r.at ++ codes "," ++ decimal r.code ++ codes "," ++ decimal r.param ++ codes "\n"
 
+-- the records of these rows, one after another
 unfoldable pub records_of : List Row → List ℕ
 records_of [] = []
 records_of (r ∷ rs) = record_of r ++ records_of rs
 
+-- the line at the head of each hour file
 abbrev pub header : List ℕ
 header = codes "SignalID,Timestamp,EventCode,EventParam\n"
 
@@ -38,33 +40,37 @@ demo_rows hours = ordered (all_rows (36000 * hours))
 unfoldable pub hour_text : ℕ → ℕ → List ℕ
 hour_text hours hour = header ++ records_of (filter (is_of_hour hour) (demo_rows hours))
 
--- the configuration
+-- the configuration up to the number of hours
 abbrev pub config_begin : List ℕ
 config_begin = codes "signal = \"9000\"\nstart = \"2024-01-01T00\"\nhours = "
 
+-- the configuration after the number of hours: phases 2 and 4, one rule on the green of phase 2, and one approach
 abbrev pub config_end : List ℕ
 config_end =
     codes "\n\n[[phase]]\nnumber = 2\nring = 1\nside = 1\n\n[[phase]]\nnumber = 4\nring = 1\nside = 2\n\n[[interval]]\nchannel = \"phase 2\"\ncolour = \"Green\"\nat_least = 120\n\n[[approach]]\nname = \"A\"\nphase = 2\nadvance = 5\nstop_bar = 5\n"
 
+-- the configuration of a demonstration of so many hours
 unfoldable pub config_text : ℕ → List ℕ
 config_text hours = config_begin ++ decimal hours ++ config_end
 
--- lines of the script
+-- the line that loads an hour from its file
 unfoldable pub load_line : ℕ → List ℕ
 load_line hour = codes "load " ++ decimal hour ++ codes " " ++ decimal hour ++ codes "\n"
 
--- ten seconds are blanked from half past the hour on
+-- the line that blanks ten seconds from half past the hour on
 unfoldable pub blank_line : ℕ → List ℕ
 blank_line hour =
     codes "blank " ++ stamp_at calendar (36000 * hour + 18000) ++ codes " " ++ stamp_at calendar (36000 * hour + 18100) ++ codes "\n"
 
+-- the line that asks for the measures
 abbrev pub measures_line : List ℕ
 measures_line = codes "measures\n"
 
+-- the line that takes an hour out
 abbrev pub withdraw_line : ℕ → List ℕ
 withdraw_line hour = codes "withdraw " ++ decimal hour ++ codes "\n"
 
--- the whole window is known again
+-- the line with which all of the window is known again
 abbrev pub unblank_line : ℕ → List ℕ
 unblank_line hours =
     codes "unblank " ++ stamp_at calendar 0 ++ codes " " ++ stamp_at calendar (36000 * hours) ++ codes "\n"
@@ -75,15 +81,16 @@ each_hour line by rest zero hour = []
 each_hour line by rest (suc n) hour =
     (if hour % by == rest then line hour else []) ++ each_hour line by rest n (hour + 1)
 
--- even hours are loaded, then odd ones; a part of each fourth hour is blanked
+-- the script's edits: even hours are loaded, then odd ones; a part of each fourth hour is blanked
 abbrev pub edit_lines : ℕ → List ℕ
 edit_lines hours =
     each_hour load_line 2 0 hours 0 ++ each_hour load_line 2 1 hours 0 ++ each_hour blank_line 4 0 hours 0
 
--- one hour is withdrawn and measured without; then it is loaded again and all is known
+-- the script's end: one hour is withdrawn and measured without; then it is loaded again and all is known
 abbrev pub end_lines : ℕ → ℕ → List ℕ
 end_lines hours middle =
     withdraw_line middle ++ measures_line ++ load_line middle ++ unblank_line hours ++ measures_line
 
+-- the script of a demonstration of so many hours
 unfoldable pub script_text : ℕ → List ℕ
 script_text hours = edit_lines hours ++ end_lines hours (hours / 2)

@@ -74,7 +74,7 @@ abbrev pub IsMet : Asked → ℕ → Type 0
 IsMet (Only c) mask = (d : ℕ) → Has mask d ↔ (d ≡ c)
 IsMet (May c) mask = Has mask c
 
--- how often the channel was sure to be on and may have been on in the tenths from a up to b, and whether it was sure to have a fault
+-- at how many of the tenths from a up to b the detector was sure to be on, and at how many it may have been, and whether it was sure to have a fault at one of them
 pub record AreTenths (log : Log) (i a b : ℕ) (t : OnTenths) : Type 0 where
   pub least : Counts (IsSure log i 1) a b t.least
   pub greatest : Counts (IsColourReached log i 1) a b t.greatest

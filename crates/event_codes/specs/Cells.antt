@@ -4,6 +4,7 @@ use Rattle.event_codes.specs.declared.channels.Channel.{Channel}
 use Rattle.event_codes.specs.declared.channels.Kind.{Kind}
 use Rattle.event_codes.specs.declared.channels.Kind.TheVariants.{Phase, Ped, Overlap, Detector, PedDetector, PreemptInput, PreemptService, Coordination}
 
+-- a number of its own for each kind of channel
 abbrev pub kind_number : Kind → ℕ
 kind_number Phase = 0
 kind_number Ped = 1

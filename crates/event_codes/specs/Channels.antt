@@ -14,10 +14,11 @@ pub record Line : Type 0 where
   pub least : ℕ
   pub most : ℕ
 
+-- a line of the table by its four parts
 abbrev pub line : Kind → List ℕ → ℕ → ℕ → Line
 line kind cs least most = record { kind = kind; codes_of = cs; least = least; most = most }
 
--- the table of the channels
+-- the table of channels: which codes and parameters are of which kind
 abbrev pub channel_lines : List Line
 channel_lines =
     line Phase (0 ∷ 1 ∷ 7 ∷ 8 ∷ 9 ∷ 10 ∷ 11 ∷ 12 ∷ []) 1 16
@@ -58,7 +59,7 @@ channel_by (x ∷ xs) code param =
 abbrev pub channel_in_table : ℕ → ℕ → Option Channel
 channel_in_table code param = channel_by channel_lines code param
 
--- the group that a channel makes, or this code and parameter alone
+-- the group of a row for finding repeats: its channel where it has one, else its code and parameter
 abbrev pub group_with : Option Channel → ℕ → ℕ → Group
 group_with (Some channel) code param = Of channel
 group_with None code param = Alone code param

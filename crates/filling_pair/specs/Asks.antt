@@ -132,18 +132,18 @@ abbrev pub HaveFew : Store → List Strand → Type 0
 HaveFew s [] = Unit {0}
 HaveFew s (z ∷ zs) = AreFew (is_known s) (rows_of z.fills) × HaveFew s zs
 
--- these are strands of the rule, with them it is kept at the line's place as said, and their fills are few
+-- these strands are ones of the rule, with them it is kept or not as said, and they fill with few events
 pub record Shows (specs : List Spec) (s : Store) (line : AuditLine) (rule : Rule) (kept : Bool) (ss : List Strand) : Type 0 where
   pub strands : AreStrands (log_of specs s) rule ss
   pub said : IsAsSaid kept (KeepLine specs s (line_rows s line) line rule ss)
   pub few : HaveFew s ss
 
--- strands with which the rule is kept at the line's place, and others with which it isn't
+-- a pair has strands with which the rule is kept at the line's place, and others with which it isn't
 pub record ShowsBoth (specs : List Spec) (s : Store) (line : AuditLine) (rule : Rule) (pair : Pair) : Type 0 where
   pub keeps : Shows specs s line rule true pair.keeps
   pub breaks : Shows specs s line rule false pair.breaks
 
--- the same of the line's rule
+-- the pair shows of an undecided line that its rule may have been kept and may have been broken
 abbrev pub IsPair : List Spec → Store → List Rule → AuditLine → Pair → Type 0
 IsPair specs s rules line pair = ShowsBoth specs s line (rule_of rules line) pair
 

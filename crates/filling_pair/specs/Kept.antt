@@ -29,7 +29,7 @@ abbrev pub StandsAt : Log → List Row → ℕ → Place → Strand → State �
 StandsAt log rows t (BeforeRow n) s v = LeadsInto log s t (rows_before rows n) v
 StandsAt log rows t EndOfTenth s v = Leads log s (t + 1) v
 
--- in the colour some term of the channel holds
+-- some term is of channel i and has the colour
 abbrev pub HoldsIn : List Term → ℕ → ℕ → Type 0
 HoldsIn [] i colour = ⊥
 HoldsIn (c ∷ cs) i colour = ((c.spec ≡ i) × Has c.colours colour) ⊎ HoldsIn cs i colour
@@ -46,12 +46,12 @@ KeepsBy specs rows place rule i v = ⊥
 abbrev pub KeepsAt : Log → List Row → ℕ → Place → Rule → Strand → Type 0
 KeepsAt log rows t place rule s = (v : State) × StandsAt log rows t place s v × KeepsBy log.specs rows place rule s.spec v
 
--- one of the strands does
+-- with one of the strands the rule is kept at the place
 abbrev pub AreKept : Log → List Row → ℕ → Place → Rule → List Strand → Type 0
 AreKept log rows t place rule [] = ⊥
 AreKept log rows t place rule (s ∷ ss) = KeepsAt log rows t place rule s ⊎ AreKept log rows t place rule ss
 
--- it holds or doesn't, as said
+-- P holds, or doesn't, as said
 abbrev pub IsAsSaid : Bool → Type 0 → Type 0
 IsAsSaid true P = P
 IsAsSaid false P = P → ⊥
@@ -85,10 +85,11 @@ pub record IsLineOf (s : Store) (rules : List Rule) (line : AuditLine) : Type 0 
 abbrev pub StandsAtLine : List Spec → Store → AuditLine → Strand → State → Type 0
 StandsAtLine specs s line z v = StandsAt (log_of specs s) (line_rows s line) line.at line.place z v
 
--- with the strand, and with one of the strands, the rule is kept at the line's place, where these are the rows of its hour
+-- with the strand the rule is kept at the line's place, where these are the rows of its hour
 abbrev pub KeepsLine : List Spec → Store → List Row → AuditLine → Rule → Strand → Type 0
 KeepsLine specs s rows line rule z = KeepsAt (log_of specs s) rows line.at line.place rule z
 
+-- with one of the strands the rule is kept at the line's place
 abbrev pub KeepLine : List Spec → Store → List Row → AuditLine → Rule → List Strand → Type 0
 KeepLine specs s rows line rule ss = AreKept (log_of specs s) rows line.at line.place rule ss
 

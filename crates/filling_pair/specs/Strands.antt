@@ -10,10 +10,11 @@ use Rattle.rule_audit.specs.declared.rules.Rule.TheVariants.{Interval, Conflict,
 use Rattle.filling_pair.specs.declared.strands.Fill.{Fill}
 use Rattle.filling_pair.specs.declared.strands.Strand.{Strand}
 
--- the fill as a row, and the fills as rows
+-- the fill as a row
 abbrev pub row_of : Fill → Row
 row_of f = record { at = f.at; code = f.code; param = f.param }
 
+-- the fills as rows
 abbrev pub rows_of : List Fill → List Row
 rows_of [] = []
 rows_of (f ∷ fs) = row_of f ∷ rows_of fs
@@ -42,6 +43,7 @@ pub record IsStrand (log : Log) (s : Strand) : Type 0 where
   pub fills : AreFills (track_at log s.spec) log.known 0 (window_end log) s.fills
   pub legal : (u : State) × Leads log s (window_end log) u
 
+-- each of these is a strand of the log
 abbrev pub AreAllStrands : Log → List Strand → Type 0
 AreAllStrands log [] = Unit {0}
 AreAllStrands log (s ∷ ss) = IsStrand log s × AreAllStrands log ss

@@ -20,15 +20,15 @@ abbrev pub AreBytes : List ℕ → Type 0
 AreBytes [] = ⊤
 AreBytes (b ∷ bs) = (b < 256) × AreBytes bs
 
--- what a packed hour begins with
+-- the four bytes with which a packed hour begins
 abbrev pub mark : List ℕ
 mark = 0x00 ∷ 0x53 ∷ 0x47 ∷ 0x50 ∷ []
 
--- the length of the identifier, and the identifier
+-- the signal in a packed hour: the length of its identifier, and the identifier
 abbrev pub signal_part : List ℕ → List ℕ
 signal_part signal = length signal ∷ signal
 
--- `YYYY-MM-DDTHH` of this hour of the window
+-- the hour in a packed hour: `YYYY-MM-DDTHH`
 unfoldable pub hour_part : Span → ℕ → List ℕ
 hour_part window hour = take 13 (stamp_at window (36000 * hour))
 
@@ -41,11 +41,11 @@ abbrev pub rows_bytes : ℕ → List Row → List ℕ
 rows_bytes last [] = []
 rows_bytes last (row ∷ rows) = row_bytes last row ++ rows_bytes row.at rows
 
--- what stands in front of the count
+-- what stands in a packed hour in front of the number of rows
 abbrev pub head_bytes : List ℕ → Span → ℕ → List ℕ
 head_bytes signal window hour = mark ++ signal_part signal ++ hour_part window hour
 
--- the bytes of these rows of this signal and this hour of the window
+-- the packed hour of these rows, of this signal and this hour of the window
 unfoldable pub packed : List ℕ → Span → ℕ → List Row → List ℕ
 packed signal window hour rows =
     head_bytes signal window hour ++ to_be_bytes w32 (length rows) ++ rows_bytes (36000 * hour) rows

@@ -13,6 +13,7 @@ use Rattle.hour_pack.specs.Grammar.{mark, hour_part}
 -- ---- one thing read after the other
 
 infixl 10 ◌>>=◌
+-- what is read next, unless a fault was found before
 abbrev pub ◌>>=◌ : {A B : Type 0} → Result A PackError → (A → Result B PackError) → Result B PackError
 (Ok x) >>= f = f x
 (Err e) >>= f = Err e
@@ -40,7 +41,7 @@ GivesInMemory view (Err e) read = IsFault read e
 
 -- ---- what stands in front of the rows
 
--- the bytes behind the mark
+-- the bytes behind the mark; without it they are no packed hour
 abbrev pub after_mark : List ℕ → Result (List ℕ) PackError
 after_mark bytes = if starts_with nat_eq bytes mark then Ok (drop 4 bytes) else Err NotPacked
 
@@ -51,7 +52,7 @@ after_part wrong part bytes =
     else if starts_with nat_eq part bytes then Err Short
     else Err wrong
 
--- the bytes behind the hour
+-- the bytes behind the signal and the hour, which have to be those that are wanted
 unfoldable pub after_head : List ℕ → Span → ℕ → List ℕ → Result (List ℕ) PackError
 after_head signal window hour bytes = do
   body ← after_mark bytes
@@ -59,6 +60,7 @@ after_head signal window hour bytes = do
   body ← after_part WrongSignal signal body
   after_part WrongHour (hour_part window hour) body
 
+-- a packed hour has at most 400,000 rows
 abbrev pub few_rows : ℕ × List ℕ → Result (ℕ × List ℕ) PackError
 few_rows count = if nat_lt 400000 count.0 then Err TooManyRows else Ok count
 
@@ -88,6 +90,7 @@ unfoldable pub number_at : ℕ → List ℕ → Result (ℕ × List ℕ) PackErr
 number_at row [] = Err Short
 number_at row (a ∷ bytes) = if nat_lt a 128 then Ok (a, bytes) else second_byte row a bytes
 
+-- the tenth of a row by how many tenths it comes after the row before; it has to lie in the hour
 abbrev pub tenth_by : ℕ → ℕ → ℕ → ℕ × List ℕ → Result (ℕ × List ℕ) PackError
 tenth_by row to last since = if nat_lt (last + since.0) to then Ok (last + since.0, since.1) else Err (BadRow row)
 
@@ -95,17 +98,20 @@ tenth_by row to last since = if nat_lt (last + since.0) to then Ok (last + since
 unfoldable pub tenth_at : ℕ → ℕ → ℕ → List ℕ → Result (ℕ × List ℕ) PackError
 tenth_at row to last bytes = number_at row bytes >>= tenth_by row to last
 
+-- the code of a row: one byte
 abbrev pub code_at : List ℕ → Result (ℕ × List ℕ) PackError
 code_at [] = Err Short
 code_at (code ∷ bytes) = Ok (code, bytes)
 
+-- the parameter of a row has two bytes' room
 abbrev pub param_by : ℕ → ℕ × List ℕ → Result (ℕ × List ℕ) PackError
 param_by row param = if nat_lt param.0 65536 then Ok param else Err (BadRow row)
 
+-- the parameter of the row of this place
 unfoldable pub param_at : ℕ → List ℕ → Result (ℕ × List ℕ) PackError
 param_at row bytes = number_at row bytes >>= param_by row
 
--- a row behind those that are kept, where it is no repeat
+-- a row that is read isn't a repeat of those before it
 abbrev pub fresh : List Row → Row → List ℕ → Result (Row × List ℕ) PackError
 fresh kept row bytes = if is_repeat kept row then Err (BadRow (length kept + 1)) else Ok (row, bytes)
 
@@ -126,6 +132,7 @@ rows_at (suc left) to last kept bytes = do
 
 -- ---- all of it
 
+-- nothing may follow the last row
 abbrev pub at_end : List Row × List ℕ → Result (List Row) PackError
 at_end rows = if length rows.1 == 0 then Ok rows.0 else Err Extra
 

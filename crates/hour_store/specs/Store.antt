@@ -5,7 +5,7 @@ use Rattle.sig_base.specs.HourRows.{AreRowsOf, Shown}
 use Rattle.span_set.specs.declared.set.Span.{Span}
 use Rattle.span_set.specs.Spans.{Member, is_member}
 
--- for each hour of the window nothing or its rows, and the ranges of the blanked tenths
+-- what is held and known: for each hour of the window nothing or its rows, and the ranges of the blanked tenths
 pub record Store : Type 0 where
   pub hours : List (Option Shown)
   pub blanks : List Span
@@ -18,7 +18,7 @@ held_at s hour = slice_index_or s.hours hour None
 abbrev pub rows_at : Store → ℕ → Option (List Row)
 rows_at s hour = option_map (λ h. h.rows) (held_at s hour)
 
--- how many rows these are
+-- how many rows are held of an hour, none where it isn't held
 abbrev pub count_in : Option Shown → ℕ
 count_in None = 0
 count_in (Some h) = length h.rows

@@ -5,24 +5,28 @@ use Rattle.std.specs.Prelude.{ℕ, zero, suc, ◌≡◌, ◌<◌, ◌-◌, ◌^�
 unfoldable pub capped : ℕ → ℕ
 capped n = min n (2 ^ 64 - 1)
 
+-- 1 where it is so, else 0
 abbrev pub one_if : Bool → ℕ
 one_if b = if b then 1 else 0
 
+-- the lesser of two numbers, either of which may be missing
 abbrev pub lesser : Option ℕ → Option ℕ → Option ℕ
 lesser None y = y
 lesser (Some x) None = Some x
 lesser (Some x) (Some y) = Some (min x y)
 
+-- the greater of two numbers, either of which may be missing
 abbrev pub greater : Option ℕ → Option ℕ → Option ℕ
 greater None y = y
 greater (Some x) None = Some x
 greater (Some x) (Some y) = Some (max x y)
 
--- the least and the greatest of the numbers
+-- the least of the numbers; none where there are none
 abbrev pub least : List ℕ → Option ℕ
 least [] = None
 least (x ∷ xs) = lesser (Some x) (least xs)
 
+-- the greatest of the numbers; none where there are none
 abbrev pub greatest : List ℕ → Option ℕ
 greatest [] = None
 greatest (x ∷ xs) = greater (Some x) (greatest xs)

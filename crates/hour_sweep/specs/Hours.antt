@@ -5,7 +5,7 @@ use Rattle.sig_base.specs.HourRows.{AreRowsOf}
 use Rattle.gap_map.specs.declared.stretch.Stretch.{Stretch}
 use Rattle.gap_map.specs.Stretches.{AreStretches}
 
--- the rows stand by tenth, from a up to b
+-- the rows stand in order by tenth, the first not before a and all before b
 abbrev pub AreOrdered : ℕ → ℕ → List Row → Type 0
 AreOrdered a b [] = a ≤ b
 AreOrdered a b (x ∷ xs) = (a ≤ x.at) × (x.at < b) × AreOrdered x.at b xs

@@ -25,19 +25,19 @@ tracking_after step out_by s x = tracking_row step out_by s x (slice_index_or s.
 abbrev pub tracking_cleared : {A O : Type 0} → (A → A) → Tracking A O → Tracking A O
 tracking_cleared clear s = record { parts = map (option_map clear) s.parts; outs = s.outs }
 
--- the part of a number, where it is one of those that are kept
+-- what belongs to number p, where that is one of those that there are
 abbrev pub numbered : {A : Type 0} → (ℕ → Bool) → (ℕ → A) → ℕ → Option A
 numbered has of p = if has p then Some (of p) else None
 
--- the parts of the numbers below n that are kept, each at its own place
+-- what belongs to each of the numbers below n that there are, each at its own place
 abbrev pub table : {A : Type 0} → (ℕ → Bool) → ℕ → (ℕ → A) → List (Option A)
 table has n of = map (numbered has of) (range_with_len 0 n)
 
--- what a row gives, where its parameter is one of the numbers
+-- what a row gives for the number that is its parameter, where that is one of those that there are
 abbrev pub given : {O : Type 0} → (ℕ → List Row → Row → List Row → Option O) → (ℕ → Bool) → List Row → Row → List Row → Option O
 given out_at has before r rest = if has r.param then out_at r.param before r rest else None
 
--- what the rows give, in their order, where the first rows stand before them
+-- what the rows give in a measure, in their order, each by the rows before it and those after it
 abbrev pub outs_from : {O : Type 0} → (ℕ → List Row → Row → List Row → Option O) → (ℕ → Bool) → List Row → List Row → List O
 outs_from out_at has before [] = []
 outs_from out_at has before (r ∷ rs) = cons_option (given out_at has before r rs) (outs_from out_at has (before ++ r ∷ []) rs)

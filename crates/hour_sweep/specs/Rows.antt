@@ -2,6 +2,7 @@
 use Rattle.std.specs.Prelude.{ℕ, zero, suc, nat_le, Bool, true, false, if◌then◌else◌, List, [], ◌∷◌, Option, Some, None, option_map, filter}
 use Rattle.sig_base.specs.declared.values.Row.{Row}
 
+-- the last find of the rest of a list, or else this element with the rest, where it passes
 abbrev pub kept_last : {X : Type 0} → Option (X × List X) → Bool → X → List X → Option (X × List X)
 kept_last (Some found) b x xs = Some found
 kept_last None true x xs = Some (x, xs)
@@ -25,6 +26,6 @@ abbrev pub since : (ℕ → Bool) → ℕ → ℕ
 since known zero = 0
 since known (suc t) = if known t then since known t else suc t
 
--- each tenth from a up to t is known
+-- each tenth from a up to t is known, so that nothing can have happened since a that isn't a row
 unfoldable pub live : (ℕ → Bool) → ℕ → ℕ → Bool
 live known a t = nat_le (since known t) a

@@ -7,18 +7,21 @@ use Rattle.rule_audit.specs.declared.lines.AuditLine.{AuditLine}
 use Rattle.hour_work.specs.declared.counts.RuleCount.{RuleCount}
 use Rattle.hour_sums.specs.Numbers.{one_if}
 
+-- the verdict is kept
 abbrev pub is_kept : Verdict → Bool
 is_kept Idle = false
 is_kept Kept = true
 is_kept Broken = false
 is_kept Undecided = false
 
+-- the verdict is broken
 abbrev pub is_broken : Verdict → Bool
 is_broken Idle = false
 is_broken Kept = false
 is_broken Broken = true
 is_broken Undecided = false
 
+-- the verdict is undecided
 abbrev pub is_undecided : Verdict → Bool
 is_undecided Idle = false
 is_undecided Kept = false

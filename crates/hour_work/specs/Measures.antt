@@ -23,10 +23,11 @@ use Rattle.board.specs.Channels.{AreSpecs}
 use Rattle.arrival_measures.specs.Judged.{phase_channel}
 use Rattle.cycle_arrivals.specs.Green.{shows_green}
 
--- the whole services, and the whole cycles, whose last row is in the hour
+-- the whole services whose last row is in the hour
 abbrev pub services_in : Settings → Store → ℕ → List Service
 services_in c s hour = services_from (is_known s) c.phases (earlier_rows s hour) (own_rows s hour)
 
+-- the whole cycles whose last row is in the hour
 abbrev pub cycles_in : Settings → Store → ℕ → List Cycle
 cycles_in c s hour = cycles_from (is_known s) c.phases (earlier_rows s hour) (own_rows s hour)
 
@@ -35,7 +36,7 @@ abbrev pub over_hours : {X : Type 0} → (ℕ → List X) → ℕ → List X
 over_hours of zero = []
 over_hours of (suc n) = over_hours of n ++ of n
 
--- tenth t is known, and at its end the channel with this place meets what is asked in the histories that agree with the store
+-- tenth t is known, and at its end channel i meets what is asked in all histories that agree with the store
 abbrev pub MeetsIn : Settings → Store → ℕ → Asked → ℕ → Type 0
 MeetsIn c s i asked t = (is_known s t ≡ true) × Meets asked (MayBeAtEndOf (log_of c.specs s) i t)
 

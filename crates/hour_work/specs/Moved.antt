@@ -16,11 +16,11 @@ pub record SaySame (a b : Carried) : Type 0 where
   pub others : a.others ≡ b.others
   pub arrivals : a.arrivals ≡ b.arrivals
 
--- up to point k both stores say the same
+-- what is known and under way at point k is the same by both stores
 abbrev pub IsSameCarry : Settings → Store → Store → ℕ → Type 0
 IsSameCarry c s t k = (carry : Carried) × IsCarryAt c s k carry × IsCarryAt c t k carry
 
--- from point k on both stores can be completed from the same states
+-- the states at point k from which the rest of the window can be met are the same by both stores
 abbrev pub IsSameFuture : Settings → Store → Store → ℕ → Type 0
 IsSameFuture c s t k = (future : List (List (Option ℤ))) × IsFutureAt c s k future × IsFutureAt c t k future
 

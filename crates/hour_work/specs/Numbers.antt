@@ -31,7 +31,7 @@ count_from test from (suc n) = one_if (test from) + count_from test (from + 1) n
 abbrev pub count_in_hour : (ℕ → Bool) → ℕ → ℕ
 count_in_hour test hour = count_from test (36000 * hour) 36000
 
--- the counts of one rule together
+-- the counts of one rule in two parts of a log together
 abbrev pub count_sum : RuleCount → RuleCount → RuleCount
 count_sum a b = record { kept = a.kept + b.kept; broken = a.broken + b.broken; undecided = a.undecided + b.undecided }
 
@@ -48,7 +48,7 @@ numbers_sum a b = record {
   arrivals = merged arrivals_added a.arrivals b.arrivals;
 }
 
--- the sums of the numbers, hour by hour
+-- the numbers of the window: those of its hours together
 abbrev pub total_of : List Numbers → Numbers
 total_of all = record {
   held_hours = sum_by (λ n. n.held_hours) all;

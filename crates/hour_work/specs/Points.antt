@@ -24,7 +24,7 @@ use Rattle.hour_work.specs.declared.steps.ForwardError.{ForwardError}
 use Rattle.hour_work.specs.declared.steps.UnderWay.{UnderWay}
 use Rattle.hour_work.specs.declared.steps.ForwardError.TheVariants.{Contradiction, Memory}
 
--- the states of each channel, whether the tenth before the point is known, what is under way of phases, the whole services whose red window isn't over, by their rows, and what is under way at stop bars, of pedestrian signals and preempts, and of the arrivals of approaches
+-- what a store says at a point between two hours of what came before: the states of each channel, whether the tenth before is known, what is under way of phases, the whole services whose red window isn't over, and what is under way at stop bars, of pedestrian signals and preempts, and of arrivals
 pub record Carried : Type 0 where
   pub pasts : List (List (List Span))
   pub known : Bool
@@ -43,20 +43,23 @@ pub record FitPoint (c : Settings) (k : ℕ) (carry : Carried) : Type 0 where
   pub shape : AreBefore c.specs carry.pasts
   pub early : AllEarly (first_tenth k) carry.pasts
 
--- what is under way of phases at point k of a store, at stop bars, of arrivals, and of pedestrian signals and preempts
+-- what is under way of phases at point k of a store: services, yellows and cycles
 abbrev pub AreCutsAt : Settings → Store → ℕ → List (Option Part) → Type 0
 AreCutsAt c s k cuts = IsCut (is_known s) c.phases (earlier_rows s k) k cuts
 
--- the whole services that ended before point k and whose red window isn't over there, each by its four rows, of every configured phase
+-- these are the whole services that ended before point k of a store and whose red window isn't over there, each by its four rows
 abbrev pub AreClosingAt : Settings → Store → ℕ → List Served → Type 0
 AreClosingAt c s k closing = closing ≡ closing_at (first_tenth k) (served_from (is_known s) c.phases [] (earlier_rows s k))
 
+-- what is under way at the stop bars: the open greens and the red windows that aren't over, with how long the detectors were on in them
 abbrev pub AreBarsAt : Settings → Store → ℕ → List AtBar → Type 0
 AreBarsAt c s k splits = AreAtBars (log_of c.specs s) c (earlier_rows s k) k splits
 
+-- what is under way of the arrivals of approaches: the cycles so far, the vehicles still to come and the detectors in a fault
 abbrev pub AreOpenAt : Settings → Store → ℕ → CarryParts → Type 0
 AreOpenAt c s k arrivals = AreOpen (is_known s) c (earlier_rows s k) k arrivals
 
+-- what is under way of pedestrian signals and preempts: waiting calls, and services
 abbrev pub AreCrossingAt : Settings → Store → ℕ → Crossing → Type 0
 AreCrossingAt c s k others = IsCrossing (is_known s) c (earlier_rows s k) k others
 
@@ -68,7 +71,7 @@ pub record AreUnderWayAt (c : Settings) (s : Store) (k : ℕ) (way : UnderWay) :
   pub others : AreCrossingAt c s k way.others
   pub arrivals : AreOpenAt c s k way.arrivals
 
--- this is what the store says up to point k
+-- this is what a store says at point k of what came before
 pub record IsCarryAt (c : Settings) (s : Store) (k : ℕ) (carry : Carried) : Type 0 where
   pub pasts : ArePastsAt (log_of c.specs s) k carry.pasts
   pub known : carry.known ≡ is_known_before (is_known s) (first_tenth k)
@@ -78,7 +81,7 @@ pub record IsCarryAt (c : Settings) (s : Store) (k : ℕ) (carry : Carried) : Ty
   pub others : AreCrossingAt c s k carry.others
   pub arrivals : AreOpenAt c s k carry.arrivals
 
--- these admit the states at point k with which the store can be completed
+-- these are the latest entries with which a state at point k lets the rest of the store's window be met
 abbrev pub IsFutureAt : Settings → Store → ℕ → List (List (Option ℤ)) → Type 0
 IsFutureAt c s k future = AreAheadsAt (log_of c.specs s) k future
 

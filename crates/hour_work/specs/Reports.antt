@@ -34,7 +34,7 @@ pub record IsHourPart (c : Settings) (s : Store) (hour : ℕ) (p : Numbers) : Ty
   pub rules : p.rules ≡ counts_of (length (rules_for c)) lines
   pub measures : AreMeasures c s hour p.splits p.failures p.others p.arrivals
 
--- the report of a store: the numbers of each hour; `total_of` them are those of the store
+-- the report of a store: the numbers of each of its hours
 pub record IsReport (c : Settings) (s : Store) (all : List Numbers) : Type 0 where
   pub size : length all ≡ length s.hours
   pub each : (hour : ℕ) (d : Numbers) → hour < length s.hours → IsHourPart c s hour (slice_index_or all hour d)

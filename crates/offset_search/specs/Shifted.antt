@@ -15,7 +15,7 @@ pub record IsInCycle (a : Arrival) : Type 0 where
 abbrev pub tenth_after : Arrival → ℕ → ℕ
 tenth_after a j = (a.offset + 10 * j) % a.length
 
--- whether it meets green then
+-- the vehicle meets green when it comes j seconds later
 unfoldable pub meets_green : Arrival → ℕ → Bool
 meets_green a j = nat_le a.green (tenth_after a j) && nat_lt (tenth_after a j) a.yellow
 
@@ -23,7 +23,7 @@ meets_green a j = nat_le a.green (tenth_after a j) && nat_lt (tenth_after a j) a
 abbrev pub count_after : List Arrival → ℕ → ℕ
 count_after arrivals j = count_by (λ a. meets_green a j) arrivals
 
--- the longest cycle's length, 0 without arrivals
+-- the length of the longest cycle, 0 without arrivals
 abbrev pub longest : List Arrival → ℕ
 longest arrivals = fold (λ m a. max m a.length) 0 arrivals
 

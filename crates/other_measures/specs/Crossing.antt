@@ -10,7 +10,7 @@ use Rattle.other_measures.specs.declared.preempts.PreemptPart.{PreemptPart}
 use Rattle.other_measures.specs.Peds.{ped_of}
 use Rattle.other_measures.specs.Preempts.{preempt_of}
 
--- what is seen of it
+-- what is under way of pedestrian signals and preempts at a point between two hours
 pub record Crossing : Type 0 where
   pub peds : List (Option PedPart)
   pub preempts : List (Option PreemptPart)
@@ -20,14 +20,15 @@ abbrev pub places : List ℕ → ℕ
 places [] = 0
 places (n ∷ ns) = max (n + 1) (places ns)
 
--- the parts of all pedestrian signals, and of all preempts, each at the place of its number
+-- what is under way of all pedestrian signals, each at the place of its number
 abbrev pub peds_of : (ℕ → Bool) → ℕ → Settings → List Row → List (Option PedPart)
 peds_of known t c before = table (has_number c.peds) (places c.peds) (ped_of known t before)
 
+-- what is under way of all preempts, each at the place of its number
 abbrev pub preempts_of : (ℕ → Bool) → ℕ → Settings → List Row → List (Option PreemptPart)
 preempts_of known t c before = table (has_number c.preempts) (places c.preempts) (preempt_of known t before)
 
--- this crosses point k, where these are the known rows before it
+-- these parts are what is under way of pedestrian signals and preempts at point k, where these are the known rows before it
 pub record IsCarry (known : ℕ → Bool) (c : Settings) (before : List Row) (k : ℕ) (carry : Crossing) : Type 0 where
   pub earlier : All (λ x. x.at < point k) before
   pub peds_are : carry.peds ≡ peds_of known (point k) c before

@@ -21,11 +21,11 @@ use Rattle.other_measures.specs.States.{EachOf, HasDetector, HasStates, HasCoord
 abbrev pub delays_from : (ℕ → Bool) → Settings → List Row → List Row → List Delay
 delays_from known c before rows = outs_from (delay_at known) (has_number c.peds) before rows
 
--- the entries and exits of preempts among the rows, likewise
+-- the entries and exits of preempts among the rows, in their order, where the first rows stand before them
 abbrev pub events_from : (ℕ → Bool) → Settings → List Row → List Row → List PreemptEvent
 events_from known c before rows = outs_from (event_at known) (has_number c.preempts) before rows
 
--- the number of rows of this code
+-- how many of the rows have this code
 abbrev pub rows_with : ℕ → List Row → ℕ
 rows_with code rows = capped (count_by (λ x. x.code == code) rows)
 
@@ -33,32 +33,34 @@ rows_with code rows = capped (count_by (λ x. x.code == code) rows)
 abbrev pub code_after : CodeCount → Row → CodeCount
 code_after s x = record s { count = if x.code == s.code then capped (s.count + 1) else s.count }
 
--- the sum with these tenths of the detector
+-- the sum with these tenths of the pedestrian detector: on, and undecided
 abbrev pub with_detector : PedSum → ℕ → ℕ → PedSum
 with_detector s on undecided = record s { detector_on = on; detector_undecided = undecided }
 
+-- the first sum with the tenths of states of the second
 abbrev pub with_states : PreemptSum → PreemptSum → PreemptSum
 with_states s t = record s { input_on = t.input_on; input_undecided = t.input_undecided; rest = t.rest; entry = t.entry; track = t.track; dwell = t.dwell; undecided = t.undecided }
 
--- but for the tenths of its states, the numbers are those of its delays, or of its entries and exits
+-- but for the tenths of its detector, the numbers of a pedestrian signal are those of its delays
 abbrev pub HasDelays : List Delay → ℕ → PedSum → Type 0
 HasDelays ds p s = s ≡ with_detector (ped_sum_of (delays_of p ds)) s.detector_on s.detector_undecided
 
+-- but for the tenths of its states, the numbers of a preempt are those of its entries and exits
 abbrev pub HasEvents : List PreemptEvent → ℕ → PreemptSum → Type 0
 HasEvents es p s = s ≡ with_states (preempt_sum_of (events_of p es)) s
 
--- nothing of the coordination
+-- the coordination's numbers where it is off
 abbrev pub no_coordination : CoordSum
 no_coordination = record { tenths = 0 ∷ 0 ∷ 0 ∷ 0 ∷ 0 ∷ 0 ∷ 0 ∷ []; undecided = 0; patterns = 0; cycle_changes = 0; yields = 0; begins = 0 }
 
--- the rows of the coordination, whatever their parameter
+-- the counts of the coordination's rows, whatever their parameter: patterns 131, changes of the cycle 132, yields 151, begins of coordination 152
 pub record HasRows (rows : List Row) (s : CoordSum) : Type 0 where
   pub patterns : s.patterns ≡ rows_with 131 rows
   pub cycle_changes : s.cycle_changes ≡ rows_with 132 rows
   pub yields : s.yields ≡ rows_with 151 rows
   pub begins : s.begins ≡ rows_with 152 rows
 
--- what is seen of an hour's numbers
+-- the numbers of an hour of pedestrian signals, preempts and the coordination
 pub record OtherNumbers : Type 0 where
   pub peds : List PedSum
   pub preempts : List PreemptSum
@@ -71,16 +73,16 @@ pub record AreNumbers (known : ℕ → Bool) (c : Settings) (before rows : List 
   pub coordination : c.coordination ≡ true → HasRows rows s.coordination
   pub off : c.coordination ≡ false → s.coordination ≡ no_coordination
 
--- the tenths of states of an hour from tenth `from` on
+-- how many tenths of the hour that begins at `from` each of these channels was in each state
 pub record AreStates (At : ℕ → Asked → ℕ → Type 0) (from : ℕ) (c : Settings) (s : OtherNumbers) : Type 0 where
   pub peds : EachOf (has_number c.peds) (HasDetector At from c) 17 s.peds
   pub preempts : EachOf (has_number c.preempts) (HasStates At from c) 17 s.preempts
   pub coordination : c.coordination ≡ true → HasCoordination At from c s.coordination
 
--- the numbers of nothing
+-- the numbers of no hour
 abbrev pub no_numbers : OtherNumbers
 no_numbers = record { peds = []; preempts = []; coordination = no_coordination }
 
--- the numbers of both, item by item
+-- the numbers of two parts of a log together, signal by signal and preempt by preempt
 abbrev pub others_added : OtherNumbers → OtherNumbers → OtherNumbers
 others_added a b = record { peds = merged ped_added a.peds b.peds; preempts = merged preempt_added a.preempts b.preempts; coordination = coord_added a.coordination b.coordination }

@@ -6,6 +6,7 @@ use Rattle.other_measures.specs.declared.last_rows.LastRow.{LastRow}
 use Rattle.other_measures.specs.declared.last_rows.Lapse.{Lapse}
 use Rattle.other_measures.specs.declared.last_rows.Lapse.TheVariants.{Ran, NotBegun, Partial}
 
+-- a last row that was found, with the first row of the other kind after it, where every tenth since is known
 abbrev pub last_row_in : (Row → Bool) → (ℕ → Bool) → ℕ → Option (Row × List Row) → Option LastRow
 last_row_in is_first known t None = None
 last_row_in is_first known t (Some (x, after)) = if live known x.at t then Some (record { row = x; first = find is_first after }) else None
@@ -14,6 +15,7 @@ last_row_in is_first known t (Some (x, after)) = if live known x.at t then Some 
 unfoldable pub last_row_of : (Row → Bool) → (Row → Bool) → (ℕ → Bool) → ℕ → List Row → Option LastRow
 last_row_of is_last is_first known t before = last_row_in is_first known t (last_with is_last before)
 
+-- the tenths from the first row up to t; nothing began where there is none
 abbrev pub since_first : ℕ → Option Row → Lapse
 since_first t None = NotBegun
 since_first t (Some x) = Ran (t - x.at)

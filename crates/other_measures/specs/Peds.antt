@@ -5,14 +5,15 @@ use Rattle.other_measures.specs.declared.peds.Delay.{Delay}
 use Rattle.other_measures.specs.declared.peds.PedPart.{PedPart}
 use Rattle.other_measures.specs.LastRows.{last_row_of, lapse_of}
 
--- a row 21, and a row 45, of pedestrian signal p
+-- the row begins the walk of pedestrian signal p: code 21
 unfoldable pub is_walk : ℕ → Row → Bool
 is_walk p x = (x.param == p) && (x.code == 21)
 
+-- the row is a call of pedestrian signal p: code 45
 unfoldable pub is_call : ℕ → Row → Bool
 is_call p x = (x.param == p) && (x.code == 45)
 
--- the last row 21, where each tenth from its own up to t is known, with the first row 45 after it
+-- what is under way of pedestrian signal p at tenth t: its last begin of walk, where every tenth since is known, with the first call after it
 abbrev pub ped_of : (ℕ → Bool) → ℕ → List Row → ℕ → PedPart
 ped_of known t before p = record { number = p; walk = last_row_of (is_walk p) (is_call p) known t before }
 

@@ -8,35 +8,40 @@ use Rattle.other_measures.specs.declared.preempts.PreemptPart.{PreemptPart}
 use Rattle.other_measures.specs.declared.last_rows.LastRow.{LastRow}
 use Rattle.other_measures.specs.LastRows.{last_row_of, lapse_of}
 
--- a row 102, 105, 107 or 111 of preempt p
+-- the row turns the call input of preempt p on: code 102
 unfoldable pub is_input : ℕ → Row → Bool
 is_input p x = (x.param == p) && (x.code == 102)
 
+-- the row starts the entry of preempt p: code 105
 unfoldable pub is_entry : ℕ → Row → Bool
 is_entry p x = (x.param == p) && (x.code == 105)
 
+-- the row begins the dwell of preempt p: code 107
 unfoldable pub is_dwell : ℕ → Row → Bool
 is_dwell p x = (x.param == p) && (x.code == 107)
 
+-- the row begins the exit of preempt p: code 111
 unfoldable pub is_exit : ℕ → Row → Bool
 is_exit p x = (x.param == p) && (x.code == 111)
 
+-- a row that was found, where it is a call that still stands and every tenth since is known
 abbrev pub call_in : (ℕ → Bool) → ℕ → ℕ → Option Row → Option Row
 call_in known t p None = None
 call_in known t p (Some x) = if live known x.at t && is_input p x then Some x else None
 
--- the last of the rows 102 and 105, where it is a row 102 and each tenth from its own up to t is known
+-- the call of preempt p that waits at tenth t: the last of its calls and entries, where that is a call and every tenth since is known
 unfoldable pub call_of : (ℕ → Bool) → ℕ → ℕ → List Row → Option Row
 call_of known t p before = call_in known t p (last (λ z. is_input p z || is_entry p z) before)
 
--- the last of the rows 105 and 111, where each tenth from its own up to t is known, with the first row 107 after it
+-- the service of preempt p that goes on at tenth t: the last of its entries and exits, where every tenth since is known, with the first begin of dwell after it
 abbrev pub service_of : (ℕ → Bool) → ℕ → ℕ → List Row → Option LastRow
 service_of known t p before = last_row_of (λ z. is_entry p z || is_exit p z) (is_dwell p) known t before
 
+-- what is under way of preempt p at tenth t, where these known rows stand before it
 abbrev pub preempt_of : (ℕ → Bool) → ℕ → List Row → ℕ → PreemptPart
 preempt_of known t before p = record { number = p; call = call_of known t p before; service = service_of known t p before }
 
--- the tenths since the call
+-- the tenths from the call up to t, where there was one
 abbrev pub delay_of : ℕ → Option Row → Option ℕ
 delay_of t None = None
 delay_of t (Some x) = Some (t - x.at)

@@ -44,24 +44,28 @@ MetBy None = λ _ _ _. ⊥
 abbrev pub HasTenths : (ℕ → Asked → ℕ → Type 0) → ℕ → Settings → Channel → Asked → ℕ → Type 0
 HasTenths At from c channel asked k = (i : ℕ) × (spec_place c.specs channel ≡ Some i) × IsCount (At i asked) from 36000 k
 
+-- the detector of pedestrian signal p, as a channel
 abbrev pub ped_detector : ℕ → Channel
 ped_detector p = record { kind = PedDetector; number = p }
 
+-- the call input of preempt p, as a channel
 abbrev pub input : ℕ → Channel
 input p = record { kind = PreemptInput; number = p }
 
+-- the service of preempt p, as a channel
 abbrev pub service : ℕ → Channel
 service p = record { kind = PreemptService; number = p }
 
+-- the coordination, as a channel
 abbrev pub coordination : Channel
 coordination = record { kind = Coordination; number = 0 }
 
--- the tenths of the detector: Off is colour 0, On colour 1
+-- how many tenths of the hour the detector of pedestrian signal p was on in all histories, and at how many it was neither on nor off in all of them
 pub record HasDetector (At : ℕ → Asked → ℕ → Type 0) (from : ℕ) (c : Settings) (p : ℕ) (s : PedSum) : Type 0 where
   pub on : HasTenths At from c (ped_detector p) (Colour 1) s.detector_on
   pub undecided : HasTenths At from c (ped_detector p) (NoneOf 2) s.detector_undecided
 
--- the tenths of the call input, and of the service: Rest is colour 0, Entry 1, Track 2, Dwell 3
+-- how many tenths of the hour, in all histories, the call input of preempt p was on and its service was in each of its four states, and at how many each of the two was in no state in all of them
 pub record HasStates (At : ℕ → Asked → ℕ → Type 0) (from : ℕ) (c : Settings) (p : ℕ) (s : PreemptSum) : Type 0 where
   pub input_on : HasTenths At from c (input p) (Colour 1) s.input_on
   pub input_undecided : HasTenths At from c (input p) (NoneOf 2) s.input_undecided
@@ -71,13 +75,13 @@ pub record HasStates (At : ℕ → Asked → ℕ → Type 0) (from : ℕ) (c : S
   pub dwell : HasTenths At from c (service p) (Colour 3) s.dwell
   pub undecided : HasTenths At from c (service p) (NoneOf 4) s.undecided
 
--- the tenths of the coordination, in its seven states
+-- how many tenths of the hour the coordination was in each of its seven states in all histories, and at how many it was in none of them in all
 pub record HasCoordination (At : ℕ → Asked → ℕ → Type 0) (from : ℕ) (c : Settings) (s : CoordSum) : Type 0 where
   pub size : length s.tenths ≡ 7
   pub tenths : (q : ℕ) → q < 7 → HasTenths At from c coordination (Colour q) (slice_index_or s.tenths q 0)
   pub undecided : HasTenths At from c coordination (NoneOf 7) s.undecided
 
--- by number, of each number below n that is kept an element that is its own
+-- by number: of each number below n that there is, an element that is its own
 unfoldable pub EachOf : {A : Type 0} → (ℕ → Bool) → (ℕ → A → Type 0) → ℕ → List A → Type 0
 EachOf has Is zero xs = xs ≡ []
 EachOf {A = A} has Is (suc n) xs = ((has n ≡ true) × ((ys : List A) × (y : A) × EachOf has Is n ys × Is n y × (xs ≡ ys ++ y ∷ []))) ⊎ ((has n ≡ false) × EachOf has Is n xs)

@@ -11,14 +11,17 @@ use Rattle.other_measures.specs.declared.sums.PedSum.{PedSum}
 use Rattle.other_measures.specs.declared.sums.PreemptSum.{PreemptSum}
 use Rattle.other_measures.specs.declared.sums.CoordSum.{CoordSum}
 
+-- how long it ran, where that is known
 abbrev pub ran : Lapse → Option ℕ
 ran (Ran n) = Some n
 ran _ = None
 
+-- nothing had begun that could have run
 abbrev pub is_not_begun : Lapse → Bool
 is_not_begun NotBegun = true
 is_not_begun _ = false
 
+-- the begin isn't known, since an unknown tenth lies between
 abbrev pub is_partial : Lapse → Bool
 is_partial Partial = true
 is_partial _ = false
@@ -40,7 +43,7 @@ ped_sum_of ds = record {
   detector_undecided = 0;
 }
 
--- sums add, and the greatest is the greatest of both
+-- a pedestrian signal's numbers of two parts of a log together
 abbrev pub ped_added : PedSum → PedSum → PedSum
 ped_added a b = record {
   walks = capped (a.walks + b.walks);
@@ -58,10 +61,12 @@ abbrev pub delay_in : Event → Option ℕ
 delay_in (Entry d) = d
 delay_in (Exit l) = None
 
+-- a preempt's entry
 abbrev pub is_entry_event : Event → Bool
 is_entry_event (Entry d) = true
 is_entry_event (Exit l) = false
 
+-- an entry whose delay isn't known
 abbrev pub is_late_entry : Event → Bool
 is_late_entry (Entry None) = true
 is_late_entry (Entry (Some n)) = false
@@ -72,13 +77,16 @@ abbrev pub dwell_in : Event → Option ℕ
 dwell_in (Entry d) = None
 dwell_in (Exit l) = ran l
 
+-- an exit whose dwell isn't known
 abbrev pub is_late_exit : Event → Bool
 is_late_exit (Entry d) = false
 is_late_exit (Exit l) = is_partial l
 
+-- the delays of these entries that are known
 abbrev pub preempt_delays : List PreemptEvent → List ℕ
 preempt_delays es = filter_map (λ e. delay_in e.event) es
 
+-- the dwells of these exits that are known
 abbrev pub preempt_dwells : List PreemptEvent → List ℕ
 preempt_dwells es = filter_map (λ e. dwell_in e.event) es
 
@@ -101,6 +109,7 @@ preempt_sum_of es = record {
   undecided = 0;
 }
 
+-- a preempt's numbers of two parts of a log together
 abbrev pub preempt_added : PreemptSum → PreemptSum → PreemptSum
 preempt_added a b = record {
   entries = capped (a.entries + b.entries);
@@ -119,9 +128,11 @@ preempt_added a b = record {
   undecided = capped (a.undecided + b.undecided);
 }
 
+-- the tenths in state c of two parts of a log together
 abbrev pub tenth_added : List ℕ → List ℕ → ℕ → ℕ
 tenth_added xs ys c = capped (slice_index_or xs c 0 + slice_index_or ys c 0)
 
+-- the coordination's numbers of two parts of a log together
 abbrev pub coord_added : CoordSum → CoordSum → CoordSum
 coord_added a b = record {
   tenths = tenth_added a.tenths b.tenths 0 ∷ tenth_added a.tenths b.tenths 1 ∷ tenth_added a.tenths b.tenths 2 ∷ tenth_added a.tenths b.tenths 3 ∷ tenth_added a.tenths b.tenths 4 ∷ tenth_added a.tenths b.tenths 5 ∷ tenth_added a.tenths b.tenths 6 ∷ [];
@@ -132,10 +143,11 @@ coord_added a b = record {
   begins = capped (a.begins + b.begins);
 }
 
--- the delays of pedestrian signal p, and the entries and exits of preempt p
+-- the delays of pedestrian signal p among these
 abbrev pub delays_of : ℕ → List Delay → List Delay
 delays_of p ds = own (λ d. d.ped) p ds
 
+-- the entries and exits of preempt p among these
 abbrev pub events_of : ℕ → List PreemptEvent → List PreemptEvent
 events_of p es = own (λ e. e.preempt) p es
 

@@ -2,6 +2,6 @@
 use Rattle.std.specs.Prelude.{◌≤◌, ℕ}
 use Rattle.sig_base.specs.Reads.{one_more}
 
--- a count rose, or stands at the last value of a u64
+-- the count rose, or it stands at the last value of a u64 and can't show it
 abbrev pub Rose : ℕ → ℕ → Type 0
 Rose before now = one_more before ≤ now

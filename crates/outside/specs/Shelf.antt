@@ -4,10 +4,11 @@ use Rattle.outside.specs.Counted.{Rose}
 use Rattle.outside.specs.declared.shelf.FetchError.{FetchError}
 use Rattle.outside.specs.declared.shelf.FetchError.TheVariants.{Missing, Failed, TooLong, Memory}
 
--- what is at each name
+-- the files that a shelf tells: at each name the bytes of a file, or nothing
 abbrev pub Files : Type 0
 Files = List ℕ → Option (List ℕ)
 
+-- how often a file was missing, couldn't be read, and was too long
 pub record Counts : Type 0 where
   pub missing : ℕ
   pub failed : ℕ

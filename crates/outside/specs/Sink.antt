@@ -9,7 +9,7 @@ pub record Taken : Type 0 where
   pub written : Option (List ℕ)
   pub faults : ℕ
 
--- known bytes grow by a front of the text
+-- where the sink tells its bytes, they grew by a front of the text
 abbrev pub AppendsFront : Option (List ℕ) → Option (List ℕ) → List ℕ → Type 0
 AppendsFront old new text = (front : List ℕ) × (rest : List ℕ) × (text ≡ front ++ rest) × Appends old new front
 

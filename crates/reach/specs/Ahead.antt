@@ -3,12 +3,12 @@ use Rattle.std.specs.Prelude.{ℕ, ℤ, ◌≤ℤ◌, List, Option, Some, None, 
 use Rattle.colour_machine.specs.Rules.{Rules}
 use Rattle.reach.specs.Runs.{State, Step, Fills}
 
--- an entry is not later than a latest one, where there is one
+-- the entry isn't later than the latest one; where there is none, no entry is good
 abbrev pub NotLater : Option ℤ → ℤ → Type 0
 NotLater None e = ⊥
 NotLater (Some x) e = e ≤ℤ x
 
--- the state's colour has a latest entry, and the state's isn't later
+-- the state is among those that these latest entries let through: its entry isn't later than that of its colour
 abbrev pub Admits : List (Option ℤ) → State → Type 0
 Admits latest s = NotLater (slice_index_or latest s.colour None) s.entry
 

@@ -5,7 +5,7 @@ use Rattle.span_set.specs.Spans.{Member}
 use Rattle.colour_machine.specs.Rules.{Rules}
 use Rattle.reach.specs.Runs.{State, Step, Fills}
 
--- the state's entry is in the set of its colour
+-- the state is among those of these sets: its entry is in the set of its colour
 abbrev pub Holds : List (List Span) → State → Type 0
 Holds sets s = Member (slice_index_or sets s.colour []) s.entry
 

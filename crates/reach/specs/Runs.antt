@@ -2,15 +2,16 @@
 use Rattle.std.specs.Prelude.{◌≡◌, ◌≢◌, ◌⊎◌, ℕ, ℤ, pos, ◌+ℤ◌, ◌≤ℤ◌, List, [], ◌∷◌, length}
 use Rattle.colour_machine.specs.Rules.{Rules, Goes}
 
--- a colour, and the tenth at which it was entered
+-- the state of a channel: its colour, and the tenth at which that was entered
 pub record State : Type 0 where
   pub colour : ℕ
   pub entry : ℤ
 
+-- a state by its two parts
 abbrev pub state : ℕ → ℤ → State
 state c e = record { colour = c; entry = e }
 
--- at tenth t the state's colour is old enough for its floor, so that it may be left
+-- at tenth t the colour has lasted at least its floor, so that it may be left
 abbrev pub OldEnough : Rules → ℤ → State → Type 0
 OldEnough m t s = (s.entry +ℤ pos (m.floor s.colour)) ≤ℤ t
 

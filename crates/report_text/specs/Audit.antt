@@ -14,16 +14,19 @@ use Rattle.report_text.specs.Rules.{joined, rule_name}
 
 -- ---- counts
 
--- no verdict is counted
+-- the counts of a rule without a verdict
 abbrev pub none_counted : RuleCount
 none_counted = record { kept = 0; broken = 0; undecided = 0 }
 
+-- the rule has no verdict
 abbrev pub is_none_counted : RuleCount → Bool
 is_none_counted n = n.kept == 0 && (n.broken == 0 && n.undecided == 0)
 
+-- the begin of a rule's line
 abbrev pub rule_head : ℕ → List ℕ
 rule_head number = joined (codes "rule " ∷ decimal number ∷ codes " " ∷ [])
 
+-- the end of a rule's line: how many verdicts of each kind
 abbrev pub counts_tail : RuleCount → List ℕ
 counts_tail n = line_of (codes " kept " ∷ decimal n.kept ∷ codes " broken " ∷ decimal n.broken ∷ codes " undecided " ∷ decimal n.undecided ∷ [])
 
@@ -43,15 +46,16 @@ counts_text specs rules counts = counts_from specs counts 0 rules
 
 -- ---- verdicts
 
--- the word, the number of the rule, and when
+-- the begin of a verdict's line: the word, the number of the rule, and when
 abbrev pub due_text : Span → List ℕ → AuditLine → List ℕ
 due_text w word l = joined (word ∷ decimal l.rule ∷ codes " " ∷ stamp_at w l.at ∷ [])
 
--- from when to when, where the line has a window, and its end
+-- the end of a verdict's line: from when to when its window lasts, where it has one
 abbrev pub window_text : Span → Option (ℕ × ℕ) → List ℕ
 window_text w None = line_of []
 window_text w (Some ends) = line_of (codes " from " ∷ stamp_at w ends.0 ∷ codes " to " ∷ stamp_at w ends.1 ∷ [])
 
+-- the line of a verdict: this word, the rule, when, and its window
 abbrev pub verdict_text : Span → List ℕ → AuditLine → List ℕ
 verdict_text w word l = due_text w word l ++ window_text w l.window
 
@@ -64,6 +68,7 @@ pub record IsLineIn (w : Span) (l : AuditLine) : Type 0 where
   pub at : l.at < 36000 * w.hours
   pub ends : EndIn w l.window
 
+-- the line of a verdict by what it is; an idle one has none
 abbrev pub text_by : Verdict → Span → AuditLine → List ℕ
 text_by Idle w l = []
 text_by Kept w l = verdict_text w (codes "kept ") l
@@ -74,11 +79,11 @@ text_by Undecided w l = verdict_text w (codes "undecided ") l
 abbrev pub audit_line_text : Span → AuditLine → List ℕ
 audit_line_text w l = text_by l.verdict w l
 
--- the text of the lines in their order
+-- the lines of these verdicts in their order
 unfoldable pub lines_text : Span → List AuditLine → List ℕ
 lines_text w [] = []
 lines_text w (l ∷ ls) = audit_line_text w l ++ lines_text w ls
 
--- the line before an audit, and how many verdicts each rule has
+-- the head of an audit, and how many verdicts each rule has
 abbrev pub audit_start : ℕ → List Spec → List Rule → List RuleCount → List ℕ
 audit_start n specs rules counts = audit_head n ++ counts_text specs rules counts

@@ -9,7 +9,7 @@ use Rattle.ring_config.specs.declared.error.TableName.TheVariants as tables
 use Rattle.ring_config.specs.declared.error.KeyName.{KeyName}
 use Rattle.ring_config.specs.Reading.{key_text}
 
--- the name of a table in the file; top is the file itself
+-- the name of a table as a refusal prints it; top is the file itself
 abbrev pub table_text : TableName → List ℕ
 table_text tables.Top = codes "top"
 table_text tables.Phase = codes "phase"
@@ -22,6 +22,7 @@ table_text tables.Floor = codes "floor"
 table_text tables.Interval = codes "interval"
 table_text tables.Approach = codes "approach"
 
+-- the table is the file itself
 abbrev pub is_top : TableName → Bool
 is_top tables.Top = true
 is_top tables.Phase = false
@@ -40,10 +41,11 @@ place_text table entry key =
     if is_top table then line_of (codes "top." ∷ key_text key ∷ [])
     else line_of (table_text table ∷ codes "[" ∷ decimal entry ∷ codes "]." ∷ key_text key ∷ [])
 
--- what stands before the place
+-- what stands before the place of a refusal
 abbrev pub fault_head : List ℕ → List ℕ
 fault_head fault = codes "config refused: " ++ (fault ++ [])
 
+-- the line of a fault at a key
 abbrev pub fault_text : List ℕ → KeyAt → List ℕ
 fault_text fault at = fault_head fault ++ place_text at.table at.entry at.key
 

@@ -9,12 +9,13 @@ use Rattle.report_text.specs.Line.{line_of}
 abbrev pub IsTally : List ℕ → List Row → Type 0
 IsTally tally rows = (code : ℕ) → code < 256 → slice_index tally code ≡ count_of rows code
 
--- the line of a code, if there are rows of it
+-- the line of a code with its name and how many rows have it, if any do
 abbrev pub code_count_line : ℕ → ℕ → List ℕ
 code_count_line code count =
     if count == 0 then []
     else line_of (codes "code " ∷ decimal code ∷ codes " " ∷ code_name code ∷ codes " " ∷ decimal count ∷ [])
 
+-- the line of a code, by the rows
 abbrev pub code_line : List Row → ℕ → List ℕ
 code_line rows code = code_count_line code (count_of rows code)
 
@@ -23,7 +24,7 @@ unfoldable pub code_lines : List Row → ℕ → ℕ → List ℕ
 code_lines rows zero code = []
 code_lines rows (suc n) code = code_line rows code ++ code_lines rows n (code + 1)
 
--- how many rows and repeats there are, and how many rows of each code
+-- the answer to a count: how many rows and repeats there are, and how many rows of each code
 abbrev pub count_text : List Row → ℕ → List ℕ
 count_text rows repeats =
     line_of (codes "rows " ∷ decimal (length rows) ∷ codes " repeats " ∷ decimal repeats ∷ []) ++ code_lines rows 256 0

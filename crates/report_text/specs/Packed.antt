@@ -5,7 +5,7 @@ use Rattle.hour_pack.specs.declared.pack_error.PackError.TheVariants.{NotPacked,
 use Rattle.report_text.specs.Line.{line_of}
 use Rattle.report_text.specs.Refusals.{refused}
 
--- by its first fault; bytes without the mark are no packed hour, and they and want of memory have no line
+-- the line of a packed hour that is refused, by its first fault; bytes without the mark are no packed hour, and have no such line
 abbrev pub packed_text : Option ℕ → PackError → List ℕ
 packed_text line NotPacked = []
 packed_text line Short = refused line ++ line_of (codes "packed short" ∷ [])

@@ -11,41 +11,42 @@ use Rattle.filling_pair.specs.declared.strands.Pair.{Pair}
 use Rattle.report_text.specs.Line.{line_of}
 use Rattle.report_text.specs.Rules.{colour_text, kind_text}
 
--- an event that fills a tenth
+-- the line of an event that fills an unknown tenth
 abbrev pub fill_line : Span → Fill → List ℕ
 fill_line w f = line_of (codes "fill " ∷ stamp_at w f.at ∷ codes " code " ∷ decimal f.code ∷ codes " param " ∷ decimal f.param ∷ [])
 
--- a channel, the colour with which it comes into the window, and for how many tenths it has had it
+-- the line of a channel: the colour with which it comes into the window, and for how many tenths it has had it
 abbrev pub channel_line : Channel → ℕ → ℕ → List ℕ
 channel_line channel colour age =
     line_of (codes "channel " ∷ kind_text channel.kind ∷ codes " " ∷ decimal channel.number ∷ codes " from " ∷ colour_text channel.kind colour ∷ codes " " ∷ decimal age ∷ [])
 
--- those of a strand, if its channel is tracked
+-- the line of a strand's channel, if it is tracked
 abbrev pub start_line : Option Spec → Strand → List ℕ
 start_line None s = []
 start_line (Some spec) s = channel_line spec.channel s.colour (unsigned_abs s.entry)
 
--- a channel's start, and its fills in their order
+-- the lines of a strand: its channel's start, and its fills in their order
 abbrev pub strand_text : Settings → Strand → List ℕ
 strand_text c s = start_line (slice_get c.specs s.spec) s ++ flat_map (fill_line c.window) s.fills
 
+-- the lines of these channels
 abbrev pub strands_text : Settings → List Strand → List ℕ
 strands_text c ss = flat_map (strand_text c) ss
 
--- a word in a line of its own, and the strands after it
+-- the lines of one side of a pair: a word, and the strands after it
 abbrev pub side_text : Settings → List ℕ → List Strand → List ℕ
 side_text c word ss = line_of (word ∷ []) ++ strands_text c ss
 
--- the number of the rule, and when it is undecided
+-- the line that says which rule is undecided when
 abbrev pub undecided_line : Span → ℕ → ℕ → List ℕ
 undecided_line w rule at = line_of (codes "undecided " ∷ decimal rule ∷ codes " " ∷ stamp_at w at ∷ [])
 
--- what the rule of this number leaves undecided at this tenth, what keeps it, and what breaks it
+-- the lines of a pair: which rule is undecided when, what keeps it, and what breaks it
 abbrev pub pair_text : Settings → ℕ → ℕ → Pair → List ℕ
 pair_text c rule at p =
     undecided_line c.window rule at ++ (side_text c (codes "keeps") p.keeps ++ side_text c (codes "breaks") p.breaks)
 
--- there is no such line
+-- the line that says that nothing is undecided there
 abbrev pub nothing_text : List ℕ
 nothing_text = codes "nothing undecided\n"
 

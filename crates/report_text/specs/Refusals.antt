@@ -19,6 +19,7 @@ refused (Some line) = decimal line ++ codes " refused "
 abbrev pub record_reason : ℕ → List ℕ → List ℕ
 record_reason number test = line_of (codes "row " ∷ decimal number ∷ codes " " ∷ test ∷ [])
 
+-- the line of a refused log file: its first bad record, and the test that it fails
 abbrev pub file_text : Option ℕ → RowError → List ℕ
 file_text line TooManyRows = refused line ++ line_of (codes "too many rows" ∷ [])
 file_text line (Fields n) = refused line ++ record_reason n (codes "fields")
@@ -29,6 +30,7 @@ file_text line (Code n) = refused line ++ record_reason n (codes "code")
 file_text line (Param n) = refused line ++ record_reason n (codes "param")
 file_text line Memory = []
 
+-- the line of a refused edit: the reason, and of a contradiction the row at which it shows
 abbrev pub edit_text : Span → Option ℕ → EditError → List ℕ
 edit_text w line OutOfWindow = refused line ++ line_of (codes "out of window" ∷ [])
 edit_text w line AlreadyHeld = refused line ++ line_of (codes "already held" ∷ [])

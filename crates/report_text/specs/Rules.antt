@@ -16,7 +16,7 @@ abbrev pub joined : List (List ℕ) → List ℕ
 joined [] = []
 joined (p ∷ ps) = p ++ joined ps
 
--- what a kind of channel is called; interval rules are about phases, pedestrian signals, overlaps and preempt services alone
+-- what a kind of channel is called
 abbrev pub kind_text : Kind → List ℕ
 kind_text Phase = codes "phase"
 kind_text Ped = codes "ped"
@@ -31,17 +31,17 @@ kind_text Coordination = codes "coordination"
 abbrev pub colour_text : Kind → ℕ → List ℕ
 colour_text kind colour = unwrap_or (slice_get (table_of kind).names colour) []
 
--- how old the colour is to be, in tenths
+-- the bound of a rule on durations, in tenths
 abbrev pub bound_text : AgeBound → List ℕ
 bound_text Any = []
 bound_text (AtLeast n) = joined (codes " at least " ∷ decimal n ∷ [])
 bound_text (AtMost n) = joined (codes " at most " ∷ decimal n ∷ [])
 
--- the channel and its colour
+-- a channel and its colour
 abbrev pub coloured_text : Channel → ℕ → List ℕ
 coloured_text channel colour = joined (kind_text channel.kind ∷ codes " " ∷ decimal channel.number ∷ codes " " ∷ colour_text channel.kind colour ∷ [])
 
--- an interval rule of this channel, if it is tracked
+-- the name of a rule on durations, if its channel is tracked
 abbrev pub interval_text : Option Spec → IntervalItem → List ℕ
 interval_text None item = []
 interval_text (Some spec) item = coloured_text spec.channel item.colour ++ bound_text item.bound

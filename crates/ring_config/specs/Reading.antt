@@ -15,6 +15,7 @@ abbrev pub Read : Type 0 → Type 0
 Read X = Result X ConfigError
 
 infixl 10 ◌>>=◌
+-- what is read next, unless something was refused before
 abbrev pub ◌>>=◌ : {A B : Type 0} → Read A → (A → Read B) → Read B
 (Ok x) >>= f = f x
 (Err e) >>= f = Err e
@@ -35,6 +36,7 @@ pub record EntryData : Type 0 where
   pub index : ℕ
   pub members : Members
 
+-- where a key of an entry stands, as a refusal names it
 abbrev pub place : KeyName → EntryData → KeyAt
 place key e = record { table = e.table; entry = e.index; key = key }
 
@@ -78,24 +80,27 @@ key_text keys.Other = codes "?"
 abbrev pub is_among : List KeyName → List ℕ → Bool
 is_among listed text = list_any (λ key. bytes_eq (key_text key) text) listed
 
+-- all keys of an entry are among those listed
 abbrev pub all_among : List KeyName → Members → Bool
 all_among listed no_members = true
 all_among listed (member text d ms) = is_among listed text && all_among listed ms
 
--- an entry has no key but those listed
+-- the entry has no key but those listed; else one is unknown
 unfoldable pub only : List KeyName → EntryData → Read (Unit {0})
 only listed e = if all_among listed e.members then Ok tt else Err (Unknown (place keys.Other e))
 
 -- ---- what stands at a key
 
+-- the value at a key of an entry, where it has the key
 abbrev pub value_at : KeyName → EntryData → Option Data
 value_at key e = get_member (key_text key) e.members
 
--- a value is good where it stands for something
+-- what a value stands for; where it stands for nothing it is bad
 abbrev pub good : {X : Type 0} → KeyAt → Option X → Read X
 good at None = Err (BadValue at)
 good at (Some x) = Ok x
 
+-- a value that has to be there
 abbrev pub or_missing : KeyAt → Option Data → Read Data
 or_missing at None = Err (Missing at)
 or_missing at (Some d) = Ok d
@@ -104,10 +109,11 @@ or_missing at (Some d) = Ok d
 unfoldable pub present : KeyName → EntryData → Read Data
 present key e = or_missing (place key e) (value_at key e)
 
--- what the value at such a key stands for
+-- what the value at a key stands for that every entry has
 unfoldable pub required : {X : Type 0} → (Data → Option X) → KeyName → EntryData → Read X
 required means key e = present key e >>= λ d. good (place key e) (means d)
 
+-- what a value stands for, or x where there is none
 abbrev pub or_default : {X : Type 0} → X → (Data → Option X) → KeyAt → Option Data → Read X
 or_default x means at None = Ok x
 or_default x means at (Some d) = good at (means d)

@@ -24,7 +24,7 @@ use Rattle.ring_config.specs.Values.{has_pair}
 use Rattle.ring_config.specs.Walk.{entries_of}
 use Rattle.ring_config.specs.Tables.{Top, LayoutArrays, DetailArrays, top_keys, top_of, layout_arrays_of, detail_arrays_of, phase_rules, ped_rules, overlap_rules, preempt_rules, conflict_rules, allow_rules, floor_rules, interval_rules, approach_rules}
 
--- what an accepted configuration says
+-- an accepted configuration: the window, the signal, what the intersection has, what is said of it, and the tracked channels with their floors
 pub record Settings : Type 0 where
   pub window : Span
   pub signal : List ℕ
@@ -41,7 +41,7 @@ pub record Settings : Type 0 where
 
 -- ---- the tracked channels
 
--- what the intersection has
+-- what the intersection has: phases, pedestrian signals, overlaps, preempts
 pub record Layout : Type 0 where
   pub phases : List PhaseItem
   pub peds : List ℕ
@@ -52,13 +52,14 @@ pub record Layout : Type 0 where
 unfoldable pub numbered : Kind → ℕ → List ℕ → List Channel
 numbered kind most numbers = filter (λ c. has_number numbers c.number) (map (λ n. record { kind = kind; number = n }) (range_with_len 1 most))
 
--- the channels that floors and intervals may name, with the preempt inputs between them
+-- the channels that floors and intervals may name, and the preempt inputs, which stand among them
 unfoldable pub signal_channels : Layout → List Channel
 signal_channels l =
     numbered kinds.Phase 16 (map (λ p. p.number) l.phases) ++ numbered kinds.Ped 16 l.peds
     ++ numbered kinds.Overlap 16 (map (λ o. o.number) l.overlaps) ++ numbered kinds.PreemptInput 16 l.preempts
     ++ numbered kinds.PreemptService 16 l.preempts
 
+-- the number, where there is one, as a list
 abbrev pub some_number : Option ℕ → List ℕ
 some_number None = []
 some_number (Some n) = n ∷ []
@@ -67,10 +68,11 @@ some_number (Some n) = n ∷ []
 abbrev pub detectors : Approach → List ℕ
 detectors a = some_number a.advance ++ some_number a.stop_bar
 
+-- the coordination as a tracked channel, where it is on
 abbrev pub coordination_channel : Bool → List Channel
 coordination_channel on = if on then record { kind = kinds.Coordination; number = 0 } ∷ [] else []
 
--- all tracked channels: those, and then the inputs of pedestrians and vehicles and the coordination
+-- all tracked channels in their order: those of the signal, the detectors of pedestrians and of vehicles, and the coordination
 unfoldable pub all_channels : Layout → List Approach → Bool → List Channel
 all_channels layout approaches coordination =
     signal_channels layout ++ numbered kinds.PedDetector 16 layout.peds ++ numbered kinds.Detector 128 (flat_map detectors approaches) ++ coordination_channel coordination
@@ -90,6 +92,7 @@ specs_from floors i (c ∷ cs) = record { channel = c; floors = floors_of floors
 
 -- ---- the tables in order
 
+-- what the tables say that the intersection has, table by table
 unfoldable pub layout_of : LayoutArrays → Read Layout
 layout_of arrays = do
   phases ← entries_of phase_rules arrays.phase
@@ -106,6 +109,7 @@ pub record Details : Type 0 where
   pub intervals : List IntervalItem
   pub approaches : List Approach
 
+-- what the tables say of the phases and channels of a layout, table by table
 unfoldable pub details_of : Layout → DetailArrays → Read Details
 details_of layout arrays = do
   conflicts ← entries_of (conflict_rules layout.phases) arrays.conflict
@@ -120,6 +124,7 @@ abbrev pub specs_of : Top → Layout → Details → List Spec
 specs_of top layout details =
     specs_from details.floors 0 (all_channels layout details.approaches top.coordination)
 
+-- the configuration that these parts make
 abbrev pub settings_of : Top → Layout → Details → Settings
 settings_of top layout details = record {
   window = top.window;
@@ -136,16 +141,17 @@ settings_of top layout details = record {
   approaches = details.approaches;
 }
 
--- the document as an entry
+-- the document itself as an entry without a table
 abbrev pub document : Members → EntryData
 document ms = record { table = tables.Top; index = 0; members = ms }
 
--- what all tables say
+-- what all tables of a document say
 pub record Parts : Type 0 where
   pub top : Top
   pub layout : Layout
   pub details : Details
 
+-- what a document says, part by part: no key but those of the format, then the single values, then the tables
 unfoldable pub parts_of : EntryData → Read Parts
 parts_of e = do
   _ ← only top_keys e
@@ -156,6 +162,7 @@ parts_of e = do
   details ← details_of layout detail_arrays
   Ok (record { top = top; layout = layout; details = details })
 
+-- the configuration of a document, or the first refusal
 unfoldable pub config_at : Members → Read Settings
 config_at ms = parts_of (document ms) >>= λ p. Ok (settings_of p.top p.layout p.details)
 
@@ -163,6 +170,7 @@ config_at ms = parts_of (document ms) >>= λ p. Ok (settings_of p.top p.layout p
 unfoldable pub document_of : List ℕ → Option Members
 document_of bytes = if nat_lt (utf8_valid_len bytes) (length bytes) then None else parse_document bytes
 
+-- the configuration of a document that may not be one: then the file isn't TOML
 abbrev pub config_in : Option Members → Read Settings
 config_in None = Err NotToml
 config_in (Some ms) = config_at ms
@@ -184,6 +192,7 @@ kind_rank kinds.PedDetector = 5
 kind_rank kinds.Detector = 6
 kind_rank kinds.Coordination = 7
 
+-- both are one channel: of one kind and one number
 abbrev pub is_same_channel : Channel → Channel → Bool
 is_same_channel a b = kind_rank a.kind == kind_rank b.kind && a.number == b.number
 
@@ -202,6 +211,7 @@ is_tracked_as c kinds.PedDetector n = has_number c.peds n
 is_tracked_as c kinds.Detector n = list_any (λ a. has_number (detectors a) n) c.approaches
 is_tracked_as c kinds.Coordination n = c.coordination && n == 0
 
+-- the channel is one that the configuration names or implies
 abbrev pub is_tracked : Settings → Channel → Bool
 is_tracked c channel = is_tracked_as c channel.kind channel.number
 
@@ -211,19 +221,21 @@ approach_place approaches name = position (λ a. bytes_eq name a.name) approache
 
 -- ---- conflicts
 
+-- the configured phase with this number
 abbrev pub phase_of : List PhaseItem → ℕ → Option PhaseItem
 phase_of phases number = find (λ p. p.number == number) phases
 
--- two phases are in one ring, or on different sides of the barrier
+-- by rings and sides two phases can't be served together: they are in one ring, or on different sides of the barrier
 abbrev pub clash : Option PhaseItem → Option PhaseItem → Bool
 clash (Some p) (Some q) = p.ring == q.ring || not (p.side == q.side)
 clash _ _ = false
 
--- two phases conflict: by an entry, else unless they are allowed by one, by their rings and sides
+-- two phases conflict: by an entry; else unless an entry allows them, by their rings and sides
 unfoldable pub conflict_by : List Pair → List Pair → List PhaseItem → ℕ → ℕ → Bool
 conflict_by conflicts allows phases a b =
     if has_pair conflicts a b then true
     else (if has_pair allows a b then false else clash (phase_of phases a) (phase_of phases b))
 
+-- phases a and b may not be served together, by the configuration
 abbrev pub in_conflict : Settings → ℕ → ℕ → Bool
 in_conflict c a b = conflict_by c.conflicts c.allows c.phases a b

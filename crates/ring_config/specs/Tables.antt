@@ -25,20 +25,20 @@ use Rattle.ring_config.specs.Walk.{Rules}
 
 -- ---- the document itself
 
--- the keys of the document that are no arrays
+-- the single values of a document
 pub record Top : Type 0 where
   pub signal : List ℕ
   pub window : Span
   pub coordination : Bool
 
--- the arrays of tables of what the intersection has
+-- the tables of a document that say what the intersection has
 pub record LayoutArrays : Type 0 where
   pub phase : List Members
   pub ped : List Members
   pub overlap : List Members
   pub preempt : List Members
 
--- the arrays of tables of what is said of it
+-- the tables of a document that say more of it
 pub record DetailArrays : Type 0 where
   pub conflict : List Members
   pub allow : List Members
@@ -46,10 +46,12 @@ pub record DetailArrays : Type 0 where
   pub interval : List Members
   pub approach : List Members
 
+-- the keys that a document may have
 abbrev pub top_keys : List KeyName
 top_keys =
     keys.Signal ∷ keys.Start ∷ keys.Hours ∷ keys.Coordination ∷ keys.Phase ∷ keys.Ped ∷ keys.Overlap ∷ keys.Preempt ∷ keys.Conflict ∷ keys.Allow ∷ keys.Floor ∷ keys.Interval ∷ keys.Approach ∷ []
 
+-- the single values of a document: the signal, the window, and whether it is coordinated
 unfoldable pub top_of : EntryData → Read Top
 top_of e = do
   signal ← required values.signal keys.Signal e
@@ -58,6 +60,7 @@ top_of e = do
   coordination ← defaulted false values.yes_or_no keys.Coordination e
   Ok (record { signal = signal; window = window; coordination = coordination })
 
+-- the tables of a document that say what the intersection has
 unfoldable pub layout_arrays_of : EntryData → Read LayoutArrays
 layout_arrays_of e = do
   phase ← defaulted [] values.tables keys.Phase e
@@ -66,6 +69,7 @@ layout_arrays_of e = do
   preempt ← defaulted [] values.tables keys.Preempt e
   Ok (record { phase = phase; ped = ped; overlap = overlap; preempt = preempt })
 
+-- the tables of a document that say more of it
 unfoldable pub detail_arrays_of : EntryData → Read DetailArrays
 detail_arrays_of e = do
   conflict ← defaulted [] values.tables keys.Conflict e
@@ -77,6 +81,7 @@ detail_arrays_of e = do
 
 -- ---- phases, pedestrian signals, overlaps, preempts
 
+-- an entry of the table of phases: its number, its ring and its side of the barrier
 unfoldable pub phase_values : EntryData → Read PhaseItem
 phase_values e = do
   number ← required (whole 1 16) keys.Number e
@@ -84,6 +89,7 @@ phase_values e = do
   side ← required (whole 1 4) keys.Side e
   Ok (record { number = number; ring = ring; side = side })
 
+-- the table of phases: at most 16, no number twice
 abbrev pub phase_rules : Rules PhaseItem
 phase_rules = record {
   table = tables.Phase;
@@ -94,6 +100,7 @@ phase_rules = record {
   repeated = keys.Number;
 }
 
+-- the table of pedestrian signals: at most 16, each at a configured phase of its number, none twice
 abbrev pub ped_rules : List PhaseItem → Rules ℕ
 ped_rules phases = record {
   table = tables.Ped;
@@ -104,12 +111,14 @@ ped_rules phases = record {
   repeated = keys.Number;
 }
 
+-- an entry of the table of overlaps: its number, and the phases that are its parents
 unfoldable pub overlap_values : List PhaseItem → EntryData → Read OverlapItem
 overlap_values phases e = do
   number ← required (whole 1 16) keys.Number e
   parents ← required (values.parents phases) keys.Parents e
   Ok (record { number = number; parents = parents })
 
+-- the table of overlaps: at most 16, no number twice
 abbrev pub overlap_rules : List PhaseItem → Rules OverlapItem
 overlap_rules phases = record {
   table = tables.Overlap;
@@ -120,6 +129,7 @@ overlap_rules phases = record {
   repeated = keys.Number;
 }
 
+-- the table of preempts: at most 16, no number twice
 abbrev pub preempt_rules : Rules ℕ
 preempt_rules = record {
   table = tables.Preempt;
@@ -132,13 +142,14 @@ preempt_rules = record {
 
 -- ---- pairs of phases
 
+-- an entry of a table of pairs: two configured phases, which are no pair that is barred
 unfoldable pub pair_values : List PhaseItem → List Pair → EntryData → Read Pair
 pair_values phases barred e = do
   a ← required (configured phases) keys.A e
   b ← required (values.partner phases barred a) keys.B e
   Ok (record { a = a; b = b })
 
--- the pairs of one of the two tables, of which none is barred
+-- one of the two tables of pairs of phases: at most 120, no pair twice and none that is barred
 abbrev pub pair_rules : TableName → List PhaseItem → List Pair → Rules Pair
 pair_rules table phases barred = record {
   table = table;
@@ -149,15 +160,17 @@ pair_rules table phases barred = record {
   repeated = keys.A;
 }
 
+-- the table of conflicts: pairs of phases that may not be served together
 abbrev pub conflict_rules : List PhaseItem → Rules Pair
 conflict_rules phases = pair_rules tables.Conflict phases []
 
--- no pair is both in conflict and allowed
+-- the table of pairs that are allowed: phases that may be served together; none is in conflict too
 abbrev pub allow_rules : List PhaseItem → List Pair → Rules Pair
 allow_rules phases conflicts = pair_rules tables.Allow phases conflicts
 
 -- ---- floors and intervals
 
+-- an entry of the table of floors: a channel, one of its colours, and how many tenths it lasts at least
 unfoldable pub floor_values : List Channel → EntryData → Read FloorItem
 floor_values channels e = do
   channel ← required (values.channel channels) keys.Channel e
@@ -165,6 +178,7 @@ floor_values channels e = do
   tenths ← required (whole 0 36000) keys.Tenths e
   Ok (record { spec = channel.spec; colour = colour; tenths = tenths })
 
+-- the table of floors: at most 512, one for a colour of a channel
 abbrev pub floor_rules : List Channel → Rules FloorItem
 floor_rules channels = record {
   table = tables.Floor;
@@ -175,16 +189,18 @@ floor_rules channels = record {
   repeated = keys.Channel;
 }
 
--- exactly one of the two bounds
+-- the bound on a colour's age: exactly one of at_least and at_most
 abbrev pub bound_of : EntryData → Option Data → Option Data → Read AgeBound
 bound_of e None None = Err (Missing (place keys.AtLeast e))
 bound_of e None (Some most) = good (place keys.AtMost e) (whole 1 36000 most) >>= λ n. Ok (AtMost n)
 bound_of e (Some least) None = good (place keys.AtLeast e) (whole 1 36000 least) >>= λ n. Ok (AtLeast n)
 bound_of e (Some least) (Some most) = good (place keys.AtLeast e) (whole 1 36000 least) >>= λ n. Err (BadValue (place keys.AtMost e))
 
+-- the bound of an entry of the table of intervals
 unfoldable pub bound_at : EntryData → Read AgeBound
 bound_at e = bound_of e (value_at keys.AtLeast e) (value_at keys.AtMost e)
 
+-- an entry of the table of intervals: a channel, one of its colours, and how long that has to last
 unfoldable pub interval_values : List Channel → EntryData → Read IntervalItem
 interval_values channels e = do
   channel ← required (values.channel channels) keys.Channel e
@@ -192,7 +208,7 @@ interval_values channels e = do
   bound ← bound_at e
   Ok (record { spec = channel.spec; colour = colour; bound = bound })
 
--- interval entries may repeat
+-- the table of rules on durations: at most 256; an entry may repeat another
 abbrev pub interval_rules : List Channel → Rules IntervalItem
 interval_rules channels = record {
   table = tables.Interval;
@@ -205,16 +221,16 @@ interval_rules channels = record {
 
 -- ---- approaches
 
--- the number is over another one, where there is one
+-- the number is greater than the other one, where there is one
 abbrev pub is_over : ℕ → Option ℤ → Bool
 is_over n None = false
 is_over n (Some d) = int_lt d (pos n)
 
--- the first number of a share: not over what stands at the key of the second, where that is a number
+-- the first number of a share: not over the second one, where that is a number
 abbrev pub numerator : EntryData → Data → Option ℕ
 numerator e d = values.passing (λ n. not (is_over n (option_and_then as_integer (value_at keys.HighDen e)))) (whole 1 1000 d)
 
--- a share as both of its numbers, or 4/5 where neither is there
+-- a share by both of its numbers, or 4/5 where neither is there
 abbrev pub high_of : EntryData → Option Data → Option Data → Read Frac
 high_of e None None = Ok (record { num = 4; den = 5 })
 high_of e None (Some den) = Err (Missing (place keys.HighNum e))
@@ -223,14 +239,16 @@ high_of e (Some num) den = do
   d ← required (whole 1 1000) keys.HighDen e
   Ok (record { num = n; den = d })
 
+-- the share of an approach from which on its stop bar detector was on long enough for a split failure
 unfoldable pub high_at : EntryData → Read Frac
 high_at e = high_of e (value_at keys.HighNum e) (value_at keys.HighDen e)
 
--- the travel time from the advance detector, which is there, to the stop bar
+-- how many tenths a vehicle takes from the advance detector to the stop bar; only where there is such a detector
 abbrev pub travel_with : Option ℕ → Data → Option ℕ
 travel_with None d = None
 travel_with (Some v) d = whole 0 300 d
 
+-- an entry of the table of approaches: its name, its phase, its detectors, the way between them and the share
 unfoldable pub approach_values : List PhaseItem → EntryData → Read Approach
 approach_values phases e = do
   name ← required values.name keys.Name e
@@ -241,6 +259,7 @@ approach_values phases e = do
   high ← high_at e
   Ok (record { name = name; phase = phase; advance = advance; stop_bar = stop_bar; travel = travel; high = high })
 
+-- the table of approaches: at most 64, no name twice
 abbrev pub approach_rules : List PhaseItem → Rules Approach
 approach_rules phases = record {
   table = tables.Approach;

@@ -16,20 +16,21 @@ use Rattle.row_reader.specs.Stamp.{hour_stamp_of}
 use Rattle.ring_config.specs.declared.items.Pair.{Pair}
 use Rattle.ring_config.specs.declared.items.Named.{Named}
 
--- what there is, where it passes a test
+-- a value, where it passes a test
 abbrev pub passing : {X : Type 0} → (X → Bool) → Option X → Option X
 passing test None = None
 passing test (Some x) = if test x then Some x else None
 
--- a whole number from low to high
+-- a whole number, where it is from low to high
 abbrev pub within : ℕ → ℕ → Option ℤ → Option ℕ
 within low high (Some (pos n)) = if nat_le low n && nat_le n high then Some n else None
 within low high _ = None
 
+-- a value that is a whole number from low to high
 unfoldable pub whole : ℕ → ℕ → Data → Option ℕ
 whole low high d = within low high (as_integer d)
 
--- true or false
+-- a value that is true or false
 unfoldable pub yes_or_no : Data → Option Bool
 yes_or_no d = as_bool d
 
@@ -39,21 +40,21 @@ yes_or_no d = as_bool d
 abbrev pub is_short_text : (ℕ → Bool) → List ℕ → Bool
 is_short_text test text = (nat_le 1 (length text) && nat_le (length text) 32) && list_all test text
 
--- the text of a signal
+-- a value that is a signal's identifier
 unfoldable pub signal : Data → Option (List ℕ)
 signal d = passing is_signal (as_str d)
 
--- a letter, a digit, `_` or `-`
+-- a byte that a name may have: a letter, a digit, `_` or `-`
 abbrev pub is_name_byte : ℕ → Bool
 is_name_byte b = ((nat_le 48 b && nat_le b 57) || (nat_le 65 b && nat_le b 90)) || ((nat_le 97 b && nat_le b 122) || (b == 95 || b == 45))
 
--- the name of an approach
+-- a value that is the name of an approach
 unfoldable pub name : Data → Option (List ℕ)
 name d = passing (is_short_text is_name_byte) (as_str d)
 
 -- ---- the window
 
--- the day and the hour at which the window starts
+-- a value that is the day and the hour at which the window starts
 unfoldable pub start : Data → Option (ℤ × ℕ)
 start d = option_and_then hour_stamp_of (as_str d)
 
@@ -61,42 +62,44 @@ start d = option_and_then hour_stamp_of (as_str d)
 abbrev pub last_day : ℤ × ℕ → ℕ → ℤ
 last_day first hours = first.0 +ℤ pos ((first.1 + hours - 1) / 24)
 
--- so many hours from the first one, where the last day is at most 9999-12-31
+-- a window of so many hours, where its last day is at most 9999-12-31
 abbrev pub window_from : ℤ × ℕ → ℕ → Option Span
 window_from first hours =
     if int_le (last_day first hours) (pos 2932896) then Some (record { day = first.0; hour = first.1; hours = hours }) else None
 
--- the window that a number of hours makes
+-- a value that is the number of hours of the window
 unfoldable pub window : ℤ × ℕ → Data → Option Span
 window first d = option_and_then (window_from first) (whole 1 744 d)
 
 -- ---- phases
 
--- the number of a configured phase
+-- a value that is the number of a configured phase
 unfoldable pub configured : List PhaseItem → Data → Option ℕ
 configured phases d = passing (has_phase phases) (whole 1 16 d)
 
+-- the pair is of phases a and b, in either order
 abbrev pub is_pair : Pair → ℕ → ℕ → Bool
 is_pair p a b = (p.a == a && p.b == b) || (p.a == b && p.b == a)
 
+-- one of the pairs is of phases a and b
 abbrev pub has_pair : List Pair → ℕ → ℕ → Bool
 has_pair pairs a b = list_any (λ p. is_pair p a b) pairs
 
--- another configured phase than a, with which a is not a pair of those barred
+-- a value that is another configured phase than a, of which no barred pair is with a
 unfoldable pub partner : List PhaseItem → List Pair → ℕ → Data → Option ℕ
 partner phases barred a d = passing (λ b. not (b == a || has_pair barred a b)) (configured phases d)
 
--- a configured phase that isn't among those found
+-- a value that is a configured phase and isn't among those found
 abbrev pub next_phase : List PhaseItem → List ℕ → Data → Option ℕ
 next_phase phases found d = passing (λ n. not (has_number found n)) (configured phases d)
 
--- distinct configured phases, after those found
+-- values that are distinct configured phases, with those found before
 unfoldable pub phases_from : List PhaseItem → List ℕ → Items → Option (List ℕ)
 phases_from phases found no_items = Some found
 phases_from phases found (item d ds) =
     option_and_then (λ n. phases_from phases (found ++ n ∷ []) ds) (next_phase phases found d)
 
--- the set of these phases: bit n - 1 for phase n
+-- a set of phases as a number: bit n - 1 for phase n
 unfoldable pub mask_of : List ℕ → ℕ
 mask_of numbers = fold (λ mask n. bit_or mask (2 ^ (n - 1))) 0 numbers
 
@@ -104,10 +107,11 @@ mask_of numbers = fold (λ mask n. bit_or mask (2 ^ (n - 1))) 0 numbers
 abbrev pub phases_in : ℕ → List ℕ
 phases_in mask = filter (λ n. bit_at mask (n - 1) == 1) (range_with_len 1 16)
 
+-- 1 to 8 of them
 abbrev pub few_parents : List ℕ → Bool
 few_parents found = nat_le 1 (length found) && nat_le (length found) 8
 
--- the set of 1 to 8 distinct configured phases
+-- a value that is a set of 1 to 8 distinct configured phases
 unfoldable pub parents : List PhaseItem → Data → Option ℕ
 parents phases d = option_map mask_of (passing few_parents (option_and_then (phases_from phases []) (as_array d)))
 
@@ -121,11 +125,12 @@ kind_word kinds.Overlap = Some (codes "overlap ")
 kind_word kinds.PreemptService = Some (codes "preempt ")
 kind_word _ = None
 
+-- the text is the word and the number
 abbrev pub is_word_and : Option (List ℕ) → ℕ → List ℕ → Bool
 is_word_and None number text = false
 is_word_and (Some word) number text = bytes_eq text (word ++ decimal number)
 
--- the text names the channel: its word, one space and its number
+-- the text names the channel: the word of its kind, one space and its number
 abbrev pub is_named : List ℕ → Channel → Bool
 is_named text c = is_word_and (kind_word c.kind) c.number text
 
@@ -134,25 +139,26 @@ unfoldable pub named_from : ℕ → List Channel → List ℕ → Option Named
 named_from i [] text = None
 named_from i (c ∷ cs) text = if is_named text c then Some (record { spec = i; kind = c.kind }) else named_from (i + 1) cs text
 
--- the channel of this text: its place among the specs, and its kind
+-- a value that names a channel: its place among the specs, and its kind
 unfoldable pub channel : List Channel → Data → Option Named
 channel channels d = option_and_then (named_from 0 channels) (as_str d)
 
--- the colour of this name of a kind of channel: the name's place in the table of the kind
+-- the colour of this name, of a kind of channel
 unfoldable pub colour_of : Kind → List ℕ → Option ℕ
 colour_of kind text = position (λ name. bytes_eq text name) (table_of kind).names
 
--- the colour that the value names
+-- a value that names a colour of a kind of channel
 unfoldable pub colour : Kind → Data → Option ℕ
 colour kind d = option_and_then (colour_of kind) (as_str d)
 
 -- ---- arrays of tables
 
--- the tables after those found
+-- values that are tables, with those found before
 unfoldable pub tables_from : List Members → Items → Option (List Members)
 tables_from found no_items = Some found
 tables_from found (item (table ms) ds) = tables_from (found ++ ms ∷ []) ds
 tables_from found (item _ ds) = None
 
+-- a value that is an array of tables
 unfoldable pub tables : Data → Option (List Members)
 tables d = option_and_then (tables_from []) (as_array d)

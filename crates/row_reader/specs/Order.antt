@@ -2,7 +2,7 @@
 use Rattle.std.specs.Prelude.{◌==◌, ◌+◌, ◌*◌, ◌≤◌, ◌<◌, ℕ, zero, suc, List, [], ◌∷◌, ◌++◌, filter, ⊤}
 use Rattle.sig_base.specs.declared.values.Row.{Row}
 
--- the rows of this tenth
+-- the rows of tenth t, as the file has them
 abbrev pub rows_at : ℕ → List Row → List Row
 rows_at t rows = filter (λ r. r.at == t) rows
 

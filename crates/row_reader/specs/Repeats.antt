@@ -5,7 +5,7 @@ use Rattle.sig_base.specs.declared.values.Row.{Row}
 use Rattle.event_codes.specs.declared.channels.Group.{Group}
 use Rattle.event_codes.specs.Channels.{group_in_table, same_group}
 
--- the group of a row
+-- the group of a row: its channel, or its code and parameter where it has none
 unfoldable pub group_of_row : Row → Group
 group_of_row row = group_in_table row.code row.param
 
@@ -18,7 +18,7 @@ last_where test (r ∷ rs) = option_or (last_where test rs) (if test r then Some
 abbrev pub same_event : Row → Row → Bool
 same_event a b = (a.code == b.code) && (a.param == b.param)
 
--- there is such a row, and it has the code and the parameter of the other
+-- there is such a row, and it says the same as the other
 abbrev pub is_event_of : Row → Option Row → Bool
 is_event_of row None = false
 is_event_of row (Some r) = same_event r row
@@ -27,7 +27,7 @@ is_event_of row (Some r) = same_event r row
 abbrev pub is_repeat : List Row → Row → Bool
 is_repeat kept row = is_event_of row (last_where (λ r. (r.at == row.at) && same_group (group_of_row row) (group_of_row r)) kept)
 
--- these rows, and then those that are no repeats
+-- rows that were kept, and of those after them the ones that are no repeats
 abbrev pub kept_after : List Row → List Row → List Row
 kept_after kept [] = kept
 kept_after kept (r ∷ rs) = kept_after (if is_repeat kept r then kept else kept ++ r ∷ []) rs

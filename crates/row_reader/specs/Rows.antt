@@ -15,13 +15,13 @@ use Rattle.row_reader.specs.Repeats.{without_repeats, repeats_of}
 use Rattle.row_reader.specs.Stamp.{stamp_in}
 use Rattle.row_reader.specs.Trim.{trimmed}
 
--- what rows are wanted: those of this signal and this hour of the window
+-- what rows a file is read for: those of this signal and this hour of the window
 pub record Wanted : Type 0 where
   pub signal : List ℕ
   pub hour : ℕ
   pub window : Span
 
--- the place of a tenth in the window, where it lies in this hour
+-- the tenth, where it lies in this hour of the window
 abbrev pub at_in_hour : ℕ → ℤ → Option ℕ
 at_in_hour hour (pos at) = if nat_le (36000 * hour) at && nat_lt at (36000 * hour + 36000) then Some at else None
 at_in_hour hour (negsuc n) = None
@@ -62,6 +62,7 @@ record_row w headers number fields =
     else if length fields == 4 then row_of w number (field fields 0) (field fields 1) (field fields 2) (field fields 3)
     else Err (Fields number)
 
+-- what comes of a row, or the refusal in its place
 abbrev pub on_row : Result Row RowError → (Row → Result (List Row) RowError) → Result (List Row) RowError
 on_row (Ok row) more = more row
 on_row (Err refusal) more = Err refusal
@@ -85,6 +86,7 @@ shown_of hour rows = record {
   repeats = repeats_of (in_row_order hour rows);
 }
 
+-- the rows of an hour in row order without repeats, or the refusal in their place
 abbrev pub on_rows : ℕ → Result (List Row) RowError → Result Shown RowError
 on_rows hour (Ok rows) = Ok (shown_of hour rows)
 on_rows hour (Err refusal) = Err refusal

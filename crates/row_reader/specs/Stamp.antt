@@ -8,7 +8,7 @@ use Rattle.jiff_core.specs.Calendar.{days_from_civil, days_in_month}
 use Rattle.sig_base.specs.Window.{Span, tenth_in}
 use Rattle.row_reader.specs.Number.{digit, number_of}
 
--- the text before the first such byte, and the text after it
+-- a text cut at the first such byte: what stands before it, and what after it
 abbrev pub cut : ℕ → List ℕ → Option (List ℕ × List ℕ)
 cut mark text = option_map (λ i. (take i text, drop (i + 1) text)) (position (λ b. b == mark) text)
 
@@ -32,29 +32,29 @@ abbrev pub at_cut : {A : Type 0} → (List ℕ → List ℕ → Option A) → Op
 at_cut f None = None
 at_cut f (Some p) = f p.0 p.1
 
--- MM-DD of a year
+-- the day of a year and a text MM-DD
 abbrev pub dashed_month : List ℕ → List ℕ → Option ℤ
 dashed_month year rest =
     at_cut (λ month day. day_of (number_of 4 4 9999 year) (number_of 2 2 99 month) (number_of 2 2 99 day)) (cut 45 rest)
 
--- YYYY-MM-DD
+-- the day of a text YYYY-MM-DD
 abbrev pub dashed_date : List ℕ → Option ℤ
 dashed_date text = at_cut dashed_month (cut 45 text)
 
--- D/YYYY of a month
+-- the day of a month and a text D/YYYY
 abbrev pub slashed_day : List ℕ → List ℕ → Option ℤ
 slashed_day month rest =
     at_cut (λ day year. day_of (number_of 4 4 9999 year) (number_of 1 2 99 month) (number_of 1 2 99 day)) (cut 47 rest)
 
--- M/D/YYYY
+-- the day of a text M/D/YYYY
 abbrev pub slashed_date : List ℕ → Option ℤ
 slashed_date text = at_cut slashed_day (cut 47 text)
 
--- the day number of a date of either form
+-- the day of a text that is a date of either form
 abbrev pub date_of : List ℕ → Option ℤ
 date_of text = option_or (dashed_date text) (slashed_date text)
 
--- the first of one to nine digits
+-- the tenth of a second of a text of one to nine digits: the first of them
 abbrev pub first_digit : List ℕ → Option ℕ
 first_digit text = option_map (λ n. digit (slice_index text 0)) (number_of 1 9 999999999 text)
 
@@ -64,7 +64,7 @@ tenths None tenth = None
 tenths (Some second) None = None
 tenths (Some second) (Some tenth) = Some (10 * second + tenth)
 
--- SS or SS.f, as tenths
+-- the tenths of a minute of a text SS or SS.f
 abbrev pub seconds_of : Option (List ℕ × List ℕ) → List ℕ → Option ℕ
 seconds_of None text = tenths (number_of 2 2 59 text) (Some 0)
 seconds_of (Some p) text = tenths (number_of 2 2 59 p.0) (first_digit p.1)
@@ -76,12 +76,12 @@ tenth_of_day (Some h) None s = None
 tenth_of_day (Some h) (Some m) None = None
 tenth_of_day (Some h) (Some m) (Some s) = Some (36000 * h + 600 * m + s)
 
--- MM:SS or MM:SS.f of an hour
+-- the tenth of the day of an hour and a text MM:SS or MM:SS.f
 abbrev pub minutes_of : List ℕ → List ℕ → Option ℕ
 minutes_of hour rest =
     at_cut (λ minute second. tenth_of_day (number_of 1 2 23 hour) (number_of 2 2 59 minute) (seconds_of (cut 46 second) second)) (cut 58 rest)
 
--- the tenth of the day of H:MM:SS or H:MM:SS.f
+-- the tenth of the day of a text H:MM:SS or H:MM:SS.f
 abbrev pub time_of : List ℕ → Option ℕ
 time_of text = at_cut minutes_of (cut 58 text)
 

@@ -1,7 +1,7 @@
 -- A field without the spaces at its ends. A space is the byte 32 alone.
 use Rattle.std.specs.Prelude.{◌==◌, ℕ, List, [], ◌∷◌, if◌then◌else◌}
 
--- without the spaces in front
+-- a field without the spaces in front
 abbrev pub trim_front : List ℕ → List ℕ
 trim_front [] = []
 trim_front (b ∷ bs) = if b == 32 then trim_front bs else b ∷ bs
@@ -11,11 +11,11 @@ abbrev pub before_end : ℕ → List ℕ → List ℕ
 before_end b [] = if b == 32 then [] else b ∷ []
 before_end b (x ∷ xs) = b ∷ x ∷ xs
 
--- without the spaces at the end
+-- a field without the spaces at its end
 abbrev pub trim_end : List ℕ → List ℕ
 trim_end [] = []
 trim_end (b ∷ bs) = before_end b (trim_end bs)
 
--- without the spaces at both ends
+-- a field without the spaces at both ends
 abbrev pub trimmed : List ℕ → List ℕ
 trimmed text = trim_end (trim_front text)

@@ -28,15 +28,15 @@ use Rattle.rule_audit.specs.Obligations.{Obligation}
 abbrev pub Leaves : Spec → Row → ℕ → Type 0
 Leaves s r colour = (l : ℕ) × (letter_in_table r.code r.param ≡ Some l) × ((d : ℕ) × ((rules_of s).next colour l ≡ Some d) × (d ≢ colour))
 
--- before the row the channel is in the rule's colour, and the row changes it away
+-- before the row the channel has the rule's colour, and with the row it leaves it: an interval ends there
 abbrev pub Closes : Spec → Row → IntervalItem → State → Type 0
 Closes s r item v = (v.colour ≡ item.colour) × Leaves s r item.colour
 
--- where it closes, the age of the colour meets the bound
+-- where the interval ends with the row, the colour's age then meets the rule's bound
 abbrev pub KeepsInterval : Spec → Row → IntervalItem → State → Type 0
 KeepsInterval s r item v = Closes s r item v → InBound item.bound (pos r.at) v.entry
 
--- the verdict by the states that there may be, of which some close the interval and some keep the rule: idle where none closes it, else kept where all keep, broken where none does, undecided where only some do
+-- the verdict on an interval, by the states P that the channel may have before the row, by C in which the interval ends there and by K in which the rule is kept: idle where it ends in none; else kept in all, broken in none, or undecided
 abbrev pub IsIntervalVerdict : Verdict → (State → Type 0) → (State → Type 0) → (State → Type 0) → Type 0
 IsIntervalVerdict Idle P C K = (v : State) → P v → C v → ⊥
 IsIntervalVerdict Kept P C K = ((v : State) × P v × C v) × ((v : State) → P v → K v)
@@ -45,7 +45,7 @@ IsIntervalVerdict Undecided P C K = ((v : State) × P v × K v) × ((v : State) 
 
 -- ---- any rule
 
--- the states that the agreeing histories may have: of one channel before a row, and of all channels at the end of a tenth
+-- which states the histories that agree may have: of one channel before a row, and of all channels together at the end of a tenth
 pub record States : Type 1 where
   pub before_row : ℕ → ℕ → State → Type 0
   pub at_end : ℕ → (ℕ → State) → Type 0

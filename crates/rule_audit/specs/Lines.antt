@@ -17,14 +17,14 @@ use Rattle.rule_audit.specs.Judged.{HasRuns, HasVerdict}
 abbrev pub line_of : Obligation → Verdict → AuditLine
 line_of o x = record { rule = o.number; at = o.at; place = o.place; verdict = x; window = None }
 
--- an idle obligation has no line
+-- the line of an obligation with its verdict; an idle one has none
 abbrev pub lines_of : Obligation → Verdict → List AuditLine
 lines_of o verdicts.Idle = []
 lines_of o verdicts.Kept = line_of o verdicts.Kept ∷ []
 lines_of o verdicts.Broken = line_of o verdicts.Broken ∷ []
 lines_of o verdicts.Undecided = line_of o verdicts.Undecided ∷ []
 
--- the lines are those of the obligations, in order, each by a verdict that it has
+-- the lines of these obligations in order, each with a verdict that it has
 abbrev pub AreLinesOf : (Obligation → Verdict → Type 0) → List Obligation → List AuditLine → Type 0
 AreLinesOf Has [] lines = lines ≡ []
 AreLinesOf Has (o ∷ os) lines = (x : Verdict) × Has o x × ((rest : List AuditLine) × AreLinesOf Has os rest × (lines ≡ lines_of o x ++ rest))

@@ -12,13 +12,14 @@ use Rattle.rule_audit.specs.declared.rules.Rule.TheVariants.{Interval, Conflict,
 use Rattle.rule_audit.specs.declared.lines.Place.{Place}
 use Rattle.rule_audit.specs.declared.lines.Place.TheVariants.{BeforeRow, EndOfTenth}
 
--- a rule, by its number, at a place of a tenth; a place before a row has the row's place in the hour, from 0
+-- what is to be judged: a rule, by its number, at a place of a tenth; a place before a row has the row's place in the hour, from 0
 pub record Obligation : Type 0 where
   pub number : ℕ
   pub rule : Rule
   pub at : ℕ
   pub place : Place
 
+-- an obligation by its four parts
 abbrev pub obligation : ℕ → Rule → ℕ → Place → Obligation
 obligation n rule t p = record { number = n; rule = rule; at = t; place = p }
 
@@ -26,21 +27,21 @@ obligation n rule t p = record { number = n; rule = rule; at = t; place = p }
 abbrev pub is_row_of : List Spec → Row → ℕ → Bool
 is_row_of specs r i = is_channel (slice_index_or specs i no_spec).channel (channel_in_table r.code r.param)
 
--- an interval rule of the row's channel
+-- the rule is one on durations of the row's channel
 abbrev pub is_timed_by : List Spec → Row → Rule → Bool
 is_timed_by specs r (Interval item) = is_row_of specs r item.spec
 is_timed_by specs r (Conflict a b terms) = false
 is_timed_by specs r (Companion p terms) = false
 is_timed_by specs r (Parents o terms) = false
 
--- a rule that is a clause
+-- the rule is a clause: a conflict, a companion or a parents rule
 abbrev pub is_clause : Rule → Bool
 is_clause (Interval item) = false
 is_clause (Conflict a b terms) = true
 is_clause (Companion p terms) = true
 is_clause (Parents o terms) = true
 
--- its terms
+-- the terms of a rule that is a clause
 abbrev pub terms_of : Rule → List Term
 terms_of (Interval item) = []
 terms_of (Conflict a b terms) = terms
@@ -83,11 +84,11 @@ unfoldable pub end_obligations : List Spec → List Row → Bool → ℕ → ℕ
 end_obligations specs rows before t n [] = []
 end_obligations specs rows before t n (x ∷ xs) = end_obligation specs rows before t n x ++ end_obligations specs rows before t (n + 1) xs
 
--- those of a known tenth
+-- what is to be judged at a known tenth: durations before its rows, and then clauses at its end
 abbrev pub tenth_obligations : List Spec → List Rule → List Row → Bool → ℕ → List Obligation
 tenth_obligations specs rules rows before t = rows_obligations specs rules t 0 rows ++ end_obligations specs rows before t 1 rules
 
--- those of the n tenths from t on, of which the known ones have some
+-- what is to be judged at the n tenths from t on: at the known ones alone; `before` says whether the tenth before t is known
 unfoldable pub obligations_from : (ℕ → Bool) → List Spec → List Rule → List Row → Bool → ℕ → ℕ → List Obligation
 obligations_from known specs rules rows before t zero = []
 obligations_from known specs rules rows before t (suc n) =

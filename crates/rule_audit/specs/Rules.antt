@@ -22,7 +22,7 @@ each_number f = flat_map f (range_with_len 1 16)
 
 -- ---- terms
 
--- a set of colours
+-- a set of colours as a number: bit c for colour c
 unfoldable pub colours_of : List ℕ → ℕ
 colours_of cs = fold (λ mask c. bit_or mask (2 ^ c)) 0 cs
 
@@ -30,11 +30,11 @@ colours_of cs = fold (λ mask c. bit_or mask (2 ^ c)) 0 cs
 unfoldable pub others : Kind → List ℕ → List ℕ
 others kind cs = filter (λ c. not (has_number cs c)) (range_with_len 0 (length (table_of kind).names))
 
--- the channel is in one of the colours; the channels of rules are tracked, so that each has a place (Channels: AreOfOwn)
+-- the channel is in one of these colours, as a term of a rule; the channels of rules are tracked, so that each has a place
 unfoldable pub is_in : List Spec → Kind → ℕ → List ℕ → Term
 is_in specs kind n cs = record { spec = unwrap_or (spec_place specs (record { kind = kind; number = n })) 0; colours = colours_of cs }
 
--- the channel is in another colour
+-- the channel is in none of these colours, as a term of a rule
 abbrev pub is_in_none : List Spec → Kind → ℕ → List ℕ → Term
 is_in_none specs kind n cs = is_in specs kind n (others kind cs)
 
@@ -42,60 +42,65 @@ is_in_none specs kind n cs = is_in specs kind n (others kind cs)
 abbrev pub served : List ℕ
 served = phase.on ∷ phase.green ∷ phase.term ∷ phase.yellow ∷ phase.clear ∷ []
 
+-- phase p is served, as a term of a rule
 abbrev pub is_served : List Spec → ℕ → Term
 is_served specs p = is_in specs kinds.Phase p served
 
+-- phase p isn't served, as a term of a rule
 abbrev pub is_not_served : List Spec → ℕ → Term
 is_not_served specs p = is_in_none specs kinds.Phase p served
 
 -- ---- rules
 
--- phases a and b are not served together
+-- phase a isn't served, or phase b isn't
 abbrev pub conflict_terms : List Spec → ℕ → ℕ → List Term
 conflict_terms specs a b = is_not_served specs a ∷ is_not_served specs b ∷ []
 
--- where pedestrian signal p shows walk, its phase is on or green
+-- pedestrian signal p doesn't show walk, or its phase is on or green
 abbrev pub companion_terms : List Spec → ℕ → List Term
 companion_terms specs p = is_in_none specs kinds.Ped p (ped.walk ∷ []) ∷ is_in specs kinds.Phase p (phase.on ∷ phase.green ∷ []) ∷ []
 
--- the phase is a parent of the overlap: bit p - 1 of its mask
+-- phase p is a parent of the overlap
 abbrev pub is_parent : OverlapItem → ℕ → Bool
 is_parent o p = bit_at o.parents (p - 1) == 1
 
--- the parents of the overlap, ascending, each as a term that it is served
+-- phase p is served, as a term, where it is a parent of the overlap
 abbrev pub parent_term : List Spec → OverlapItem → ℕ → List Term
 parent_term specs o p = if is_parent o p then is_served specs p ∷ [] else []
 
--- where the overlap is green, one of its parents is served
+-- the overlap isn't green, or one of its parents is served
 abbrev pub parents_terms : List Spec → OverlapItem → List Term
 parents_terms specs o = is_in_none specs kinds.Overlap o.number (overlap.green ∷ []) ∷ each_number (parent_term specs o)
 
--- two configured phases a < b that conflict
+-- a and b are configured phases, a < b, that conflict
 abbrev pub is_conflict : Settings → ℕ → ℕ → Bool
 is_conflict c a b = (nat_lt a b && has_phase c.phases a) && (has_phase c.phases b && in_conflict c a b)
 
+-- the rule that phases a and b aren't served together, where they conflict
 abbrev pub conflict_rule : Settings → ℕ → ℕ → List Rule
 conflict_rule c a b = if is_conflict c a b then Conflict a b (conflict_terms c.specs a b) ∷ [] else []
 
--- by the first phase, and then by the second
+-- the rules on phases in conflict, by the first phase, and then by the second
 abbrev pub conflict_rules : Settings → List Rule
 conflict_rules c = each_number (λ a. each_number (conflict_rule c a))
 
+-- the rule that pedestrian signal p shows walk only while its phase is on or green, where there is one
 abbrev pub companion_rule : Settings → ℕ → List Rule
 companion_rule c p = if has_number c.peds p then Companion p (companion_terms c.specs p) ∷ [] else []
 
--- by the number of the pedestrian signal
+-- the rules on pedestrian signals and their phases, by number
 abbrev pub companion_rules : Settings → List Rule
 companion_rules c = each_number (companion_rule c)
 
--- the overlap's rule, where it has this number
+-- the rule on an overlap and its parents, where the overlap has this number
 abbrev pub parents_rule_of : Settings → ℕ → OverlapItem → List Rule
 parents_rule_of c n o = if o.number == n then Parents n (parents_terms c.specs o) ∷ [] else []
 
+-- the rule that overlap n is green only while one of its parents is served, where there is one
 abbrev pub parents_rule : Settings → ℕ → List Rule
 parents_rule c n = flat_map (parents_rule_of c n) c.overlaps
 
--- by the number of the overlap
+-- the rules on overlaps and their parents, by number
 abbrev pub parents_rules : Settings → List Rule
 parents_rules c = each_number (parents_rule c)
 

@@ -1,6 +1,7 @@
 -- The lines of a script.
 use Rattle.std.specs.Prelude.{◌==◌, ◌&&◌, ℕ, Bool, false, List, [], ◌∷◌, drop, if◌then◌else◌}
 
+-- a line feed comes first
 abbrev pub begins_with_feed : List ℕ → Bool
 begins_with_feed [] = false
 begins_with_feed (b ∷ bs) = b == 10
@@ -19,12 +20,12 @@ unfoldable pub after_line : List ℕ → List ℕ
 after_line [] = []
 after_line (b ∷ bs) = if end_length (b ∷ bs) == 0 then after_line bs else drop (end_length (b ∷ bs)) (b ∷ bs)
 
--- a byte goes onto the first line of the rest
+-- a byte in front of the first of these lines
 abbrev pub onto : ℕ → List (List ℕ) → List (List ℕ)
 onto b [] = (b ∷ []) ∷ []
 onto b (l ∷ ls) = (b ∷ l) ∷ ls
 
--- the lines: each ends at a line feed, of which a carriage return before it is a part, or at the end of the script
+-- the lines of a script: each ends at a line feed, of which a carriage return before it is a part, or at the end of the script
 unfoldable pub lines_of : List ℕ → List (List ℕ)
 lines_of [] = []
 lines_of (b ∷ bs) = if b == 10 then [] ∷ lines_of bs else (if (b == 13) && begins_with_feed bs then lines_of bs else onto b (lines_of bs))

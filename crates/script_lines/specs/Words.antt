@@ -6,16 +6,17 @@ use Rattle.sig_base.specs.Window.{Span}
 use Rattle.row_reader.specs.Number.{number_of}
 use Rattle.row_reader.specs.Stamp.{stamp_in}
 
--- without the spaces in front
+-- the bytes without the spaces in front
 unfoldable pub skip_spaces : List ℕ → List ℕ
 skip_spaces [] = []
 skip_spaces (b ∷ bs) = if b == 32 then skip_spaces bs else b ∷ bs
 
--- the bytes up to the first space, and those from it on
+-- the bytes up to the first space
 unfoldable pub word : List ℕ → List ℕ
 word [] = []
 word (b ∷ bs) = if b == 32 then [] else b ∷ word bs
 
+-- the bytes from the first space on
 unfoldable pub after_word : List ℕ → List ℕ
 after_word [] = []
 after_word (b ∷ bs) = if b == 32 then b ∷ bs else after_word bs
@@ -36,31 +37,35 @@ pub data Said : Type 0 where
   points : ℕ → Said
   offsets : List ℕ → Said
 
--- an hour of one to six digits
+-- a word that is an hour: one to six digits
 abbrev pub hour_at : List ℕ → Option ℕ
 hour_at text = number_of 1 6 999999 text
 
--- a phase of one or two digits
+-- a word that is a phase: one or two digits
 abbrev pub phase_at : List ℕ → Option ℕ
 phase_at text = number_of 1 2 99 text
 
--- the name of a file or of an approach, 1 to 255 bytes
+-- a word that is the name of a file or of an approach: 1 to 255 bytes
 abbrev pub name_at : List ℕ → Option (List ℕ)
 name_at text = if nat_le 1 (length text) && nat_le (length text) 255 then Some text else None
 
+-- a line with an hour; bad where that isn't readable
 abbrev pub by_hour : (ℕ → Said) → Option ℕ → Said
 by_hour make None = bad
 by_hour make (Some h) = make h
 
+-- a line with an hour and a name; bad where one of them isn't readable
 abbrev pub by_name : (ℕ → List ℕ → Said) → Option ℕ → Option (List ℕ) → Said
 by_name make None name = bad
 by_name make (Some h) None = bad
 by_name make (Some h) (Some name) = make h name
 
+-- a line with a name; bad where that isn't readable
 abbrev pub by_text : (List ℕ → Said) → Option (List ℕ) → Said
 by_text make None = bad
 by_text make (Some name) = make name
 
+-- a line with two stamps; bad where one of them isn't readable
 abbrev pub by_range : (ℤ → ℤ → Said) → Option ℤ → Option ℤ → Said
 by_range make None to = bad
 by_range make (Some from) None = bad
@@ -70,7 +75,7 @@ by_range make (Some from) (Some to) = make from to
 abbrev pub is_over : List ℕ → Bool
 is_over text = length text == 0
 
--- a line that asks for a report, of these words: the first, the second, and what follows them
+-- what a line that asks for a report says, by its words: the first, the second, and what follows them
 abbrev pub report_words : List ℕ → List ℕ → List ℕ → Said
 report_words verb a rest =
     if bytes_eq verb (codes "audit") then (if is_over a then audit else bad)
@@ -80,7 +85,7 @@ report_words verb a rest =
     else (if bytes_eq verb (codes "offsets") then (if is_over rest then by_text offsets (name_at a) else bad)
     else bad))))
 
--- the line of these words: the first, the second, the third, and what follows them
+-- what a line says by its words: the first, the second, the third, and what follows them
 abbrev pub of_words : Span → List ℕ → List ℕ → List ℕ → List ℕ → Said
 of_words w verb a b rest =
     if bytes_eq verb (codes "load") then (if is_over rest then by_name load (hour_at a) (name_at b) else bad)
@@ -94,7 +99,7 @@ of_words w verb a b rest =
 abbrev pub is_printable : ℕ → Bool
 is_printable b = nat_le 32 b && nat_le b 126
 
--- the words of a line in a window, whose stamps may lie outside it
+-- what a line says in a window by its words; a stamp may lie outside the window
 unfoldable pub worded : Span → List ℕ → Said
 worded w line =
     let one = skip_spaces line in

@@ -20,11 +20,11 @@ use Rattle.service_cut.specs.Parts.{parts_of, open_service, open_cycle}
 abbrev pub services_from : (ℕ → Bool) → List PhaseItem → List Row → List Row → List Service
 services_from known phases before rows = outs_from (service_at known) (has_phase phases) before rows
 
--- the rows of the whole services that end among the rows, likewise
+-- the four rows of the whole services that end among the rows, in their order, where the first rows stand before them
 abbrev pub served_from : (ℕ → Bool) → List PhaseItem → List Row → List Row → List Served
 served_from known phases before rows = outs_from (λ p earlier r rest. served_at known p earlier r) (has_phase phases) before rows
 
--- those whose red window, the 50 tenths from r on, isn't over at tenth t
+-- the services whose red window, the 50 tenths from r on, isn't over at tenth t
 abbrev pub closing_at : ℕ → List Served → List Served
 closing_at t ws = filter (λ w. nat_lt t (w.r.at + 50)) ws
 
@@ -43,7 +43,7 @@ service_tenths s = record { phase = s.phase; b = s.b; g = s.g; y = s.y; r = s.r 
 abbrev pub served_tenths : Served → Tenths
 served_tenths s = record { phase = s.phase; b = s.b.at; g = s.g.at; y = s.y.at; r = s.r.at }
 
--- the whole cycles that end among the rows, likewise
+-- the whole cycles that end among the rows, in their order, where the first rows stand before them
 abbrev pub cycles_from : (ℕ → Bool) → List PhaseItem → List Row → List Row → List Cycle
 cycles_from known phases before rows = outs_from (λ p earlier r rest. cycle_at known p earlier r) (has_phase phases) before rows
 

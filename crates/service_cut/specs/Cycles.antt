@@ -7,15 +7,16 @@ use Rattle.service_cut.specs.declared.items.Cycle.{Cycle}
 use Rattle.service_cut.specs.declared.cycles.CycleBegun.{CycleBegun}
 use Rattle.service_cut.specs.Signs.{sign, is_begin, is_yellow, is_end}
 
+-- a begin of yellow that was found, where every tenth since is known and no end of yellow has come
 abbrev pub yellow_in : (ℕ → Bool) → ℕ → ℕ → Option (Row × List Row) → Option Row
 yellow_in known t p None = None
 yellow_in known t p (Some (y, after)) = if live known y.at t && not (list_any (λ z. is_end (sign p z)) after) then Some y else None
 
--- the last row 8, where each tenth from its own up to t is known and no row 9 or 10 has come after it
+-- the yellow of phase p that is under way at t: its last begin of yellow, where every tenth since is known and no end of yellow has come
 unfoldable pub yellow_of : (ℕ → Bool) → ℕ → ℕ → List Row → Option Row
 yellow_of known t p before = yellow_in known t p (last_with (λ z. is_yellow (sign p z)) before)
 
--- the row is a yellow end of phase p, where these rows stand before it
+-- the row ends a yellow of phase p, or begins red clearance after it, and every tenth since the begin of this yellow is known; these rows stand before it
 unfoldable pub is_yellow_end : (ℕ → Bool) → ℕ → List Row → Row → Bool
 is_yellow_end known p before r = is_end (sign p r) && is_some (yellow_of known r.at p before)
 
@@ -24,21 +25,25 @@ abbrev pub last_end_from : (ℕ → Bool) → ℕ → List Row → List Row → 
 last_end_from known p before [] = None
 last_end_from known p before (x ∷ xs) = kept_last (last_end_from known p (before ++ x ∷ []) xs) (is_yellow_end known p before x) x xs
 
+-- a cycle that began at this row, with the last begins of green and of yellow among the rows since
 abbrev pub cycle_begun : ℕ → Row → List Row → CycleBegun
 cycle_begun p from after = record { from = from; green = last (λ z. is_begin (sign p z)) after; yellow = last (λ z. is_yellow (sign p z)) after }
 
+-- a cycle by the yellow end that was found, where every tenth since is known
 abbrev pub cycle_begun_in : (ℕ → Bool) → ℕ → ℕ → Option (Row × List Row) → Option CycleBegun
 cycle_begun_in known t p None = None
 cycle_begun_in known t p (Some (r, after)) = if live known r.at t then Some (cycle_begun p r after) else None
 
--- the last yellow end, where each tenth from its own up to t is known, with the last row 1 and the last row 8 since
+-- the cycle of phase p that is under way at t: since its last yellow end, where every tenth since is known, with the last begins of green and of yellow
 unfoldable pub cycle_begun_of : (ℕ → Bool) → ℕ → ℕ → List Row → Option CycleBegun
 cycle_begun_of known t p before = cycle_begun_in known t p (last_end_from known p [] before)
 
+-- how many tenths after another one a row comes; 0 where there is none
 abbrev pub offset_of : ℕ → Option Row → ℕ
 offset_of from None = 0
 offset_of from (Some x) = x.at - from
 
+-- the cycle from its begin to row r, where it has begun
 abbrev pub cycle_of : ℕ → Option CycleBegun → Row → Option Cycle
 cycle_of p None r = None
 cycle_of p (Some s) r = Some (record { phase = p; from = s.from.at; to = r.at; green = offset_of s.from.at s.green; yellow = offset_of s.from.at s.yellow })

@@ -11,41 +11,46 @@ use Rattle.service_cut.specs.declared.items.Termination.TheVariants.{GapOut, Max
 use Rattle.service_cut.specs.declared.services.ServiceBegun.{ServiceBegun}
 use Rattle.service_cut.specs.Signs.{sign, is_begin, is_change, is_yellow, is_end, is_cause}
 
--- a row 9 or 10 comes after the first row 8
+-- after the first begin of yellow an end of yellow or a begin of red clearance has come
 abbrev pub is_over : ℕ → List Row → Bool
 is_over p [] = false
 is_over p (x ∷ xs) = if is_yellow (sign p x) then list_any (λ z. is_end (sign p z)) xs else is_over p xs
 
+-- the row isn't at a later tenth than g, where that has come
 abbrev pub is_within : Option Row → Row → Bool
 is_within None z = true
 is_within (Some g) z = nat_le z.at g.at
 
--- the last row 4, 5 or 6, not at a later tenth than g where it has come
+-- the row that says why the green ends: the last of code 4, 5 or 6, not at a later tenth than the green's end where that has come
 abbrev pub cause_in : ℕ → Option Row → List Row → Option Row
 cause_in p g rows = last (λ z. is_cause (sign p z) && is_within g z) rows
 
--- a row 1, with the first row 7 or 8 and the first row 8 after it
+-- the service that begins with row b, as far as the rows after it tell: its end of green, its begin of yellow, and why the green ends
 abbrev pub service_begun : ℕ → Row → List Row → ServiceBegun
 service_begun p b after =
     let g = find (λ z. is_change (sign p z)) after in
     record { b = b; g = g; y = find (λ z. is_yellow (sign p z)) after; cause = cause_in p g after }
 
+-- a service by the begin of green that was found, where every tenth since is known and the service isn't over
 abbrev pub service_begun_in : (ℕ → Bool) → ℕ → ℕ → Option (Row × List Row) → Option ServiceBegun
 service_begun_in known t p None = None
 service_begun_in known t p (Some (b, after)) = if live known b.at t && not (is_over p after) then Some (service_begun p b after) else None
 
--- the last row 1, where each tenth from its own up to t is known and its r hasn't come
+-- the service of phase p that is under way at t: since its last begin of green, where every tenth since is known and the service isn't over
 unfoldable pub service_begun_of : (ℕ → Bool) → ℕ → ℕ → List Row → Option ServiceBegun
 service_begun_of known t p before = service_begun_in known t p (last_with (λ z. is_begin (sign p z)) before)
 
+-- how the green ended, by the row that says why: 4 gap out, 5 max out, 6 force off; unlogged without one
 abbrev pub termination : Option Row → Termination
 termination None = Unlogged
 termination (Some x) = if x.code == 4 then GapOut else (if x.code == 5 then MaxOut else ForceOff)
 
+-- the service that ends with row r, where its end of green and its begin of yellow have come
 abbrev pub service_of : ℕ → ServiceBegun → Row → List Row → Option Row → Option Row → Option Service
 service_of p s r rest (Some g) (Some y) = Some (record { phase = p; b = s.b.at; g = g.at; y = y.at; r = r.at; end = termination (option_or (cause_in p (Some g) rest) s.cause) })
 service_of p s r rest _ _ = None
 
+-- the service under way that ends with row r, where there is one
 abbrev pub whole_service : ℕ → Option ServiceBegun → Row → List Row → Option Service
 whole_service p None r rest = None
 whole_service p (Some s) r rest = service_of p s r rest s.g s.y
@@ -54,10 +59,12 @@ whole_service p (Some s) r rest = service_of p s r rest s.g s.y
 unfoldable pub service_at : (ℕ → Bool) → ℕ → List Row → Row → List Row → Option Service
 service_at known p before r rest = if is_end (sign p r) then whole_service p (service_begun_of known r.at p before) r rest else None
 
+-- the four rows of the service that ends with row r, where its end of green and its begin of yellow have come
 abbrev pub served_of : ℕ → ServiceBegun → Row → Option Row → Option Row → Option Served
 served_of p s r (Some g) (Some y) = Some (record { phase = p; b = s.b; g = g; y = y; r = r })
 served_of p s r _ _ = None
 
+-- the four rows of the service under way that ends with row r, where there is one
 abbrev pub whole_served : ℕ → Option ServiceBegun → Row → Option Served
 whole_served p None r = None
 whole_served p (Some s) r = served_of p s r s.g s.y

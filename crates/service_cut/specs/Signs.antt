@@ -16,24 +16,28 @@ sign p x = if x.param == p then code_sign x.code else Other
 abbrev pub is_told_by : ℕ → Bool
 is_told_by c = nat_le c 10
 
--- the row is of code 1; of code 7 or 8; of code 8; of code 9 or 10; of code 4, 5 or 6
+-- the row begins green: code 1
 abbrev pub is_begin : Sign → Bool
 is_begin Begin = true
 is_begin _ = false
 
+-- the row ends green: code 7 or 8
 abbrev pub is_change : Sign → Bool
 is_change Change = true
 is_change Yellow = true
 is_change _ = false
 
+-- the row begins yellow: code 8
 abbrev pub is_yellow : Sign → Bool
 is_yellow Yellow = true
 is_yellow _ = false
 
+-- the row ends yellow or begins red clearance: code 9 or 10
 abbrev pub is_end : Sign → Bool
 is_end End = true
 is_end _ = false
 
+-- the row says why the green ends: code 4, 5 or 6
 abbrev pub is_cause : Sign → Bool
 is_cause Cause = true
 is_cause _ = false

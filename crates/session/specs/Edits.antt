@@ -10,7 +10,7 @@ use Rattle.session.specs.declared.edit.Edit.TheVariants as code
 use Rattle.session.specs.declared.blanks.RangeEdit.{RangeEdit}
 use Rattle.session.specs.declared.blanks.RangeEdit.TheVariants as range
 
--- an edit; the tenth `to` of a range is left out
+-- an edit of what is held and known; the tenth `to` of a range is left out
 pub data Change : Type 0 where
   load : Shown → Change
   replace : Shown → Change
@@ -25,7 +25,7 @@ change_of (code.Withdraw hour) = withdraw hour
 change_of (code.Blank from to) = blank from to
 change_of (code.Unblank from to) = unblank from to
 
--- an edit that brings rows of an hour: a replacement or a load
+-- a replacement or a load of an hour's rows
 abbrev pub hour_change : Bool → Shown → Change
 hour_change true = replace
 hour_change false = load
@@ -44,11 +44,11 @@ range_change range.Unblank from to = unblank from to
 abbrev pub reaches_out : ℕ → ℤ → ℤ → Bool
 reaches_out hours from to = int_lt from (pos 0) || int_lt (pos (36000 * hours)) to
 
--- the store, unless it holds too many rows
+-- the store after an edit, unless it holds more than 20,000,000 rows
 abbrev pub unless_many_rows : Store → Result Store EditError
 unless_many_rows s = if nat_lt 20000000 (rows_held s) then Err TooManyRows else Ok s
 
--- the store, unless it has too many blanked ranges
+-- the store after an edit, unless it has more than 10,000 blanked ranges
 abbrev pub unless_many_blanks : Store → Result Store EditError
 unless_many_blanks s = if nat_lt 10000 (length s.blanks) then Err TooManyBlanks else Ok s
 

@@ -10,6 +10,7 @@ use Rattle.hour_work.specs.Verdicts.{AreAuditLines}
 use Rattle.filling_pair.specs.declared.strands.Pair.{Pair}
 use Rattle.filling_pair.specs.Asks.{IsPair}
 
+-- the verdict is undecided
 abbrev pub is_undecided : Verdict → Bool
 is_undecided Idle = false
 is_undecided Kept = false

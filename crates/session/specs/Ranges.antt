@@ -8,7 +8,7 @@ use Rattle.hour_store.specs.Store.{Store}
 use Rattle.session.specs.declared.blanks.RangeEdit.{RangeEdit}
 use Rattle.session.specs.declared.blanks.RangeEdit.TheVariants as range
 
--- ranges that all begin after a tenth, with this tenth too
+-- tenth t put in front of ranges that all begin after it
 abbrev pub with_first : ℕ → List Span → List Span
 with_first t [] = record { from = pos t; to = pos (t + 1) } ∷ []
 with_first t (s ∷ ss) =
@@ -25,6 +25,7 @@ ranges_from test from (suc n) =
 abbrev pub ranges_of : ℕ → (ℕ → Bool) → List Span
 ranges_of hours test = ranges_from test 0 (36000 * hours)
 
+-- tenth t is blanked in the store
 abbrev pub is_blanked : Store → ℕ → Bool
 is_blanked s t = is_member s.blanks (pos t)
 

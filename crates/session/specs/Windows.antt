@@ -13,6 +13,7 @@ use Rattle.decisive.specs.Window.{IsDecisive, obligation_of}
 use Rattle.signal_log.specs.Rows.{hour_rows}
 use Rattle.hour_work.specs.Verdicts.{AreAuditLines}
 
+-- the verdict is broken
 abbrev pub is_broken : Verdict → Bool
 is_broken Idle = false
 is_broken Kept = false
@@ -24,10 +25,11 @@ abbrev pub HasWindow : Log → List Rule → List Row → AuditLine → Option (
 HasWindow log rules rows l None = is_broken l.verdict ≡ false
 HasWindow log rules rows l (Some w) = (is_broken l.verdict ≡ true) × IsDecisive log rows (obligation_of rules l) w.0 w.1
 
+-- the line with this window
 abbrev pub with_window : AuditLine → Option (ℕ × ℕ) → AuditLine
 with_window l w = record l { window = w }
 
--- the second lines are the first ones, each with its window
+-- the second lines are the first ones, each broken one with its decisive window
 abbrev pub AreWithWindows : Log → List Rule → List Row → List AuditLine → List AuditLine → Type 0
 AreWithWindows log rules rows [] [] = ⊤
 AreWithWindows log rules rows [] (l ∷ ls) = ⊥

@@ -13,7 +13,7 @@ pub record AreRowsOf (hour : ℕ) (rows : List Row) : Type 0 where
   pub few : length rows ≤ 400000
   pub rise : RiseIn (36000 * hour) (36000 * hour + 36000) rows
 
--- what is seen of an hour's rows
+-- the rows of an hour in order, and how many repeats were left out of them
 pub record Shown : Type 0 where
   pub hour : ℕ
   pub rows : List Row

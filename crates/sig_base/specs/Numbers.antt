@@ -3,7 +3,7 @@ use Rattle.std.specs.Prelude.{ℕ, ◌==◌, Bool, List}
 use Rattle.std.specs.List.{list_any}
 use Rattle.sig_base.specs.declared.values.PhaseItem.{PhaseItem}
 
--- the number is one of these
+-- the number is one of these numbers
 abbrev pub has_number : List ℕ → ℕ → Bool
 has_number numbers n = list_any (λ m. m == n) numbers
 

@@ -17,9 +17,11 @@ month_from (suc k) year month n =
     if nat_lt n (days_in_month (pos year) month) then (month, n)
     else month_from k year (month + 1) (n - days_in_month (pos year) month)
 
+-- a date by its year, and its month with the day's place in it
 abbrev pub with_month : ℕ → ℕ × ℕ → Civil
 with_month year found = record { year = year; month = found.0; day = found.1 + 1 }
 
+-- a date by its year with the day's place in it
 abbrev pub with_year : ℕ × ℕ → Civil
 with_year found = with_month found.0 (month_from 12 found.0 1 found.1)
 

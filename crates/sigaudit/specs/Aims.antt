@@ -3,7 +3,7 @@ use Rattle.std.specs.Prelude.{ℕ, List}
 use Rattle.sigaudit.specs.declared.purpose.Purpose.{Purpose}
 use Rattle.sigaudit.specs.declared.purpose.Purpose.TheVariants as code
 
--- the texts of its lines; or what the rule of this number leaves undecided at this stamp, once all lines are taken
+-- what a script is carried out for: the texts of its lines; or what the rule of this number leaves undecided at this stamp, once all lines are taken
 pub data Aim : Type 0 where
   for_lines : Aim
   for_rule : ℕ → List ℕ → Aim

@@ -16,16 +16,18 @@ use Rattle.report_text.specs.Heads.{verdicts_head}
 use Rattle.report_text.specs.Audit.{audit_start, lines_text}
 use Rattle.sigaudit.specs.Turns.{Turn, refuses, writes}
 
+-- the verdict is kept
 abbrev pub is_kept : Verdict → Bool
 is_kept Idle = false
 is_kept Kept = true
 is_kept Broken = false
 is_kept Undecided = false
 
--- a line, unless it is kept; those of lines in their order
+-- a line, unless it is kept
 abbrev pub failing_at : AuditLine → List AuditLine
 failing_at l = if is_kept l.verdict then [] else l ∷ []
 
+-- the lines that aren't kept, in their order
 abbrev pub failing_of : List AuditLine → List AuditLine
 failing_of lines = flat_map failing_at lines
 
@@ -43,13 +45,13 @@ AddsHour c s hour old new = (lines : List AuditLine) × AreHourLines c s hour tr
 abbrev pub IsReportOf : Settings → Store → List Numbers → Type 0
 IsReportOf c s all = HasHistory (log_of c.specs s) × IsReport c s all
 
--- an audit: how many verdicts each rule has in the window, by the store's report, and then the broken and undecided ones hour by hour, each broken one with its window
+-- the turn of a line that asks for an audit: how many verdicts each rule has in the window, by the store's report, and then the broken and undecided ones hour by hour, each broken one with its window
 abbrev pub IsAudited : Settings → ℕ → Store → Turn → Type 0
 IsAudited c n s t =
     (report : List Numbers) × (lines : List AuditLine) × IsReportOf c s report × AreFailing c s 0 c.window.hours lines
     × (t ≡ writes (audit_start n c.specs (rules_for c) (total_of report).rules ++ lines_text c.window lines) s)
 
--- the verdicts of one hour, the kept ones among them; an hour past the window is refused
+-- the turn of a line that asks for the verdicts of one hour, the kept ones among them; an hour past the window is refused
 abbrev pub AreVerdicts : Settings → ℕ → ℕ → Store → Bool → Turn → Type 0
 AreVerdicts c n hour s true t = (lines : List AuditLine) × HasHistory (log_of c.specs s) × AreHourLines c s hour true lines × (t ≡ writes (verdicts_head n hour ++ lines_text c.window lines) s)
 AreVerdicts c n hour s false t = t ≡ refuses c n (Edit OutOfWindow) s

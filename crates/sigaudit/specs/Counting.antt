@@ -41,24 +41,25 @@ MadeTally c s ch (Ok new) h m k =
     (HasHistory (log_of c.specs new) × (moved : Applied) × Moves c s new ch moved × (m ≡ within moved.from moved.to h) × (k ≡ 0))
     ⊎ ((row : Row) × (first : ℕ) × (last : ℕ) × IsContradiction (log_of c.specs new) row × (HasHistory (log_of c.specs new) → ⊥) × Touches ch first last × (m ≡ 0) × (k ≡ within first (row.at / 36000 + 1) h))
 
--- by an edit
+-- how often an hour moves, and how often it lies on the way to a contradiction, by an edit
 abbrev pub EditTally : Settings → Store → Change → ℕ → ℕ → ℕ → Type 0
 EditTally c s ch h m k = MadeTally c s ch (step_of s ch) h m k
 
--- by a load or a replacement of what a file says
+-- the same by a load or a replacement of what a file says
 abbrev pub ReadTally : Settings → (Shown → Change) → Store → Result Shown Unread → ℕ → ℕ → ℕ → Type 0
 ReadTally c make s (Ok shown) h m k = EditTally c s (make shown) h m k
 ReadTally c make s (Err e) h m k = (m ≡ 0) × (k ≡ 0)
 
--- by a load or a replacement of an hour by these bytes
+-- the same by a load or a replacement of an hour by these bytes
 abbrev pub FetchTally : Settings → ℕ → (Shown → Change) → Store → Result (List ℕ) Refusal → ℕ → ℕ → ℕ → Type 0
 FetchTally c hour make s (Ok bytes) h m k = ReadTally c make s (hour_said (wanted_for c hour) bytes) h m k
 FetchTally c hour make s (Err refusal) h m k = (m ≡ 0) × (k ≡ 0)
 
--- by the line of a load or a replacement, of these bytes of its file, or of this at its name
+-- by the line of a load or a replacement, where these are the bytes of its file
 abbrev pub BytesTally : Settings → LoadLine → Store → List ℕ → ℕ → ℕ → ℕ → Type 0
 BytesTally c load s bytes h m k = ReadTally c (hour_change load.replaces) s (hour_said (wanted_for c load.hour) bytes) h m k
 
+-- by the line of a load or a replacement, where this is at its name
 abbrev pub LoadTally : Settings → LoadLine → Store → Result (List ℕ) Refusal → ℕ → ℕ → ℕ → Type 0
 LoadTally c load s want h m k = FetchTally c load.hour (hour_change load.replaces) s want h m k
 
@@ -70,7 +71,7 @@ IsPlain c (line.points p) = has_phase c.phases p ≡ false
 IsPlain c (line.offsets name) = advance_of c name ≡ None
 IsPlain c _ = ⊤
 
--- by such a line
+-- the same by one line of a script
 unfoldable pub LineTally : Files → Settings → Said → Store → ℕ → ℕ → ℕ → Type 0
 LineTally files c (line.load hour name) s h m k = FetchTally c hour (hour_change false) s (hour_bytes files c hour name) h m k
 LineTally files c (line.replace hour name) s h m k = FetchTally c hour (hour_change true) s (hour_bytes files c hour name) h m k
@@ -79,7 +80,7 @@ LineTally files c (line.blank from to) s h m k = EditTally c s (change.blank fro
 LineTally files c (line.unblank from to) s h m k = EditTally c s (change.unblank from to) h m k
 LineTally files c _ s h m k = (m ≡ 0) × (k ≡ 0)
 
--- by such lines in their order, numbered from n, which make the last store of the first one
+-- the same by lines in their order, numbered from n, which make the last store of the first one
 unfoldable pub AreTallied : Files → Settings → ℕ → List (List ℕ) → Store → Store → ℕ → ℕ → ℕ → Type 0
 AreTallied files c n [] s last h m k = (last ≡ s) × (m ≡ 0) × (k ≡ 0)
 AreTallied files c n (l ∷ ls) s last h m k =
@@ -91,7 +92,7 @@ abbrev pub ArePlain : Settings → List (List ℕ) → Type 0
 ArePlain c [] = ⊤
 ArePlain c (l ∷ ls) = IsPlain c (said c.window l) × ArePlain c ls
 
--- by the lines of a script over a store
+-- the same by the lines of a script over a store
 abbrev pub ScriptTally : Files → Settings → List (List ℕ) → Store → ℕ → ℕ → ℕ → Type 0
 ScriptTally files c lines s h m k = (last : Store) × AreTallied files c 1 lines s last h m k
 
@@ -100,21 +101,23 @@ abbrev pub AreCounted : (ℕ → ℕ → ℕ → Type 0) → List ℕ → List �
 AreCounted Tally old new =
     (length new ≡ length old) × ((h : ℕ) → h < length old → (m : ℕ) × (k : ℕ) × Tally h m k × IsOpened m (3 * (m + k)) (slice_index old h) (slice_index new h))
 
--- where all lines of a script are such lines, and it is carried out for their texts
+-- where all lines of a script are such lines, and it is carried out for their texts, each hour is opened as said; nothing is said where the script isn't there
 abbrev pub OpensText : Files → Settings → Aim → List ℕ → List ℕ → Option (List ℕ) → Type 0
 OpensText files c for_lines old new None = ⊤
 OpensText files c for_lines old new (Some script) = ArePlain c (lines_of script) → AreCounted (ScriptTally files c (lines_of script) (nothing_held c.window.hours)) old new
 OpensText files c (for_rule rule at) old new script = ⊤
 
+-- under a configuration that is read, each hour is opened as said by the lines of the script's file; nothing is said where it is refused
 abbrev pub OpensConfig : Files → Aim → List ℕ → List ℕ → List ℕ → Read Settings → Type 0
 OpensConfig files aim script old new (Err e) = ⊤
 OpensConfig files aim script old new (Ok c) = OpensText files c aim old new (limited (4 * 2 ^ 20) (files script))
 
+-- by the bytes of a configuration's file, each hour is opened as said; nothing is said where there is no such file
 abbrev pub OpensFile : Files → Aim → List ℕ → List ℕ → List ℕ → Option (List ℕ) → Type 0
 OpensFile files aim script old new None = ⊤
 OpensFile files aim script old new (Some bytes) = OpensConfig files aim script old new (config_of bytes)
 
--- of a run that the words ask for
+-- each hour is opened as said by a run of a script over a configuration; nothing is said of words that ask for something else
 abbrev pub OpensAnswer : Files → List ℕ → List ℕ → Option Asked → Type 0
 OpensAnswer files old new None = ⊤
 OpensAnswer files old new (Some (for_run config script)) = OpensFile files for_lines script old new (limited (2 ^ 20) (files config))
@@ -123,7 +126,7 @@ OpensAnswer files old new (Some (for_count file signal day hour)) = ⊤
 OpensAnswer files old new (Some (for_pack file signal day hour)) = ⊤
 OpensAnswer files old new (Some (for_demo hours)) = ⊤
 
--- where all lines of a script were taken
+-- P holds where the run ended with all lines of its script taken
 abbrev pub WhereTaken : Status → Type 0 → Type 0
 WhereTaken Done P = P
 WhereTaken SomeRefused P = P

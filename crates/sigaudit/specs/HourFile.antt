@@ -15,17 +15,17 @@ use Rattle.report_text.specs.Refusals.{refusal_text}
 use Rattle.sigaudit.specs.declared.hour_file.Unread.{Unread}
 use Rattle.sigaudit.specs.declared.hour_file.Unread.TheVariants.{Records, Packed, Memory}
 
--- the records of a log
+-- the rows of a log file, or its refusal
 abbrev pub of_records : Result Shown RowError → Result Shown Unread
 of_records (Ok shown) = Ok shown
 of_records (Err e) = Err (Records e)
 
--- the rows that a packed hour spells, none of them a repeat
+-- the rows of a packed hour, or its refusal
 abbrev pub of_packed : ℕ → Result (List Row) PackError → Result Shown Unread
 of_packed hour (Ok rows) = Ok (record { hour = hour; rows = rows; repeats = 0 })
 of_packed hour (Err e) = Err (Packed e)
 
--- bytes that begin with the mark of a packed hour are one, all others are the records of a log
+-- the rows that an hour's file says: bytes that begin with the mark of a packed hour are one, all others are a log
 unfoldable pub hour_said : Wanted → List ℕ → Result Shown Unread
 hour_said w bytes =
     if starts_with nat_eq bytes mark then of_packed w.hour (reading w.signal w.window w.hour bytes)

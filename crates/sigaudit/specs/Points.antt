@@ -9,10 +9,11 @@ use Rattle.report_text.specs.Heads.{points_head}
 use Rattle.report_text.specs.Approaches.{diagrams_text}
 use Rattle.sigaudit.specs.Turns.{Turn, refuses, writes}
 
--- the whole cycles of a phase with the arrivals in them; a phase that isn't configured makes a bad line
+-- the turn of a line that asks for the diagrams of a phase: its whole cycles with the arrivals in them; a phase that isn't configured makes a bad line
 abbrev pub points_turn : Settings → ℕ → ℕ → Store → Bool → Turn
 points_turn c n p s true = writes (points_head n p ++ diagrams_text c (diagrams_of (is_known s) c p (known_rows s))) s
 points_turn c n p s false = refuses c n BadLine s
 
+-- the turn of a line that asks for the diagrams of phase p
 abbrev pub points_of_phase : Settings → ℕ → ℕ → Store → Turn
 points_of_phase c n p s = points_turn c n p s (has_phase c.phases p)

@@ -26,12 +26,13 @@ use Rattle.sigaudit.specs.declared.script.Fetched.TheVariants.{There, Missed, Cu
 use Rattle.sigaudit.specs.declared.one_run.Got.{Got}
 use Rattle.sigaudit.specs.declared.one_run.Got.TheVariants.{Have, Nothing, Stop}
 
--- the shelf's counts, and what the sink took and counted
+-- what a run sees of the outside: the shelf's counts, and what the sink took and counted
 pub record World : Type 0 where
   pub counts : Counts
   pub written : Option (List ℕ)
   pub faults : ℕ
 
+-- what a run sees of the outside, by the shelf's counts and what the sink took
 abbrev pub world : Counts → Taken → World
 world counts taken = record { counts = counts; written = taken.written; faults = taken.faults }
 
@@ -79,11 +80,11 @@ RunsAs Is old new Memory = IsCutOff Is old new
 abbrev pub WritesTranscript : List (List ℕ) → Files → Ended → World → World → Type 0
 WritesTranscript words files e old new = (bytes : List ℕ) × IsTranscript words files bytes e × WritesAll bytes old new
 
--- some bytes are what the transcript begins with, up to some line of a script, and a front of these was written
+-- a front was written of what the transcript begins with, up to some line of a script
 abbrev pub WritesBeginning : List (List ℕ) → Files → World → World → Type 0
 WritesBeginning words files old new = (k : ℕ) × (bytes : List ℕ) × IsBeginning k words files bytes × AppendsFront old.written new.written bytes
 
--- The headline: the run ended as the transcript of the words and the files does and wrote exactly its bytes; or it was cut off, by a counted fault or want of memory, after a front of what the transcript begins with.
+-- the headline: the run ended as the transcript of the words and the files does and wrote exactly its bytes; or it was cut off, by a counted fault or want of memory, after a front of what the transcript begins with
 abbrev pub IsRun : List (List ℕ) → Files → World → World → Status → Type 0
 IsRun words files old new Done = WritesTranscript words files ended.Done old new
 IsRun words files old new SomeRefused = WritesTranscript words files ended.SomeRefused old new
@@ -98,7 +99,7 @@ abbrev pub WritesFront : List (List ℕ) → Files → World → World → Type 
 WritesFront words files old new =
     Appends old.written new.written [] ⊎ ((bytes : List ℕ) × (e : Ended) × IsTranscript words files bytes e × AppendsFront old.written new.written bytes)
 
--- The same where the words ask for what a rule leaves undecided, so that more than one transcript is right: the run ended as one of them does and wrote exactly its bytes; or it was cut off, by a counted fault or want of memory, after a front of one, maybe before anything was written.
+-- the headline where the words ask for what a rule leaves undecided, so that more than one transcript is right: the run ended as one of them does and wrote exactly its bytes; or it was cut off, by a counted fault or want of memory, after a front of one, maybe before anything was written
 abbrev pub IsPairsRun : List (List ℕ) → Files → World → World → Status → Type 0
 IsPairsRun words files old new Done = WritesTranscript words files ended.Done old new
 IsPairsRun words files old new SomeRefused = WritesTranscript words files ended.SomeRefused old new
@@ -119,7 +120,7 @@ HasCause asked old new NoFile =
 HasCause asked old new Fault = HasFault old new
 HasCause asked old new Memory = ⊤
 
--- where the words ask for nothing a fault is one of the sink
+-- where the words ask for nothing that can be done, a fault is one of the sink
 abbrev pub NeedsWords : Option Asked → World → World → Status → Type 0
 NeedsWords None old new Fault = Rose old.faults new.faults
 NeedsWords _ old new status = ⊤

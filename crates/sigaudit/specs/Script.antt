@@ -40,21 +40,22 @@ is_edit_memory edits.TooManyBlanks = false
 is_edit_memory (edits.Contradiction row) = false
 is_edit_memory edits.Memory = true
 
--- an edit that is accepted is answered by the hours that move
+-- the turn of an edit that is accepted: it is answered by the hours that move
 abbrev pub accepts : ℕ → Option (ℕ × ℕ) → Applied → Store → Turn
 accepts n loaded moved new = record { text = applied_text n loaded moved; store = new; refused = false }
 
--- an edit that makes this of the store, or is refused before it is made: it is accepted where some history agrees with the new store, and refused where none does, by the row at which the new store contradicts itself
+-- the turn of an edit that makes this of the store, or is refused before it is made: it is accepted where some history agrees with the new store, and refused where none does, by the row at which the new store contradicts itself
 abbrev pub IsMade : Settings → ℕ → Option (ℕ × ℕ) → Store → Change → Result Store EditError → Turn → Type 0
 IsMade c n loaded s ch (Err e) t = t ≡ refuses c n (Edit e) s
 IsMade c n loaded s ch (Ok new) t =
     (HasHistory (log_of c.specs new) × (moved : Applied) × Moves c s new ch moved × (t ≡ accepts n loaded moved new))
     ⊎ ((row : Row) × IsContradiction (log_of c.specs new) row × (HasHistory (log_of c.specs new) → ⊥) × (t ≡ refuses c n (Edit (Contradiction row)) s))
 
+-- the turn of a line that makes this change of the store
 abbrev pub IsEdited : Settings → ℕ → Option (ℕ × ℕ) → Store → Change → Turn → Type 0
 IsEdited c n loaded s ch t = IsMade c n loaded s ch (step_of s ch) t
 
--- a load or a replacement of what the file says
+-- the turn of a load or a replacement of what the file says
 abbrev pub IsRead : Settings → ℕ → (Shown → Change) → Store → Result Shown Unread → Turn → Type 0
 IsRead c n make s (Ok shown) t = IsEdited c n (Some (length shown.rows, shown.repeats)) s (make shown) t
 IsRead c n make s (Err e) t = t ≡ refuses_file c n e s
@@ -72,7 +73,7 @@ hour_file (Some bytes) = if nat_lt (32 * 2 ^ 20) (length bytes) then Err FileToo
 abbrev pub hour_bytes : Files → Settings → ℕ → List ℕ → Result (List ℕ) Refusal
 hour_bytes files c hour name = if nat_lt hour c.window.hours then hour_file (files name) else Err (Edit OutOfWindow)
 
--- a load or a replacement of the hour by these bytes
+-- the turn of a load or a replacement of the hour by these bytes
 abbrev pub IsFetched : Settings → ℕ → ℕ → (Shown → Change) → Store → Result (List ℕ) Refusal → Turn → Type 0
 IsFetched c n hour make s (Ok bytes) t = IsRead c n make s (hour_said (wanted_for c hour) bytes) t
 IsFetched c n hour make s (Err refusal) t = t ≡ refuses c n refusal s
@@ -88,15 +89,16 @@ TakesLoad c load s want t = IsFetched c load.number load.hour (hour_change load.
 abbrev pub load_bytes : Files → Settings → LoadLine → Result (List ℕ) Refusal
 load_bytes files c load = hour_bytes files c load.hour load.name.now
 
--- the measures of the window, by the store's report
+-- the turn of a line that asks for the measures of the window: those of the store's report
 abbrev pub IsMeasured : Settings → ℕ → Store → Turn → Type 0
 IsMeasured c n s t = (report : List Numbers) × IsReportOf c s report × (t ≡ writes (window_measures n c (total_of report)) s)
 
--- the measures of one hour; an hour past the window has no numbers in the report
+-- the turn with the measures of one hour; an hour past the window has no numbers in the report
 abbrev pub numbers_turn : Settings → ℕ → ℕ → Store → Option Numbers → Turn
 numbers_turn c n hour s (Some numbers) = writes (hour_measures n hour c numbers) s
 numbers_turn c n hour s None = refuses c n (Edit OutOfWindow) s
 
+-- the turn of a line that asks for the measures of one hour: those of the store's report
 abbrev pub IsMeasuredOf : Settings → ℕ → ℕ → Store → Turn → Type 0
 IsMeasuredOf c n hour s t = (report : List Numbers) × IsReportOf c s report × (t ≡ numbers_turn c n hour s (slice_get report hour))
 
@@ -116,7 +118,7 @@ edit_said (line.measures_of hour) = None
 edit_said (line.points p) = None
 edit_said (line.offsets name) = None
 
--- what the line of this number does to a store, by what it says
+-- what the line of this number writes and does to a store, by what it says
 unfoldable pub IsTurn : Files → Settings → ℕ → Said → Store → Turn → Type 0
 IsTurn files c n line.skip s t = t ≡ passes s
 IsTurn files c n line.bad s t = t ≡ refuses c n BadLine s
@@ -132,21 +134,21 @@ IsTurn files c n (line.measures_of hour) s t = IsMeasuredOf c n hour s t
 IsTurn files c n (line.points p) s t = t ≡ points_of_phase c n p s
 IsTurn files c n (line.offsets name) s t = t ≡ offsets_of c n name s
 
--- the text of some lines, the store after them, and whether one of them is refused
+-- what some lines tell: their text, the store after them, and whether one of them is refused
 pub record Told : Type 0 where
   pub text : List ℕ
   pub store : Store
   pub refused : Bool
 
--- nothing is told yet of the store
+-- what no line tells
 abbrev pub nothing_told : Store → Told
 nothing_told s = record { text = []; store = s; refused = false }
 
--- a line, and then what is told after it
+-- what a line tells, and then the rest
 abbrev pub followed : Turn → Told → Told
 followed t rest = record { text = t.text ++ rest.text; store = rest.store; refused = t.refused || rest.refused }
 
--- the lines in their order, numbered from n
+-- what these lines tell in their order, numbered from n
 unfoldable pub IsTold : Files → Settings → ℕ → List (List ℕ) → Store → Told → Type 0
 IsTold files c n [] s told = told ≡ nothing_told s
 IsTold files c n (l ∷ ls) s told =

@@ -34,6 +34,7 @@ pub record Outcome : Type 0 where
   pub bytes : List ℕ
   pub ended : Ended
 
+-- an outcome by its two parts
 abbrev pub outcome : List ℕ → Ended → Outcome
 outcome bytes ended = record { bytes = bytes; ended = ended }
 
@@ -45,22 +46,22 @@ window_of a = record { day = a.day; hour = a.hour; hours = 1 }
 abbrev pub wanted_by : HourAsked → Wanted
 wanted_by a = record { signal = a.signal; hour = 0; window = window_of a }
 
--- of what the counted file says: its rows by their codes, or its first refusal
+-- the outcome of a count: the file's rows by their codes, or its first refusal
 abbrev pub count_outcome : HourAsked → Result Shown RowError → Outcome
 count_outcome a (Ok shown) = outcome (count_text shown.rows shown.repeats) ended.Done
 count_outcome a (Err e) = outcome (refusal_text (window_of a) None (File e)) ended.SomeRefused
 
--- of what the file says that is to be packed: the packed hour of its rows, or its first refusal
+-- the outcome of packing: the packed hour of the file's rows, or its first refusal
 abbrev pub pack_outcome : HourAsked → Result Shown Unread → Outcome
 pack_outcome a (Ok shown) = outcome (packed a.signal (window_of a) 0 shown.rows) ended.Done
 pack_outcome a (Err e) = outcome (unread_text (window_of a) None e) ended.SomeRefused
 
--- of the bytes of a file, by what is asked of it
+-- the outcome for the bytes of a file, by what is asked of it
 abbrev pub outcome_of : Task → HourAsked → List ℕ → Outcome
 outcome_of Count a bytes = count_outcome a (rows_of (wanted_by a) bytes)
 outcome_of Pack a bytes = pack_outcome a (hour_said (wanted_by a) bytes)
 
--- where this is at the name of the file, which has a limit of 32 MiB
+-- the outcome for what is at the name of one file, which has a limit of 32 MiB
 abbrev pub file_outcome : Task → HourAsked → Option (List ℕ) → Outcome
 file_outcome task a None = outcome [] ended.NoFile
 file_outcome task a (Some bytes) = if nat_le (length bytes) (32 * 2 ^ 20) then outcome_of task a bytes else outcome [] ended.NoFile
@@ -70,38 +71,39 @@ abbrev pub limited : ℕ → Option (List ℕ) → Option (List ℕ)
 limited most None = None
 limited most (Some bytes) = if nat_le (length bytes) most then Some bytes else None
 
--- of a script's lines
+-- how a script's lines end a run: with one refused, or with none
 abbrev pub ended_by : Bool → Ended
 ended_by true = ended.SomeRefused
 ended_by false = ended.Done
 
+-- the outcome of a script's lines: their texts, and whether one was refused
 abbrev pub told_outcome : Told → Outcome
 told_outcome told = outcome told.text (ended_by told.refused)
 
--- of a script of which these lines are taken, over a store that holds and blanks nothing; a script has a limit of 4 MiB
+-- the outcome of a script, of which these lines are taken over a store that holds and blanks nothing
 abbrev pub IsScriptOutcome : Files → Settings → Option (List ℕ) → (List ℕ → List (List ℕ)) → Outcome → Type 0
 IsScriptOutcome files c None lines o = o ≡ outcome [] ended.NoFile
 IsScriptOutcome files c (Some script) lines o =
     (told : Told) × IsTold files c 1 (lines script) (nothing_held c.window.hours) told × (o ≡ told_outcome told)
 
--- of a script whose lines write nothing: what a rule leaves undecided at a stamp in the store that all of its lines leave
+-- the outcome where a script's lines write nothing: what a rule leaves undecided at a stamp in the store that all of its lines leave
 abbrev pub IsRuleOutcome : Files → Settings → ℕ → List ℕ → Option (List ℕ) → Outcome → Type 0
 IsRuleOutcome files c rule at None o = o ≡ outcome [] ended.NoFile
 IsRuleOutcome files c rule at (Some script) o =
     (told : Told) × IsTold files c 1 (lines_of script) (nothing_held c.window.hours) told
     × ((text : List ℕ) × AreFound c told.store (place_of c rule (stamp_in c.window at)) text × (o ≡ outcome text (ended_by told.refused)))
 
--- of a script, by what it is carried out for
+-- the outcome of a script, by what it is carried out for
 abbrev pub IsAimOutcome : Files → Settings → Aim → Option (List ℕ) → (List ℕ → List (List ℕ)) → Outcome → Type 0
 IsAimOutcome files c for_lines script lines o = IsScriptOutcome files c script lines o
 IsAimOutcome files c (for_rule rule at) script lines o = IsRuleOutcome files c rule at script o
 
--- of what the configuration says
+-- the outcome under what the configuration says; a refused one ends the run, and the script has a limit of 4 MiB
 abbrev pub IsConfigOutcome : Files → Aim → List ℕ → Read Settings → (List ℕ → List (List ℕ)) → Outcome → Type 0
 IsConfigOutcome files aim script (Err e) lines o = o ≡ outcome (config_text e) ended.BadConfig
 IsConfigOutcome files aim script (Ok c) lines o = IsAimOutcome files c aim (limited (4 * 2 ^ 20) (files script)) lines o
 
--- of the configuration's file, which has a limit of 1 MiB
+-- the outcome for the configuration's file, which has a limit of 1 MiB
 abbrev pub IsFileOutcome : Files → Aim → List ℕ → Option (List ℕ) → (List ℕ → List (List ℕ)) → Outcome → Type 0
 IsFileOutcome files aim script None lines o = o ≡ outcome [] ended.NoFile
 IsFileOutcome files aim script (Some bytes) lines o = IsConfigOutcome files aim script (config_of bytes) lines o
@@ -111,7 +113,7 @@ abbrev pub IsDemoOutcome : ℕ → (List ℕ → List (List ℕ)) → Outcome �
 IsDemoOutcome hours lines o =
     IsFileOutcome (demo_files hours) for_lines script_name (limited (2 ^ 20) (demo_files hours config_name)) lines o
 
--- of what the words ask for, where these lines are taken of a script
+-- the outcome of what the words ask for, where these lines are taken of a script
 unfoldable pub IsAnswer : Option Asked → Files → (List ℕ → List (List ℕ)) → Outcome → Type 0
 IsAnswer None files lines o = o ≡ outcome usage_text ended.Usage
 IsAnswer (Some (for_run config script)) files lines o = IsFileOutcome files for_lines script (limited (2 ^ 20) (files config)) lines o
@@ -124,7 +126,7 @@ IsAnswer (Some (for_demo hours)) files lines o = IsDemoOutcome hours lines o
 abbrev pub IsTranscript : List (List ℕ) → Files → List ℕ → Ended → Type 0
 IsTranscript words files bytes ended = IsAnswer (asked_of words) files lines_of (outcome bytes ended)
 
--- the first lines of a script
+-- the first k lines of a script
 abbrev pub first_lines : ℕ → List ℕ → List (List ℕ)
 first_lines k script = take k (lines_of script)
 

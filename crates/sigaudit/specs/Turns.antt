@@ -13,18 +13,18 @@ pub record Turn : Type 0 where
   pub store : Store
   pub refused : Bool
 
--- a line that is passed over
+-- the turn of a line that is passed over
 abbrev pub passes : Store → Turn
 passes s = record { text = []; store = s; refused = false }
 
--- a line that is refused: it is named and changes nothing
+-- the turn of a line that is refused: it is named and changes nothing
 abbrev pub refuses : Settings → ℕ → Refusal → Store → Turn
 refuses c n refusal s = record { text = refusal_text c.window (Some n) refusal; store = s; refused = true }
 
--- a line whose file is refused
+-- the turn of a line whose file is refused
 abbrev pub refuses_file : Settings → ℕ → Unread → Store → Turn
 refuses_file c n e s = record { text = unread_text c.window (Some n) e; store = s; refused = true }
 
--- a line that writes a text and changes nothing
+-- the turn of a line that writes a text and changes nothing
 abbrev pub writes : List ℕ → Store → Turn
 writes text s = record { text = text; store = s; refused = false }

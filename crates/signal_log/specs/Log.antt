@@ -9,7 +9,7 @@ use Rattle.board.specs.History.{Agrees, History, Track, events_at, start_of}
 use Rattle.board.specs.Channels.{track}
 use Rattle.board.specs.Logs.{no_row, no_spec}
 
--- what is told of a signal: its channels, how many hours its window has, which tenths are known, and the known rows in their order
+-- what is told of a signal over its window: its channels, how many hours the window has, which tenths are known, and the known rows in their order
 pub record Log : Type 0 where
   pub specs : List Spec
   pub hours : ℕ
@@ -38,6 +38,7 @@ pub record AgreesWith (log : Log) (h : History) : Type 0 where
   pub starts : (i : ℕ) → i < length log.specs → IsBeforeWindow (track_at log i).rules (start_of h i)
   pub agrees : Agrees (length log.specs) (track_at log) log.known (events_at log.rows) 0 h
 
+-- some history agrees with the log
 abbrev pub HasHistory : Log → Type 0
 HasHistory log = (h : History) × AgreesWith log h
 

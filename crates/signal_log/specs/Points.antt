@@ -16,13 +16,13 @@ use Rattle.board.specs.Hours.{Clamped}
 use Rattle.signal_log.specs.Log.{IsContradiction, Log, track_at}
 use Rattle.signal_log.specs.States.{AreAlike, IsCompleted, IsReached}
 
--- these are each channel's states at point k, with the entries that are older than an hour made one
+-- these are, channel by channel, the states that it can have at point k by the log before; entries that are older than an hour count as one
 pub record ArePastsAt (log : Log) (k : ℕ) (pasts : List (List (List Span))) : Type 0 where
   pub shape : AreBefore log.specs pasts
   pub early : AllEarly (first_tenth k) pasts
   pub states : (i : ℕ) → i < length log.specs → (u : State) → Holds (slice_index_or pasts i []) u ↔ Clamped (pos (first_tenth k) -ℤ pos 36001) (IsReached log i (first_tenth k)) u
 
--- these admit each channel's states, entered before point k, from which the rest of the window can be met
+-- these are, channel by channel, the latest entries with which a state at point k lets the rest of the window be met
 pub record AreAheadsAt (log : Log) (k : ℕ) (aheads : List (List (Option ℤ))) : Type 0 where
   pub shape : AreAheadsOf log.specs aheads
   pub states : (i : ℕ) → i < length log.specs → (s : State) → Admits (slice_index_or aheads i []) s ↔ ((s.colour < (track_at log i).rules.colours) × (s.entry <ℤ pos (first_tenth k)) × IsCompleted log i (first_tenth k) s)

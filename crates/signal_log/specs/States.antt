@@ -25,11 +25,11 @@ MayBeAtEnd log x v = (h : History) × AgreesWith log h × ((i : ℕ) → i < len
 abbrev pub MayBeAtEndOf : Log → ℕ → ℕ → State → Type 0
 MayBeAtEndOf log i x v = (h : History) × AgreesWith log h × IsAtEndOf log h i x v
 
--- some run of the channel from before the window up to tenth t agrees and leads to the state
+-- channel i can be in state u at tenth t by the log before: some legal run from before the window agrees with it
 abbrev pub IsReached : Log → ℕ → ℕ → State → Type 0
 IsReached log i t u = (s : State) × IsBeforeWindow (track_at log i).rules s × Agreeing (track_at log i) log.known (events_at log.rows) 0 t s u
 
--- some run of the channel from the state at tenth t to the window's end agrees
+-- channel i can go on from state s at tenth t to the window's end: some legal run agrees with the log
 abbrev pub IsCompleted : Log → ℕ → ℕ → State → Type 0
 IsCompleted log i t s = (u : State) × Agreeing (track_at log i) log.known (events_at log.rows) t (window_end log) s u
 

@@ -11,7 +11,7 @@ abbrev pub Member : List Span → ℤ → Type 0
 Member [] e = ⊥
 Member (s ∷ ss) e = Within s e ⊎ Member ss e
 
--- the same as a test
+-- the tenth lies in one of the ranges, as a test
 abbrev pub is_member : List Span → ℤ → Bool
 is_member [] e = false
 is_member (s ∷ ss) e = (int_le s.from e && int_lt e s.to) || is_member ss e

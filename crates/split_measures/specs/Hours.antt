@@ -33,9 +33,11 @@ pub record Splits : Type 0 where
   pub phases : List PhaseSum
   pub approaches : List SplitSum
 
+-- the numbers of no hour
 abbrev pub no_splits : Splits
 no_splits = record { phases = []; approaches = [] }
 
+-- the numbers of two parts of a log together
 abbrev pub splits_added : Splits → Splits → Splits
 splits_added a b = record { phases = merged added a.phases b.phases; approaches = merged both_sums a.approaches b.approaches }
 
@@ -43,6 +45,7 @@ splits_added a b = record { phases = merged added a.phases b.phases; approaches 
 abbrev pub open_in : ℕ → ℕ → List Service → List Service
 open_in hours hour ss = if nat_le hours (hour + 1) then left (end_tenth hour) ss else []
 
+-- these services are open: the window ends before their red window does
 abbrev pub opens_of : List Service → List SplitVerdict
 opens_of ss = map (λ s. Open) ss
 
@@ -54,18 +57,18 @@ open_at_end hours hour at = if nat_le hours (hour + 1) then services_of at.pendi
 abbrev pub IsBarSum : ℕ → ℕ → Approach → Option (List Windows) → Option Crossing → SplitSum → Type 0
 IsBarSum hours hour approach ended at sum = (b : StopBar) (ws : List Windows) (x : Crossing) → bar_with approach approach.stop_bar ≡ Some b → ended ≡ Some ws → at ≡ Some x → sum ≡ split_sum_of (verdicts_by b.high ws ++ opens_of (open_at_end hours hour x))
 
--- the sum over the services of an hour at a stop bar, whose detector has place i, by the known rows up to the hour's end: each service whose red window ends in the hour has the verdict that all histories tell, and in the window's last hour those are open whose red window isn't over
+-- the verdicts on the services of a stop bar that count in an hour: each service whose red window ends in the hour has the verdict that all histories tell, and in the window's last hour those are open whose red window isn't over
 pub record IsSplitSum (log : Log) (c : Settings) (i : ℕ) (b : StopBar) (hour : ℕ) (upto : List Row) (sum : SplitSum) : Type 0 where
   pub verdicts : List SplitVerdict
   pub each : Each (λ s v. IsVerdict log i b.high s v) (ending (first_tenth hour) (end_tenth hour) (services_upto log.known c.phases b.phase upto)) verdicts
   pub sums : sum ≡ split_sum_of (verdicts ++ opens_of (open_in c.window.hours hour (services_upto log.known c.phases b.phase upto)))
 
--- the sum of an approach: of its stop bar, where it has one
+-- the verdicts of an approach in an hour: those of its stop bar, where it has one
 abbrev pub IsApproachSum : Log → Settings → ℕ → List Row → SplitSum → Option StopBar → Type 0
 IsApproachSum log c hour upto sum None = sum ≡ split_sum_of []
 IsApproachSum log c hour upto sum (Some b) = (i : ℕ) × IsPlaceOf c b i × IsSplitSum log c i b hour upto sum
 
--- the sums of the approaches, in file order
+-- the verdicts of all approaches in an hour, in file order
 abbrev pub AreSplitSums : Log → Settings → ℕ → List Row → List SplitSum → Type 0
 AreSplitSums log c hour upto sums = Each (λ a sum. IsApproachSum log c hour upto sum (bar_with a a.stop_bar)) c.approaches sums
 

@@ -9,6 +9,7 @@ use Rattle.service_cut.specs.declared.items.Termination.TheVariants.{GapOut, Max
 use Rattle.hour_sums.specs.Numbers.{capped, lesser, greater, least, greatest, own, by_number}
 use Rattle.split_measures.specs.declared.sums.PhaseSum.{PhaseSum}
 
+-- both greens ended for the same reason
 abbrev pub is_end : Termination → Termination → Bool
 is_end GapOut GapOut = true
 is_end MaxOut MaxOut = true
@@ -20,14 +21,15 @@ is_end _ _ = false
 abbrev pub ends_by : Termination → Service → ℕ
 ends_by e s = if is_end e s.end then 1 else 0
 
--- the split of a service, and the length of a cycle
+-- the split of a service: the tenths from its begin of green to its end of yellow
 abbrev pub split : Service → ℕ
 split s = s.r - s.b
 
+-- the length of a cycle in tenths
 abbrev pub cycle_length : Cycle → ℕ
 cycle_length c = c.to - c.from
 
--- the numbers of these services and cycles
+-- the numbers of these services and cycles of one phase
 unfoldable pub phase_sum_of : List Service → List Cycle → PhaseSum
 phase_sum_of ss cs = record {
   services = capped (length ss);
@@ -42,7 +44,7 @@ phase_sum_of ss cs = record {
   cycle_sum = capped (sum (map cycle_length cs));
 }
 
--- sums add, the least is the least of both and the greatest the greatest
+-- the numbers of a phase in two parts of a log together
 abbrev pub added : PhaseSum → PhaseSum → PhaseSum
 added a b = record {
   services = capped (a.services + b.services);
@@ -57,10 +59,11 @@ added a b = record {
   cycle_sum = capped (a.cycle_sum + b.cycle_sum);
 }
 
--- the services and the cycles of phase p among these
+-- the services of phase p among these
 abbrev pub services_of : ℕ → List Service → List Service
 services_of p ss = own (λ s. s.phase) p ss
 
+-- the cycles of phase p among these
 abbrev pub cycles_of : ℕ → List Cycle → List Cycle
 cycles_of p cs = own (λ c. c.phase) p cs
 

@@ -26,11 +26,12 @@ verdict_of num den width gl gg rl rg = if are_enough num den width gl rl then Fa
 abbrev pub verdict_by : Frac → Windows → SplitVerdict
 verdict_by high w = if w.green.fault || w.red.fault then Fault else verdict_of high.num high.den (w.service.g - w.service.b) w.green.least w.green.greatest w.red.least w.red.greatest
 
+-- the verdict of each of these services, by what its windows say
 abbrev pub verdicts_by : Frac → List Windows → List SplitVerdict
 verdicts_by high [] = []
 verdicts_by high (w ∷ ws) = verdict_by high w ∷ verdicts_by high ws
 
--- the service fails in the history: channel i is on long enough in both windows
+-- the service is a split failure in the history: the stop bar's detector is on long enough in its green and in its red window
 pub record FailsIn (log : Log) (i : ℕ) (high : Frac) (s : Service) (h : History) : Type 0 where
   pub green : ℕ
   pub red : ℕ
@@ -39,15 +40,15 @@ pub record FailsIn (log : Log) (i : ℕ) (high : Frac) (s : Service) (h : Histor
   pub in_green : high.num * (s.g - s.b) ≤ green * high.den
   pub in_red : high.num * 50 ≤ red * high.den
 
--- a tenth of one of the windows
+-- the tenth is in the green of the service or in its red window
 abbrev pub IsInWindows : Service → ℕ → Type 0
 IsInWindows s x = ((s.b ≤ x) × (x < s.g)) ⊎ ((s.r ≤ x) × (x < s.r + 50))
 
--- at one of them the detector has a fault in all histories that agree
+-- at some tenth of them the detector has a fault in all histories that agree
 abbrev pub HasFault : Log → ℕ → Service → Type 0
 HasFault log i s = (x : ℕ) × IsInWindows s x × AllHave log i 2 x
 
--- what a verdict means, over all histories that agree: it has a fault; else it fails in all, in none, or only in some
+-- the verdict on a service, over all histories that agree: a fault of the detector; else it fails in all, in none, or only in some
 abbrev pub IsVerdict : Log → ℕ → Frac → Service → SplitVerdict → Type 0
 IsVerdict log i high s Fail = (HasFault log i s → ⊥) × ((h : History) → AgreesWith log h → FailsIn log i high s h)
 IsVerdict log i high s Pass = (HasFault log i s → ⊥) × ((h : History) → AgreesWith log h → FailsIn log i high s h → ⊥)

@@ -9,7 +9,7 @@ use Rattle.detector_state.specs.Hours.{AreTenths, IsSwitched, TellsEach}
 use Rattle.split_windows.specs.declared.items.OpenGreen.{OpenGreen}
 use Rattle.split_windows.specs.declared.items.Windows.{Windows}
 
--- the numbers of the open green so far, where there is one
+-- how long the detector was on in the green that is open, where one is
 abbrev pub IsOpen : Log → ℕ → Option OpenGreen → Type 0
 IsOpen log i None = Unit {0}
 IsOpen log i (Some o) = AreTenths log i o.b o.to o.tenths
@@ -19,7 +19,7 @@ abbrev pub IsOpened : ℕ → ℕ → ℕ → Option OpenGreen → Type 0
 IsOpened first b g None = ⊥
 IsOpened first b g (Some o) = (o.b ≡ b) × (o.to ≡ min g first)
 
--- the numbers of a service whose red window has come to tenth t
+-- how long the detector was on in the green of a service and in its red window, which has come to tenth t
 pub record IsPending (log : Log) (i t : ℕ) (w : Windows) : Type 0 where
   pub green : AreTenths log i w.service.b w.service.g w.green
   pub red : AreTenths log i w.service.r t w.red
@@ -28,6 +28,7 @@ pub record IsPending (log : Log) (i t : ℕ) (w : Windows) : Type 0 where
 abbrev pub IsEnded : Log → ℕ → Windows → Type 0
 IsEnded log i w = IsPending log i (w.service.r + 50) w
 
+-- these are the numbers of services whose red windows have come to tenth t
 abbrev pub ArePending : Log → ℕ → ℕ → List Windows → Type 0
 ArePending log i t [] = Unit {0}
 ArePending log i t (w ∷ ws) = IsPending log i t w × ArePending log i t ws
@@ -56,13 +57,15 @@ AreServicesOf first end begun (s ∷ ss) = IsServiceOf first end begun s × AreS
 abbrev pub AreFit : ℕ → Option OpenGreen → List Windows → List Service → Type 0
 AreFit hour begun pending services = EndIn (first_tenth hour) (end_tenth hour) pending × AreServicesOf (first_tenth hour) (end_tenth hour) begun services
 
--- the services whose red window is over by tenth `end`, and the others
+-- the services whose red window is over by tenth `end`
 abbrev pub due : ℕ → List Service → List Service
 due end ss = filter (λ s. nat_le (s.r + 50) end) ss
 
+-- the services whose red window isn't over by tenth `end`
 abbrev pub left : ℕ → List Service → List Service
 left end ss = filter (λ s. not (nat_le (s.r + 50) end)) ss
 
+-- the services of these windows
 abbrev pub services_of : List Windows → List Service
 services_of [] = []
 services_of (w ∷ ws) = w.service ∷ services_of ws

@@ -29,6 +29,6 @@ abbrev pub IsCutBy : Track → (ℕ → Bool) → (ℕ → List Event) → ℕ �
 IsCutBy k known given a b [] = (a ≤ b) × IsQuiet k known given a b
 IsCutBy k known given a b (m ∷ ms) = (a ≤ begin_of m) × (begin_of m ≤ end_of m) × IsQuiet k known given a (begin_of m) × ((t : ℕ) → begin_of m ≤ t → t < end_of m → known t ≡ false) × IsCutBy k known given (end_of m) b ms
 
--- of the tenths from a up to b P holds of k
+-- exactly k of the tenths from a up to b have the property P
 abbrev pub Counts : (ℕ → Type 0) → ℕ → ℕ → ℕ → Type 0
 Counts P a b k = (n : ℕ) × (a + n ≡ b) × IsCount P a n k

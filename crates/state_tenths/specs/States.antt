@@ -7,11 +7,11 @@ use Rattle.board.specs.Verdicts.{MayPass}
 use Rattle.state_tenths.specs.declared.asked.Asked.{Asked}
 use Rattle.state_tenths.specs.declared.asked.Asked.TheVariants.{Colour, NoneOf}
 
--- all of these states are of the colour
+-- in each of the states that may be, the channel has colour c
 abbrev pub AllHave : (State → Type 0) → ℕ → Type 0
 AllHave May c = (v : State) → May v → v.colour ≡ c
 
--- the states that may be meet what is asked
+-- what is asked is met: each state that may be has the colour; or none of the first n colours is that of each state that may be
 abbrev pub Meets : Asked → (State → Type 0) → Type 0
 Meets (Colour c) May = AllHave May c
 Meets (NoneOf n) May = (c : ℕ) → c < n → AllHave May c → ⊥
@@ -25,7 +25,7 @@ IsAsked (NoneOf n) = n ≤ 16
 abbrev pub MeetsAt : HourLog → ℕ → Asked → ℕ → Type 0
 MeetsAt log i asked t = (known_at log.stretches t ≡ true) × Meets asked (MayPass log t i)
 
--- of the n tenths from a on P holds of k, counted one by one
+-- exactly k of the n tenths from a on have the property P, counted one by one
 unfoldable pub IsCount : (ℕ → Type 0) → ℕ → ℕ → ℕ → Type 0
 IsCount P a zero k = k ≡ 0
 IsCount P a (suc n) k = (P a × ((j : ℕ) × (k ≡ suc j) × IsCount P (a + 1) n j)) ⊎ ((P a → ⊥) × IsCount P (a + 1) n k)

@@ -26,11 +26,12 @@ use Rattle.stop_bar.specs.Crossing.{Crossing}
 use Rattle.stop_bar.specs.Bars.{AreOver, IsAtBar}
 use Rattle.stop_bar.specs.Lists.{Each}
 
+-- the stop bar of an approach, where it has a detector there
 abbrev pub bar_with : Approach → Option ℕ → Option StopBar
 bar_with a None = None
 bar_with a (Some d) = Some (record { phase = a.phase; detector = d; high = a.high })
 
--- of each approach with a detector at its stop bar, in file order
+-- the stop bars of the approaches that have a detector there, in file order
 abbrev pub bars_of : List Approach → List StopBar
 bars_of approaches = filter_map (λ a. bar_with a a.stop_bar) approaches
 
@@ -42,7 +43,7 @@ AreServed phases bars = All (λ b. has_phase phases b.phase ≡ true) bars
 abbrev pub IsPlaceOf : Settings → StopBar → ℕ → Type 0
 IsPlaceOf c b i = spec_place c.specs (record { kind = kinds.Detector; number = b.detector }) ≡ Some i
 
--- these cross point k at the stop bars
+-- these are what is under way at the stop bars at point k
 abbrev pub AreAtBars : Log → Settings → List Row → ℕ → List Crossing → Type 0
 AreAtBars log c before k ats = Each (λ b at. (i : ℕ) → IsPlaceOf c b i → IsAtBar log i c.phases b.phase before k at) (bars_of c.approaches) ats
 

@@ -24,6 +24,7 @@ use Rattle.split_windows.specs.declared.items.OpenGreen.{OpenGreen}
 abbrev pub without_end : Service → Service
 without_end s = record s { end = Unlogged }
 
+-- these services without their terminations
 abbrev pub without_ends : List Service → List Service
 without_ends ss = map without_end ss
 
@@ -39,7 +40,7 @@ open_with p ys = find (λ y. y.phase == p) ys
 abbrev pub ending : ℕ → ℕ → List Service → List Service
 ending a b ss = filter (λ s. nat_lt a (s.r + 50) && nat_le (s.r + 50) b) ss
 
--- this crosses point k at the detector with place i and phase p, where these are the known rows before the point: the green that is open there and the services whose red window isn't over, with the log's numbers
+-- this is what is under way at a stop bar of phase p, whose detector has place i, at point k, where these are the known rows before it: the green that is open there and the services whose red window isn't over, with how long the detector was on
 pub record IsAtBar (log : Log) (i : ℕ) (phases : List PhaseItem) (p : ℕ) (before : List Row) (k : ℕ) (at : Crossing) : Type 0 where
   pub green : IsGreenAt (first_tenth k) (service_begun_of log.known (first_tenth k) p before) at.green
   pub tenths : IsOpen log i at.green

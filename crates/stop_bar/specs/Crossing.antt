@@ -3,7 +3,7 @@ use Rattle.std.specs.Prelude.{Option, List}
 use Rattle.split_windows.specs.declared.items.OpenGreen.{OpenGreen}
 use Rattle.split_windows.specs.declared.items.Windows.{Windows}
 
--- the green that is open there, and the services whose red window isn't over
+-- what is under way at a stop bar at a point between two hours: the green that is open, and the services whose red window isn't over
 pub record Crossing : Type 0 where
   pub green : Option OpenGreen
   pub pending : List Windows

@@ -1,7 +1,7 @@
 -- What holds at each place of two lists.
 use Rattle.std.specs.Prelude.{List, [], ◌∷◌}
 
--- it holds of the elements at each place, and the lists are equally long
+-- R holds of the elements at each place of two lists, which are equally long
 abbrev pub Each : {A B : Type 0} → (A → B → Type 0) → List A → List B → Type 0
 Each R [] [] = Unit {0}
 Each R [] (y ∷ ys) = ⊥

@@ -1,14 +1,14 @@
 -- States of one machine, backward.
-use Rattle.std.proofs.Common.{◌≡◌, ◌≢◌, refl, ap, sym, ◌∙◌, subst, inl, inr, ◌↔◌, ℕ, suc, ◌+◌, ◌<◌, ◌≤◌, ℤ, pos, ◌+ℤ◌, ◌<ℤ◌, ◌≤ℤ◌, List, [], ◌∷◌, length, length-take, get_or, get_or-take, set, take, get_or-set_same, get_or-set_other, arith, Option, Some, None}
+use Rattle.std.proofs.Common.{◌≡◌, ◌≢◌, refl, ap, sym, ◌∙◌, subst, inl, inr, ◌↔◌, ℕ, suc, ◌+◌, ◌<◌, ◌≤◌, ℤ, pos, ◌+ℤ◌, ◌≤ℤ◌, List, [], ◌∷◌, length, length-take, get_or, get_or-take, set, take, get_or-set_same, get_or-set_other, arith, Option, Some, None}
 use Rattle.std.proofs.lemmas.Int.{ints}
 use Rattle.std.proofs.lemmas.Bool.{cases_eq, cases_lt}
 use Rattle.std.proofs.lemmas.List.{get_or_past}
 use Rattle.std.proofs.lemmas.Grind.{common_steps}
 use Rattle.sig_base.proofs.Common.{some_same}
 use Rattle.colour_machine.specs.Rules.{Rules, Goes}
-use Rattle.reach.specs.Runs.{State, state, Steps, Run}
-use Rattle.reach.specs.Ahead.{NotLater, Admits, BeforeRow, BeforeGap}
-use Rattle.reach.specs.Latest.{entry_of, IsTable, IsLower, AreLatest}
+use Rattle.reach.specs.Runs.{State, state}
+use Rattle.reach.specs.Ahead.{NotLater, Admits, BeforeRow}
+use Rattle.reach.specs.Latest.{entry_of, IsTable, IsLower}
 use Rattle.reach.proofs.States.{state_same}
 
 pub then_iff : {A B C : Type 0} → (A ↔ B) → (B ↔ C) → A ↔ C
@@ -73,32 +73,6 @@ row_clause m n latest new now t l old table view h s =
       λ (le, (u, st, y)). a.1 (b.1 (le, (u, st, (take_admits n latest u old.1).0 y))),
     )
 
--- a state without a colour of the machine is led nowhere
-steps_stuck : (m : Rules) (t : ℤ) (s u : State) (ls : List ℕ) → m.colours ≤ s.colour → Steps m t s ls u → u ≡ s
-steps_stuck m t s u [] ge r = r
-steps_stuck m t s u (l ∷ ls) ge (v, (g, k), r) = absurd (let b = g.0 in omega arith)
-
-run_stuck : (m : Rules) (f : ℤ) (s u : State) (lists : List (List ℕ)) → m.colours ≤ s.colour → Run m f s lists u → u ≡ s
-run_stuck m f s u [] ge r = r
-run_stuck m f s u (ls ∷ rest) ge (v, a, r) =
-    let e : v ≡ s = steps_stuck m f s v ls ge a in
-    run_stuck m (f +ℤ pos 1) s u rest ge (subst (λ (x : State). Run m (f +ℤ pos 1) x rest u) e r)
-
-before_colour : (m : Rules) (latest : List (Option ℤ)) (f t : ℤ) (s : State) → ((c : ℕ) → m.colours ≤ c → entry_of latest c ≡ None) → BeforeGap m latest f t s → s.colour < m.colours
-before_colour m latest f t s none (u, (lists, e, r), a) = elim (cases_lt s.colour m.colours) [
-  | inl lt ↦ lt
-  | inr ge ↦ absurd (none_left latest s (none s.colour ge) (subst (λ (x : State). Admits latest x) (run_stuck m f s u lists ge r) a))
-]
-
-lower_admits : (limit : ℤ) (old new : List (Option ℤ)) → IsLower limit old new 16 → length old ≡ 16 → (s : State) → Admits new s ↔ (Admits old s × (s.entry ≤ℤ limit))
-lower_admits limit old new w size s = elim (cases_lt s.colour 16) [
-  | inl lt ↦ w.1 s.colour lt s.entry
-  | inr ge ↦
-      let p : entry_of new s.colour ≡ None = get_or_past new s.colour None (let l = w.0 in omega arith) in
-      let q : entry_of old s.colour ≡ None = get_or_past old s.colour None (omega arith) in
-      (λ a. absurd (none_left new s p a), λ (a, le). absurd (none_left old s q a))
-]
-
 none_lowered : (limit : ℤ) (x y : Option ℤ) → ((e : ℤ) → NotLater y e ↔ (NotLater x e × (e ≤ℤ limit))) → x ≡ None → y ≡ None
 none_lowered limit x None h q = refl
 none_lowered limit x (Some y) h q = absurd (subst (λ (o : Option ℤ). NotLater o y) q ((h y).0 (omega (arith, ints))).0)
@@ -112,25 +86,6 @@ lower_table limit n old new w (few, none) = (
     | inr out ↦ get_or_past new c None (let l = w.0 in omega arith)
   ],
 )
-
--- what a gap leaves, seen through the first colours of the tables
-pub gap_clause : (m : Rules) (n : ℕ) (latest entries new now : List (Option ℤ)) (f t limit : ℤ) → (limit +ℤ pos 1) ≡ f → IsTable n latest → n ≡ m.colours → length entries ≡ 16 → ((c : ℕ) → m.colours ≤ c → entry_of entries c ≡ None) → IsLower limit entries new 16 → take n latest ≡ now → AreLatest m latest f t entries → (s : State) → Admits (take n new) s ↔ ((s.entry <ℤ f) × BeforeGap m now f t s)
-gap_clause m n latest entries new now f t limit lim old size len none w view h s =
-    let table : IsTable n entries = (old.0, λ c ge. none c (omega arith)) in
-    let none_old : (c : ℕ) → m.colours ≤ c → entry_of latest c ≡ None = λ c ge. old.1 c (omega arith) in
-    let a = take_admits n new s (lower_table limit n entries new w table).1 in
-    let c = lower_admits limit entries new w len s in
-    rw (← view) (
-      λ x.
-          let (y, le) = c.0 (a.0 x) in
-          let lt : s.colour < m.colours = elim (cases_lt s.colour m.colours) [ inl i ↦ i | inr i ↦ absurd (none_left entries s (none s.colour i) y) ] in
-          let (u, g, k) = (h s (lt, omega (arith, ints))).0 y in
-          (omega (arith, ints), (u, g, (take_admits n latest u old.1).1 k)),
-      λ (lt, (u, g, k)).
-          let k2 = (take_admits n latest u old.1).0 k in
-          let colour = before_colour m latest f t s none_old (u, g, k2) in
-          a.1 (c.1 ((h s (colour, omega (arith, ints))).1 (u, g, k2), omega (arith, ints))),
-    )
 
 -- latest entries that admit the same states are the same
 entry_same : (x y : Option ℤ) → ((e : ℤ) → NotLater x e ↔ NotLater y e) → x ≡ y

@@ -9,7 +9,7 @@ use Rattle.span_set.specs.Changes.{span}
 use Rattle.span_set.specs.Spans.{Member, AreRanges}
 use Rattle.colour_machine.specs.Rules.{Rules}
 use Rattle.reach.specs.Runs.{State, state, Step, Steps, Run}
-use Rattle.reach.specs.Ahead.{NotLater, Admits}
+use Rattle.reach.specs.Ahead.{NotLater, Admits, BeforeGap}
 use Rattle.reach.specs.Latest.{entry_of, IsTable}
 use Rattle.reach.specs.Holes.{AreFrom, AreHoles, OnlyIn}
 use Rattle.reach.specs.Last.{BeforeHoles, InHoles, IsPrev, LeftIn, LeftInBelow, IsLaterIn, IsRoundIn, Continues, AreLasts, StaysOrLeaves, AreLast, PlacesAreGaps, IsEntryAt, AreEntriesAt}
@@ -251,3 +251,34 @@ places_gaps m sets latest hs gs ks f x t before after fx xt parts = (
     λ (u, g, a). (u, holes_of m hs ks (negsuc (2 ^ 40)) x t s u after.0 xt after.1 (λ y mem. (parts y).1 (inr mem)) g, a),
   ),
 )
+
+-- ---- one hole
+
+all_in : (hs : List Span) (f t y : ℤ) (lists : List (List ℕ)) → ((z : ℤ) → f ≤ℤ z → z <ℤ t → Member hs z) → f ≤ℤ y → (y +ℤ pos (length lists)) ≤ℤ t → OnlyIn hs y lists
+all_in hs f t y [] h low high = tt
+all_in hs f t y (ls ∷ rest) h low high = (inl (h y low (omega (arith, ints))), all_in hs f t (y +ℤ pos 1) rest h (omega (arith, ints)) (omega (arith, ints)))
+
+-- a range is a run of one hole
+pub one_hole : (f t : ℤ) → negsuc (2 ^ 39) ≤ℤ f → f <ℤ t → t ≤ℤ pos (2 ^ 39) → AreHoles f t (span f t ∷ [])
+one_hole f t low some high = (
+  (omega (arith, ints), some, omega (arith, ints), tt),
+  λ y h. elim h [ inl w ↦ w | inr n ↦ absurd n ],
+)
+
+-- what can be met before it is what can be met before the gap
+pub hole_gap : (m : Rules) (latest : List (Option ℤ)) (f t : ℤ) (s : State) → BeforeHoles m latest (span f t ∷ []) f t s ↔ BeforeGap m latest f t s
+hole_gap m latest f t s = (
+  (λ (u, (lists, e, o, r), a). (u, (lists, e, r), a)),
+  λ (u, (lists, e, r), a). (u, (lists, e, all_in (span f t ∷ []) f t f lists (λ z low lt. inl (low, lt)) (omega (arith, ints)) (omega (arith, ints)), r), a),
+)
+
+-- of a gap as one hole, the states before it that were entered before it
+pub gap_before : (m : Rules) (latest last mid new : List (Option ℤ)) (f t : ℤ) → f <ℤ t → AreLast m latest (span f t ∷ []) f t last → ((s : State) → Admits mid s ↔ StaysOrLeaves m latest last f s) → ((s : State) → Admits new s ↔ (Admits mid s × (s.entry ≤ℤ (f -ℤ pos 1)))) → (s : State) → Admits new s ↔ ((s.entry <ℤ f) × BeforeGap m latest f t s)
+gap_before m latest last mid new f t some are in_mid lower s =
+    let met = are s f (omega (arith, ints)) (omega (arith, ints)) in
+    let gap = hole_gap m latest f t s in
+    let l = lower s in
+    let k = in_mid s in (
+      (λ a. let (x, le) = l.0 a in (omega (arith, ints), gap.0 (met.1 (k.0 x)))),
+      λ (lt, b). l.1 (k.1 (met.0 (gap.1 b)), omega (arith, ints)),
+    )

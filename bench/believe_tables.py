@@ -123,7 +123,7 @@ sigaudit.Transcript.IsBeginning transcript_laws transcripts_exist begins
 
 # The headline in ten sentences; `[words](crate.Name.definition)` leads to the definition.
 HEADLINE = """
-1. A run gets words, a shelf of files and a sink of bytes. Where the shelf tells its files, and the words don't ask for fillings of unknown tenths, [it ends as the transcript does](sigaudit.Run.IsRun) and writes exactly its bytes; or it ends with `Fault`, a count of faults rose and it wrote a front of them; or it ends with `Memory` and wrote a front of them.
+1. A run gets words, a shelf of files and a sink of bytes. Where the shelf tells its files, and the words don't ask for fillings of unknown tenths, [it ends as the transcript does](sigaudit.Run.IsRun) and writes exactly its bytes; or it ends with `Fault` and a count of faults rose, or with `Memory`, and [wrote a front of what the transcript begins with](sigaudit.Run.WritesBeginning).
 2. [The transcript](sigaudit.Transcript.IsTranscript) is what [the words ask for](sigaudit.Asked.asked_of), [answered from the files](sigaudit.Transcript.IsAnswer): the usage line, a count, a packed hour, a script over a configuration, or [the same over made-up files](sigaudit.Transcript.IsDemoOutcome).
 3. [What a configuration says](ring_config.Settings.config_of) is accepted or refused by its bytes alone; then [each line of the script](script_lines.Lines.lines_of), by [what it says](script_lines.Words.said), has [its turn](sigaudit.Script.IsTurn) over a store that at first [holds nothing](hour_store.Store.nothing_held).
 4. [A store](hour_store.Store.Store) has for each hour nothing or the rows that [the hour's file says](sigaudit.HourFile.hour_said), and the blanked tenths; [a tenth is known](hour_store.Store.is_known) where its hour is held and it isn't blanked; an edit [makes another store of it, or is refused](session.Edits.step_of) by the first reason in a fixed order.
@@ -153,10 +153,12 @@ A clause is a proposition, and a proposition is a type in `Type 0`. A name of ty
 | `ℤ`, `pos 5`, `negsuc 4`, `≤ℤ`, `+ℤ` | integers, 5, -5, and their order and sum |
 | `Bool`, `nat_lt a b`, `nat_le a b`, `==`, `&&`, `not`, `IsTrue b` | tests: less, at most, equal, and, not; the test is true |
 | `List A`, `[]`, `x ∷ xs`, `++`, `length`, `map f xs`, `filter p xs`, `take n xs`, `fold`, `flat_map`, `All P xs` | lists, as in other languages. A text is the list of its bytes, and `codes "ab"` are those of `ab` |
+| `find p xs`, `position p xs`, `list_any p xs`, `list_all p xs`, `count_by p xs`, `sum xs`, `range_with_len a n` | the first element that passes the test p, its place, whether some does, whether all do, how many do; the sum; the n numbers from a on |
 | `slice_get xs i`, `slice_index_or xs i d`, `slice_index xs i` | what stands at place i, from 0: `None`, d or 0 where nothing does |
-| `Option A`, `Some x`, `None`; `Result A E`, `Ok x`, `Err e`; `IfSome o (λ x. P)` | a value or nothing; a value or an error; P of the value, where there is one |
+| `Option A`, `Some x`, `None`; `Result A E`, `Ok x`, `Err e`; `IfSome o (λ x. P)` | a value or nothing; a value or an error; P of the value, where there is one. `option_map f o` is f of the value, `unwrap_or o d` the value or d |
+| `Appends a b bytes` | of bytes that may be told or not: where a is told so is b, and it is a with these bytes behind it |
 | `λ x. e`, `let x = e in ..`, `if c then a else b`, `do x ← e ..` | a function, a name, a choice; e and what follows it, unless e is an error |
 | `abbrev`, `unfoldable`, `pub`, `{A : Type 0}` | how the checker opens a name, who may use it, an argument that is left out: none of it matters for the meaning |
 
-A type of the code is shown in Rust. In a definition its numbers are `ℕ` (`i64` is `ℤ`), its texts and `Vec`s lists, and `Kind.Phase` is the variant `Phase`. In a clause of a function `x.old` and `x.new` are what the reference x leads to before and after the call, `x.now` is what it leads to at all, and `result` is the answer.
+A type of the code is shown in Rust. In a definition its numbers are `ℕ` (`i64` is `ℤ`), its texts and `Vec`s lists, and `Kind.Phase` is the variant `Phase`; a type whose fields nobody sees is shown by the value as which it is seen. In a clause of a function `x.old` and `x.new` are what the reference x leads to before and after the call, `x.now` is what it leads to at all, and `result` is the answer.
 """

@@ -1,4 +1,4 @@
-"""What bench/believe can't read off the sources: subjects, laws, the headline in sentences, and how antt is read."""
+"""What bench/believe can't read off the sources: subjects, laws, and the sentences of its page."""
 
 # Each subject with its files, in the order in which one reads; a file is `crate.Name`, all files of a crate `crate`.
 SUBJECTS = [
@@ -161,4 +161,27 @@ A clause is a proposition, and a proposition is a type in `Type 0`. A name of ty
 | `abbrev`, `unfoldable`, `pub`, `{A : Type 0}` | how the checker opens a name, who may use it, an argument that is left out: none of it matters for the meaning |
 
 A type of the code is shown in Rust. In a definition its numbers are `ℕ` (`i64` is `ℤ`), its texts and `Vec`s lists, and `Kind.Phase` is the variant `Phase`; a type whose fields nobody sees is shown by the value as which it is seen. In a clause of a function `x.old` and `x.new` are what the reference x leads to before and after the call, `x.now` is what it leads to at all, and `result` is the answer.
+"""
+INTRO = """
+# What must be believed
+
+A proof shows that the program does what a clause says. That the clause says what a traffic engineer means no proof shows: it has to be read. This page has all that the clauses of `run` rest on, and nothing else: each definition once, with what it means, its text and its place. `bench/believe write` makes it of the sources; `bench/believe check` says where it isn't what they give.
+
+Read the ten sentences, and go from each to its definitions; or read the subjects from the first to the last: inside a subject what is cited stands before what cites it, as far as that goes. *Cites* leads to what a definition takes from other files.
+"""
+
+CLAUSES = """
+A `Shelf` has of its own, beside its calls, `S.files`: what is at each name, where it is told, and `S.counts`: how often a file was missing, a fetch failed and a file was too long. A `Sink` has `K.taken`: the bytes that it took, where they are told, and how often it failed. The shelf and the sink in memory tell all; those of a disk and of standard output tell nothing, so of these the clauses without `IfSome` alone say something. `words` are the words after the program's name, `reads` how often each hour of the window was opened. The answer is a `Status`; `exit_code` gives each its number, from 0 for `Done` to 6 for `NoFile`.
+"""
+
+MARKS = """
+*The program written again* are definitions that compute and share their name with a function of their crate. *Said in other words*: a law equates the definition with a plainer one, where what the law wants holds, or it is cited on the way to such a one alone; then the plainer one may be believed in its place.
+"""
+
+LAWS = """
+Each is the contract of a public function that does nothing, or a clause of one that does something. A law needs no belief: it is proved, and its own definitions only make it readable.
+"""
+
+LIBRARIES = """
+The libraries state themselves what these names mean, in their own `specs/`; that is believed too. The numbers are of what the names rest on, in the kit of `rt`; `logic` is the lists and numbers below all of them. What is built into the checker counts nothing.
 """

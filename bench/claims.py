@@ -1,9 +1,10 @@
 """Looks up the clauses that a document names in brackets: [`clause`, `clause` of `call`; `law`].
 
-A name is a clause of the call behind the next `of`. One without is a clause of `run`, or a public function (a law, all of
-whose clauses are meant), or a definition on which the clauses of `run` rest. A call, unless it takes nothing and is a law,
-has to be one that `run` or `main` reaches: by the names that stand before `(` in the bodies of functions, so that two
-functions of one name are taken for one. It reads text, and proves nothing. bench/quotes uses it.
+A name is a clause of the call behind the next `of`. One without is a clause of `run`, or a public function (a law,
+all of whose clauses are meant), or a definition on which the clauses of `run` rest. A call, unless it takes nothing
+and is a law, has to be one that `run` or `main` reaches: by the names that stand before `(` in the bodies of
+functions, so that two functions of one name are taken for one. It reads text, and proves nothing. bench/quotes uses
+it.
 """
 import os
 import re
@@ -28,7 +29,8 @@ class Sources:
         closure = Closure(all_modules())
         run, names, modules = function_of("sigaudit", "run")
         closure.follow("\n".join(text for _, _, text in run.clauses), names, modules)
-        self.run, self.definitions = run, {each.name for each in closure.reached}
+        self.of_run = {name for kind, name, _ in run.clauses if kind == "ensures"}
+        self.definitions = {each.name for each in closure.reached}
         self.reached, wanted = set(), ["run", "main"]
         while wanted:
             name = wanted.pop()
@@ -57,47 +59,46 @@ class Sources:
     def clauses(self, call):
         return [{name for kind, name, _ in each.clauses if kind == "ensures"} for each in self.public.get(call, [])]
 
-    def is_law(self, call):
-        return all(re.search(r"fn \w+\(\s*\)", each.head) for each in self.public[call])
+    def unreached(self, call):
+        """What is wrong with a call that takes something and that `run` doesn't reach."""
+        is_law = all(re.search(r"fn \w+\(\s*\)", each.head) for each in self.public[call])
+        return [] if is_law or call.rpartition("::")[2] in self.reached else ["run doesn't reach %s" % call]
 
 
 def wrong_claims(text, sources):
     """How many groups of names there are, and what is wrong with them."""
     groups, wrong = GROUP.findall(text), []
-    of_run = {name for kind, name, _ in sources.run.clauses if kind == "ensures"}
     for group in groups:
-        waiting = []
-        for item in re.split(r"[,;]", group):
-            names = re.findall(r"`([^`]*)`", item)
-            if not names:
-                continue
-            waiting.append(names[0])
-            if " of `" not in item:
-                if ";" in group and item is not None and re.search(r"%s`\s*;" % re.escape(names[-1]), group):
-                    wrong += alone(waiting, of_run, sources, group)
-                    waiting = []
-                continue
-            call = names[-1]
-            found = sources.clauses(call)
-            if not found:
-                wrong.append("[%s]: there is no public call %s" % (group, call))
-            elif not any(set(waiting) <= clauses for clauses in found):
-                wrong.append("[%s]: %s has no clause %s" % (group, call, ", ".join(name for name in waiting if not any(name in clauses for clauses in found))))
-            elif not sources.is_law(call) and call.rpartition("::")[2] not in sources.reached:
-                wrong.append("[%s]: run doesn't reach %s" % (group, call))
-            waiting = []
-        wrong += alone(waiting, of_run, sources, group)
+        wrong += ["[%s]: %s" % (group, each) for part in group.split(";") for each in wrong_names(part, sources)]
     return len(groups), wrong
 
 
-def alone(names, of_run, sources, group):
-    """Names without a call: clauses of run, laws, and definitions under its clauses."""
-    wrong = []
-    for name in names:
-        if name in of_run or name in sources.definitions:
-            continue
-        if name not in sources.public:
-            wrong.append("[%s]: `%s` is no clause of run, no public call and no definition under it" % (group, name))
-        elif not sources.is_law(name) and name.rpartition("::")[2] not in sources.reached:
-            wrong.append("[%s]: run doesn't reach %s" % (group, name))
-    return wrong
+def wrong_names(part, sources):
+    """What is wrong with names between commas: those before an `of` are clauses of the call behind it."""
+    waiting, wrong = [], []
+    for item in part.split(","):
+        names = re.findall(r"`([^`]*)`", item)
+        waiting += names[:1]
+        if " of `" in item:
+            wrong += wrong_call(names[-1], waiting, sources)
+            waiting = []
+    return wrong + [each for name in waiting for each in wrong_alone(name, sources)]
+
+
+def wrong_call(call, named, sources):
+    """What is wrong with a call of which these clauses are named."""
+    found = sources.clauses(call)
+    if not found:
+        return ["there is no public call %s" % call]
+    if not any(set(named) <= clauses for clauses in found):
+        return ["%s hasn't all of the clauses %s" % (call, ", ".join(named))]
+    return sources.unreached(call)
+
+
+def wrong_alone(name, sources):
+    """What is wrong with a name without a call: a clause of run, a definition under its clauses, or a law."""
+    if name in sources.of_run or name in sources.definitions:
+        return []
+    if name not in sources.public:
+        return ["`%s` is no clause of run, no public call and no definition under it" % name]
+    return sources.unreached(name)

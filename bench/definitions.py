@@ -123,7 +123,7 @@ class Closure:
         sys.exit(SAYS + "%s has no %s" % (path, name))
 
     def cited(self, text, names, modules, own=(), bound=()):
-        """What a text cites, each as (definition, path, name, word); the definition is None where it isn't followed."""
+        """What a text cites, each as (definition, path, name, word); without a definition where it isn't followed."""
         own = own or {}
         for word in PATH.findall(text):
             first, _, rest = word.partition(".")
@@ -209,7 +209,8 @@ def function_of(crate, function):
             sentences = []
             while above and above[-1].strip().startswith("///"):
                 sentences.insert(0, above.pop().strip().lstrip("/").strip())
-            return Function(file, text.count("\n", 0, head.start()) + 1, " ".join(sentences), head[0][:-1].rstrip()), *brought_in_by(file, text)
+            line = text.count("\n", 0, head.start()) + 1
+            return Function(file, line, " ".join(sentences), head[0][:-1].rstrip()), *brought_in_by(file, text)
     sys.exit(SAYS + "%s has no public function %s" % (crate, function))
 
 

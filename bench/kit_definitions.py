@@ -1,14 +1,19 @@
-"""How many definitions of the toolchain's libraries some names rest on, counted in the sources of the kit that `rt` is of.
+"""How many definitions of the toolchain's libraries some names rest on, counted in the sources of the kit that `rt`
+is of.
 
 Nothing is copied from there but numbers. A name that has no source there (what is built into the checker, types of a
-library's code) counts nothing. A form that isn't understood ends the reading of its file: what comes after it then counts
-nothing either, so the numbers are at most those that there are.
+library's code) counts nothing. A form that isn't understood ends the reading of its file: what comes after it then
+counts nothing either, so the numbers are at most those that there are.
 """
 import os
 import re
 import shutil
 
 from definitions import Closure, Module
+
+
+# Where the modules lie that aren't a crate's.
+FOLDERS = {"lib": ("logic", "Lib"), "mathlib": ("antt", "port", "mathlib", "src")}
 
 
 def place_of_kit():
@@ -46,8 +51,8 @@ class Modules(dict):
         first, *rest = path.split(".")
         if first == "Rattle" and len(rest) > 2:
             folder = os.path.join(self.top, "rattle", rest[0], *rest[1:])
-        elif first in ("lib", "mathlib") and rest:
-            folder = os.path.join(self.top, "rattle", *{"lib": ("logic", "Lib"), "mathlib": ("antt", "port", "mathlib", "src")}[first], *rest)
+        elif first in FOLDERS and rest:
+            folder = os.path.join(self.top, "rattle", *FOLDERS[first], *rest)
         else:
             return None
         file = folder + ".antt"

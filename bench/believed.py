@@ -204,8 +204,18 @@ class Believed:
         return computes(each) and each.name in self.functions[key_of(each).split(".")[0]]
 
     def under(self, laws):
-        """Of each definition that a law says in other words, or that leads to such ones alone: these."""
-        equated = {self.by_key[law.key] for law in laws if law.equates and law.key in self.by_key}
+        """Of each definition that a law says in other words, or that leads to such ones alone: these.
+
+        What the law's other words rest on themselves isn't counted: it has to be believed either way.
+        """
+        laws = [law for law in laws if law.equates and law.key in self.by_key]
+        equated = {self.by_key[law.key] for law in laws}
+        needed, wanted = set(), [each for law in laws for each in law.sides(self, law.named)[0] if each not in equated]
+        while wanted:
+            each = wanted.pop()
+            if each not in needed:
+                needed.add(each)
+                wanted += [other for other in self.cites[each] if other not in equated]
         citers = {each: [] for each in self.definitions}
         for each in self.definitions:
             for other in self.cites[each]:
@@ -216,7 +226,7 @@ class Believed:
             is_new = False
             for each in self.definitions:
                 is_only_on_the_way = citers[each] and all(other in under for other in citers[each])
-                if each not in under and is_only_on_the_way and computes(each):
+                if each not in under and each not in needed and is_only_on_the_way and computes(each):
                     under[each] = set().union(*(under[other] for other in citers[each]))
                     is_new = True
         return under

@@ -15,6 +15,8 @@ MODIFIERS = {"pub", "abbrev", "unfoldable", "record", "data", "opaque", "lossles
 PASSED = re.compile(r"(pub )?mod\b|infix|unfolding\b")
 OF_THE_PROGRAM = {"contracts", "proofs", "ghosts", "impls"}
 SAYS = "bench/%s: " % os.path.basename(sys.argv[0])
+# A comment up to the end of its line, or a text, in which two dashes begin none.
+COMMENT = re.compile(r'(?m)"(?:\\.|[^"\\\n])*"|(^|\s)--.*$')
 CLAUSE = re.compile(r"(?s)\b(requires|ensures)\b\s*([^{]*?)\s*\{(.*?)\}\s*(?=requires\b|ensures\b|\Z)")
 USE = re.compile(r"use\s+([\w.+]+?)(?:\.\{([^}]*)\})?(?:\s+as\s+(%s))?\s*;?\s*$" % NAME, re.S)
 
@@ -37,7 +39,7 @@ class Module:
     def read(self, text):
         self.raw = text.splitlines()
         text = re.sub(r"\{-.*?-\}", lambda it: re.sub(r"[^\n]", " ", it[0]), text, flags=re.S)
-        text = re.sub(r"(?m)(^|\s)--.*$", r"\1", text)
+        text = COMMENT.sub(lambda it: it[0] if it[0].startswith('"') else it[1], text)
         current, line = None, 0
         for chunk in re.split(r"(?m)^(?=[^\s}])", text):
             first = chunk.split()[:1]

@@ -167,7 +167,9 @@ INTRO = """
 
 A proof shows that the program does what a clause says. That the clause says what a traffic engineer means no proof shows: it has to be read. This page has all that the clauses of `run` rest on, and nothing else: each definition once, with what it means, its text and its place. `bench/believe write` makes it of the sources; `bench/believe check` says where it isn't what they give.
 
-Read the ten sentences, and go from each to its definitions; or read the subjects from the first to the last: inside a subject what is cited stands before what cites it, as far as that goes. *Cites* leads to what a definition takes from other files.
+Read the ten sentences, and go from each to its definitions; or read the subjects from the first to the last: inside a subject what is cited stands before what cites it, as far as that goes. *Cites* leads to what a definition takes from other files. Places are in `crates`.
+
+Words that stand everywhere: a *tenth* is a tenth of a second, counted from the window's start, and an hour has 36,000 of them; *point k* is where hour k begins. A *row* is an event of the log: tenth, code, parameter. A *channel* is a phase, a pedestrian signal, an overlap, a detector, a preempt's input or service, or the coordination; its *colour* is what it shows or does; a *letter* is one of its codes, by the code's place in the channel's table. A *floor* is the least age at which a colour may be left. A *spec* is a channel with its floors, and the place of a spec among all specs stands for the channel.
 """
 
 CLAUSES = """

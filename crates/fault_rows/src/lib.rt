@@ -2,7 +2,7 @@
 //!
 //! `arrival_measures` tells fault rows from arrivals by the known rows alone. The crate has laws
 //! alone: before a known row a detector is faulty so exactly where it has the colour Fault in all
-//! histories of the window that agree with the log. `docs/DEFINITIONS.md` has the definitions.
+//! histories of the window that agree with the log.
 #![tactic(auto)]
 
 mod laws;

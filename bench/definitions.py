@@ -15,6 +15,9 @@ MODIFIERS = {"pub", "abbrev", "unfoldable", "record", "data", "opaque", "lossles
 PASSED = re.compile(r"(pub )?mod\b|infix|unfolding\b")
 OF_THE_PROGRAM = {"contracts", "proofs", "ghosts", "impls"}
 SAYS = "bench/%s: " % os.path.basename(sys.argv[0])
+# A comment up to the end of its line, or a text, in which two dashes begin none.
+COMMENT = re.compile(r'(?m)"(?:\\.|[^"\\\n])*"|(^|\s)--.*$')
+CLAUSE = re.compile(r"(?s)\b(requires|ensures)\b\s*([^{]*?)\s*\{(.*?)\}\s*(?=requires\b|ensures\b|\Z)")
 USE = re.compile(r"use\s+([\w.+]+?)(?:\.\{([^}]*)\})?(?:\s+as\s+(%s))?\s*;?\s*$" % NAME, re.S)
 
 
@@ -36,12 +39,12 @@ class Module:
     def read(self, text):
         self.raw = text.splitlines()
         text = re.sub(r"\{-.*?-\}", lambda it: re.sub(r"[^\n]", " ", it[0]), text, flags=re.S)
-        text = re.sub(r"(?m)(^|\s)--.*$", r"\1", text)
+        text = COMMENT.sub(lambda it: it[0] if it[0].startswith('"') else it[1], text)
         current, line = None, 0
         for chunk in re.split(r"(?m)^(?=[^\s}])", text):
             first = chunk.split()[:1]
-            if first == ["use"]:
-                self.bring_in(chunk)
+            if first == ["use"] or chunk.startswith("pub use "):
+                self.bring_in(chunk[4:] if chunk.startswith("pub ") else chunk)
             elif first and not PASSED.match(chunk):
                 current = self.define(chunk, line + 1, current)
             line += chunk.count("\n")
@@ -102,6 +105,7 @@ def all_modules():
 
 
 class Closure:
+    """What some text rests on: the definitions that it cites, and those that they cite."""
     def __init__(self, modules):
         self.modules, self.reached, self.bad = modules, {}, []
 
@@ -120,33 +124,39 @@ class Closure:
             return self.resolve(*module.names[name])
         sys.exit(SAYS + "%s has no %s" % (path, name))
 
-    def cite(self, text, names, modules, own, by):
-        """Takes what a text cites."""
+    def cited(self, text, names, modules, own=(), bound=()):
+        """What a text cites, each as (definition, path, name, word); without a definition where it isn't followed."""
+        own = own or {}
         for word in PATH.findall(text):
             first, _, rest = word.partition(".")
-            second = rest.partition(".")[0]
-            path = None
+            if first in bound:
+                continue
             if first in own:
-                self.reach(own[first], by)
+                yield own[first], None, first, word
             elif first in names:
                 path, name = names[first]
+                yield self.found(path, name), path, name, word
             elif first in modules:
-                path, name = modules[first], second
-            if path:
-                if OF_THE_PROGRAM & set(path.split(".")):
-                    self.bad.append((by, path))
-                elif name:
-                    found = self.resolve(path, name)
-                    if found:
-                        self.reach(found, by)
+                path, name = modules[first], rest.partition(".")[0]
+                yield self.found(path, name), path, name, word
             if "ghosts" in word.split("."):
-                self.bad.append((by, word))
+                yield None, word, "", word
         for operator in [*names, *own]:
             # an operator is written around its operands: `◌+◌` as `a + b`
             if operator.startswith("◌") and all(part in text for part in operator.split("◌")):
-                found = own.get(operator) or self.resolve(*names[operator])
-                if found:
-                    self.reach(found, by)
+                path, name = names.get(operator, (None, operator))
+                yield own.get(operator) or self.resolve(path, name), path, name, operator
+
+    def found(self, path, name):
+        return None if not name or OF_THE_PROGRAM & set(path.split(".")) else self.resolve(path, name)
+
+    def cite(self, text, names, modules, own, by):
+        """Takes what a text cites."""
+        for found, path, _, _ in self.cited(text, names, modules, own):
+            if found:
+                self.reach(found, by)
+            elif path and OF_THE_PROGRAM & set(path.split(".")):
+                self.bad.append((by, path))
 
     def reach(self, definition, by):
         if definition not in self.reached:
@@ -166,21 +176,47 @@ class Closure:
             definition = self.reached[definition]
 
 
-def clauses_of(crate, function):
-    """The clauses of a public function as texts, and what its file brings in for them."""
+class Function:
+    """A public function of a crate: its file and line, its sentences, and its clauses as (kind, name, text)."""
+    def __init__(self, file, line, sentences, head):
+        self.file, self.line, self.sentences, self.head = file, line, sentences, head
+        self.clauses = [(kind, name, text.strip()) for kind, name, text in CLAUSE.findall(re.sub(r"(?m)//.*$", "", head))]
+
+
+def brought_in_by(file, text):
+    """The names and the modules that a file of code brings in for its clauses."""
+    names, modules = {}, {}
+    for line in re.findall(r"(?m)^ *ghost (use [^;]*;)", text):
+        for name, path, alias in brought_in(line, file):
+            if name:
+                names[alias or name] = path, name
+            else:
+                modules[alias or path.rpartition(".")[2]] = path
+    return names, modules
+
+
+def function_of(crate, function):
+    """A public function of a crate, or of a type in it (`Type::name`), and what its file brings in for its clauses."""
+    kind, _, name = function.rpartition("::")
     for file in files_below(os.path.join(HERE, "crates", crate, "src"), ".rt"):
         with open(file) as it:
-            text = re.sub(r"(?m)//.*$", "", it.read())
-        head = re.search(r"(?m)^pub fn %s\b.*?^\{" % re.escape(function), text, re.S)
-        if not head:
+            text = it.read()
+        if kind and not re.search(r"(?m)^pub (struct|enum|trait) %s\b" % kind, text):
             continue
-        names, modules = {}, {}
-        for line in re.findall(r"(?m)^ghost (use [^;]*;)", text):
-            for name, path, alias in brought_in(line, file):
-                if name:
-                    names[alias or name] = path, name
-                else:
-                    modules[alias or path.rpartition(".")[2]] = path
-        clauses = re.findall(r"(?s)(?:requires|ensures)\b[^{]*\{(.*?)\}\s*(?=requires|ensures|\{|\Z)", head[0])
-        return clauses, names, modules
+        head = re.search(r"(?m)^( *)pub fn %s\b.*?^\1\{" % re.escape(name), text, re.S)
+        if head and bool(head[1]) == bool(kind):
+            above = text[:head.start()].rstrip("\n").split("\n")
+            while above and above[-1].strip().startswith("#["):
+                above.pop()
+            sentences = []
+            while above and above[-1].strip().startswith("///"):
+                sentences.insert(0, above.pop().strip().lstrip("/").strip())
+            line = text.count("\n", 0, head.start()) + 1
+            return Function(file, line, " ".join(sentences), head[0][:-1].rstrip()), *brought_in_by(file, text)
     sys.exit(SAYS + "%s has no public function %s" % (crate, function))
+
+
+def clauses_of(crate, function):
+    """The clauses of a public function as texts, and what its file brings in for them."""
+    found, names, modules = function_of(crate, function)
+    return [text for _, _, text in found.clauses], names, modules

@@ -119,7 +119,7 @@ pub fn unsound(n: u32) -> u32
 
 def closure():
     """A call whose clause rests on definitions alone, one whose clause rests on an implementation, and none."""
-    repository("low: std\n", "closure")
+    repository("low: std\n", "closure", "definitions.py")
     put("crates/low/specs/Plain.antt", PLAIN)
     put("crates/low/specs/Lower.antt", LOWER)
     put("crates/low/src/parts/calls.rt", CALL)

@@ -32,7 +32,7 @@ abbrev pub pending_with : (ℕ → Bool) → ℕ → List Row → Approach → O
 pending_with known t before a None = []
 pending_with known t before a (Some d) = map (λ x. x.at) (from_tenth t (arrivals_at known d a.travel before))
 
--- of an approach with an advance detector the cycle that its phase has begun, where every tenth since is known, and the arrival tenths at t or later of the arrivals before it
+-- what is under way of an approach at t that has an advance detector: the cycle that its phase has begun, where every tenth since is known, and the arrival tenths still to come
 abbrev pub crossing_of : (ℕ → Bool) → ℕ → List Row → Approach → Crossing
 crossing_of known t before a = record { begun = open_with known t before a a.advance; pending = pending_with known t before a a.advance }
 

@@ -94,7 +94,7 @@ abbrev pub HasActuations : (ℕ → ℕ → State → Type 0) → (ℕ → Bool)
 HasActuations May known c a before rows s None = no_actuations s
 HasActuations May known c a before rows s (Some d) = AreActuations May known c a d before rows s
 
--- of an approach's numbers those of whole cycles
+-- the numbers of whole cycles among the numbers of an approach
 abbrev pub cycle_part : ArrivalSum → CycleNumbers
 cycle_part s = record { arrivals = s.cycle_arrivals; green = s.cycle_green; green_tenths = s.green_tenths; tenths = s.cycle_tenths }
 

@@ -7,7 +7,7 @@ use Rattle.channel_tables.specs.PhaseTable.{clear, clear_done, green, red, yello
 use Rattle.reach.specs.Runs.{State}
 use Rattle.ring_config.specs.Settings.{Settings, spec_place}
 
--- the colour is Green
+-- the colour is the phase's green
 abbrev pub is_green : ℕ → Bool
 is_green c = c == green
 
@@ -36,7 +36,7 @@ CountOf P (x ∷ xs) n = (P x × ((m : ℕ) × (n ≡ suc m) × CountOf P xs m))
 abbrev pub phase_channel : ℕ → Channel
 phase_channel p = record { kind = Phase; number = p }
 
--- of these rows of detectors, so many are at tenths at whose end the phase passes in all states that it may have, in none and only in some; May says of a channel's place and a tenth which states it may have at the tenth's end
+-- the counts of these actuations by what the phase shows when they come: the colour passes in all states that it may have then, in none, or only in some; May says which states a channel may have at the end of a tenth
 pub record AreJudged (May : ℕ → ℕ → State → Type 0) (c : Settings) (p : ℕ) (test : ℕ → Bool) (ons : List Row) (all none some : ℕ) : Type 0 where
   pub place : ℕ
   pub is_place : spec_place c.specs (phase_channel p) ≡ Some place

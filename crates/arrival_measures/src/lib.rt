@@ -8,7 +8,7 @@
 //! at a point between hours are carried over it. In a whole cycle the rows alone say what the phase
 //! shows, so what a cycle gives is added up row by row and carried over the points too.
 //! For diagrams the view of the hour says which rows are arrivals; for the numbers the detector's own
-//! rows do. `docs/DEFINITIONS.md` has the definitions.
+//! rows do.
 //!
 //! An approach goes over its own rows alone: one pass puts the rows of an hour into chains, from
 //! each row of a phase or of a detector to the next one.

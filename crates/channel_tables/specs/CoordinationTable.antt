@@ -6,27 +6,27 @@ use Rattle.channel_tables.specs.Table.{Table, line}
 abbrev pub free : ℕ
 free = 0
 
--- in step with its plan
+-- the coordination is in step with its plan
 abbrev pub in_step : ℕ
 in_step = 1
 
--- in transition, adding time to cycles
+-- the coordination is in transition, adding time to cycles
 abbrev pub transition_add : ℕ
 transition_add = 2
 
--- in transition, taking time from cycles
+-- the coordination is in transition, taking time from cycles
 abbrev pub transition_subtract : ℕ
 transition_subtract = 3
 
--- in transition, dwelling
+-- the coordination is in transition, dwelling
 abbrev pub transition_dwell : ℕ
 transition_dwell = 4
 
--- at the local zero of its cycle
+-- the coordination is at the local zero of its cycle
 abbrev pub local_zero : ℕ
 local_zero = 5
 
--- beginning to pick up coordination
+-- the coordination begins to pick up
 abbrev pub begin_pickup : ℕ
 begin_pickup = 6
 

@@ -6,23 +6,23 @@ use Rattle.channel_tables.specs.Table.{Table, line}
 abbrev pub off : ℕ
 off = 0
 
--- it shows green
+-- the overlap shows green
 abbrev pub green : ℕ
 green = 1
 
--- its green goes on after that of its phases
+-- the overlap's green goes on after that of its phases
 abbrev pub trailing : ℕ
 trailing = 2
 
--- it shows yellow
+-- the overlap shows yellow
 abbrev pub yellow : ℕ
 yellow = 3
 
--- its red clearance runs
+-- the overlap's red clearance runs
 abbrev pub clear : ℕ
 clear = 4
 
--- it shows nothing
+-- the overlap shows nothing
 abbrev pub dark : ℕ
 dark = 5
 

@@ -2,19 +2,19 @@
 use Rattle.std.specs.Prelude.{ℕ, List, [], ◌∷◌, codes}
 use Rattle.channel_tables.specs.Table.{Table, line}
 
--- solid don't walk
+-- the pedestrian signal shows solid don't walk
 abbrev pub dont_walk : ℕ
 dont_walk = 0
 
--- walk
+-- the pedestrian signal shows walk
 abbrev pub walk : ℕ
 walk = 1
 
--- the pedestrian clearance, with don't walk flashing
+-- the pedestrian clearance runs, and don't walk flashes
 abbrev pub clearance : ℕ
 clearance = 2
 
--- the signal shows nothing
+-- the pedestrian signal shows nothing
 abbrev pub dark : ℕ
 dark = 3
 

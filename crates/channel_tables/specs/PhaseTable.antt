@@ -6,31 +6,31 @@ use Rattle.channel_tables.specs.Table.{Table, line}
 abbrev pub red : ℕ
 red = 0
 
--- it has become active, and its green hasn't begun
+-- the phase has become active, and its green hasn't begun
 abbrev pub on : ℕ
 on = 1
 
--- it shows green
+-- the phase shows green
 abbrev pub green : ℕ
 green = 2
 
--- its green has been terminated, and its yellow hasn't begun
+-- the phase's green has been terminated, and its yellow hasn't begun
 abbrev pub term : ℕ
 term = 3
 
--- it shows yellow
+-- the phase shows yellow
 abbrev pub yellow : ℕ
 yellow = 4
 
--- its yellow has ended, and no red clearance has begun
+-- the phase's yellow has ended, and no red clearance has begun
 abbrev pub yellow_done : ℕ
 yellow_done = 5
 
--- its red clearance runs
+-- the phase's red clearance runs
 abbrev pub clear : ℕ
 clear = 6
 
--- its red clearance has ended, and it isn't inactive yet
+-- the phase's red clearance has ended, and it isn't inactive yet
 abbrev pub clear_done : ℕ
 clear_done = 7
 

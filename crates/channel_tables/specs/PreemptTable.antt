@@ -2,19 +2,19 @@
 use Rattle.std.specs.Prelude.{ℕ, List, [], ◌∷◌, codes}
 use Rattle.channel_tables.specs.Table.{Table, line}
 
--- no service: none has begun, or its exit has
+-- no service of the preempt runs: none has begun, or its exit has
 abbrev pub rest : ℕ
 rest = 0
 
--- the service has begun, and neither track clearance nor dwell
+-- the preempt's service has begun, and neither track clearance nor dwell
 abbrev pub entry : ℕ
 entry = 1
 
--- the track is being cleared
+-- the preempt's track clearance runs
 abbrev pub track : ℕ
 track = 2
 
--- the signal dwells
+-- the preempt's dwell runs
 abbrev pub dwell : ℕ
 dwell = 3
 

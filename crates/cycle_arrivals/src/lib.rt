@@ -3,7 +3,7 @@
 //!
 //! A cycle begins with an end of yellow and has no unknown tenth, so its rows alone say what the
 //! phase shows at the end of each tenth. An `Open` is added to range by range, in whichever hours
-//! the cycle lies. `docs/DEFINITIONS.md` has the definitions.
+//! the cycle lies.
 #![tactic(auto)]
 
 mod in_tenth;

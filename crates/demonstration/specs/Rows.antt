@@ -7,11 +7,11 @@ use Rattle.demonstration.specs.Draws.{first_draw, second_draw, after_two}
 abbrev pub row : ℕ → ℕ → ℕ → Row
 row at code param = record { at = at; code = code; param = param }
 
--- of the next two draws the first: how many tenths the green lasts
+-- how many tenths the next green lasts, by the next two draws
 abbrev pub green : ℕ → ℕ
 green x = 100 + first_draw x % 200
 
--- of the next two draws the second: the code by which the green ends, 4 to 6
+-- the code by which the next green ends, 4 to 6, by the next two draws
 abbrev pub ending : ℕ → ℕ
 ending x = 4 + second_draw x % 3
 
@@ -23,7 +23,7 @@ service_rows at phase green ending =
     ∷ row (at + green + 35) 9 phase ∷ row (at + green + 35) 10 phase
     ∷ row (at + green + 50) 11 phase ∷ row (at + green + 50) 12 phase ∷ []
 
--- phases 2 and 4 take turns
+-- the phase that is served after this one: phases 2 and 4 take turns
 abbrev pub other_phase : ℕ → ℕ
 other_phase phase = if phase == 2 then 4 else 2
 
@@ -35,11 +35,11 @@ services (suc k) end x at phase =
     then service_rows at phase (green x) (ending x) ++ services k end (after_two x) (at + green x + 50) (other_phase phase)
     else []
 
--- of the next two draws the first: the tenths until the detector goes on
+-- how many tenths pass until the detector goes on, by the next two draws
 abbrev pub quiet : ℕ → ℕ
 quiet x = 20 + first_draw x % 100
 
--- of the next two draws the second: the tenths that it stays on
+-- how many tenths the detector then stays on, by the next two draws
 abbrev pub held : ℕ → ℕ
 held x = 5 + second_draw x % 40
 

@@ -7,7 +7,6 @@
 //! fault. `OnTenths` adds these up over ranges that cross hours. All of it says what is reached by
 //! the tenths so far, so it stays true whatever is known of later ones; that one history of the
 //! window has all least numbers at once, and one all greatest, are laws of `free_channels`.
-//! `docs/DEFINITIONS.md` has the definitions.
 #![tactic(auto)]
 
 mod asked;

@@ -20,7 +20,7 @@ use Rattle.filling_pair.specs.declared.strands.Strand.{Strand}
 use Rattle.filling_pair.specs.Strands.{AreStrands, Leads, events_with}
 use Rattle.signal_log.specs.Rows.{hour_rows, rows_before}
 
--- what stands at the tenths before t, and then the first j events of tenth t, lead the strand's channel to the state
+-- what stands at the tenths before t, and then the first j events of tenth t, lead the strand's channel to the state v
 abbrev pub LeadsInto : Log → Strand → ℕ → ℕ → State → Type 0
 LeadsInto log s t j v = (a : State) × Leads log s t a × Steps (track_at log s.spec).rules (pos t) a (letters (track_at log s.spec) (take j (events_with log s.fills t))) v
 

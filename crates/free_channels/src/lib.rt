@@ -4,7 +4,7 @@
 //! Such a channel's states at a tenth follow from what came before, whatever comes after. Its
 //! colours have an order that no row turns round, so that one agreeing history has it on at the
 //! fewest tenths of all ranges at once, and one at the most. The crate has laws alone, over all
-//! histories of a window. `docs/DEFINITIONS.md` has the definitions.
+//! histories of a window.
 #![tactic(auto)]
 
 mod laws;

@@ -24,7 +24,7 @@ pub record Spells (bytes : List ℕ) (n : ℕ) : Type 0 where
   pub number : IsNumber bytes
   pub value : n ≡ value_of bytes
 
--- a number below 2 ^ 21 in a packed hour: one to three bytes, of seven bits each but the last
+-- a number below 2 ^ 21 in a packed hour: one to three bytes of seven bits each, the lowest first
 unfoldable pub number_bytes : ℕ → List ℕ
 number_bytes n =
     if nat_lt n 128 then n ∷ []

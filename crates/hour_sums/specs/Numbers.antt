@@ -37,7 +37,7 @@ merged put [] ys = ys
 merged put (x ∷ xs) [] = x ∷ xs
 merged put (x ∷ xs) (y ∷ ys) = put x y ∷ merged put xs ys
 
--- those of number p
+-- the elements whose number is p
 abbrev pub own : {I : Type 0} → (I → ℕ) → ℕ → List I → List I
 own number p xs = filter (λ x. number x == p) xs
 

@@ -2,8 +2,7 @@
 //! their totals over the hours of a report are those of the whole log; none of them stands still at
 //! the last value of a u64. And laws of the green of cycles, which the rows alone tell.
 //!
-//! Each law is the contract of a function that does nothing. `docs/DEFINITIONS.md` has the
-//! definitions.
+//! Each law is the contract of a function that does nothing.
 #![tactic(auto)]
 
 mod laws;

@@ -3,7 +3,7 @@
 //!
 //! A delay or a dwell counts in the hour of its last row, so the numbers of a log are the sums of
 //! its hours' numbers. Where a tenth between its rows isn't known it is partial. What crosses the
-//! points between hours is kept in an `OtherCarry`. `docs/DEFINITIONS.md` has the definitions.
+//! points between hours is kept in an `OtherCarry`.
 #![tactic(auto)]
 
 mod carry;

@@ -24,7 +24,7 @@ number_or_dash (Some n) = decimal n
 
 -- ---- a line for each number
 
--- of the numbers from n to 16 those that there are
+-- the numbers from n to 16 that there are
 unfoldable pub numbers_from : (ℕ → Bool) → ℕ → List ℕ
 numbers_from has n = filter has (range_with_len n (17 - n))
 

@@ -107,7 +107,7 @@ mask_of numbers = fold (λ mask n. bit_or mask (2 ^ (n - 1))) 0 numbers
 abbrev pub phases_in : ℕ → List ℕ
 phases_in mask = filter (λ n. bit_at mask (n - 1) == 1) (range_with_len 1 16)
 
--- 1 to 8 of them
+-- an overlap has 1 to 8 parents
 abbrev pub few_parents : List ℕ → Bool
 few_parents found = nat_le 1 (length found) && nat_le (length found) 8
 

@@ -5,11 +5,11 @@ use Rattle.std.specs.Prelude.{◌+◌, ◌-◌, ◌*◌, ◌&&◌, nat_le, if◌
 abbrev pub is_digit : ℕ → Bool
 is_digit b = nat_le 48 b && nat_le b 57
 
--- what a digit is worth
+-- the number that a digit says
 abbrev pub digit : ℕ → ℕ
 digit b = min (b - 48) 9
 
--- every byte is a digit
+-- each byte is a digit
 abbrev pub all_digits : List ℕ → Bool
 all_digits [] = true
 all_digits (b ∷ bs) = is_digit b && all_digits bs

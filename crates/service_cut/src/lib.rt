@@ -7,7 +7,6 @@
 //! `CutCarry`, and each service and cycle is listed in the hour of its last row. The four rows of
 //! each service are listed beside it: those whose red window isn't over at a point cross it too,
 //! as `Closing`.
-//! `docs/DEFINITIONS.md` has the definitions.
 #![tactic(auto)]
 
 mod carry;

@@ -45,12 +45,12 @@ MadeTally c s ch (Ok new) h m k =
 abbrev pub EditTally : Settings → Store → Change → ℕ → ℕ → ℕ → Type 0
 EditTally c s ch h m k = MadeTally c s ch (step_of s ch) h m k
 
--- the same by a load or a replacement of what a file says
+-- how often an hour moves and lies so by a load or a replacement of what a file says
 abbrev pub ReadTally : Settings → (Shown → Change) → Store → Result Shown Unread → ℕ → ℕ → ℕ → Type 0
 ReadTally c make s (Ok shown) h m k = EditTally c s (make shown) h m k
 ReadTally c make s (Err e) h m k = (m ≡ 0) × (k ≡ 0)
 
--- the same by a load or a replacement of an hour by these bytes
+-- how often an hour moves and lies so by a load or a replacement of an hour by these bytes
 abbrev pub FetchTally : Settings → ℕ → (Shown → Change) → Store → Result (List ℕ) Refusal → ℕ → ℕ → ℕ → Type 0
 FetchTally c hour make s (Ok bytes) h m k = ReadTally c make s (hour_said (wanted_for c hour) bytes) h m k
 FetchTally c hour make s (Err refusal) h m k = (m ≡ 0) × (k ≡ 0)
@@ -63,7 +63,7 @@ BytesTally c load s bytes h m k = ReadTally c (hour_change load.replaces) s (hou
 abbrev pub LoadTally : Settings → LoadLine → Store → Result (List ℕ) Refusal → ℕ → ℕ → ℕ → Type 0
 LoadTally c load s want h m k = FetchTally c load.hour (hour_change load.replaces) s want h m k
 
--- the line is an edit, asks for measures, is bad or is skipped; one that asks for the diagrams of a phase is bad where the phase isn't configured, and one that asks for the shifts of an approach where no approach of this name has an advance detector
+-- the line can be counted: it is an edit, asks for measures, is bad or is skipped; one that asks for the diagrams of a phase is bad where the phase isn't configured, and one that asks for the shifts of an approach where no approach of this name has an advance detector
 abbrev pub IsPlain : Settings → Said → Type 0
 IsPlain c line.audit = ⊥
 IsPlain c (line.verdicts hour) = ⊥
@@ -71,7 +71,7 @@ IsPlain c (line.points p) = has_phase c.phases p ≡ false
 IsPlain c (line.offsets name) = advance_of c name ≡ None
 IsPlain c _ = ⊤
 
--- the same by one line of a script
+-- how often an hour moves and lies so by one line of a script
 unfoldable pub LineTally : Files → Settings → Said → Store → ℕ → ℕ → ℕ → Type 0
 LineTally files c (line.load hour name) s h m k = FetchTally c hour (hour_change false) s (hour_bytes files c hour name) h m k
 LineTally files c (line.replace hour name) s h m k = FetchTally c hour (hour_change true) s (hour_bytes files c hour name) h m k
@@ -80,19 +80,19 @@ LineTally files c (line.blank from to) s h m k = EditTally c s (change.blank fro
 LineTally files c (line.unblank from to) s h m k = EditTally c s (change.unblank from to) h m k
 LineTally files c _ s h m k = (m ≡ 0) × (k ≡ 0)
 
--- the same by lines in their order, numbered from n, which make the last store of the first one
+-- how often an hour moves and lies so by lines in their order, numbered from n, which make the last store of the first one
 unfoldable pub AreTallied : Files → Settings → ℕ → List (List ℕ) → Store → Store → ℕ → ℕ → ℕ → Type 0
 AreTallied files c n [] s last h m k = (last ≡ s) × (m ≡ 0) × (k ≡ 0)
 AreTallied files c n (l ∷ ls) s last h m k =
     (t : Turn) × IsTurn files c n (said c.window l) s t
     × ((m1 : ℕ) × (k1 : ℕ) × (m2 : ℕ) × (k2 : ℕ) × LineTally files c (said c.window l) s h m1 k1 × AreTallied files c (n + 1) ls t.store last h m2 k2 × (m ≡ m1 + m2) × (k ≡ k1 + k2))
 
--- each line is such a line
+-- each of the lines can be counted
 abbrev pub ArePlain : Settings → List (List ℕ) → Type 0
 ArePlain c [] = ⊤
 ArePlain c (l ∷ ls) = IsPlain c (said c.window l) × ArePlain c ls
 
--- the same by the lines of a script over a store
+-- how often an hour moves and lies so by the lines of a script over a store
 abbrev pub ScriptTally : Files → Settings → List (List ℕ) → Store → ℕ → ℕ → ℕ → Type 0
 ScriptTally files c lines s h m k = (last : Store) × AreTallied files c 1 lines s last h m k
 
@@ -101,23 +101,23 @@ abbrev pub AreCounted : (ℕ → ℕ → ℕ → Type 0) → List ℕ → List �
 AreCounted Tally old new =
     (length new ≡ length old) × ((h : ℕ) → h < length old → (m : ℕ) × (k : ℕ) × Tally h m k × IsOpened m (3 * (m + k)) (slice_index old h) (slice_index new h))
 
--- where all lines of a script are such lines, and it is carried out for their texts, each hour is opened as said; nothing is said where the script isn't there
+-- where each line of a script can be counted, and it is carried out for their texts, each hour is opened as often as said; nothing is said where there is no script
 abbrev pub OpensText : Files → Settings → Aim → List ℕ → List ℕ → Option (List ℕ) → Type 0
 OpensText files c for_lines old new None = ⊤
 OpensText files c for_lines old new (Some script) = ArePlain c (lines_of script) → AreCounted (ScriptTally files c (lines_of script) (nothing_held c.window.hours)) old new
 OpensText files c (for_rule rule at) old new script = ⊤
 
--- under a configuration that is read, each hour is opened as said by the lines of the script's file; nothing is said where it is refused
+-- under a configuration that is read, each hour is opened as often as said by the lines of the script's file; nothing is said where it is refused
 abbrev pub OpensConfig : Files → Aim → List ℕ → List ℕ → List ℕ → Read Settings → Type 0
 OpensConfig files aim script old new (Err e) = ⊤
 OpensConfig files aim script old new (Ok c) = OpensText files c aim old new (limited (4 * 2 ^ 20) (files script))
 
--- by the bytes of a configuration's file, each hour is opened as said; nothing is said where there is no such file
+-- by the bytes of a configuration's file, each hour is opened as often as said; nothing is said where there is no such file
 abbrev pub OpensFile : Files → Aim → List ℕ → List ℕ → List ℕ → Option (List ℕ) → Type 0
 OpensFile files aim script old new None = ⊤
 OpensFile files aim script old new (Some bytes) = OpensConfig files aim script old new (config_of bytes)
 
--- each hour is opened as said by a run of a script over a configuration; nothing is said of words that ask for something else
+-- each hour is opened as often as said by a run of a script over a configuration; nothing is said of words that ask for something else
 abbrev pub OpensAnswer : Files → List ℕ → List ℕ → Option Asked → Type 0
 OpensAnswer files old new None = ⊤
 OpensAnswer files old new (Some (for_run config script)) = OpensFile files for_lines script old new (limited (2 ^ 20) (files config))

@@ -108,7 +108,7 @@ abbrev pub IsFileOutcome : Files → Aim → List ℕ → Option (List ℕ) → 
 IsFileOutcome files aim script None lines o = o ≡ outcome [] ended.NoFile
 IsFileOutcome files aim script (Some bytes) lines o = IsConfigOutcome files aim script (config_of bytes) lines o
 
--- of a demonstration of so many hours: that of its script over its configuration, both among its own files
+-- the outcome of a demonstration of so many hours: that of its script over its configuration, both among its own files
 abbrev pub IsDemoOutcome : ℕ → (List ℕ → List (List ℕ)) → Outcome → Type 0
 IsDemoOutcome hours lines o =
     IsFileOutcome (demo_files hours) for_lines script_name (limited (2 ^ 20) (demo_files hours config_name)) lines o

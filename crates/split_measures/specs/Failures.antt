@@ -5,7 +5,7 @@ use Rattle.split_measures.specs.declared.failures.SplitSum.{SplitSum}
 use Rattle.split_measures.specs.declared.verdict.SplitVerdict.{SplitVerdict}
 use Rattle.split_measures.specs.declared.verdict.SplitVerdict.TheVariants.{Fail, Pass, Undecided, Open, Fault}
 
--- both verdicts are the same
+-- both are one verdict
 abbrev pub is_verdict : SplitVerdict → SplitVerdict → Bool
 is_verdict Fail Fail = true
 is_verdict Pass Pass = true

@@ -8,7 +8,6 @@
 //! A service is a split failure where its stop bar's detector was on long enough in its green, and
 //! in the 50 tenths from the end of its yellow on: demand lasted through the green and was still
 //! there after it. Where tenths are unknown, that may be so in some histories only.
-//! `docs/DEFINITIONS.md` has the definitions.
 #![tactic(auto)]
 
 mod bars;

@@ -5,7 +5,7 @@
 //! the green of the service that was open at the point, and the services whose red window wasn't
 //! over. It gives the windows that end in it, and the two things for the next hour. The numbers are
 //! `OnTenths` of `detector_state`, said of the log: they stay true whatever is known of later
-//! tenths, and they need no known tenth. `docs/DEFINITIONS.md` has the definitions.
+//! tenths, and they need no known tenth.
 #![tactic(auto)]
 
 mod hour;

@@ -2,7 +2,7 @@
 //! in all histories that agree with the log, and those at whose end no colour is certain.
 //!
 //! What holds at the end of a tenth changes only at a row of the channel and at a gap, so whole
-//! ranges between two of these are counted at once. `docs/DEFINITIONS.md` has the definitions.
+//! ranges between two of these are counted at once.
 #![tactic(auto)]
 
 mod asked;

@@ -3,7 +3,7 @@
 //!
 //! `split_windows` counts for services that it is given; here they are those that `service_cut`
 //! lists of the log, so what is said of an hour is said of the log up to it. What crosses a point
-//! is one value, whatever is known of later tenths. `docs/DEFINITIONS.md` has the definitions.
+//! is one value, whatever is known of later tenths.
 #![tactic(auto)]
 
 mod all;

@@ -1,0 +1,189 @@
+"""What bench/believe can't read off the sources: subjects, laws, and the sentences of its page."""
+
+# Each subject with its files, in the order in which one reads; a file is `crate.Name`, all files of a crate `crate`.
+SUBJECTS = [
+    ("Time and rows", "sig_base.Window sig_base.Stamp sig_base.HourRows sig_base.Numbers board.Logs span_set hour_sweep.Hours"
+     " hour_sweep.Rows"),
+    ("Codes and machines", "event_codes colour_machine channel_tables"),
+    ("Store and edits", "hour_store session.Ranges session.Edits"),
+    ("Histories and agreement", "reach.Runs board.Channels board.History signal_log.Log signal_log.Rows signal_log.States"
+     " free_channels"),
+    ("Rules and verdicts", "reach.Tests board.Verdicts rule_audit hour_work.Verdicts hour_work.Counts"),
+    ("Decisive windows", "decisive session.Windows"),
+    ("Measures", "hour_sums hour_sweep.Numbers service_cut.Signs service_cut.Services service_cut.Cycles service_cut.Cut"
+     " state_tenths stop_bar.Lists stop_bar.Bars stop_bar.All split_measures other_measures.LastRows other_measures.Peds"
+     " other_measures.Preempts other_measures.Sums other_measures.States other_measures.Hours cycle_arrivals.Arrivals"
+     " cycle_arrivals.Own cycle_arrivals.Green arrival_measures.Faults arrival_measures.Travel arrival_measures.Cycles"
+     " arrival_measures.Judged arrival_measures.Hours arrival_measures.Points offset_search hour_work.Rows hour_work.Measures"
+     " hour_work.Numbers hour_work.Reports"),
+    ("What moves", "reach.Past reach.Ahead board.Hours board.Places board.Stops signal_log.Points service_cut.Parts"
+     " detector_state split_windows stop_bar.Crossing other_measures.Crossing cycle_arrivals.Opens arrival_measures.Crossing"
+     " hour_work.Points hour_work.Moved session.Moved"),
+    ("Files", "row_reader hour_pack sigaudit.HourFile"),
+    ("Configuration", "ring_config"),
+    ("Words", "command_line sigaudit.Asked sigaudit.Aims"),
+    ("Script", "script_lines"),
+    ("Texts", "report_text.Line report_text.Heads report_text.Counts report_text.Refusals report_text.Packed"
+     " report_text.ConfigRefusal report_text.Applied report_text.Rules report_text.Audit report_text.Approaches"
+     " report_text.Measures report_text.Shifts report_text.Usage"),
+    ("The demonstration", "demonstration"),
+    ("Pairs", "strand_search filling_pair session.Pairs report_text.Pairs sigaudit.Pairs"),
+    ("The run", "sig_base.Reads outside sigaudit.Turns sigaudit.Audit sigaudit.Points sigaudit.Offsets sigaudit.Script"
+     " sigaudit.Transcript session.Opens sigaudit.Counting sigaudit.Run"),
+]
+
+# Laws above definitions: `crate.Name.definition crate function clause..`; a nameless clause is `-`. Of the first list the
+# law says all that the definition says, in other words; of the second some of it.
+EQUATES = """
+service_cut.Services.service_at service_cut services_are_whole -
+service_cut.Cycles.cycle_at service_cut cycles_are_whole -
+cycle_arrivals.Green.shows_green hour_work cycles_show_green green not_green
+cycle_arrivals.Green.green_arrivals_in measure_laws green_is_of_all_histories cycles
+cycle_arrivals.Green.green_tenths_in measure_laws green_is_of_all_histories cycles
+arrival_measures.Faults.faulty fault_rows faulty_is_sure -
+arrival_measures.Faults.is_fault_row fault_rows fault_rows_are_sure -
+arrival_measures.Faults.is_arrival fault_rows fault_rows_are_sure -
+free_channels.Tells.IsSure free_channels colours_tell -
+free_channels.Tells.IsColourReached free_channels colours_tell -
+hour_work.Measures.services_in hour_work hours_make_up_the_log own_services
+hour_work.Measures.cycles_in hour_work hours_make_up_the_log own_cycles
+hour_work.Numbers.total_of hour_work totals_are_of_the_log splits others arrivals
+hour_work.Numbers.total_of measure_laws split_totals_are_of_the_log -
+hour_work.Numbers.total_of measure_laws arrival_totals_are_of_the_log -
+hour_work.Numbers.total_of measure_laws state_totals_are_of_the_log -
+hour_work.Numbers.total_of measure_laws rule_totals_are_of_the_log -
+split_measures.Phases.added split_measures numbers_add_up -
+other_measures.Sums.ped_added other_measures numbers_add_up delays
+other_measures.Sums.preempt_added other_measures numbers_add_up events
+hour_pack.Reading.reading hour_pack reading_is_exact -
+hour_pack.Reading.reading hour_pack faults_have_causes -
+hour_pack.Number.number_bytes hour_pack numbers_have_one_spelling each one
+row_reader.Stamp.stamp_in row_reader read_stamp value forms
+row_reader.Stamp.hour_stamp_of row_reader read_hour_stamp value forms
+row_reader.Order.in_row_order row_reader put_in_order order rise permutation tenths
+sig_base.Stamp.stamp_at sig_base Window::stamp value shows
+"""
+TELLS = """
+
+service_cut.Cut.served_from service_cut served_are_services -
+service_cut.Cut.services_from service_cut hours_add_up services
+service_cut.Cut.services_from service_cut hours_count services
+service_cut.Cut.cycles_from service_cut hours_add_up cycles
+service_cut.Cut.cycles_from service_cut hours_count cycles
+service_cut.Cut.cycles_from hour_work green_before_yellow cycles
+service_cut.Cut.closing_at service_cut closing_is_of_the_hour -
+service_cut.Cycles.cycle_begun_of measure_laws open_cycles_show_green green not_green
+other_measures.Hours.delays_from hour_work hours_make_up_the_log delays
+other_measures.Hours.events_from hour_work hours_make_up_the_log events
+arrival_measures.Points.points_from hour_work hours_make_up_the_log points
+arrival_measures.Points.diagrams_of arrival_measures diagrams_fit -
+split_measures.Failures.both_sums measure_laws sums_keep_adding_up -
+split_measures.Hours.IsSplitSum measure_laws splits_add_up -
+split_measures.Hours.AreSplitSums split_measures split_sums_are_one -
+split_measures.Verdicts.IsVerdict split_measures numbers_tell -
+arrival_measures.Hours.AreAllJudged measure_laws arrivals_add_up -
+arrival_measures.Hours.added measure_laws sums_keep_adding_up -
+detector_state.Hours.AreTenths split_windows tenths_are_one -
+state_tenths.Ranges.Counts free_channels numbers_bound -
+state_tenths.Ranges.Counts free_channels numbers_reached -
+stop_bar.Bars.IsAtBar stop_bar what_crosses_is_one -
+stop_bar.Bars.ending stop_bar windows_are_listed_once -
+split_windows.Windows.ArePending split_windows pending_are_one -
+hour_work.Verdicts.AreAuditLines hour_work reports_are_one lines
+hour_work.Reports.IsReport hour_work reports_are_one report
+hour_work.Reports.IsReport measure_laws sums_are_plain -
+hour_work.Reports.IsReport measure_laws green_is_of_all_histories hours totals
+hour_work.Points.IsCarryAt hour_work points_are_one carries
+hour_work.Points.IsFutureAt hour_work points_are_one futures
+rule_audit.Rules.rules_for rule_audit rules_are_of_their_channels -
+rule_audit.Obligations.obligations_from filling_pair obligations_have_lines -
+board.Verdicts.IsVerdict decisive clause_by_terms -
+decisive.Window.only decisive more_is_known only whole
+decisive.Window.HasLogVerdict decisive more_is_known broken idle open grows
+decisive.Window.IsDecisive decisive window_is_one -
+signal_log.Log.HasHistory signal_log some_history_agrees history
+signal_log.Log.IsContradiction signal_log some_history_agrees none one
+signal_log.Points.ArePastsAt signal_log points_at_both_ends first
+signal_log.Points.AreAheadsAt signal_log points_at_both_ends last
+signal_log.Points.ArePastsAt signal_log points_see_one_side before
+signal_log.Points.AreAheadsAt signal_log points_see_one_side after
+signal_log.States.MayBeAtEnd signal_log channels_combine -
+hour_store.Store.nothing_held signal_log nothing_contradicts -
+hour_store.Store.is_known signal_log less_is_known -
+row_reader.Repeats.without_repeats row_reader drop_repeats kept part no_repeat count
+hour_pack.Grammar.packed hour_pack none_begins_another -
+offset_search.Shifted.counts_of offset_search shift_counts counts reach
+filling_pair.Strands.AreStrands filling_pair strands_are_of_history -
+filling_pair.Kept.AreKept filling_pair kept_by_states -
+sigaudit.Transcript.IsTranscript sigaudit transcripts_are_one one
+sigaudit.Transcript.IsTranscript transcript_laws transcripts_exist exists
+sigaudit.Transcript.IsBeginning sigaudit transcripts_are_one begins
+sigaudit.Transcript.IsBeginning transcript_laws transcripts_exist begins
+"""
+
+# The headline in ten sentences; `[words](crate.Name.definition)` leads to the definition.
+HEADLINE = """
+1. A run gets words, a shelf of files and a sink of bytes. Where the shelf tells its files, and the words don't ask for fillings of unknown tenths, [it ends as the transcript does](sigaudit.Run.IsRun) and writes exactly its bytes; or it ends with `Fault` and a count of faults rose, or with `Memory`, and [wrote a front of what the transcript begins with](sigaudit.Run.WritesBeginning).
+2. [The transcript](sigaudit.Transcript.IsTranscript) is what [the words ask for](sigaudit.Asked.asked_of), [answered from the files](sigaudit.Transcript.IsAnswer): the usage line, a count, a packed hour, a script over a configuration, or [the same over made-up files](sigaudit.Transcript.IsDemoOutcome).
+3. [What a configuration says](ring_config.Settings.config_of) is accepted or refused by its bytes alone; then [each line of the script](script_lines.Lines.lines_of), by [what it says](script_lines.Words.said), has [its turn](sigaudit.Script.IsTurn) over a store that at first [holds nothing](hour_store.Store.nothing_held).
+4. [A store](hour_store.Store.Store) has for each hour nothing or the rows that [the hour's file says](sigaudit.HourFile.hour_said), and the blanked tenths; [a tenth is known](hour_store.Store.is_known) where its hour is held and it isn't blanked; an edit [makes another store of it, or is refused](session.Edits.step_of) by the first reason in a fixed order.
+5. [A history](board.History.History) has for each channel a state before the window, and for each tenth a list of events. [It agrees](signal_log.Log.AgreesWith) with what is known where each event is [legal](reach.Runs.Step) for its channel by the channel's [table](channel_tables.Tables.table_of), and each known tenth has exactly the events of its rows.
+6. An edit that isn't refused so is [accepted where some history agrees](sigaudit.Script.IsMade) with the new store, and answered by [the hours that move](session.Moved.Moves); else it is refused by [the row at which the store contradicts itself](signal_log.Log.IsContradiction), and nothing has changed.
+7. [An audit](sigaudit.Audit.IsAudited) judges [what is to be judged](hour_work.Verdicts.obligations_in) by [the rules](rule_audit.Rules.rules_for) over all histories that agree with the store: [a duration](rule_audit.Judged.IsIntervalVerdict), and [what channels show together](board.Verdicts.IsVerdict), is kept in all of them, broken in none, or else undecided; where the interval ends in none it is idle, and has no line.
+8. Each broken line has [the stretch of the log that decides it](decisive.Window.IsDecisive).
+9. Measures are those of [the store's report](hour_work.Reports.IsReport): [of services and cycles](hour_work.Measures.AreMeasures) by the known rows, and [split failures](split_measures.Verdicts.IsVerdict), [arrivals](arrival_measures.Judged.AreJudged) and [tenths in a state](state_tenths.States.Meets) over all histories; those of the window are [the hours' together](hour_work.Numbers.total_of).
+10. Each end of a run [has its cause](sigaudit.Run.HasCause), whatever shelf and sink tell; words that ask for fillings are answered by [one right answer of several](sigaudit.Run.IsPairsRun); and edits open [the hours that move, and few others](sigaudit.Counting.OpensAnswer).
+"""
+
+ANTT = """
+A clause is a proposition, and a proposition is a type in `Type 0`. A name of type `A → B → Type 0` is a relation of an A and a B, one of type `A → B → ℕ` a function.
+
+| Written | Read |
+|---|---|
+| `f x y`, `f (g x)` | f of x and y, f of g of x |
+| `a ≡ b`, `a ≢ b` | a and b are equal; they differ |
+| `P × Q`, `P ⊎ Q`, `P → Q`, `P ↔ Q`, `P → ⊥` | and, or, implies, exactly where, not |
+| `(x : A) → P`, `(x : A) × P` | for all x of A, for some x of A |
+| `⊤`, `Unit {0}`; `⊥` | true; false |
+| `f [] = ..`, `f (x ∷ xs) = ..` | a definition by cases: the first one that fits holds, and `_` fits all |
+| `record R : Type 0 where` with fields | values with these fields. Where the fields are propositions, `R` says all of them, and a field that is a value is read *for some*. Names in parentheses behind `R` are its arguments |
+| `record { f = a }`, `record r { f = a }`, `r.f`, `p.0` | a record, r with another f, its field f; the first part of a pair |
+| `data D : Type 0 where` with names | values of one of these forms |
+| `ℕ`, `a - b`, `a / b` | numbers from 0; the difference, 0 at the least; the whole quotient |
+| `ℤ`, `pos 5`, `negsuc 4`, `≤ℤ`, `+ℤ` | integers, 5, -5, and their order and sum |
+| `Bool`, `nat_lt a b`, `nat_le a b`, `==`, `&&`, `not`, `IsTrue b` | tests: less, at most, equal, and, not; the test is true |
+| `List A`, `[]`, `x ∷ xs`, `++`, `length`, `map f xs`, `filter p xs`, `take n xs`, `fold`, `flat_map`, `All P xs` | lists, as in other languages. A text is the list of its bytes, and `codes "ab"` are those of `ab` |
+| `find p xs`, `position p xs`, `list_any p xs`, `list_all p xs`, `count_by p xs`, `sum xs`, `range_with_len a n` | the first element that passes the test p, its place, whether some does, whether all do, how many do; the sum; the n numbers from a on |
+| `slice_get xs i`, `slice_index_or xs i d`, `slice_index xs i` | what stands at place i, from 0: `None`, d or 0 where nothing does |
+| `Option A`, `Some x`, `None`; `Result A E`, `Ok x`, `Err e`; `IfSome o (λ x. P)` | a value or nothing; a value or an error; P of the value, where there is one. `option_map f o` is f of the value, `unwrap_or o d` the value or d |
+| `Appends a b bytes` | of bytes that may be told or not: where a is told so is b, and it is a with these bytes behind it |
+| `λ x. e`, `let x = e in ..`, `if c then a else b`, `do x ← e ..` | a function, a name, a choice; e and what follows it, unless e is an error |
+| `abbrev`, `unfoldable`, `pub`, `{A : Type 0}` | how the checker opens a name, who may use it, an argument that is left out: none of it matters for the meaning |
+
+A type of the code is shown in Rust. In a definition its numbers are `ℕ` (`i64` is `ℤ`), its texts and `Vec`s lists, and `Kind.Phase` is the variant `Phase`; a type whose fields nobody sees is shown by the value as which it is seen. In a clause of a function `x.old` and `x.new` are what the reference x leads to before and after the call, `x.now` is what it leads to at all, and `result` is the answer.
+"""
+INTRO = """
+# What must be believed
+
+A proof shows that the program does what a clause says. That the clause says what a traffic engineer means no proof shows: it has to be read. This page has all that the clauses of `run` rest on, and nothing else: each definition once, with what it means, its text and its place. `bench/believe write` makes it of the sources; `bench/believe check` says where it isn't what they give.
+
+Read the ten sentences, and go from each to its definitions; or read the subjects from the first to the last: inside a subject what is cited stands before what cites it, as far as that goes. *Cites* leads to what a definition takes from other files. Places are in `crates`.
+
+Words that stand everywhere: a *tenth* is a tenth of a second, counted from the window's start, and an hour has 36,000 of them; *point k* is where hour k begins. A *row* is an event of the log: tenth, code, parameter. A *channel* is a phase, a pedestrian signal, an overlap, a detector, a preempt's input or service, or the coordination; its *colour* is what it shows or does; a *letter* is one of its codes, by the code's place in the channel's table. A *floor* is the least age at which a colour may be left. A *spec* is a channel with its floors, and the place of a spec among all specs stands for the channel.
+"""
+
+CLAUSES = """
+A `Shelf` has of its own, beside its calls, `S.files`: what is at each name, where it is told, and `S.counts`: how often a file was missing, a fetch failed and a file was too long. A `Sink` has `K.taken`: the bytes that it took, where they are told, and how often it failed. The shelf and the sink in memory tell all; those of a disk and of standard output tell nothing, so of these the clauses without `IfSome` alone say something. `words` are the words after the program's name, `reads` how often each hour of the window was opened. The answer is a `Status`; `exit_code` gives each its number, from 0 for `Done` to 6 for `NoFile`.
+"""
+
+MARKS = """
+*The program written again* are definitions that compute and share their name with a function of their crate. *Said in other words*: a law equates the definition with a plainer one, where what the law wants holds, or it is cited on the way to such a one alone; then the plainer one may be believed in its place.
+"""
+
+LAWS = """
+Each is the contract of a public function that does nothing, or a clause of one that does something. A law needs no belief: it is proved, and its own definitions only make it readable.
+"""
+
+LIBRARIES = """
+The libraries state themselves what these names mean, in their own `specs/`; that is believed too. The numbers are of what the names rest on, in the kit of `rt`; `logic` is the lists and numbers below all of them. What is built into the checker counts nothing.
+"""

@@ -1,17 +1,19 @@
 -- Stop bars over an hour of a store.
-use Rattle.std.proofs.Common.{◌≡◌, refl, ap, ap₂, sym, ◌∙◌, subst, ℕ, ◌+◌, List, [], ◌++◌, arith}
+use Rattle.std.proofs.Common.{Bool, ◌≡◌, refl, ap, ap₂, sym, ◌∙◌, subst, ℕ, ◌+◌, List, [], ◌++◌, arith}
 use Rattle.sig_base.specs.declared.values.Row.{Row}
 use Rattle.gap_map.specs.declared.stretch.Stretch.{Stretch}
 use Rattle.board.specs.Logs.{end_tenth, first_tenth}
 use Rattle.hour_store.specs.Store.{Store, is_known}
-use Rattle.hour_sweep.specs.Hours.{AreOrdered, point}
+use Rattle.hour_sweep.specs.Hours.{AreOrdered, IsHour, point}
+use Rattle.signal_log.proofs.Stored.{cut_known}
+use Rattle.arrival_measures.specs.Crossing.{CarryParts, IsCarry as AreOpen}
 use Rattle.hour_sweep.specs.Rows.{known_rows}
 use Rattle.hour_sweep.proofs.Orders.{filter_ordered, rise_ordered}
 use Rattle.ring_config.specs.Settings.{Settings}
 use Rattle.signal_log.specs.Log.{HasHistory, log_of}
 use Rattle.rule_audit.proofs.Tracked.{channels_are}
 use Rattle.service_cut.specs.declared.items.Served.{Served}
-use Rattle.service_cut.specs.Cut.{CutLists, closing_at, served_from}
+use Rattle.service_cut.specs.Cut.{CutLists, IsCut as IsCutOf, closing_at, served_from}
 use Rattle.service_cut.proofs.Closings.{closing_later}
 use Rattle.detector_state.specs.declared.part.Part.{Part}
 use Rattle.split_windows.proofs.Fitting.{known_all}
@@ -19,7 +21,7 @@ use Rattle.stop_bar.specs.Crossing.{Crossing as AtBar}
 use Rattle.stop_bar.specs.All.{AreAtBars, AreTold, IsCutHour, IsHourHeld}
 use Rattle.split_measures.specs.declared.failures.SplitSum.{SplitSum}
 use Rattle.split_measures.specs.Hours.{AreHourSums, AreSplitSums, CrossesNext, IsLogUpto, IsSplitHour}
-use Rattle.hour_work.specs.Points.{AreClosingAt, Carried}
+use Rattle.hour_work.specs.Points.{AreClosingAt, AreOpenAt, Carried}
 use Rattle.hour_work.specs.Reports.{IsHourCut}
 use Rattle.hour_work.specs.Rows.{earlier_rows, own_rows}
 use Rattle.hour_work.proofs.MeasureLaws.{earlier_more, own_known}
@@ -72,6 +74,15 @@ module _ (c : Settings) (s : Store) (hour : ℕ) (before : Carried) (rows : List
       ∙ (ap₂ (λ x ws. closing_at x ws) e is.lists.served_are
       ∙ (sym (closing_later known c.phases (point hour) (end_tenth hour) front ks (omega arith) earlier order)
       ∙ ap₂ (λ x rs. closing_at x (served_from known c.phases [] rs)) at upto_is))
+
+  -- the arrivals that cross the next point are those of the hour
+  pub opens_next : (past new : CarryParts) → past ≡ before.arrivals → ((known : ℕ → Bool) (b : List Row) (h : ℕ) → IsHour known h rows ss → AreOpen known c b h past → IsCutOf known c.phases b h rows lists → AreOpen known c (b ++ known_rows known rows) (h + 1) new) → AreOpenAt c s (hour + 1) new
+  opens_next past new e law =
+      let known = is_known s in
+      let front = earlier_rows s hour in
+      let here : IsHour known hour rows ss = record { are_rows = is.are_rows; are_stretches = (cut_known s hour is.held is.blanks ss is.has_hour is.cut).stretches } in
+      let step = law known front hour here (subst (λ os. AreOpen known c front hour os) (sym e) is.is_before.arrivals) is.lists in
+      subst (λ rs. AreOpen known c rs (hour + 1) new) upto_is step
 
   log_upto : HasHistory (log_of c.specs s) → IsLogUpto (log_of c.specs s) c hour (earlier_rows s (hour + 1))
   log_upto some = let lt = is.has_hour.within in record {

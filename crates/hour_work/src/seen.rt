@@ -1,5 +1,7 @@
 // What is seen of an hour of which rows are held: its view, and what it gives.
-ghost use Rattle.std.specs.Prelude.{is_some, ◌≡◌, ◌+◌, ◌≤◌, ◌<◌, ◌^◌, ◌++◌, All, sum_by, true, IfOk};
+ghost use Rattle.std.specs.Prelude.{is_some, ◌≡◌, ◌+◌, ◌≤◌, ◌<◌, ◌^◌, ◌++◌, All, length, sum_by, true, IfOk};
+ghost use Rattle.arrival_measures.specs.Results.{AreHourSums, HaveHourCycles, IsCarriedOn};
+ghost use Rattle.signal_log.specs.Points.{rows_or_none};
 ghost use Rattle.gap_map.specs.Stretches.{known_in};
 ghost use Rattle.hour_store.specs.Store.{Store, is_known};
 ghost use Rattle.board.specs.Logs.{first_tenth};
@@ -17,7 +19,7 @@ ghost use Rattle.hour_work.specs.Measures.{MayBeIn, MeetsIn, cycles_in, services
 ghost use Rattle.hour_work.specs.Points.{AreBarsAt, AreClosingAt, AreCrossingAt, AreCutsAt, AreOpenAt, IsCarryAt};
 ghost use Rattle.hour_work.specs.Reports.{IsBetweenAt, IsSeenAt};
 
-use crate::steps::end_of;
+use crate::steps::{cuts_over, end_of};
 use crate::stop_bars::splits_seen;
 use crate::{Between, Carry};
 use arrival_measures::{ArrivalCarry, ArrivalSums, arrivals_hour};
@@ -26,7 +28,7 @@ use gap_map::Stretch;
 use other_measures::{OtherCarry, OtherSums, others_hour};
 use ring_config::Config;
 use rule_audit::{AuditLine, Rule, audit_rows};
-use service_cut::{Closing, CutCarry, cut_hour};
+use service_cut::{Closing, CutCarry, Cuts};
 use sig_base::NoMemory;
 use signal_log::Place;
 use split_measures::{SplitCarry, SplitSums};
@@ -128,14 +130,10 @@ pub(crate) fn cut_seen(
         → IsCarryAt config.now s place.now.hour before.now
         → AreOpenAt config.now s (place.now.hour + 1) v.opens) }
 {
-    let rows = place.rows();
-    let parts = place.stretches();
-    let mut cuts = before.cuts.copy()?;
-    let cut = cut_hour(alloc, config.phases(), &mut cuts, rows, parts)?;
+    let (cut, cuts) = cuts_over(alloc, config, place, before)?;
     let closing = Closing::of(alloc, &cut, end_of(place))?;
     let (splits, bars) = splits_seen(alloc, config, place, before, &cut)?;
-    let mut opens = before.arrivals.copy()?;
-    let arrivals = arrivals_hour(alloc, config, &mut opens, &cut, view, rows, parts)?;
+    let (arrivals, opens) = arrivals_seen(alloc, config, place, before, &cut, view)?;
     Ok(CutSeen {
         splits,
         arrivals,
@@ -144,6 +142,30 @@ pub(crate) fn cut_seen(
         bars,
         opens,
     })
+}
+
+// The numbers of its arrivals, and what is under way of them at the point after it.
+fn arrivals_seen(
+    alloc: Global,
+    config: &Config,
+    place: &Place<'_>,
+    before: &Carry,
+    cut: &Cuts,
+    view: &HourView,
+) -> Result<(ArrivalSums, ArrivalCarry), NoMemory>
+    requires { length view.now.specs ≡ length config.now.specs }
+    ensures judged { IfOk result (λ v. AreHourSums config.now view.now
+        (rows_or_none place.now.rows) place.now.stretches before.now.arrivals cut.now v.0) }
+    ensures cycles { IfOk result (λ v. HaveHourCycles config.now (rows_or_none place.now.rows)
+        place.now.stretches before.now.arrivals cut.now v.0) }
+    ensures carry { IfOk result (λ v. IsCarriedOn config.now (rows_or_none place.now.rows)
+        place.now.stretches cut.now before.now.arrivals v.1) }
+{
+    let rows = place.rows();
+    let parts = place.stretches();
+    let mut opens = before.arrivals.copy()?;
+    let arrivals = arrivals_hour(alloc, config, &mut opens, cut, view, rows, parts)?;
+    Ok((arrivals, opens))
 }
 
 /// The numbers of its pedestrian signals, preempts and coordination, and what is under way of them

@@ -1,5 +1,8 @@
 // From one hour point to the next, and back.
-ghost use Rattle.std.specs.Prelude.{◌≡◌, ◌+◌, ◌<◌, ℕ, List, Option, option_copied, IfOk, IfErr, IfSome};
+ghost use Rattle.std.specs.Prelude.{◌≡◌, ◌+◌, ◌<◌, ℕ, Bool, List, Option, option_copied, IfOk, IfErr, IfSome};
+ghost use Rattle.hour_sweep.specs.Hours.{IsHour};
+ghost use Rattle.service_cut.specs.Cut.{IsCut};
+ghost use Rattle.service_cut.specs.Parts.{IsCarry as IsCutCarry};
 ghost use Rattle.span_set.specs.declared.set.Span.{Span};
 ghost use Rattle.sig_base.specs.declared.values.Row.{Row};
 ghost use Rattle.channel_tables.specs.declared.spec.Spec.{Spec};
@@ -12,10 +15,11 @@ ghost use Rattle.ring_config.specs.Settings.{Settings};
 ghost use Rattle.ring_config.specs.Sound.{IsSound};
 ghost use Rattle.signal_log.specs.Log.{Log, log_of};
 ghost use Rattle.signal_log.specs.Opened.{HasPlace, IsOpened};
-ghost use Rattle.signal_log.specs.Points.{ArePastsAt, HasHour, NamesContradiction};
+ghost use Rattle.signal_log.specs.Points.{ArePastsAt, HasHour, NamesContradiction, rows_or_none};
 ghost use Rattle.signal_log.specs.Over.{AreAheadsOver, ArePastsOver, NamesStopOver};
 ghost use Rattle.hour_work.specs.declared.steps.ForwardError.TheVariants.{Memory};
-ghost use Rattle.hour_work.specs.Points.{AreUnderWayAt, FitPoint, IsCarryAt, IsFutureAt, NamesRow, NamesStop};
+ghost use Rattle.hour_work.specs.Points.{AreCrossingAt, AreCutsAt, AreOpenAt, AreUnderWayAt, FitPoint, IsCarryAt, IsFutureAt, NamesRow, NamesStop};
+ghost use Rattle.hour_work.specs.Reports.{IsCutAtPlace};
 
 use crate::stop_bars::splits_over;
 use crate::{Carry, Future};
@@ -23,7 +27,7 @@ use arrival_measures::{ArrivalCarry, arrivals_carried};
 use board::{Pasts, PastsError};
 use other_measures::{OtherCarry, others_carried};
 use ring_config::Config;
-use service_cut::{Closing, CutCarry, cut_hour};
+use service_cut::{Closing, CutCarry, Cuts, cut_hour};
 use sig_base::{Hour, NoMemory, Row};
 use signal_log::{Place, aheads_over, pasts_over};
 use span_set::SpanSet;
@@ -198,6 +202,67 @@ pub(crate) fn end_of(place: &Place<'_>) -> u32
     36_000 * place.hour() + 36_000
 }
 
+// What is cut of an hour, and what is under way of phases at the point after it.
+pub(crate) fn cuts_over(
+    alloc: Global,
+    config: &Config,
+    place: &Place<'_>,
+    before: &Carry,
+) -> Result<(Cuts, CutCarry), NoMemory>
+    ensures cut { IfOk result (λ v. (known : ℕ → Bool) (b : List Row) (h : ℕ)
+        → IsHour known h (rows_or_none place.now.rows) place.now.stretches
+        → IsCutCarry known config.now.phases b h before.now.cuts
+        → IsCut known config.now.phases b h (rows_or_none place.now.rows) v.0) }
+    ensures cuts { IfOk result (λ v. (s : Store) → HasPlace s place.now
+        → IsCarryAt config.now s place.now.hour before.now
+        → AreCutsAt config.now s (place.now.hour + 1) v.1) }
+    ensures sound { IfOk result (λ _. IsSound config.now) }
+    ensures opened { IfOk result (λ _. IsOpened place.now) }
+{
+    let rows = place.rows();
+    let parts = place.stretches();
+    let mut cuts = before.cuts.copy()?;
+    let cut = cut_hour(alloc, config.phases(), &mut cuts, rows, parts)?;
+    Ok((cut, cuts))
+}
+
+// What is under way of arrivals there.
+fn arrivals_over(
+    alloc: Global,
+    config: &Config,
+    place: &Place<'_>,
+    before: &Carry,
+    cut: &Cuts,
+) -> Result<ArrivalCarry, NoMemory>
+    ensures { IfOk result (λ v. (s : Store)
+        → IsCutAtPlace config.now s place.now before.now cut.now
+        → AreOpenAt config.now s (place.now.hour + 1) v) }
+{
+    let rows = place.rows();
+    let parts = place.stretches();
+    let mut arrivals = before.arrivals.copy()?;
+    arrivals_carried(alloc, config, &mut arrivals, cut, rows, parts)?;
+    Ok(arrivals)
+}
+
+// What is under way of pedestrian signals and preempts there.
+fn others_over(
+    alloc: Global,
+    config: &Config,
+    place: &Place<'_>,
+    before: &Carry,
+) -> Result<OtherCarry, NoMemory>
+    ensures { IfOk result (λ v. (s : Store) → HasPlace s place.now
+        → IsCarryAt config.now s place.now.hour before.now
+        → AreCrossingAt config.now s (place.now.hour + 1) v) }
+{
+    let rows = place.rows();
+    let parts = place.stretches();
+    let mut others = before.others.copy()?;
+    others_carried(alloc, config, &mut others, rows, parts)?;
+    Ok(others)
+}
+
 // What is under way of each measure at the point after an hour.
 fn under_way(
     alloc: Global,
@@ -212,16 +277,11 @@ fn under_way(
     ensures sound { IfOk result (λ _. IsSound config.now) }
     ensures opened { IfOk result (λ _. IsOpened place.now) }
 {
-    let rows = place.rows();
-    let parts = place.stretches();
-    let mut cuts = before.cuts.copy()?;
-    let cut = cut_hour(alloc, config.phases(), &mut cuts, rows, parts)?;
+    let (cut, cuts) = cuts_over(alloc, config, place, before)?;
     let closing = Closing::of(alloc, &cut, end_of(place))?;
     let splits = splits_over(alloc, config, place, before, &cut)?;
-    let mut arrivals = before.arrivals.copy()?;
-    arrivals_carried(alloc, config, &mut arrivals, &cut, rows, parts)?;
-    let mut others = before.others.copy()?;
-    others_carried(alloc, config, &mut others, rows, parts)?;
+    let arrivals = arrivals_over(alloc, config, place, before, &cut)?;
+    let others = others_over(alloc, config, place, before)?;
     Ok(UnderWay {
         cuts,
         closing,

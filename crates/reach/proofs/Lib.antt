@@ -10,3 +10,4 @@ pub mod Crossing
 pub mod Returning
 pub mod Filling
 pub mod Common
+pub mod Each

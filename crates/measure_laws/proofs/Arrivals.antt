@@ -7,7 +7,7 @@ use Rattle.std.proofs.lemmas.List.{append-nil, get_or_past}
 use Rattle.std.proofs.lemmas.List.Elements.{All-weaker, filter-append, filter_passes}
 use Rattle.sig_base.specs.declared.values.Row.{Row}
 use Rattle.reach.specs.Runs.{State}
-use Rattle.hour_store.specs.Store.{IsStore, Store, held_at, is_known, known_rows}
+use Rattle.hour_store.specs.Store.{IsStore, Store, held_at, is_known}
 use Rattle.hour_sums.specs.Numbers.{capped}
 use Rattle.hour_sums.proofs.Adding.{length-add, capped_small}
 use Rattle.hour_sweep.specs.Hours.{AreOrdered, point}

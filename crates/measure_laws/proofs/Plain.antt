@@ -1,5 +1,5 @@
 -- No number of a report is capped.
-use Rattle.std.proofs.Common.{◌≡◌, ◌∙◌, refl, ap, sym, subst, inl, inr, ℕ, zero, suc, ◌+◌, ◌-◌, ◌*◌, ◌<◌, ◌≤◌, Bool, true, false, not, cond, ◌&&◌, ◌||◌, nat_le, nat_lt, eqb, Option, Some, None, List, [], ◌∷◌, ◌++◌, length, map, get_or, length-append, arith}
+use Rattle.std.proofs.Common.{◌≡◌, ◌∙◌, refl, ap, sym, subst, inl, inr, ℕ, zero, suc, ◌+◌, ◌-◌, ◌<◌, ◌≤◌, Bool, true, false, not, cond, ◌&&◌, ◌||◌, nat_le, nat_lt, eqb, Option, Some, None, List, [], ◌∷◌, ◌++◌, length, map, get_or, length-append, arith}
 use Rattle.std.specs.Prelude.{All, IfSome, filter_map}
 use Rattle.std.specs.List.{cons_option, count_by, filter, sum, sum_by}
 use Rattle.std.proofs.lemmas.Bool.{and_parts, cases_Bool, ltb-true}

@@ -1,5 +1,5 @@
 -- The sums of measures add up.
-use Rattle.std.specs.Prelude.{ℕ, ◌≡◌, ◌+◌, ◌^◌, ◌<◌, ◌++◌, List, length, slice_index_or}
+use Rattle.std.specs.Prelude.{ℕ, ◌≡◌, ◌+◌, ◌^◌, ◌<◌, List, length, slice_index_or}
 use Rattle.sig_base.specs.declared.values.Row.{Row}
 use Rattle.board.specs.Logs.{end_tenth, first_tenth}
 use Rattle.hour_store.specs.Store.{IsStore, Store, is_known}

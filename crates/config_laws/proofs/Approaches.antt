@@ -15,7 +15,7 @@ use Rattle.ring_config.specs.Values.{whole, passing, configured, is_short_text, 
 use Rattle.ring_config.specs.Tables.{is_over, numerator, high_of, high_at, travel_with, approach_values, approach_rules}
 use Rattle.ring_config.proofs.DoLaws.{ok_is, bound, good_is, required_value, passing_is}
 use Rattle.config_laws.specs.Walk.{IsGood}
-use Rattle.config_laws.specs.Entries.{IsConfigured, name_bytes, HasName32, HasTravel, HasNumbers, HasNone, IsApproachEntry}
+use Rattle.config_laws.specs.Entries.{IsConfigured, name_bytes, HasApproachName, HasTravel, HasShare, HasNoShare, IsApproachEntry}
 use Rattle.config_laws.proofs.Entries.{phase_is, phase_gives, contains_number}
 use Rattle.config_laws.proofs.Keys.{number_is, number_gives, number_there, optional_is, optional_gives, required_gives, absent_gives, there_gives, defaulted_value, whole_gives, string_from}
 use Rattle.config_laws.proofs.Lists.{all_of_test, test_of_all, all_weaker_at}
@@ -66,7 +66,7 @@ byte_is b t =
 byte_passes : (b : ℕ) → Contains name_bytes b → is_name_byte b ≡ true
 byte_passes b h = subst (λ (n : ℕ). is_name_byte n ≡ true) h.2 (all_of_test is_name_byte name_bytes listed_pass h.0 b h.1)
 
-name_is : (e : EntryData) (name : List ℕ) → required values.name keys.Name e ≡ Ok name → HasName32 e.members name
+name_is : (e : EntryData) (name : List ℕ) → required values.name keys.Name e ≡ Ok name → HasApproachName e.members name
 unfolding values.name
 name_is e name h =
     let r = required_value values.name keys.Name e name h in
@@ -84,7 +84,7 @@ name_value : (name : List ℕ) → 1 ≤ length name → length name ≤ 32 → 
 unfolding values.name
 name_value name some few each = rw (le-leb 1 (length name) some, le-leb (length name) 32 few, each) refl
 
-name_gives : (e : EntryData) (name : List ℕ) → HasName32 e.members name → required values.name keys.Name e ≡ Ok name
+name_gives : (e : EntryData) (name : List ℕ) → HasApproachName e.members name → required values.name keys.Name e ≡ Ok name
 name_gives e name h =
     let each = test_of_all is_name_byte name (all_weaker_at (Contains name_bytes) (λ b. is_name_byte b ≡ true) byte_passes name h.each) in
     required_gives values.name keys.Name e (string name) name h.there (name_value name h.some h.few each)
@@ -111,7 +111,7 @@ travel_gives e (Some d) n (inr h) = absent_gives (travel_with (Some d)) keys.Tra
 -- ---- shares
 
 abbrev IsHigh : Members → Frac → Type 0
-IsHigh ms f = HasNumbers ms f ⊎ HasNone ms f
+IsHigh ms f = HasShare ms f ⊎ HasNoShare ms f
 
 not_over : (n m : ℕ) → not (is_over n (Some (pos m))) ≡ true → n ≤ m
 not_over n m e = ltb-false m n (not_true (is_over n (Some (pos m))) e)
@@ -137,7 +137,7 @@ high_is e f h = high_cases e (value_at keys.HighNum e) (value_at keys.HighDen e)
 over_is : (n m : ℕ) → n ≤ m → is_over n (Some (pos m)) ≡ false
 over_is n m le = le-ltb m n le
 
-numerator_value : (e : EntryData) (f : Frac) → HasNumbers e.members f → numerator e (integer (pos f.num)) ≡ Some f.num
+numerator_value : (e : EntryData) (f : Frac) → HasShare e.members f → numerator e (integer (pos f.num)) ≡ Some f.num
 numerator_value e f h =
     rw (h.den.there, whole_gives 1 1000 f.num h.num.least h.num.most, over_is f.num f.den h.most) refl
 

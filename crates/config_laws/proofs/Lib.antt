@@ -5,3 +5,4 @@ pub mod Entries
 pub mod Channels
 pub mod Approaches
 pub mod Document
+pub mod Files

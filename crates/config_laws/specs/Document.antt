@@ -1,10 +1,11 @@
 -- What a whole configuration says.
-use Rattle.std.specs.Prelude.{◌≡◌, ◌≢◌, ◌≤◌, ◌≤ℤ◌, ◌⊎◌, ◌↔◌, ◌+◌, ◌-◌, ◌/◌, ◌+ℤ◌, ℕ, pos, Bool, false, List, [], ◌∷◌, length, codes, Some, All, AllPairs, Ok}
+use Rattle.std.specs.Prelude.{◌≡◌, ◌≢◌, ◌≤◌, ◌≤ℤ◌, ◌⊎◌, ◌↔◌, ◌+◌, ◌-◌, ◌/◌, ◌+ℤ◌, ℕ, pos, Bool, false, List, [], ◌∷◌, length, codes, Some, All, AllPairs, Ok, IsUtf8}
 use Rattle.toml.specs.Data.{string, boolean, Members}
+use Rattle.toml.specs.Parse.{parse_document}
 use Rattle.jiff_core.specs.Calendar.{days_from_civil}
 use Rattle.sig_base.specs.Window.{Span}
 use Rattle.row_reader.specs.Stamp.{hour_stamp_of}
-use Rattle.ring_config.specs.Settings.{Settings, Layout, config_at, signal_channels, all_channels, specs_from}
+use Rattle.ring_config.specs.Settings.{Settings, Layout, config_at, config_of, signal_channels, all_channels, specs_from}
 use Rattle.config_laws.specs.Keys.{StandsAt, IsAbsent, HasOnly, HasNumber, HasTables}
 use Rattle.config_laws.specs.Entries.{Floor, IsPhaseEntry, IsPedEntry, IsOverlapEntry, IsPreemptEntry, IsConflictEntry, IsAllowEntry, IsFloorEntry, IsIntervalEntry, IsApproachEntry, IsSamePair, IsSameColour}
 
@@ -80,3 +81,14 @@ pub record Describes (ms : Members) (c : Settings) : Type 0 where
 -- exactly the configurations that a document says are accepted
 abbrev pub ConfigurationsAreAccepted : Type 0
 ConfigurationsAreAccepted = (ms : Members) (c : Settings) → (config_at ms ≡ Ok c) ↔ Describes ms c
+
+-- the file is UTF-8 and a TOML document, which says the configuration
+pub record IsFileOf (bytes : List ℕ) (c : Settings) : Type 0 where
+  pub utf8 : IsUtf8 bytes
+  pub document : Members
+  pub parsed : parse_document bytes ≡ Some document
+  pub says : Describes document c
+
+-- exactly the files of configurations are accepted
+abbrev pub FilesAreAccepted : Type 0
+FilesAreAccepted = (bytes : List ℕ) (c : Settings) → (config_of bytes ≡ Ok c) ↔ IsFileOf bytes c

@@ -147,7 +147,7 @@ abbrev pub name_bytes : List ℕ
 name_bytes = codes "ABCDEFGHIJKLMNOPQRSTUVWXYZabcdefghijklmnopqrstuvwxyz0123456789_-"
 
 -- a text of 1 to 32 of these stands at `name`
-pub record HasName32 (ms : Members) (name : List ℕ) : Type 0 where
+pub record HasApproachName (ms : Members) (name : List ℕ) : Type 0 where
   pub there : StandsAt (codes "name") ms (string name)
   pub some : 1 ≤ length name
   pub few : length name ≤ 32
@@ -159,13 +159,13 @@ HasTravel ms None n = IsAbsent (codes "travel") ms × (n ≡ 0)
 HasTravel ms (Some d) n = HasNumber 0 300 (codes "travel") ms n ⊎ (IsAbsent (codes "travel") ms × (n ≡ 0))
 
 -- both numbers of a share are there, from 1 to 1,000 and the first not over the second
-pub record HasNumbers (ms : Members) (f : Frac) : Type 0 where
+pub record HasShare (ms : Members) (f : Frac) : Type 0 where
   pub num : HasNumber 1 1000 (codes "high_num") ms f.num
   pub den : HasNumber 1 1000 (codes "high_den") ms f.den
   pub most : f.num ≤ f.den
 
 -- neither number of a share is there, and it is 4/5
-pub record HasNone (ms : Members) (f : Frac) : Type 0 where
+pub record HasNoShare (ms : Members) (f : Frac) : Type 0 where
   pub num : IsAbsent (codes "high_num") ms
   pub den : IsAbsent (codes "high_den") ms
   pub four : f.num ≡ 4
@@ -174,9 +174,9 @@ pub record HasNone (ms : Members) (f : Frac) : Type 0 where
 -- an entry of `approach`: its name, a configured phase, its detectors from 1 to 128, each of which may be left out, the travel time between them, and a share
 pub record IsApproachEntry (phases : List PhaseItem) (ms : Members) (a : Approach) : Type 0 where
   pub only : HasOnly (codes "name" ∷ codes "phase" ∷ codes "advance" ∷ codes "stop_bar" ∷ codes "travel" ∷ codes "high_num" ∷ codes "high_den" ∷ []) ms
-  pub name : HasName32 ms a.name
+  pub name : HasApproachName ms a.name
   pub phase : HasPhase phases (codes "phase") ms a.phase
   pub advance : MayHaveNumber 1 128 (codes "advance") ms a.advance
   pub stop_bar : MayHaveNumber 1 128 (codes "stop_bar") ms a.stop_bar
   pub travel : HasTravel ms a.advance a.travel
-  pub high : HasNumbers ms a.high ⊎ HasNone ms a.high
+  pub high : HasShare ms a.high ⊎ HasNoShare ms a.high

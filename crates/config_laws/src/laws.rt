@@ -1,5 +1,5 @@
 // Which tables and which configurations are accepted.
-ghost use Rattle.config_laws.specs.Document.{ConfigurationsAreAccepted};
+ghost use Rattle.config_laws.specs.Document.{ConfigurationsAreAccepted, FilesAreAccepted};
 ghost use Rattle.config_laws.specs.Walk.{TablesAreAccepted, TablesAreRefused};
 
 /// Law: whatever the rules of a table are, its reading gives entries exactly where there are at
@@ -12,7 +12,9 @@ pub fn tables_are_accepted<X>()
     ensures refused { TablesAreRefused X }
 {}
 
-/// Law: a document is read as a configuration exactly where it says it.
+/// Law: a document is read as a configuration exactly where it says it, and so is a file exactly
+/// where it is UTF-8 and such a document.
 pub fn configurations_are_accepted()
-    ensures { ConfigurationsAreAccepted }
+    ensures documents { ConfigurationsAreAccepted }
+    ensures files { FilesAreAccepted }
 {}

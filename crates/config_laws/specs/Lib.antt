@@ -1,0 +1,4 @@
+pub mod Keys
+pub mod Walk
+pub mod Entries
+pub mod Document

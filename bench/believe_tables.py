@@ -41,6 +41,7 @@ cycle_arrivals.Green.shows_green hour_work cycles_show_green green not_green
 cycle_arrivals.Green.green_arrivals_in measure_laws green_is_of_all_histories cycles
 cycle_arrivals.Green.green_tenths_in measure_laws green_is_of_all_histories cycles
 arrival_measures.Faults.faulty fault_rows faulty_is_sure -
+arrival_measures.Faults.faulty fault_rows faulty_by_states -
 arrival_measures.Faults.is_fault_row fault_rows fault_rows_are_sure -
 arrival_measures.Faults.is_arrival fault_rows fault_rows_are_sure -
 free_channels.Tells.IsSure free_channels colours_tell -
@@ -56,6 +57,9 @@ split_measures.Phases.added split_measures numbers_add_up -
 other_measures.Sums.ped_added other_measures numbers_add_up delays
 other_measures.Sums.preempt_added other_measures numbers_add_up events
 hour_pack.Reading.reading hour_pack reading_is_exact -
+ring_config.Settings.config_of config_laws configurations_are_accepted files
+ring_config.Settings.config_at config_laws configurations_are_accepted documents
+ring_config.Walk.entries_of config_laws tables_are_accepted accepted refused
 hour_pack.Reading.reading hour_pack faults_have_causes -
 hour_pack.Number.number_bytes hour_pack numbers_have_one_spelling each one
 row_reader.Stamp.stamp_in row_reader read_stamp value forms

@@ -61,7 +61,7 @@ class Sources:
 
     def unreached(self, call):
         """What is wrong with a call that takes something and that `run` doesn't reach."""
-        is_law = all(re.search(r"fn \w+\(\s*\)", each.head) for each in self.public[call])
+        is_law = all(re.search(r"fn \w+(?:<[^()]*>)?\(\s*\)", each.head) for each in self.public[call])
         return [] if is_law or call.rpartition("::")[2] in self.reached else ["run doesn't reach %s" % call]
 
 

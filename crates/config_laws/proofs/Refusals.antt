@@ -1,12 +1,12 @@
 -- Which table is refused first.
-use Rattle.std.proofs.Common.{◌≡◌, ◌⊎◌, ◌↔◌, inl, inr, List, Ok, Err, refl, sym, ap, ◌∙◌}
+use Rattle.std.proofs.Common.{◌≡◌, inl, inr, List, Ok, Err, refl, ap, ◌∙◌}
 use Rattle.toml.specs.Data.{Members}
 use Rattle.ring_config.specs.declared.error.ConfigError.{ConfigError}
 use Rattle.ring_config.specs.Reading.{Read, ◌>>=◌}
 use Rattle.ring_config.specs.Walk.{Rules, entries_of}
 use Rattle.ring_config.specs.Tables.{LayoutArrays, DetailArrays, phase_rules, ped_rules, overlap_rules, preempt_rules, conflict_rules, allow_rules, floor_rules, interval_rules, approach_rules}
 use Rattle.ring_config.specs.Settings.{Layout, layout_of, details_of, signal_channels}
-use Rattle.config_laws.specs.Walk.{IsAcceptedTable, IsRefusedTable}
+use Rattle.config_laws.specs.Walk.{IsRefusedTable}
 use Rattle.config_laws.specs.Refusals.{IsRefusedFrom, IsRefusedLayout, AreRefusedDetails, LayoutsAreRefused, DetailsAreRefused}
 use Rattle.config_laws.proofs.Walk.{given, tables_accepted, tables_refused}
 

@@ -6,3 +6,4 @@ pub mod Channels
 pub mod Approaches
 pub mod Document
 pub mod Files
+pub mod Refusals

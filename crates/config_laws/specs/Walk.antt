@@ -63,6 +63,6 @@ IsRefusedTable rules mss error =
 abbrev pub TablesAreAccepted : Type 0 → Type 0
 TablesAreAccepted X = (rules : Rules X) (mss : List Members) (xs : List X) → (entries_of rules mss ≡ Ok xs) ↔ IsAcceptedTable rules mss xs
 
--- and it refuses exactly what is refused
+-- the reading of a table by rules refuses exactly what is refused
 abbrev pub TablesAreRefused : Type 0 → Type 0
 TablesAreRefused X = (rules : Rules X) (mss : List Members) (error : ConfigError) → (entries_of rules mss ≡ Err error) ↔ IsRefusedTable rules mss error

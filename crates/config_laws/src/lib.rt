@@ -6,4 +6,4 @@
 
 mod laws;
 
-pub use laws::{configurations_are_accepted, tables_are_accepted};
+pub use laws::{configurations_are_accepted, first_table_decides, tables_are_accepted};

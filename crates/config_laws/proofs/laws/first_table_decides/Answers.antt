@@ -1,0 +1,8 @@
+use Rattle.config_laws.proofs.Refusals.{details_refused, layouts_refused}
+use Rattle.config_laws.proofs.laws.first_table_decides.Goals as goal
+
+pub returns-clause-layouts : goal.returns-clause-layouts
+returns-clause-layouts f = layouts_refused
+
+pub returns-clause-details : goal.returns-clause-details
+returns-clause-details f = details_refused

@@ -69,6 +69,8 @@ sig_base.Stamp.stamp_at sig_base Window::stamp value shows
 """
 TELLS = """
 
+ring_config.Settings.layout_of config_laws first_table_decides layouts
+ring_config.Settings.details_of config_laws first_table_decides details
 service_cut.Cut.served_from service_cut served_are_services -
 service_cut.Cut.services_from service_cut hours_add_up services
 service_cut.Cut.services_from service_cut hours_count services

@@ -1,10 +1,10 @@
 // What is kept of a store that holds nothing.
-ghost use Rattle.std.specs.Prelude.{◌≡◌, ◌≤◌, ◌<◌, ℕ, length, slice_index_or, IfOk};
+ghost use Rattle.std.specs.Prelude.{◌≡◌, ◌≤◌, ◌<◌, ◌-◌, ℕ, length, slice_index_or, IfOk, OnOk};
 ghost use Rattle.hour_store.specs.Store.{Store, nothing_held};
 ghost use Rattle.ring_config.specs.Sound.{IsSound};
 ghost use Rattle.rule_audit.specs.Rules.{rules_for};
 ghost use Rattle.hour_work.specs.Points.{Carried, IsCarryAt, IsFutureAt};
-ghost use Rattle.session.specs.Links.{Ahead, AreKept};
+ghost use Rattle.session.specs.Links.{Ahead, AreKept, AreKeptBut};
 
 use crate::renew::{Touched, Worked, adopt, renew};
 use hour_store::HourStore;
@@ -57,6 +57,54 @@ fn no_parts(alloc: Global, hours: u32) -> Result<Report, NoMemory>
     Report::new(alloc, parts)
 }
 
+// What is kept of a window of so many hours before they are worked through.
+fn not_begun(alloc: Global, config: &Config, hours: u32) -> Result<Worked, NoMemory>
+    requires some { 1 ≤ hours }
+    requires few { hours ≤ 744 }
+    requires window { hours ≡ config.now.window.hours }
+    ensures { IfOk result (λ k. AreKeptBut config.now (nothing_held hours) 0 (hours - 1)
+        k.carries.items k.futures.items k.report) }
+{
+    Ok(Worked {
+        carries: starts(alloc, config, hours + 1)?,
+        futures: ends(alloc, config, hours + 1)?,
+        report: no_parts(alloc, hours)?,
+    })
+}
+
+// Works through the hours of a window of which none is held.
+fn work_through(
+    alloc: Global,
+    config: &Config,
+    rules: &[Rule],
+    hours: u32,
+    worked: &mut Worked,
+) -> Result<(), NoMemory>
+    requires some { 1 ≤ hours }
+    requires few { hours ≤ 744 }
+    requires sound { IsSound config.now }
+    requires rules { rules.now ≡ rules_for config.now }
+    requires kept { AreKeptBut config.now (nothing_held hours) 0 (hours - 1)
+        worked.old.carries.items worked.old.futures.items worked.old.report }
+    ensures { OnOk result (AreKept config.now (nothing_held hours) worked.new.carries.items
+        worked.new.futures.items worked.new.report) }
+{
+    let store = HourStore::new(alloc, hours)?;
+    let mut reads = Reads::new(NoRows);
+    let touched = Touched {
+        first: 0,
+        last: hours - 1,
+    };
+    match renew(alloc, config, rules, &store, worked, touched, &mut reads) {
+        Ok(fresh) => {
+            adopt(worked, fresh);
+            Ok(())
+        }
+        Err(ForwardError::Memory) => Err(NoMemory),
+        Err(ForwardError::Contradiction(_)) => unreachable!(),
+    }
+}
+
 /// What is kept of a window of so many hours of which none is held.
 pub fn begin(alloc: Global, config: &Config, rules: &[Rule], hours: u32) -> Result<Worked, NoMemory>
     requires some { 1 ≤ hours }
@@ -67,21 +115,7 @@ pub fn begin(alloc: Global, config: &Config, rules: &[Rule], hours: u32) -> Resu
     ensures { IfOk result (λ k. AreKept config.now (nothing_held hours) k.carries.items
         k.futures.items k.report) }
 {
-    let mut worked = Worked {
-        carries: starts(alloc, config, hours + 1)?,
-        futures: ends(alloc, config, hours + 1)?,
-        report: no_parts(alloc, hours)?,
-    };
-    let store = HourStore::new(alloc, hours)?;
-    let mut reads = Reads::new(NoRows);
-    let touched = Touched {
-        first: 0,
-        last: hours - 1,
-    };
-    match renew(alloc, config, rules, &store, &worked, touched, &mut reads) {
-        Ok(fresh) => adopt(&mut worked, fresh),
-        Err(ForwardError::Memory) => return Err(NoMemory),
-        Err(ForwardError::Contradiction(_)) => unreachable!(),
-    }
+    let mut worked = not_begun(alloc, config, hours)?;
+    work_through(alloc, config, rules, hours, &mut worked)?;
     Ok(worked)
 }

@@ -10,6 +10,7 @@ ghost use Rattle.rule_audit.specs.Rules.{rules_for};
 ghost use Rattle.hour_work.specs.Points.{NamesRow};
 ghost use Rattle.hour_work.specs.Reports.{IsReport};
 ghost use Rattle.session.specs.Edits.{Change, blank, change_of, held_error, hour_change, range_change, step_of, withdraw};
+ghost use Rattle.session.specs.Links.{AreKept};
 ghost use Rattle.session.specs.Moved.{AreMoved, KeepLines, KeepParts, Moves, Touches};
 ghost use Rattle.session.specs.Opens.{OpensBy};
 ghost use Rattle.session.specs.Pairs.{ArePairsAt};
@@ -91,6 +92,27 @@ fn held_error(replaces: bool) -> EditError
     }
 }
 
+// The rules of a configuration, a store of its window that holds nothing, and what is kept of it.
+fn parts_of<L>(
+    alloc: Global,
+    config: &Config,
+    hours: u32,
+) -> Result<(Vec<Rule>, HourStore<L>, Worked), NoMemory>
+    requires some { 1 ≤ hours }
+    requires few { hours ≤ 744 }
+    requires sound { IsSound config.now }
+    requires window { hours ≡ config.now.window.hours }
+    ensures rules { IfOk result (λ p. p.0.items ≡ rules_for config.now) }
+    ensures store { IfOk result (λ p. p.1 ≡ nothing_held hours) }
+    ensures kept { IfOk result (λ p. AreKept config.now (nothing_held hours) p.2.carries.items
+        p.2.futures.items p.2.report) }
+{
+    let rules = rules_of(alloc, config)?;
+    let store = HourStore::new(alloc, hours)?;
+    let worked = begin(alloc, config, &rules, hours)?;
+    Ok((rules, store, worked))
+}
+
 impl<L> Session<L> {
     /// A session that holds and blanks nothing.
     pub fn new(alloc: Global, config: Config) -> Result<Session<L>, NoMemory>
@@ -100,10 +122,8 @@ impl<L> Session<L> {
               config.window.hours;
         }) }
     {
-        let rules = rules_of(alloc, &config)?;
         let hours = config.hours();
-        let store = HourStore::new(alloc, hours)?;
-        let worked = begin(alloc, &config, &rules, hours)?;
+        let (rules, store, worked) = parts_of(alloc, &config, hours)?;
         Ok(Session {
             alloc,
             config,

@@ -89,3 +89,36 @@ returns-clause-opens g c =
     let both = opened_join _ _ _ _ _ _ high (omega arith) (rw touched at c.in_ok-new.ensures.opens) (rw touched at c.in_ok-work.ensures.opens) in
     let all = c.in_ok-work.ensures.all in
     rw (c.in_ok-work.ensures.first, c.in_ok-work.ensures.from, touched) (opened_onto _ _ _ _ _ _ _ c.in_ok-new.ensures.low (omega arith) (omega arith) c.in_ok-ways.ensures.opens both)
+
+pub new_parts-requires-clause-order : goal.new_parts-requires-clause-order
+new_parts-requires-clause-order g c = rw c.in_ok-ways.ensures.touched c.in_ok-ways.ensures.futures.low
+
+pub new_parts-requires-clause-within : goal.new_parts-requires-clause-within
+new_parts-requires-clause-within g c =
+    let a = c.requires.kept.order in
+    let b = c.requires.kept.within in
+    rw c.in_ok-ways.ensures.touched (omega arith)
+
+pub new_parts-requires-clause-carry_room : goal.new_parts-requires-clause-carry_room
+new_parts-requires-clause-carry_room g c =
+    let a = c.requires.kept.order in
+    let b = c.requires.kept.within in
+    let size = c.requires.kept.forth.size in
+    rw c.in_ok-ways.ensures.touched (omega arith)
+
+pub new_parts-requires-clause-future_room : goal.new_parts-requires-clause-future_room
+new_parts-requires-clause-future_room g c =
+    let new = c.in_ok-ways.ensures.futures.size in
+    let b = c.requires.kept.within in
+    let size = c.requires.kept.back.size in
+    omega arith
+
+pub new_parts-requires-clause-last : goal.new_parts-requires-clause-last
+new_parts-requires-clause-last g c =
+    let a = c.requires.kept.order in
+    let b = c.requires.kept.within in
+    let size = c.requires.kept.back.size in
+    rw c.in_ok-ways.ensures.touched (omega arith)
+
+pub new_parts-requires-clause-back : goal.new_parts-requires-clause-back
+new_parts-requires-clause-back g c = c.in_ok-ways.ensures.futures.back

@@ -13,13 +13,12 @@ pub invariant_of-result : goal.invariant_of-result
 invariant_of-result g c =
     let cfg = c.args.config in
     let n = c.hours-hours.result in
-    let made = c.in_ok-store.ensures in
-    let rules = c.in_ok-rules.ensures in
-    rw made (record {
+    let made = c.in_ok-rules.ensures in
+    rw made.store (record {
       sound = c.hours-hours.ensures.sound;
       is_store = nothing_is_store n c.hours-hours.ensures.some c.hours-hours.ensures.few;
       hours = length-replicate n (no_rows) ∙ c.hours-hours.ensures.value;
-      rules = rules;
+      rules = made.rules;
       history = nothing cfg.specs n (channels_are cfg c.hours-hours.ensures.sound);
-      kept = c.in_ok-worked.ensures;
+      kept = made.kept;
     })

@@ -1,4 +1,4 @@
-use Rattle.std.proofs.Common.{◌≡◌, ◌+◌, ◌-◌, arith, subst, sym}
+use Rattle.std.proofs.Common.{◌-◌, subst, sym}
 use Rattle.hour_store.specs.Store.{Store}
 use Rattle.signal_log.specs.Log.{HasHistory, log_of}
 use Rattle.signal_log.proofs.Lawful.{no_history, nothing}
@@ -6,16 +6,12 @@ use Rattle.hour_work.specs.declared.steps.ForwardError.{ForwardError}
 use Rattle.hour_work.specs.Points.{NamesRow}
 use Rattle.rule_audit.proofs.Tracked.{channels_are}
 use Rattle.session.specs.Links.{AreKeptBut}
-use Rattle.session.proofs.BeginLaws.{kept_first}
-use Rattle.session.proofs.begin.begin.Goals as goal
+use Rattle.session.proofs.begin.work_through.Goals as goal
 
 pub renew-requires-clause-kept : goal.renew-requires-clause-kept
 renew-requires-clause-kept c =
-    let some = c.requires.some in
-    let last : (c.args.hours - 1) + 1 ≡ c.args.hours = omega arith in
-    let first = kept_first c.args.config.now c.args.hours (c.args.hours - 1) c.in_ok-starts.field-0.items c.in_ok-ends.field-0.items c.in_ok-no_parts.field-0 c.requires.window last
-    c.in_ok-starts.ensures.size c.in_ok-starts.ensures.start c.in_ok-ends.ensures.size c.in_ok-ends.ensures.end c.in_ok-no_parts.ensures in
-    subst (λ (s : Store). AreKeptBut c.args.config.now s 0 (c.args.hours - 1) c.in_ok-starts.field-0.items c.in_ok-ends.field-0.items c.in_ok-no_parts.field-0) (sym c.in_ok-store.ensures) first
+    let kept = c.args.worked.now in
+    subst (λ (s : Store). AreKeptBut c.args.config.now s 0 (c.args.hours - 1) kept.carries.items kept.futures.items kept.report) (sym c.in_ok-store.ensures) c.requires.kept
 
 pub unreachable-requires : goal.unreachable-requires
 unreachable-requires c =

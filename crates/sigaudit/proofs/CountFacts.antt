@@ -316,6 +316,10 @@ pub script_counted : (files : Files) (c : Settings) (script : List ℕ) (session
 script_counted files c script session old now true e h = subst (λ (k : Kept). ArePlain k.config (lines_of script) → AreCounted (ScriptTally files k.config (lines_of script) k.store) old now) e h
 script_counted files c script session old now false e h = subst (λ (k : Kept). ArePlain k.config (lines_of script) → AreCounted (ScriptTally files k.config (lines_of script) k.store) old now) e h
 
+pub opened_in : (files : Files) (c : Settings) (script : List ℕ) (k : Kept) (old now : List ℕ) (s : Status) → k ≡ record { config = c; store = nothing_held c.window.hours }
+    → WhereTaken s (OpensText files k.config for_lines old now (Some script)) → WhereTaken s (OpensText files c for_lines old now (Some script))
+opened_in files c script k old now s e h = subst (λ (x : Kept). WhereTaken s (OpensText files x.config for_lines old now (Some script))) e h
+
 pub taken_not : (s : Stopped) (P : Type 0) → WhereTaken (status_of_run (Err s)) P
 taken_not stopped.Fault P = tt
 taken_not stopped.Memory P = tt

@@ -1,5 +1,4 @@
 use Rattle.std.proofs.Common.{Some}
-use Rattle.sigaudit.specs.Counting.{OpensText}
 use Rattle.sigaudit.specs.Run.{world}
 use Rattle.sigaudit.specs.Status.{status_of_run}
 use Rattle.sigaudit.specs.Transcript.{IsScriptOutcome}

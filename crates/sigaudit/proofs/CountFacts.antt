@@ -31,7 +31,6 @@ use Rattle.report_text.specs.declared.refusal.Refusal.TheVariants.{Edit}
 use Rattle.sigaudit.specs.declared.hour_file.Unread.{Unread}
 use Rattle.sigaudit.specs.declared.status.Status.{Status}
 use Rattle.sigaudit.specs.declared.status.Status.TheVariants as outer
-use Rattle.sigaudit.specs.declared.status.Ended.TheVariants as ended
 use Rattle.sigaudit.specs.declared.status.Stopped.{Stopped}
 use Rattle.sigaudit.specs.declared.status.Stopped.TheVariants as stopped
 use Rattle.sigaudit.specs.Counting.{AreCounted, ArePlain, AreTallied, OpensAnswer, OpensConfig, OpensFile, OpensText, EditTally, FetchTally, IsPlain, LineTally, MadeTally, ReadTally, ScriptTally, WhereTaken, within}
@@ -315,6 +314,10 @@ pub script_counted : (files : Files) (c : Settings) (script : List ℕ) (session
     → (ArePlain session.config (lines_of script) → AreCounted (ScriptTally files session.config (lines_of script) session.store) old now) → WhereTaken (status_of_run (Ok (ended_by refused))) (OpensText files c for_lines old now (Some script))
 script_counted files c script session old now true e h = subst (λ (k : Kept). ArePlain k.config (lines_of script) → AreCounted (ScriptTally files k.config (lines_of script) k.store) old now) e h
 script_counted files c script session old now false e h = subst (λ (k : Kept). ArePlain k.config (lines_of script) → AreCounted (ScriptTally files k.config (lines_of script) k.store) old now) e h
+
+pub opened_in : (files : Files) (c : Settings) (script : List ℕ) (k : Kept) (old now : List ℕ) (s : Status) → k ≡ record { config = c; store = nothing_held c.window.hours }
+    → WhereTaken s (OpensText files k.config for_lines old now (Some script)) → WhereTaken s (OpensText files c for_lines old now (Some script))
+opened_in files c script k old now s e h = subst (λ (x : Kept). WhereTaken s (OpensText files x.config for_lines old now (Some script))) e h
 
 pub taken_not : (s : Stopped) (P : Type 0) → WhereTaken (status_of_run (Err s)) P
 taken_not stopped.Fault P = tt

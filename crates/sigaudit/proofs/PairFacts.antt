@@ -1,5 +1,5 @@
 -- How what a rule leaves undecided is written.
-use Rattle.std.proofs.Common.{◌≡◌, ◌<◌, ◌≤◌, ◌*◌, ℕ, List, [], ◌∷◌, length, Bool, true, false, Option, Some, None, Result, Ok, Err, refl, ap, subst, inl, inr, arith}
+use Rattle.std.proofs.Common.{◌≡◌, ◌<◌, ◌≤◌, ◌*◌, ℕ, List, [], ◌∷◌, length, Bool, true, false, Option, Some, None, Result, Ok, Err, IfOk, refl, ap, sym, subst, inl, inr, arith}
 use Rattle.std.specs.List.{All}
 use Rattle.std.proofs.lemmas.List.Elements.{All-cons, All-nil}
 use Rattle.outside.specs.Sink.{Stops, Taken}
@@ -25,6 +25,7 @@ use Rattle.sigaudit.specs.Pairs.{AreFound, place_of}
 use Rattle.sigaudit.specs.Run.{IsCarriedOut, PutsOne, RunsAs, ScriptCause, world}
 use Rattle.sigaudit.specs.Status.{status_of_run}
 use Rattle.sigaudit.specs.Transcript.{IsAimOutcome, ended_by, outcome}
+use Rattle.sigaudit.specs.declared.status.Ended.{Ended}
 use Rattle.sigaudit.specs.declared.status.Stopped.{Stopped}
 use Rattle.sigaudit.specs.declared.status.Stopped.TheVariants as stopped
 
@@ -105,3 +106,23 @@ pub told_cause : (Is : List ℕ → Type 0) (refused : Bool) (k k' : Counts) (w 
     → ScriptCause (world k w) (world k' w') (status_of_run (Ok (ended_by refused)))
 told_cause Is true k k' w w' failed put = (failed, put.2.same)
 told_cause Is false k k' w w' failed put = (failed, put.2.same)
+
+-- how they are shown
+pub pairs_shown : (files : Files) (c : Settings) (rule : ℕ) (at script : List ℕ) (session : Kept) (refused : Bool) (k k' : Counts) (w w' : Taken) (r : Result Ended Stopped) → k'.failed ≡ k.failed
+    → IsCarriedOut files c (lines_of script) (Ok (session, refused)) → IfOk r (λ e. e ≡ ended_by refused)
+    → PutsOne (AreFound session.config session.store (place_of session.config rule (stamp_in session.config.window at))) w w' r
+    → RunsAs (IsAimOutcome files c (for_rule rule at) (Some script)) (world k w) (world k' w') (status_of_run r)
+pairs_shown files c rule at script session refused k k' w w' (Ok e) failed carried same put =
+    subst (λ (x : Ended). RunsAs (IsAimOutcome files c (for_rule rule at) (Some script)) (world k w) (world k' w') (status_of_run (Ok x))) (sym same) (pairs_told files c rule at script session refused k k' w w' failed carried put)
+pairs_shown files c rule at script session refused k k' w w' (Err s) failed carried same put = pairs_cut files c rule at script session refused k k' w w' s carried put
+
+pub shown_cause : (Is : List ℕ → Type 0) (refused : Bool) (k k' : Counts) (w w' : Taken) (r : Result Ended Stopped) → k'.failed ≡ k.failed → IfOk r (λ e. e ≡ ended_by refused) → PutsOne Is w w' r
+    → ScriptCause (world k w) (world k' w') (status_of_run r)
+shown_cause Is refused k k' w w' (Ok e) failed same put = subst (λ (x : Ended). ScriptCause (world k w) (world k' w') (status_of_run (Ok x))) (sym same) (told_cause Is refused k k' w w' failed put)
+shown_cause Is refused k k' w w' (Err stopped.Fault) failed same put = inr put.2.rose
+shown_cause Is refused k k' w w' (Err stopped.Memory) failed same put = tt
+
+-- what cuts it off
+pub cut_shown : (Is : List ℕ → Type 0) (w w' : Taken) (s : Stopped) → PutsOne {T = Unit {0}} Is w w' (Err s) → PutsOne {T = Ended} Is w w' (Err s)
+cut_shown Is w w' stopped.Fault h = h
+cut_shown Is w w' stopped.Memory h = h

@@ -169,6 +169,15 @@ pub lines_cut : (files : Files) (c : Settings) (script : List ℕ) (session : Ke
 lines_cut files c script session last old new s e h =
     run-of_cut files c script last old new s (subst (λ (k : Kept). TellsAll files k.config (lines_of script) k.store last old new (Err s)) e h)
 
+pub kept_is : (k : Kept) → k.store ≡ nothing_held k.config.window.hours → k ≡ record { config = k.config; store = nothing_held k.config.window.hours }
+kept_is k e = ap (λ (s : Store). let r : Kept = record { config = k.config; store = s } in r) e
+
+pub holds_nothing : (c : Settings) (k : Kept) → k ≡ record { config = c; store = nothing_held c.window.hours } → k.store ≡ nothing_held k.config.window.hours
+holds_nothing c k e = ap (λ (x : Kept). x.store) e ∙ sym (ap (λ (x : Kept). nothing_held x.config.window.hours) e)
+
+pub told_in : (files : Files) (c : Settings) (script : List ℕ) (k : Kept) (old new : World) (s : Status) → k ≡ record { config = c; store = nothing_held c.window.hours } → RunsAs (IsScriptOutcome files k.config (Some script)) old new s → RunsAs (IsScriptOutcome files c (Some script)) old new s
+told_in files c script k old new s e h = subst (λ (x : Kept). RunsAs (IsScriptOutcome files x.config (Some script)) old new s) e h
+
 -- ---- what the words ask for
 
 cut_as : (Is Is' : (List ℕ → List (List ℕ)) → Outcome → Type 0) (old new : World) → ((lines : List ℕ → List (List ℕ)) (o : Outcome) → Is lines o → Is' lines o) → IsCutOff Is old new → IsCutOff Is' old new

@@ -1,5 +1,5 @@
 // The whole run.
-ghost use Rattle.std.specs.Prelude.{◌≡◌, ◌≤◌, ◌<◌, Some, [], length, IfSome, true, false};
+ghost use Rattle.std.specs.Prelude.{◌≡◌, ◌≤◌, ◌<◌, Some, [], length, IfOk, IfSome, true, false};
 ghost use Rattle.outside.specs.Shelf.{Counts, Files};
 ghost use Rattle.sig_base.specs.Window.{IsDay};
 ghost use Rattle.sig_base.specs.Reads.{Grow};
@@ -10,10 +10,13 @@ ghost use Rattle.report_text.specs.ConfigRefusal.{config_text, is_config_memory}
 ghost use Rattle.report_text.specs.Usage.{usage_text};
 ghost use Rattle.sigaudit.specs.Status.{status_of_run};
 ghost use Rattle.script_lines.specs.Lines.{lines_of};
-ghost use Rattle.sigaudit.specs.Aims.{aim_of, for_lines};
+ghost use Rattle.hour_store.specs.Store.{nothing_held};
+ghost use Rattle.row_reader.specs.Stamp.{stamp_in};
+ghost use Rattle.sigaudit.specs.Aims.{aim_of, for_lines, for_rule};
+ghost use Rattle.sigaudit.specs.Pairs.{AreFound, place_of};
 ghost use Rattle.sigaudit.specs.Transcript.{asks_pairs, ended_by, limited, outcome, BeginsWithFirstLines, HaveOneTranscript, IsAimOutcome, IsAnswer, IsConfigOutcome, IsDemoOutcome, IsFileOutcome, IsScriptOutcome};
 ghost use Rattle.sigaudit.specs.Counting.{OpensAnswer, OpensConfig, OpensFile, OpensText, WhereTaken};
-ghost use Rattle.sigaudit.specs.Run.{world, CountsCarried, CountsGrow, CountsText, FetchesText, DemoCause, FewBytes, IsCarriedOut, IsPairsRun, IsRun, LeavesShelf, RunsAs, HasCause, NeedsWords, NeverFall, PutsOutcome, ScriptCause};
+ghost use Rattle.sigaudit.specs.Run.{world, CountsCarried, CountsGrow, CountsText, FetchesText, DemoCause, FewBytes, IsCarriedOut, IsPairsRun, IsRun, LeavesShelf, PutsOne, RunsAs, HasCause, NeedsWords, NeverFall, PutsOutcome, ScriptCause};
 
 use crate::demo_shelf::DemoShelf;
 use crate::file::{FileAsked, Task, put_file};
@@ -110,11 +113,37 @@ fn tell_lines<L, S: Shelf, K: Sink>(
         reads.old reads.new (Some script.now)) }
     ensures grow { Grow reads.old reads.new }
 {
-    let mut session = match Session::new(alloc, config) {
-        Ok(session) => session,
-        Err(_) => return Err(Stopped::Memory),
-    };
-    match run_script(alloc, script, &mut session, shelf, sink, reads) {
+    match Session::new(alloc, config) {
+        Ok(mut session) => tell_lines_in(alloc, script, &mut session, shelf, sink, reads),
+        Err(_) => Err(Stopped::Memory),
+    }
+}
+
+// Carries them out in a session that holds nothing yet.
+fn tell_lines_in<L, S: Shelf, K: Sink>(
+    alloc: Global,
+    script: &[u8],
+    session: &mut Session<L>,
+    shelf: &mut S,
+    sink: &mut K,
+    reads: &mut Reads<L>,
+) -> Result<Ended, Stopped>
+    requires short { length script.now ≤ 4194304 }
+    requires begun { session.old.store ≡ nothing_held session.old.config.window.hours }
+    ensures told { (files : Files) → S.files shelf.old ≡ Some files
+        → RunsAs (IsScriptOutcome files session.old.config (Some script.now))
+        (world (S.counts shelf.old) (K.taken sink.old))
+        (world (S.counts shelf.new) (K.taken sink.new)) (status_of_run result) }
+    ensures cause { ScriptCause (world (S.counts shelf.old) (K.taken sink.old))
+        (world (S.counts shelf.new) (K.taken sink.new)) (status_of_run result) }
+    ensures never_fall { NeverFall (world (S.counts shelf.old) (K.taken sink.old))
+        (world (S.counts shelf.new) (K.taken sink.new)) }
+    ensures opens { (files : Files) → S.files shelf.old ≡ Some files → WhereTaken
+        (status_of_run result) (OpensText files session.old.config for_lines
+        reads.old reads.new (Some script.now)) }
+    ensures grow { Grow reads.old reads.new }
+{
+    match run_script(alloc, script, session, shelf, sink, reads) {
         Ok(refused) => Ok(ended_by(refused)),
         Err(stopped) => Err(stopped),
     }
@@ -171,15 +200,58 @@ fn run_lines<L, S: Shelf, K: Sink>(
         reads.old reads.new (Some script.now)) }
     ensures grow { Grow reads.old reads.new }
 {
-    let (rule, at) = match purpose {
-        Purpose::Lines => return tell_lines(alloc, config, script, shelf, sink, reads),
-        Purpose::Undecided(rule, at) => (rule, at),
-    };
-    let (session, refused) = match carry_out(alloc, config, script, shelf, reads) {
-        Ok(done) => done,
-        Err(stopped) => return Err(stopped),
-    };
-    match put_undecided(rule, at, &session, sink, reads) {
+    match purpose {
+        Purpose::Lines => tell_lines(alloc, config, script, shelf, sink, reads),
+        Purpose::Undecided(rule, at) => {
+            tell_pairs(alloc, config, script, rule, at, shelf, sink, reads)
+        }
+    }
+}
+
+// Carries out the lines of a script, and writes what a rule leaves undecided after them.
+fn tell_pairs<L, S: Shelf, K: Sink>(
+    alloc: Global,
+    config: Config,
+    script: &[u8],
+    rule: u32,
+    at: &str,
+    shelf: &mut S,
+    sink: &mut K,
+    reads: &mut Reads<L>,
+) -> Result<Ended, Stopped>
+    requires { length script.now ≤ 4194304 }
+    ensures told { (files : Files) → S.files shelf.old ≡ Some files
+        → RunsAs (IsAimOutcome files config (for_rule rule at.now) (Some script.now))
+        (world (S.counts shelf.old) (K.taken sink.old))
+        (world (S.counts shelf.new) (K.taken sink.new)) (status_of_run result) }
+    ensures cause { ScriptCause (world (S.counts shelf.old) (K.taken sink.old))
+        (world (S.counts shelf.new) (K.taken sink.new)) (status_of_run result) }
+    ensures never_fall { NeverFall (world (S.counts shelf.old) (K.taken sink.old))
+        (world (S.counts shelf.new) (K.taken sink.new)) }
+    ensures grow { Grow reads.old reads.new }
+{
+    match carry_out(alloc, config, script, shelf, reads) {
+        Ok((session, refused)) => show_pairs(rule, at, refused, &session, sink, reads),
+        Err(stopped) => Err(stopped),
+    }
+}
+
+// Writes what a rule leaves undecided, after a script of which some lines may have been refused.
+fn show_pairs<L, K: Sink>(
+    rule: u32,
+    at: &str,
+    refused: bool,
+    session: &Session<L>,
+    sink: &mut K,
+    reads: &mut Reads<L>,
+) -> Result<Ended, Stopped>
+    ensures text { PutsOne (AreFound session.now.config session.now.store
+        (place_of session.now.config rule (stamp_in session.now.config.window at.now)))
+        (K.taken sink.old) (K.taken sink.new) result }
+    ensures ended { IfOk result (λ e. e ≡ ended_by refused) }
+    ensures grow { Grow reads.old reads.new }
+{
+    match put_undecided(rule, at, session, sink, reads) {
         Ok(()) => Ok(ended_by(refused)),
         Err(stopped) => Err(stopped),
     }

@@ -203,7 +203,7 @@ fn run_lines<L, S: Shelf, K: Sink>(
     match purpose {
         Purpose::Lines => tell_lines(alloc, config, script, shelf, sink, reads),
         Purpose::Undecided(rule, at) => {
-            tell_pairs(alloc, config, script, rule, at, shelf, sink, reads)
+            tell_pairs(alloc, config, script, (rule, at), shelf, sink, reads)
         }
     }
 }
@@ -213,15 +213,15 @@ fn tell_pairs<L, S: Shelf, K: Sink>(
     alloc: Global,
     config: Config,
     script: &[u8],
-    rule: u32,
-    at: &str,
+    asked: (u32, &str),
     shelf: &mut S,
     sink: &mut K,
     reads: &mut Reads<L>,
 ) -> Result<Ended, Stopped>
     requires { length script.now ≤ 4194304 }
     ensures told { (files : Files) → S.files shelf.old ≡ Some files
-        → RunsAs (IsAimOutcome files config (for_rule rule at.now) (Some script.now))
+        → RunsAs (IsAimOutcome files config (for_rule asked.entry.0 asked.entry.1.now)
+        (Some script.now))
         (world (S.counts shelf.old) (K.taken sink.old))
         (world (S.counts shelf.new) (K.taken sink.new)) (status_of_run result) }
     ensures cause { ScriptCause (world (S.counts shelf.old) (K.taken sink.old))
@@ -231,7 +231,7 @@ fn tell_pairs<L, S: Shelf, K: Sink>(
     ensures grow { Grow reads.old reads.new }
 {
     match carry_out(alloc, config, script, shelf, reads) {
-        Ok((session, refused)) => show_pairs(rule, at, refused, &session, sink, reads),
+        Ok((session, refused)) => show_pairs(asked.0, asked.1, refused, &session, sink, reads),
         Err(stopped) => Err(stopped),
     }
 }

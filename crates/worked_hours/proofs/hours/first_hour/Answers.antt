@@ -1,0 +1,10 @@
+use Rattle.std.proofs.Common.{◌<◌, length, arith}
+use Rattle.worked_hours.proofs.Between.{between}
+use Rattle.worked_hours.proofs.hours.first_hour.Goals as goal
+
+pub said-requires-clause-agrees : goal.said-requires-clause-agrees
+said-requires-clause-agrees c =
+    let s = c.args.store.now in
+    let two = c.requires.stored in
+    let lt : 0 < length s.hours = omega arith in
+    between c.args.config.now s 0 c.in_ok-before.before c.in_ok-after.after c.requires.is_store lt (c.in_ok-before.ensures.carry s) c.in_ok-after.ensures c.in_ok-reaches_end.ensures

@@ -1,0 +1,12 @@
+use Rattle.std.proofs.Common.{◌<◌, ◌∙◌, ℕ, length, arith, subst, sym}
+use Rattle.hour_work.specs.Points.{IsFutureAt}
+use Rattle.worked_hours.proofs.Between.{between}
+use Rattle.worked_hours.proofs.hours.second_hour.Goals as goal
+
+pub said-requires-clause-agrees : goal.said-requires-clause-agrees
+said-requires-clause-agrees c =
+    let s = c.args.store.now in
+    let two = c.requires.stored in
+    let lt : 1 < length s.hours = omega arith in
+    let end = subst (λ (k : ℕ). IsFutureAt c.args.config.now s k c.in_ok-after.after) two (c.in_ok-after.ensures.future s (two ∙ sym c.requires.configured)) in
+    between c.args.config.now s 1 c.in_ok-before.before c.in_ok-after.after c.requires.is_store lt c.in_ok-before.ensures end c.in_ok-reaches_end.ensures

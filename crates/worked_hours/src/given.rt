@@ -141,5 +141,7 @@ pub fn store_of(alloc: Global, log: Log) -> Result<HourStore<Mark>, Fail> {
 pub fn is_window_of_two(config: &Config, store: &HourStore<Mark>) -> bool
     ensures { IsTrue result → IsWindowOfTwo config.now store.now }
 {
-    config.hours() == 2 && store.hours() == 2
+    let configured = config.hours();
+    let stored = store.hours();
+    configured == 2 && stored == 2
 }

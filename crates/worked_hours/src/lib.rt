@@ -4,10 +4,12 @@
 #![tactic(auto)]
 
 #[cfg(test)]
+mod audit;
+#[cfg(test)]
 mod given;
 #[cfg(test)]
 mod hours;
 #[cfg(test)]
 mod points;
 #[cfg(test)]
-mod said;
+mod wanted;

@@ -2,8 +2,8 @@ use Rattle.std.proofs.Common.{◌<◌, length, arith}
 use Rattle.worked_hours.proofs.Between.{between}
 use Rattle.worked_hours.proofs.hours.first_hour.Goals as goal
 
-pub said-requires-clause-agrees : goal.said-requires-clause-agrees
-said-requires-clause-agrees c =
+pub are_wanted-requires-clause-agrees : goal.said-requires-clause-agrees
+are_wanted-requires-clause-agrees c =
     let s = c.args.store.now in
     let two = c.requires.stored in
     let lt : 0 < length s.hours = omega arith in

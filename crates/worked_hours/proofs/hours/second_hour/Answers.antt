@@ -3,8 +3,8 @@ use Rattle.hour_work.specs.Points.{IsFutureAt}
 use Rattle.worked_hours.proofs.Between.{between}
 use Rattle.worked_hours.proofs.hours.second_hour.Goals as goal
 
-pub said-requires-clause-agrees : goal.said-requires-clause-agrees
-said-requires-clause-agrees c =
+pub are_wanted-requires-clause-agrees : goal.said-requires-clause-agrees
+are_wanted-requires-clause-agrees c =
     let s = c.args.store.now in
     let two = c.requires.stored in
     let lt : 1 < length s.hours = omega arith in

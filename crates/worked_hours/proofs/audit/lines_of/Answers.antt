@@ -2,7 +2,7 @@ use Rattle.std.proofs.Common.{arith}
 use Rattle.std.specs.Prelude.{option_copied}
 use Rattle.std.proofs.lemmas.Result.{IfOk-weaker}
 use Rattle.worked_hours.proofs.Between.{opened_between}
-use Rattle.worked_hours.proofs.said.lines_of.Goals as goal
+use Rattle.worked_hours.proofs.audit.lines_of.Goals as goal
 
 pub audit_lines-requires-clause-in_range : goal.audit_lines-requires-clause-in_range
 audit_lines-requires-clause-in_range c =

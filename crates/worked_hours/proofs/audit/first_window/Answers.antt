@@ -3,7 +3,7 @@ use Rattle.signal_log.specs.Log.{log_of}
 use Rattle.signal_log.specs.Points.{ArePastsAt}
 use Rattle.session.specs.HourLines.{IsLineIn}
 use Rattle.session.proofs.WindowLaws.{no_line}
-use Rattle.worked_hours.proofs.said.windows_text.Goals as goal
+use Rattle.worked_hours.proofs.audit.first_window.Goals as goal
 
 pub window_of-requires-clause-line : goal.window_of-requires-clause-line
 window_of-requires-clause-line c =

@@ -2,10 +2,10 @@ use Rattle.signal_log.specs.Log.{log_of}
 use Rattle.signal_log.specs.Points.{ArePastsAt}
 use Rattle.hour_work.specs.Verdicts.{AreAuditLines}
 use Rattle.session.proofs.WindowLaws.{lines_in}
-use Rattle.worked_hours.proofs.said.audit_of.Goals as goal
+use Rattle.worked_hours.proofs.audit.is_audit.Goals as goal
 
-pub windows_text-requires-clause-lines : goal.windows_text-requires-clause-lines
-windows_text-requires-clause-lines c =
+pub first_window-requires-clause-lines : goal.first_window-requires-clause-lines
+first_window-requires-clause-lines c =
     let cfg = c.args.config.now in
     let s = c.args.store.now in
     let is = c.requires.agrees in

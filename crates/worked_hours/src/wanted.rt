@@ -19,6 +19,7 @@ use std::alloc::Global;
 use std::test::Fail;
 
 /// What is to be said of an hour.
+#[derive(Clone, Copy)]
 pub struct Wanted<'a> {
     /// The held hours, the held rows and the known tenths.
     pub held: [u64; 3],

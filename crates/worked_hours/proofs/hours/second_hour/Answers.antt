@@ -10,3 +10,17 @@ are_wanted-requires-clause-agrees c =
     let lt : 1 < length s.hours = omega arith in
     let end = subst (λ (k : ℕ). IsFutureAt c.args.config.now s k c.in_ok-after.after) two (c.in_ok-after.ensures.future s (two ∙ sym c.requires.configured)) in
     between c.args.config.now s 1 c.in_ok-before.before c.in_ok-after.after c.requires.is_store lt c.in_ok-before.ensures end c.in_ok-reaches_end.ensures
+
+pub carried-requires-clause-within : goal.carried-requires-clause-within
+carried-requires-clause-within c =
+    let two = c.requires.stored in
+    omega arith
+
+pub carried-requires-clause-before : goal.carried-requires-clause-before
+carried-requires-clause-before c = c.in_ok-start.ensures.carry c.args.store.now
+
+pub reaches_end-requires-clause-window : goal.reaches_end-requires-clause-window
+reaches_end-requires-clause-window c = c.requires
+
+pub reaches_end-requires-clause-middle : goal.reaches_end-requires-clause-middle
+reaches_end-requires-clause-middle c = c.in_ok-before.ensures

@@ -1,14 +1,15 @@
 // The examples.
+ghost use Rattle.hour_work.specs.Points.{IsCarryAt};
 ghost use Rattle.worked_hours.specs.Window.{IsWindowOfTwo};
 
 use crate::given::{
     AGAINST, CONFIG, LATE_NEWS, Log, Mark, NO_NEWS, SERVICES, is_window_of_two, store_of,
 };
-use crate::points::{carried, future_between, reaches_end};
+use crate::points::{carried, future_at_end, future_between, reaches_end};
 use crate::wanted::{Wanted, are_wanted};
 use arrival_measures::{ArrivalSum, Point};
 use hour_store::HourStore;
-use hour_work::{Between, Carry, ForwardError, Future, RuleCount};
+use hour_work::{Between, Carry, ForwardError, RuleCount};
 use ring_config::{Config, read_config};
 use rule_audit::{AuditLine, Place};
 use service_cut::Cycle;
@@ -38,7 +39,28 @@ fn first_hour(
     are_wanted(alloc, config, store, 0, &between, wanted)
 }
 
-// Whether the second hour is as wanted.
+// Whether the second hour is as wanted, from what is kept at the point before it.
+fn hour_after(
+    alloc: Global,
+    config: &Config,
+    store: &HourStore<Mark>,
+    before: &Carry,
+    wanted: &Wanted<'_>,
+    reads: &mut Reads<Mark>,
+) -> Result<[bool; 5], Fail>
+    requires window { IsWindowOfTwo config.now store.now }
+    requires before { IsCarryAt config.now store.now 1 before.now }
+{
+    reaches_end(alloc, config, store, before, reads)?;
+    let after = future_at_end(alloc, config, store)?;
+    let between = Between {
+        before,
+        after: &after,
+    };
+    are_wanted(alloc, config, store, 1, &between, wanted)
+}
+
+// The same from the window's start on.
 fn second_hour(
     alloc: Global,
     config: &Config,
@@ -50,13 +72,7 @@ fn second_hour(
     let mut reads = Reads::new(Mark);
     let start = Carry::start(alloc, config)?;
     let before = carried(alloc, config, store, 0, &start, &mut reads)?;
-    reaches_end(alloc, config, store, &before, &mut reads)?;
-    let after = Future::end(alloc, config)?;
-    let between = Between {
-        before: &before,
-        after: &after,
-    };
-    are_wanted(alloc, config, store, 1, &between, wanted)
+    hour_after(alloc, config, store, &before, wanted, &mut reads)
 }
 
 #[derive(Clone, Copy)]

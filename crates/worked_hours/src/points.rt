@@ -59,6 +59,18 @@ pub fn reaches_end(
     Ok(())
 }
 
+/// What is kept going back at the window's end.
+pub fn future_at_end(
+    alloc: Global,
+    config: &Config,
+    store: &HourStore<Mark>,
+) -> Result<Future, NoMemory>
+    requires { IsWindowOfTwo config.now store.now }
+    ensures { IfOk result (IsFutureAt config.now store.now 2) }
+{
+    Future::end(alloc, config)
+}
+
 /// What is kept going back at the point between the two hours.
 pub fn future_between(
     alloc: Global,
@@ -69,7 +81,7 @@ pub fn future_between(
     requires { IsWindowOfTwo config.now store.now }
     ensures { IfOk result (IsFutureAt config.now store.now 1) }
 {
-    let end = Future::end(alloc, config)?;
+    let end = future_at_end(alloc, config, store)?;
     let rows = opened(store, 1, reads);
     backward(alloc, config, 1, &end, rows, store.blanked())
 }

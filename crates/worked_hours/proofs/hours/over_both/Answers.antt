@@ -1,10 +1,9 @@
-use Rattle.std.proofs.Common.{arith}
+use Rattle.std.proofs.Common.{◌<◌, ℕ, length, lit<, subst, sym}
 use Rattle.worked_hours.proofs.hours.over_both.Goals as goal
 
 pub carried-requires-clause-within : goal.carried-requires-clause-within
 carried-requires-clause-within c =
-    let two = c.requires.stored in
-    omega arith
+    subst (λ (n : ℕ). 0 < n) (sym c.requires.stored) (lit< tt)
 
 pub carried-requires-clause-before : goal.carried-requires-clause-before
 carried-requires-clause-before c = c.in_ok-start.ensures.carry c.args.store.now

@@ -1,26 +1,15 @@
-use Rattle.std.proofs.Common.{◌<◌, ◌∙◌, ℕ, length, arith, subst, sym}
-use Rattle.hour_work.specs.Points.{IsFutureAt}
-use Rattle.worked_hours.proofs.Between.{between}
+use Rattle.std.proofs.Common.{◌<◌, ℕ, length, lit<, subst, sym}
 use Rattle.worked_hours.proofs.hours.second_hour.Goals as goal
-
-pub are_wanted-requires-clause-agrees : goal.said-requires-clause-agrees
-are_wanted-requires-clause-agrees c =
-    let s = c.args.store.now in
-    let two = c.requires.stored in
-    let lt : 1 < length s.hours = omega arith in
-    let end = subst (λ (k : ℕ). IsFutureAt c.args.config.now s k c.in_ok-after.after) two (c.in_ok-after.ensures.future s (two ∙ sym c.requires.configured)) in
-    between c.args.config.now s 1 c.in_ok-before.before c.in_ok-after.after c.requires.is_store lt c.in_ok-before.ensures end c.in_ok-reaches_end.ensures
 
 pub carried-requires-clause-within : goal.carried-requires-clause-within
 carried-requires-clause-within c =
-    let two = c.requires.stored in
-    omega arith
+    subst (λ (n : ℕ). 0 < n) (sym c.requires.stored) (lit< tt)
 
 pub carried-requires-clause-before : goal.carried-requires-clause-before
 carried-requires-clause-before c = c.in_ok-start.ensures.carry c.args.store.now
 
-pub reaches_end-requires-clause-window : goal.reaches_end-requires-clause-window
-reaches_end-requires-clause-window c = c.requires
+pub hour_after-requires-clause-window : goal.hour_after-requires-clause-window
+hour_after-requires-clause-window c = c.requires
 
-pub reaches_end-requires-clause-middle : goal.reaches_end-requires-clause-middle
-reaches_end-requires-clause-middle c = c.in_ok-before.ensures
+pub hour_after-requires-clause-before : goal.hour_after-requires-clause-before
+hour_after-requires-clause-before c = c.in_ok-before.ensures

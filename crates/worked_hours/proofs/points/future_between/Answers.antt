@@ -1,7 +1,6 @@
-use Rattle.std.proofs.Common.{◌≡◌, ◌∙◌, ℕ, ◌<◌, length, arith, subst, sym}
+use Rattle.std.proofs.Common.{◌<◌, length, arith}
 use Rattle.std.specs.Prelude.{option_copied}
 use Rattle.std.proofs.lemmas.Result.{IfOk-weaker}
-use Rattle.hour_work.specs.Points.{IsFutureAt}
 use Rattle.worked_hours.proofs.Between.{has_opened}
 use Rattle.worked_hours.proofs.points.future_between.Goals as goal
 
@@ -11,5 +10,4 @@ returns c =
     let two = c.requires.stored in
     let lt : 1 < length s.hours = omega arith in
     let has = has_opened s 1 (option_copied c.opened-rows.result) c.blanked.result.now c.requires.is_store lt c.opened-rows.ensures.rows c.blanked.ensures.value in
-    let end = subst (λ (k : ℕ). IsFutureAt c.args.config.now s k c.in_ok-end.end) two (c.in_ok-end.ensures.future s (two ∙ sym c.requires.configured)) in
-    IfOk-weaker c.backward.result _ _ (λ v h. h s has end) c.backward.ensures.future
+    IfOk-weaker c.backward.result _ _ (λ v h. h s has c.in_ok-end.ensures) c.backward.ensures.future

@@ -1,4 +1,4 @@
-use Rattle.std.proofs.Common.{◌<◌, ℕ, length, lit<, subst, sym}
+use Rattle.std.proofs.Common.{◌<◌, ℕ, lit<, subst, sym}
 use Rattle.worked_hours.proofs.hours.over_both.Goals as goal
 
 pub carried-requires-clause-within : goal.carried-requires-clause-within

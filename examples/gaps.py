@@ -46,9 +46,9 @@ CUTS = 500            # for learning: 25 for each number of a vector
 SHORTEST, LONGEST = 50, 18000   # tenths: their lengths, five seconds to half an hour
 FAR = 8.0             # no channel's score is more: one odd row alone isn't a hole (e^8 is 1 in 3,000)
 ROUNDS = 4            # of learning without the gaps that look like cuts
-RIDGE = 1.0           # of the regression. On d1 and d2 of bench/holes all from 0.1 to 1 find the same; fifths of the gaps
-                      # and cuts, left out in turn, are told apart by 1.5 % of the log likelihood better with 0.1 than
-                      # with 1, and by 2 % worse with 3. The largest that finds the same trusts odd numbers least
+RIDGE = 1.0           # of the regression. On d1 of bench/days and another day all from 0.1 to 1 find the same; fifths of
+                      # the gaps and cuts, left out in turn, are told apart by 1.5 % of the log likelihood better with
+                      # 0.1 than with 1, and by 2 % worse with 3. The largest that finds the same trusts odd numbers least
 RING_CODES = {0, 1, 3, 4, 5, 6, 7, 8, 9, 10, 11, 12}
 CALLS = {43: "call", 44: "call", 45: "ped_detector"}
 SUMMED = ("ring", "detector", "ped", "ped_detector", "call", "other")

@@ -9,7 +9,7 @@ SETTLED over the ridge.
 import math
 
 SETTLED = 1e-5    # of slope: a hundred thousandth of a row
-STEPS = 200       # more than ten were never needed from 0; a fit that doesn't settle is refused, not used
+STEPS = 200       # a day's fit wants some ten; one that doesn't settle is refused, not used
 PROMISED = 1e-4   # the share of the promise that a step has to keep; any below a half would do
 ROUNDING = 1e-11  # of the loss: what a sum of some thousand rows is uncertain by
 SAME = 1e-9       # of spread: the number is the same in all rows, but for rounding

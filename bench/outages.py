@@ -14,6 +14,7 @@ HERE = os.path.dirname(os.path.dirname(os.path.abspath(__file__)))
 EXAMPLES = os.path.join(HERE, "examples")
 sys.path.insert(0, EXAMPLES)
 import logs
+import simulation
 
 # The lengths by which is counted, and the parts of the day, in tenths and hours.
 LENGTHS = ((50, 150), (150, 600), (600, 3000), (3000, 18001))
@@ -24,16 +25,19 @@ BATCH = 10, 1000         # rows that a lost batch has
 
 
 class Day:
-    """A day of a signal: its name, signal, first tenth and rows."""
+    """A day of a signal: its name, signal, first tenth and rows; its configuration, where that isn't the example's."""
 
-    def __init__(self, name, signal, rows):
-        self.name, self.signal, self.rows = name, signal, rows
+    config = None
+
+    def __init__(self, name, signal, rows, config=None):
+        self.name, self.signal, self.rows, self.config = name, signal, rows, config
         self.start = rows[0][0] // (24 * logs.HOUR) * 24 * logs.HOUR
 
     def of_rows(self, rows):
         """The same day with other rows."""
         other = Day.__new__(Day)
-        other.name, other.signal, other.start, other.rows = self.name, self.signal, self.start, rows
+        other.name, other.signal, other.start, other.rows, other.config = (
+            self.name, self.signal, self.start, rows, self.config)
         return other
 
     def hours(self):
@@ -70,6 +74,12 @@ def read_day(path):
     rows.sort(key=lambda row: row.tenth)
     name = os.path.basename(path).split(".")[0]
     return Day(name, rows[0].signal, [(row.tenth, row.code, row.param) for row in rows])
+
+
+def made_day(seed, count=1):
+    """A day of a signal that bench/simulation.py makes, or several."""
+    made = simulation.Signal(seed)
+    return Day(made.name, made.number, made.days(count), made.config(24 * count))
 
 
 class Outage:

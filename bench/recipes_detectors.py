@@ -10,6 +10,7 @@ import sys
 HERE = os.path.dirname(os.path.dirname(os.path.abspath(__file__)))
 sys.path[:0] = [os.path.join(HERE, "examples"), os.path.join(HERE, "bench")]
 import detector_faults as faults
+import loggers
 import logs
 import silences
 
@@ -137,11 +138,29 @@ def write(log, put):
     return names
 
 
+def flashed(log, begin, end):
+    """The log with flash: detectors go on, phases and the coordination don't."""
+    found = silences.Log()
+    found.hours = set(log.hours)
+    rows = [(tenth, key) for tenth, key in zip(log.tenths, log.keys)
+            if not (begin <= tenth < end and key >> 16 in loggers.FLASHING)]
+    for tenth, key in sorted([*rows, (begin, 173 << 16 | 4), (end, 173 << 16 | 2)]):
+        found.tenths.append(tenth)
+        found.keys.append(key)
+    return found
+
+
 def detectors(run, put, get):
-    """The day as it is and with faults; what is explained, what is left out, and a log too small to learn from."""
+    """The day as it is and with faults, with flash, and with a coordination that stays away after a flash; what is
+    explained, what is left out, and a log too small to learn from."""
     log = made_day()
     put("config.toml", CONFIG)
     out = "as it is: " + run("detectors", "--config", "config.toml", *write(log, put))
+    hour = flashed(log, at("10:00:00"), at("11:00:00"))
+    out += "an hour of flash: " + run("detectors", "--config", "config.toml", *write(hour, put))
+    short = flashed(log, at("10:00:00"), at("10:10:00"))
+    short = faults.put(short, [faults.Fault("coordination", (0,), at("10:00:00"), at("11:00:00"))], random.Random(7))
+    out += "ten minutes of flash: " + run("detectors", "--config", "config.toml", *write(short, put))
     drawn = [faults.Fault(kind, numbers, at(begin), at(end)) for kind, numbers, begin, end in FAULTS]
     names = write(faults.put(log, drawn, random.Random(7)), put)
     out += "with faults: " + run("detectors", "--config", "config.toml", "--card", "11,12", "--chances",

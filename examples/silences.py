@@ -46,6 +46,7 @@ STEP = 600           # tenths: the mesh of time in which witnesses are chosen an
 PATIENCE = 240       # steps: a silence that isn't seen by then isn't seen
 
 COORDINATION = (131, 132, 150, 151, 152)
+FLASH, NO_FLASH = 173, 2
 CLOCKS = {82: "detector", 90: "ped_detector", 43: "call", 45: "ped_call", 1: "green", 21: "walk"}
 TOTALS = {82: "detectors", 90: "ped_detectors", 45: "ped_calls", 1: "greens"}
 SWITCHES = {81: "detector", 82: "detector", 89: "ped_detector", 90: "ped_detector"}
@@ -107,6 +108,16 @@ class Log:
 
     def days(self):
         return len(self.hours) / 24
+
+    def flashes(self):
+        """From where to where the signal flashes (code 173; 2 says that it doesn't): the coordination stands still."""
+        found, begin = [], None
+        for tenth, key in zip(self.tenths, self.keys):
+            if key >> 16 == FLASH:
+                if begin is not None:
+                    found.append((begin, tenth))
+                begin = None if key & 65535 == NO_FLASH else tenth
+        return found + ([(begin, max(self.hours) + logs.HOUR)] if begin is not None else [])
 
     def numbers(self, kind):
         """The numbers of the detectors, or of the pedestrian inputs, of which there is a row."""
@@ -229,7 +240,7 @@ class Watch:
         self.channels += groups
         place = {witness: place for place, witness in enumerate(self.witnesses)}
         self.plan = {code << 16 | number: self.deeds(code, number, place) for code, number in present}
-        self.quiet, self.changes = quiet_hours(log), changes_of_coordination(log)
+        self.quiet, self.changes, self.flashes = quiet_hours(log), changes_of_coordination(log), log.flashes()
         self.usual, self.silences, self.open = {}, [], []
         self.mesh, self.columns = array.array("q"), [array.array("l") for _ in self.witnesses]
         self.walk()
@@ -398,8 +409,11 @@ class Watch:
     def judge(self, silence):
         """Gives a silence its score, and the witness that counts.
 
-        Where it isn't known what it follows, or a row between two on or two off is lost, it gets the least.
+        Where it isn't known what it follows, or a row between two on or two off is lost, it gets the least. Of the
+        coordination none counts over most of which the signal flashes.
         """
+        if silence.channel[0] == "coordination" and self.flashing(silence) * 2 > silence.end - silence.begin:
+            return
         which, part = self.channels.index(silence.channel), self.part(silence.begin)
         lacks_row = len(silence.channel[1]) == 1 and silence.mark in ("on", "off") and silence.mark == silence.next
         marks = [silence.mark] if silence.mark is not None and not lacks_row else [
@@ -413,6 +427,10 @@ class Watch:
                              default=(math.inf, None)))
         score, silence.witness = max(found, key=lambda each: each[0], default=(math.inf, None))
         silence.score = -score
+
+    def flashing(self, silence):
+        """The tenths of a silence over which the signal flashes."""
+        return sum(max(0, min(end, silence.end) - max(begin, silence.begin)) for begin, end in self.flashes)
 
     @staticmethod
     def second(each, usual):

@@ -9,7 +9,8 @@ use Rattle.rule_audit.specs.declared.lines.AuditLine.{AuditLine}
 use Rattle.rule_audit.specs.Rules.{rules_for}
 use Rattle.filling_pair.specs.declared.strands.Pair.{Pair}
 use Rattle.filling_pair.specs.Asks.{IsPair}
-use Rattle.session.specs.Pairs.{ArePairsOf, is_open_at, is_undecided}
+use Rattle.hour_work.specs.Counts.{is_undecided}
+use Rattle.session.specs.Pairs.{ArePairsOf, is_open_at}
 
 -- a line more and its pair
 pub pairs_more : (c : Settings) (s : Store) (ls : List AuditLine) (ps : List Pair) (l : AuditLine) (p : Pair) → ArePairsOf c s ls ps → IsPair c.specs s (rules_for c) l p → ArePairsOf c s (ls ++ l ∷ []) (ps ++ p ∷ [])

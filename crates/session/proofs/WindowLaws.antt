@@ -32,7 +32,8 @@ use Rattle.signal_log.specs.Rows.{hour_rows}
 use Rattle.hour_work.specs.Verdicts.{AreAuditLines, HasStoreVerdict, obligations_in, states_in}
 use Rattle.hour_work.proofs.PlacedLaws.{FitPlace, IsPlaced, all_placed, each_all, rules_fit}
 use Rattle.session.specs.HourLines.{AreLinesIn, HasOwnWindow, IsLineAfter, IsLineIn}
-use Rattle.session.specs.Windows.{AreHourLines, AreWithWindows, HasWindow, is_broken, with_window}
+use Rattle.hour_work.specs.Counts.{is_broken}
+use Rattle.session.specs.Windows.{AreHourLines, AreWithWindows, HasWindow, with_window}
 
 pub all_if : {X : Type 0} (P : X → Type 0) (b : Bool) (xs : List X) → Each P xs → Each P (if b then xs else [])
 all_if P true xs p = p

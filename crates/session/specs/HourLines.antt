@@ -11,8 +11,8 @@ use Rattle.decisive.specs.Window.{IsBrokenLine}
 use Rattle.signal_log.specs.Rows.{hour_rows}
 use Rattle.filling_pair.specs.Asks.{IsUndecided}
 use Rattle.filling_pair.specs.Kept.{IsLineOf}
-use Rattle.session.specs.Pairs.{is_undecided}
-use Rattle.session.specs.Windows.{AreWithWindows, HasWindow, is_broken}
+use Rattle.hour_work.specs.Counts.{is_broken, is_undecided}
+use Rattle.session.specs.Windows.{AreWithWindows, HasWindow}
 
 -- the line is of one of the rules, at a tenth of the hour; where it says broken its obligation is broken over the whole log, and where it says undecided it is undecided
 pub record IsLineIn (c : Settings) (s : Store) (hour : ℕ) (line : AuditLine) : Type 0 where

@@ -1,21 +1,13 @@
 -- What keeps and what breaks the lines that a rule leaves undecided at a tenth.
 use Rattle.std.specs.Prelude.{ℕ, ◌/◌, ◌==◌, ◌&&◌, Bool, true, false, List, [], ◌∷◌, filter}
-use Rattle.sig_base.specs.declared.values.Verdict.{Verdict}
-use Rattle.sig_base.specs.declared.values.Verdict.TheVariants.{Idle, Kept, Broken, Undecided}
 use Rattle.hour_store.specs.Store.{Store}
 use Rattle.ring_config.specs.Settings.{Settings}
 use Rattle.rule_audit.specs.declared.lines.AuditLine.{AuditLine}
 use Rattle.rule_audit.specs.Rules.{rules_for}
+use Rattle.hour_work.specs.Counts.{is_undecided}
 use Rattle.hour_work.specs.Verdicts.{AreAuditLines}
 use Rattle.filling_pair.specs.declared.strands.Pair.{Pair}
 use Rattle.filling_pair.specs.Asks.{IsPair}
-
--- the verdict is undecided
-abbrev pub is_undecided : Verdict → Bool
-is_undecided Idle = false
-is_undecided Kept = false
-is_undecided Broken = false
-is_undecided Undecided = true
 
 -- the line says undecided, of the rule of this number at this tenth
 abbrev pub is_open_at : ℕ → ℕ → AuditLine → Bool

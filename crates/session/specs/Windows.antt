@@ -1,8 +1,6 @@
 -- The lines of the audit of an hour, with the decisive window of each broken one.
 use Rattle.std.specs.Prelude.{◌≡◌, ℕ, Bool, true, false, List, [], ◌∷◌, Option, Some, None, ⊤}
 use Rattle.sig_base.specs.declared.values.Row.{Row}
-use Rattle.sig_base.specs.declared.values.Verdict.{Verdict}
-use Rattle.sig_base.specs.declared.values.Verdict.TheVariants.{Idle, Kept, Broken, Undecided}
 use Rattle.hour_store.specs.Store.{Store}
 use Rattle.ring_config.specs.Settings.{Settings}
 use Rattle.signal_log.specs.Log.{Log, log_of}
@@ -11,14 +9,8 @@ use Rattle.rule_audit.specs.declared.rules.Rule.{Rule}
 use Rattle.rule_audit.specs.Rules.{rules_for}
 use Rattle.decisive.specs.Window.{IsDecisive, obligation_of}
 use Rattle.signal_log.specs.Rows.{hour_rows}
+use Rattle.hour_work.specs.Counts.{is_broken}
 use Rattle.hour_work.specs.Verdicts.{AreAuditLines}
-
--- the verdict is broken
-abbrev pub is_broken : Verdict → Bool
-is_broken Idle = false
-is_broken Kept = false
-is_broken Broken = true
-is_broken Undecided = false
 
 -- a broken line has the decisive window of its obligation, every other has none
 abbrev pub HasWindow : Log → List Rule → List Row → AuditLine → Option (ℕ × ℕ) → Type 0

@@ -2,7 +2,8 @@
 ghost use Rattle.std.specs.Prelude.{◌≡◌, ℕ, All, filter, IfOk};
 ghost use Rattle.rule_audit.specs.Rules.{rules_for};
 ghost use Rattle.session.specs.HourLines.{IsLineIn};
-ghost use Rattle.session.specs.Pairs.{ArePairsOf, is_open_at, is_undecided};
+ghost use Rattle.hour_work.specs.Counts.{is_undecided};
+ghost use Rattle.session.specs.Pairs.{ArePairsOf, is_open_at};
 ghost use Rattle.sig_base.specs.Reads.{Grow};
 
 use filling_pair::{Pairs, find_pair};

@@ -32,7 +32,8 @@ use Rattle.report_text.specs.declared.refusal.Refusal.TheVariants.{Edit}
 use Rattle.sigaudit.specs.Turns.{refuses, writes}
 use Rattle.report_text.specs.Audit.{EndIn, IsLineIn, audit_start, lines_text}
 use Rattle.report_text.specs.Heads.{verdicts_head}
-use Rattle.sigaudit.specs.Audit.{AddsHour, AreFailing, AreVerdicts, IsAudited, IsReportOf, failing_at, failing_of, is_kept}
+use Rattle.sigaudit.specs.Audit.{AddsHour, AreFailing, AreVerdicts, IsAudited, IsReportOf, failing_at, failing_of}
+use Rattle.hour_work.specs.Counts.{is_kept}
 use Rattle.sigaudit.specs.Run.{TakesBy, TakesPut}
 use Rattle.sigaudit.proofs.TakeFacts.{by_refusal}
 use Rattle.sigaudit.specs.declared.status.Stopped.{Stopped}

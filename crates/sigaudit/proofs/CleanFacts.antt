@@ -14,7 +14,7 @@ use Rattle.rule_audit.specs.Lines.{AreLinesOf, lines_of}
 use Rattle.rule_audit.specs.Obligations.{Obligation}
 use Rattle.rule_audit.specs.Rules.{rules_for}
 use Rattle.hour_work.specs.declared.counts.RuleCount.{RuleCount}
-use Rattle.hour_work.specs.Counts.{HasKeptAlone, count_of_rule, counts_of, is_broken, is_undecided}
+use Rattle.hour_work.specs.Counts.{HasKeptAlone, count_of_rule, counts_of, is_broken, is_kept, is_undecided}
 use Rattle.hour_work.specs.Numbers.{Numbers}
 use Rattle.hour_work.specs.Reports.{IsHourPart}
 use Rattle.hour_work.specs.Verdicts.{HasStoreVerdict, obligations_in}
@@ -24,8 +24,7 @@ use Rattle.signal_log.specs.Log.{Log, log_of}
 use Rattle.sig_base.specs.declared.values.Row.{Row}
 use Rattle.rule_audit.specs.declared.rules.Rule.{Rule}
 use Rattle.session.specs.Windows.{AreWithWindows, with_window}
-use Rattle.session.specs.Windows.{is_broken as is_windowed}
-use Rattle.sigaudit.specs.Audit.{AddsHour, failing_of, is_kept}
+use Rattle.sigaudit.specs.Audit.{AddsHour, failing_of}
 use Rattle.report_text.proofs.VerdictLines.{no_line}
 
 -- ---- no line is idle
@@ -84,7 +83,7 @@ one_kept n lines k lt numbered said kept =
 
 -- ---- kept lines have no window, and none of them is added
 
-not_broken : (v : Verdict) → is_kept v ≡ true → is_windowed v ≡ false
+not_broken : (v : Verdict) → is_kept v ≡ true → is_broken v ≡ false
 not_broken Idle k = absurd (cc)
 not_broken Kept k = refl
 not_broken Broken k = absurd (cc)

@@ -1,5 +1,5 @@
 -- How the lines of a script open hours.
-use Rattle.std.proofs.Common.{◌≡◌, ◌<◌, ◌≤◌, ◌+◌, ◌*◌, ◌/◌, ◌++◌, ◌∙◌, ◌⊎◌, ℕ, List, [], ◌∷◌, length, Bool, true, false, Option, Some, None, Result, Ok, Err, refl, sym, ap, subst, inl, inr, arith, append_assoc, append-nil}
+use Rattle.std.proofs.Common.{◌≡◌, ◌<◌, ◌≤◌, ◌+◌, ◌*◌, ◌/◌, ◌++◌, ◌∙◌, ◌⊎◌, ℕ, List, [], ◌∷◌, length, Bool, true, false, Option, Some, None, Result, Ok, Err, refl, sym, ap, subst, inl, inr, arith, append_assoc, append-nil, ◌^◌, IfSome}
 use Rattle.std.specs.Prelude.{OnOk, slice_index}
 use Rattle.std.proofs.lemmas.Bool.{cases_lt, lt-ltb, le-ltb}
 use Rattle.std.proofs.lemmas.List.{length-append}
@@ -13,7 +13,7 @@ use Rattle.sig_base.specs.declared.values.EditError.{EditError}
 use Rattle.sig_base.specs.declared.values.EditError.TheVariants.{OutOfWindow, AlreadyHeld, NotHeld, EmptyRange, TooManyRows, TooManyBlanks, Contradiction, Memory}
 use Rattle.hour_store.specs.Store.{Store, nothing_held}
 use Rattle.ring_config.specs.Reading.{Read}
-use Rattle.ring_config.specs.Settings.{Settings}
+use Rattle.ring_config.specs.Settings.{Settings, config_of}
 use Rattle.ring_config.specs.declared.error.ConfigError.{ConfigError}
 use Rattle.signal_log.specs.Log.{HasHistory, log_of}
 use Rattle.session.specs.Edits.{Change, hour_change, step_of}
@@ -33,7 +33,7 @@ use Rattle.sigaudit.specs.declared.status.Status.{Status}
 use Rattle.sigaudit.specs.declared.status.Status.TheVariants as outer
 use Rattle.sigaudit.specs.declared.status.Stopped.{Stopped}
 use Rattle.sigaudit.specs.declared.status.Stopped.TheVariants as stopped
-use Rattle.sigaudit.specs.Counting.{AreCounted, ArePlain, AreTallied, OpensAnswer, OpensConfig, OpensFile, OpensText, EditTally, FetchTally, IsPlain, LineTally, MadeTally, ReadTally, ScriptTally, WhereTaken, within}
+use Rattle.sigaudit.specs.Counting.{AreCounted, ArePlain, AreTallied, OpensAnswer, OpensAsked, OpensConfig, OpensFile, OpensText, EditTally, FetchTally, IsPlain, LineTally, MadeTally, ReadTally, ScriptTally, WhereTaken, within}
 use Rattle.sigaudit.specs.Aims.{Aim, for_lines}
 use Rattle.sigaudit.specs.HourFile.{hour_said}
 use Rattle.sigaudit.specs.Offsets.{advance_of}
@@ -42,6 +42,7 @@ use Rattle.sigaudit.specs.Script.{edit_said, hour_bytes, hour_file, is_edit_memo
 use Rattle.sigaudit.specs.Status.{status_of_run}
 use Rattle.sigaudit.specs.Transcript.{ended_by, limited}
 use Rattle.sigaudit.specs.Turns.{Turn}
+use Rattle.sigaudit.proofs.RunFacts.{if_some-from}
 use Rattle.sigaudit.proofs.ScriptFacts.{lines_next, lines_over}
 
 -- ---- one edit
@@ -349,8 +350,21 @@ text_counted P want bytes bytes' st e eb h = rw e (subst (λ (x : List ℕ). Whe
 pub config_counted : (files : Files) (aim : Aim) (script old : List ℕ) (read : Read Settings) (e : ConfigError) (st : Status) → read ≡ Err e → WhereTaken st (OpensConfig files aim script old old read)
 config_counted files aim script old read e st is = rw is (taken_any st (OpensConfig files aim script old old (Err e)) tt)
 
-pub request_counted : (files : Files) (x : Asked) (config script old now : List ℕ) (st : Status) → x ≡ for_run config script → WhereTaken st (OpensFile files for_lines script old now (limited 1048576 (files config))) → WhereTaken st (OpensAnswer files old now (Some x))
+pub request_counted : (files : Files) (x : Asked) (config script old now : List ℕ) (st : Status) → x ≡ for_run config script → WhereTaken st (OpensFile files for_lines script old now (limited 1048576 (files config))) → WhereTaken st (OpensAsked files old now (Some x))
 request_counted files x config script old now st e h = rw e h
 
-pub answer_counted : (asked o : Option Asked) (files : Files) (old now : List ℕ) (st : Status) → asked ≡ o → WhereTaken st (OpensAnswer files old now o) → WhereTaken st (OpensAnswer files old now asked)
+pub answer_counted : (asked o : Option Asked) (files : Files) (old now : List ℕ) (st : Status) → asked ≡ o → WhereTaken st (OpensAsked files old now o) → WhereTaken st (OpensAsked files old now asked)
 answer_counted asked o files old now st e h = rw e h
+
+-- step by step: the words, the configuration's file, what it says, and the script's file
+asked_opens : (files : Files) (old now : List ℕ) (asked : Option Asked) → OpensAsked files old now asked → OpensAnswer files old now asked
+asked_opens files old now asked h config script bytes text c asks there reads lines plain =
+    let file : OpensFile files for_lines script old now (limited (2 ^ 20) (files config)) = subst (λ (a : Option Asked). OpensAsked files old now a) asks h in
+    let said : OpensConfig files for_lines script old now (config_of bytes) = subst (λ (b : Option (List ℕ)). OpensFile files for_lines script old now b) there file in
+    let found : OpensText files c for_lines old now (limited (4 * 2 ^ 20) (files script)) = subst (λ (r : Read Settings). OpensConfig files for_lines script old now r) reads said in
+    subst (λ (o : Option (List ℕ)). OpensText files c for_lines old now o) lines found plain
+
+pub opens-of_asked : (told : Option Files) (s t : Status) (asked : Option Asked) (old now : List ℕ) → s ≡ t → ((files : Files) → told ≡ Some files → WhereTaken t (OpensAsked files old now asked)) → IfSome told (λ files. WhereTaken s (OpensAnswer files old now asked))
+opens-of_asked told s t asked old now e h =
+    if_some-from told (λ files. WhereTaken s (OpensAnswer files old now asked))
+    (λ files is. subst (λ (x : Status). WhereTaken x (OpensAnswer files old now asked)) (sym e) (taken_by t (OpensAsked files old now asked) (OpensAnswer files old now asked) (asked_opens files old now asked) (h files is)))

@@ -1,13 +1,12 @@
 -- The lines of an audit of a store.
 use Rattle.std.specs.Prelude.{◌≡◌, ℕ, zero, suc, ◌+◌, List, [], ◌∷◌, ◌++◌, flat_map, if◌then◌else◌, Bool, true, false}
 use Rattle.sig_base.specs.declared.values.EditError.TheVariants.{OutOfWindow}
-use Rattle.sig_base.specs.declared.values.Verdict.{Verdict}
-use Rattle.sig_base.specs.declared.values.Verdict.TheVariants.{Idle, Kept, Broken, Undecided}
 use Rattle.hour_store.specs.Store.{Store}
 use Rattle.ring_config.specs.Settings.{Settings}
 use Rattle.signal_log.specs.Log.{HasHistory, log_of}
 use Rattle.rule_audit.specs.declared.lines.AuditLine.{AuditLine}
 use Rattle.rule_audit.specs.Rules.{rules_for}
+use Rattle.hour_work.specs.Counts.{is_kept}
 use Rattle.hour_work.specs.Numbers.{Numbers, total_of}
 use Rattle.hour_work.specs.Reports.{IsReport}
 use Rattle.session.specs.Windows.{AreHourLines}
@@ -15,13 +14,6 @@ use Rattle.report_text.specs.declared.refusal.Refusal.TheVariants.{Edit}
 use Rattle.report_text.specs.Heads.{verdicts_head}
 use Rattle.report_text.specs.Audit.{audit_start, lines_text}
 use Rattle.sigaudit.specs.Turns.{Turn, refuses, writes}
-
--- the verdict is kept
-abbrev pub is_kept : Verdict → Bool
-is_kept Idle = false
-is_kept Kept = true
-is_kept Broken = false
-is_kept Undecided = false
 
 -- a line, unless it is kept
 abbrev pub failing_at : AuditLine → List AuditLine

@@ -117,21 +117,19 @@ abbrev pub OpensFile : Files → Aim → List ℕ → List ℕ → List ℕ → 
 OpensFile files aim script old new None = ⊤
 OpensFile files aim script old new (Some bytes) = OpensConfig files aim script old new (config_of bytes)
 
--- each hour is opened as often as said by a run of a script over a configuration; nothing is said of words that ask for something else
+-- by what the words ask for, each hour is opened as often as said; nothing is said of words that ask for something else than a script over a configuration
+abbrev pub OpensAsked : Files → List ℕ → List ℕ → Option Asked → Type 0
+OpensAsked files old new (Some (for_run config script)) = OpensFile files for_lines script old new (limited (2 ^ 20) (files config))
+OpensAsked files old new _ = ⊤
+
+-- where the words ask for a script over a configuration, both files are there and within their limits, the configuration is accepted, and each line of the script can be counted: each hour is opened as often as said
 abbrev pub OpensAnswer : Files → List ℕ → List ℕ → Option Asked → Type 0
-OpensAnswer files old new None = ⊤
-OpensAnswer files old new (Some (for_run config script)) = OpensFile files for_lines script old new (limited (2 ^ 20) (files config))
-OpensAnswer files old new (Some (for_pairs config script rule at)) = ⊤
-OpensAnswer files old new (Some (for_count file signal day hour)) = ⊤
-OpensAnswer files old new (Some (for_pack file signal day hour)) = ⊤
-OpensAnswer files old new (Some (for_demo hours)) = ⊤
+OpensAnswer files old new asked =
+    (config script bytes text : List ℕ) (c : Settings) → asked ≡ Some (for_run config script) → limited (2 ^ 20) (files config) ≡ Some bytes → config_of bytes ≡ Ok c → limited (4 * 2 ^ 20) (files script) ≡ Some text
+    → ArePlain c (lines_of text) → AreCounted (ScriptTally files c (lines_of text) (nothing_held c.window.hours)) old new
 
 -- P holds where the run ended with all lines of its script taken
 abbrev pub WhereTaken : Status → Type 0 → Type 0
 WhereTaken Done P = P
 WhereTaken SomeRefused P = P
-WhereTaken Usage P = ⊤
-WhereTaken BadConfig P = ⊤
-WhereTaken Fault P = ⊤
-WhereTaken Memory P = ⊤
-WhereTaken NoFile P = ⊤
+WhereTaken _ P = ⊤

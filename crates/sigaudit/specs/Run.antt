@@ -50,12 +50,9 @@ WritesAll bytes old new = Appends old.written new.written bytes × NoFault old n
 
 -- the words ask for a script over a configuration, their own or that of a demonstration
 abbrev pub AsksRun : Option Asked → Type 0
-AsksRun None = ⊥
 AsksRun (Some (for_run config script)) = ⊤
 AsksRun (Some (for_pairs config script rule at)) = ⊤
-AsksRun (Some (for_count file signal day hour)) = ⊥
-AsksRun (Some (for_pack file signal day hour)) = ⊥
-AsksRun (Some (for_demo hours)) = ⊤
+AsksRun _ = ⊥
 
 -- the run wrote all of what the words and the files give where the run ends so, and no fault came
 abbrev pub Ends : ((List ℕ → List (List ℕ)) → Outcome → Type 0) → Ended → World → World → Type 0
@@ -251,13 +248,11 @@ ScriptCause old new status = FileCause old new status
 
 -- why a demonstration ended so, by the sink's counts of faults
 abbrev pub DemoCause : ℕ → ℕ → Status → Type 0
-DemoCause before now Done = now ≡ before
-DemoCause before now SomeRefused = now ≡ before
 DemoCause before now Usage = ⊥
-DemoCause before now BadConfig = now ≡ before
 DemoCause before now NoFile = ⊥
 DemoCause before now Fault = Rose before now
 DemoCause before now Memory = ⊤
+DemoCause before now _ = now ≡ before
 
 -- a demonstration leaves the shelf alone, misses no file of its own, and stops at a fault of the sink alone
 abbrev pub LeavesShelf : Option Asked → World → World → Status → Type 0

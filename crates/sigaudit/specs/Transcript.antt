@@ -136,12 +136,8 @@ IsBeginning k words files bytes = (ended : Ended) × IsAnswer (asked_of words) f
 
 -- the words ask for what a rule leaves undecided, of which the pairs that are printed aren't fixed
 abbrev pub asks_pairs : Option Asked → Bool
-asks_pairs None = false
-asks_pairs (Some (for_run config script)) = false
 asks_pairs (Some (for_pairs config script rule at)) = true
-asks_pairs (Some (for_count file signal day hour)) = false
-asks_pairs (Some (for_pack file signal day hour)) = false
-asks_pairs (Some (for_demo hours)) = false
+asks_pairs _ = false
 
 -- the words, unless they ask for pairs, and the files have one transcript
 abbrev pub HaveOneTranscript : Type 0

@@ -1,7 +1,8 @@
 // The verdicts of a session: those that are broken or undecided, or all of one hour.
 ghost use Rattle.std.specs.Prelude.{◌≡◌, ◌<◌, ◌++◌, true, [], IfOk, IsTrue, OnOk, length, nat_lt};
 ghost use Rattle.sig_base.specs.Reads.{Grow};
-ghost use Rattle.sigaudit.specs.Audit.{AddsHour, AreFailing, AreVerdicts, IsAudited, failing_at, failing_of, is_kept};
+ghost use Rattle.hour_work.specs.Counts.{is_kept};
+ghost use Rattle.sigaudit.specs.Audit.{AddsHour, AreFailing, AreVerdicts, IsAudited, failing_at, failing_of};
 ghost use Rattle.sigaudit.specs.Run.{TakesBy};
 
 use crate::refused::refuse;

@@ -15,7 +15,7 @@ ghost use Rattle.row_reader.specs.Stamp.{stamp_in};
 ghost use Rattle.sigaudit.specs.Aims.{aim_of, for_lines, for_rule};
 ghost use Rattle.sigaudit.specs.Pairs.{AreFound, place_of};
 ghost use Rattle.sigaudit.specs.Transcript.{asks_pairs, ended_by, limited, outcome, BeginsWithFirstLines, HaveOneTranscript, IsAimOutcome, IsAnswer, IsConfigOutcome, IsDemoOutcome, IsFileOutcome, IsScriptOutcome};
-ghost use Rattle.sigaudit.specs.Counting.{OpensAnswer, OpensConfig, OpensFile, OpensText, WhereTaken};
+ghost use Rattle.sigaudit.specs.Counting.{OpensAnswer, OpensAsked, OpensConfig, OpensFile, OpensText, WhereTaken};
 ghost use Rattle.sigaudit.specs.Run.{world, CountsCarried, CountsGrow, CountsText, FetchesText, DemoCause, FewBytes, IsCarriedOut, IsPairsRun, IsRun, LeavesShelf, PutsOne, RunsAs, HasCause, NeedsWords, NeverFall, PutsOutcome, ScriptCause};
 
 use crate::demo_shelf::DemoShelf;
@@ -427,7 +427,7 @@ fn run_request<L, S: Shelf, K: Sink>(
     ensures never_fall { NeverFall (world (S.counts shelf.old) (K.taken sink.old))
         (world (S.counts shelf.new) (K.taken sink.new)) }
     ensures opens { (files : Files) → S.files shelf.old ≡ Some files
-        → WhereTaken (status_of_run result) (OpensAnswer files reads.old reads.new
+        → WhereTaken (status_of_run result) (OpensAsked files reads.old reads.new
         (Some (seen request.entry))) }
     ensures grow { Grow reads.old reads.new }
 {
@@ -485,7 +485,7 @@ fn run_to_end<L, S: Shelf, K: Sink>(
     ensures never_fall { NeverFall (world (S.counts shelf.old) (K.taken sink.old))
         (world (S.counts shelf.new) (K.taken sink.new)) }
     ensures opens { (files : Files) → S.files shelf.old ≡ Some files
-        → WhereTaken (status_of_run result) (OpensAnswer files reads.old reads.new
+        → WhereTaken (status_of_run result) (OpensAsked files reads.old reads.new
         (asked_of words.now)) }
     ensures grow { Grow reads.old reads.new }
 {

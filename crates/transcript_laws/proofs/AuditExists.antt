@@ -41,7 +41,8 @@ use Rattle.decisive.proofs.Concluded.{at_place, whole_broken, known_within}
 use Rattle.hour_work.specs.Points.{is_known_before}
 use Rattle.hour_work.specs.Verdicts.{AreAuditLines, HasStoreVerdict, obligations_in, states_in}
 use Rattle.hour_work.proofs.PlacedLaws.{each_weaker}
-use Rattle.session.specs.Windows.{AreHourLines, AreWithWindows, HasWindow, is_broken, with_window}
+use Rattle.hour_work.specs.Counts.{is_broken}
+use Rattle.session.specs.Windows.{AreHourLines, AreWithWindows, HasWindow, with_window}
 use Rattle.session.proofs.WindowLaws.{lines_in, all_if}
 use Rattle.transcript_laws.specs.Exists.{NotNone}
 use Rattle.transcript_laws.proofs.Chance.{decided, greatest, least, some, then as after, with}

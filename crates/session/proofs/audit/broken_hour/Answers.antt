@@ -2,7 +2,7 @@ use Rattle.std.proofs.Common.{◌≡◌, ◌∙◌, ◌/◌, arith, ap, sym, sub
 use Rattle.std.proofs.lemmas.Bool.{cases_eq}
 use Rattle.std.proofs.lemmas.List.{get_or_default}
 use Rattle.rule_audit.specs.declared.lines.AuditLine.{AuditLine}
-use Rattle.session.specs.Windows.{is_broken}
+use Rattle.hour_work.specs.Counts.{is_broken}
 use Rattle.session.proofs.WindowLaws.{no_line, not_broken}
 use Rattle.session.proofs.audit.broken_hour.Goals as goal
 

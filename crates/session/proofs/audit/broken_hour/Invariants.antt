@@ -1,6 +1,6 @@
 use Rattle.std.proofs.Common.{◌≡◌, ◌<◌, ℕ, false, get_or}
 use Rattle.rule_audit.specs.declared.lines.AuditLine.{AuditLine}
-use Rattle.session.specs.Windows.{is_broken}
+use Rattle.hour_work.specs.Counts.{is_broken}
 use Rattle.session.proofs.audit.broken_hour.Given as goal
 
 abbrev pub invariant-loop-line : goal.invariant-loop-line

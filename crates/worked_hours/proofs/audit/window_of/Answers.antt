@@ -1,7 +1,7 @@
 use Rattle.std.proofs.Common.{List, ap, subst, sym}
 use Rattle.rule_audit.specs.declared.rules.Rule.{Rule}
 use Rattle.decisive.specs.Lines.{IsBrokenIn}
-use Rattle.session.specs.Windows.{is_broken}
+use Rattle.hour_work.specs.Counts.{is_broken}
 use Rattle.worked_hours.proofs.audit.window_of.Goals as goal
 
 pub decisive_window-requires-clause-line : goal.decisive_window-requires-clause-line

@@ -108,7 +108,7 @@ ons_few test d before rows = let a = length_filter (is_on d) (passing_from test 
 -- ---- the arrivals that count before a point
 
 -- no tenth past the window is known
-past_unknown : (s : Store) (t : ℕ) → point (length s.hours) ≤ t → is_known s t ≡ false
+pub past_unknown : (s : Store) (t : ℕ) → point (length s.hours) ≤ t → is_known s t ≡ false
 past_unknown s t le =
     let past : length s.hours ≤ t / 36000 = omega arith in
     let none : held_at s (t / 36000) ≡ None = get_or_past s.hours (t / 36000) None past in

@@ -7,4 +7,5 @@ pub mod GreenNumbers
 pub mod Rules
 pub mod States
 pub mod GreenSums
+pub mod Parts
 pub mod Plain

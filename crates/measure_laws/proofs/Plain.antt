@@ -1,8 +1,8 @@
--- No number of a report is capped.
-use Rattle.std.proofs.Common.{◌≡◌, ◌∙◌, refl, ap, sym, subst, inl, inr, ℕ, zero, suc, ◌+◌, ◌-◌, ◌<◌, ◌≤◌, Bool, true, false, not, cond, ◌&&◌, ◌||◌, nat_le, nat_lt, eqb, Option, Some, None, List, [], ◌∷◌, ◌++◌, length, map, get_or, length-append, arith}
-use Rattle.std.specs.Prelude.{All, IfSome, filter_map}
+-- The numbers of a report are counts and sums of a part of the log, and none is capped.
+use Rattle.std.proofs.Common.{◌≡◌, ◌∙◌, refl, ap, sym, subst, inl, inr, ℕ, zero, suc, ◌+◌, ◌-◌, ◌*◌, ◌<◌, ◌≤◌, Bool, true, false, not, cond, ◌&&◌, ◌||◌, nat_le, nat_lt, eqb, Option, Some, None, List, [], ◌∷◌, ◌++◌, length, map, get_or, length-append, arith}
+use Rattle.std.specs.Prelude.{All, IfSome, filter_map, is_some}
 use Rattle.std.specs.List.{cons_option, count_by, filter, sum, sum_by}
-use Rattle.std.proofs.lemmas.Bool.{and_parts, cases_Bool, ltb-true}
+use Rattle.std.proofs.lemmas.Bool.{and_from, and_left, and_parts, cases_Bool, cases_lt, eq-eqb, le-leb, lt-ltb, ltb-true, or_left}
 use Rattle.std.proofs.lemmas.List.{get_or-map, length-map}
 use Rattle.std.proofs.lemmas.List.Elements.{All-cons, All-filter, All-head, All-nil, All-tail, All-weaker, filter_passes}
 use Rattle.std.proofs.lemmas.List.Filters.{length-filter_both}
@@ -12,7 +12,7 @@ use Rattle.sig_base.specs.declared.values.Row.{Row}
 use Rattle.sig_base.specs.Numbers.{has_number, has_phase}
 use Rattle.board.specs.Logs.{end_tenth, first_tenth}
 use Rattle.signal_log.specs.Log.{Log, log_of, window_end}
-use Rattle.hour_store.specs.Store.{IsStore, Store, is_known, known_rows}
+use Rattle.hour_store.specs.Store.{IsStore, Store, count_in, is_known, known_rows}
 use Rattle.hour_sums.specs.Numbers.{by_number, capped, one_if, own}
 use Rattle.hour_sweep.specs.Hours.{AreOrdered, point}
 use Rattle.hour_sweep.specs.Numbers.{given, outs_from}
@@ -46,7 +46,7 @@ use Rattle.split_measures.proofs.Opening.{all_open, none_else}
 use Rattle.other_measures.specs.declared.sums.CoordSum.{CoordSum}
 use Rattle.other_measures.specs.declared.sums.PedSum.{PedSum}
 use Rattle.other_measures.specs.declared.sums.PreemptSum.{PreemptSum}
-use Rattle.other_measures.specs.Hours.{AreNumbers, HasDelays, HasEvents, HasRows, delays_from, events_from}
+use Rattle.other_measures.specs.Hours.{AreNumbers, HasDelays, HasEvents, HasRows, OtherNumbers, delays_from, events_from}
 use Rattle.other_measures.specs.LastRows.{lapse_of, last_row_of, since_first}
 use Rattle.other_measures.specs.Peds.{delay_at, is_call, is_walk}
 use Rattle.other_measures.specs.Preempts.{call_of, delay_of, event_at, is_dwell, is_entry, is_exit}
@@ -56,30 +56,35 @@ use Rattle.other_measures.proofs.Stores.{each_as}
 use Rattle.cycle_arrivals.specs.Arrivals.{is_on, ons_of, rows_within}
 use Rattle.cycle_arrivals.specs.Green.{arrivals_in, green_arrivals_in, green_tenths_in, shows_green}
 use Rattle.cycle_arrivals.specs.Own.{turns_green}
+use Rattle.cycle_arrivals.proofs.Counts.{and_true}
 use Rattle.cycle_arrivals.proofs.Tenths.{tenths_within}
 use Rattle.arrival_measures.specs.declared.sums.ArrivalSum.{ArrivalSum}
 use Rattle.arrival_measures.specs.Cycles.{CycleNumbers, cycle_tenths, numbers_of}
 use Rattle.arrival_measures.specs.Faults.{arrivals_from, faults_from, is_arrival, is_fault_row}
 use Rattle.arrival_measures.specs.Hours.{HasActuations, HasArrivals, HasJudged, HaveCycles, counts_in, cycle_numbers, cycle_part, cycles_of, due_in, is_seen}
+use Rattle.arrival_measures.specs.Judged.{AreJudged, is_green}
 use Rattle.arrival_measures.specs.Travel.{arrivals_at, told}
+use Rattle.arrival_measures.proofs.Filters.{filter_same}
 use Rattle.hour_work.specs.Rows.{earlier_rows, own_rows}
-use Rattle.hour_work.specs.Measures.{MayBeIn}
-use Rattle.hour_work.specs.Numbers.{Numbers, total_of}
+use Rattle.hour_work.specs.Measures.{MayBeIn, MeetsIn}
+use Rattle.hour_work.specs.Numbers.{Numbers, count_from, total_of}
 use Rattle.hour_work.specs.Reports.{IsReport}
 use Rattle.hour_work.proofs.Totals.{log_total}
 use Rattle.hour_work.proofs.WholeLog.{all_rows, earlier_ordered, hour_within, own_ordered}
-use Rattle.measure_laws.specs.Plain.{ArePlain, ArePlainCycles, ArePlainVerdicts, HasPlainRows, HavePlainActuations, HavePlainArrivals, HavePlainCycles, HavePlainVerdicts, IsPlainHour, IsPlainPed, IsPlainPhase, IsPlainPreempt, IsPlainTotal, SumsArePlain, no_verdicts}
+use Rattle.measure_laws.specs.Plain.{ArePlainArrivals, ArePlainCycles, ArePlainVerdicts, HasPlainRows, HavePlainActuations, HavePlainArrivals, HavePlainCycles, HavePlainVerdicts, IsApproachPart, IsHourOf, IsPlainPed, IsPlainPhase, IsPlainPreempt, IsWindowOf, SumsArePlain, counts_between, is_seen_by, no_verdicts, open_by}
+use Rattle.measure_laws.specs.States.{AreStatesBetween}
 use Rattle.measure_laws.specs.Totals.{AreTotalsOf, HaveTotals, IsApproachTotal}
 use Rattle.measure_laws.proofs.Adding.{all_few, arrivals_few, cons_few, open_few, outs_few, two_few}
-use Rattle.measure_laws.proofs.States.{state_totals}
-use Rattle.measure_laws.proofs.Arrivals.{arrival_totals, ons_few}
+use Rattle.measure_laws.proofs.Parts.{hour_held, hour_lines, hours_total, known_total, lines_total, rows_total}
+use Rattle.measure_laws.proofs.States.{hour_states, state_totals}
+use Rattle.measure_laws.proofs.Arrivals.{arrival_totals, ons_few, past_unknown}
 use Rattle.measure_laws.proofs.Splits.{split_totals}
-use Rattle.measure_laws.proofs.Totals.{each_as as each_of, each_of_places, known_few}
+use Rattle.measure_laws.proofs.Totals.{each_as as each_of, each_of_places, filter_all, known_few}
 
 -- ---- how many rows a store has, and at which tenths
 
 -- known rows of a store, of 744 hours with at most 400,000 rows each, where the first rows stand before them
-record IsPart (before rows : List Row) : Type 0 where
+record AreOfLog (before rows : List Row) : Type 0 where
   from : ℕ
   to : ℕ
   end : to ≤ 26784000
@@ -87,7 +92,7 @@ record IsPart (before rows : List Row) : Type 0 where
   own : AreOrdered from to rows
   few : length (before ++ rows) ≤ 297600000
 
-hour_part : (s : Store) (hour : ℕ) → IsStore s → hour < length s.hours → IsPart (earlier_rows s hour) (own_rows s hour)
+hour_part : (s : Store) (hour : ℕ) → IsStore s → hour < length s.hours → AreOfLog (earlier_rows s hour) (own_rows s hour)
 hour_part s hour store lt =
     let w = hour_within s hour store lt in
     let a = length-append (earlier_rows s hour) (own_rows s hour ++ w.later) in
@@ -105,7 +110,7 @@ hour_part s hour store lt =
       few = omega (arith, a, b, c, e, few);
     }
 
-log_part : (s : Store) → IsStore s → IsPart [] (known_rows s)
+log_part : (s : Store) → IsStore s → AreOfLog [] (known_rows s)
 log_part s store =
     let most = store.few in
     let end = point (length s.hours) in
@@ -118,7 +123,7 @@ log_part s store =
       few = known_few s store;
     }
 
-part_few : (before rows : List Row) → IsPart before rows → length rows ≤ 297600000
+part_few : (before rows : List Row) → AreOfLog before rows → length rows ≤ 297600000
 part_few before rows part = let both = length-append before rows in let few = part.few in omega (arith, both, few)
 
 -- ---- sums and counts of so few
@@ -144,7 +149,7 @@ each_by has Is f (suc n) h = elim (cases_Bool (has n)) [
   | inr t ↦ rw t (inr (refl, each_by has Is f n h))
 ]
 
-services_short : (known : ℕ → Bool) (c : Settings) (before rows : List Row) → IsPart before rows → All (λ (x : Service). split x ≤ 600000000) (services_from known c.phases before rows)
+services_short : (known : ℕ → Bool) (c : Settings) (before rows : List Row) → AreOfLog before rows → All (λ (x : Service). split x ≤ 600000000) (services_from known c.phases before rows)
 services_short known c before rows part =
     let all = services_from known c.phases [] (before ++ (rows ++ [])) in
     let test = service_is_in part.from part.to in
@@ -156,7 +161,7 @@ services_short known c before rows part =
     let end = part.end in
     omega (arith, hi, end))
 
-cycles_short : (known : ℕ → Bool) (c : Settings) (before rows : List Row) → IsPart before rows → All (λ (x : Cycle). cycle_length x ≤ 600000000) (cycles_from known c.phases before rows)
+cycles_short : (known : ℕ → Bool) (c : Settings) (before rows : List Row) → AreOfLog before rows → All (λ (x : Cycle). cycle_length x ≤ 600000000) (cycles_from known c.phases before rows)
 cycles_short known c before rows part =
     let all = cycles_from known c.phases [] (before ++ (rows ++ [])) in
     let test = cycle_is_in part.from part.to in
@@ -181,6 +186,8 @@ phase_plain ss cs p few some short_ss short_cs =
     let few_its : length its ≤ 297600000 = omega (arith, b, some) in
     record {
       services = length_plain own few_own;
+      least = refl;
+      greatest = refl;
       sum = sum_plain split own few_own (All-filter is_own (λ (x : Service). split x ≤ 600000000) ss short_ss);
       gap_out = count_plain (λ (s : Service). is_end GapOut s.end) own few_own;
       max_out = count_plain (λ (s : Service). is_end MaxOut s.end) own few_own;
@@ -190,7 +197,7 @@ phase_plain ss cs p few some short_ss short_cs =
       cycle_sum = sum_plain cycle_length its few_its (All-filter is_its (λ (x : Cycle). cycle_length x ≤ 600000000) cs short_cs);
     }
 
-phases_plain : (known : ℕ → Bool) (c : Settings) (before rows : List Row) (splits : List PhaseSum) → IsPart before rows → splits ≡ phase_sums c.phases (services_from known c.phases before rows) (cycles_from known c.phases before rows) → EachOf (has_phase c.phases) (IsPlainPhase (services_from known c.phases before rows) (cycles_from known c.phases before rows)) 17 splits
+phases_plain : (known : ℕ → Bool) (c : Settings) (before rows : List Row) (splits : List PhaseSum) → AreOfLog before rows → splits ≡ phase_sums c.phases (services_from known c.phases before rows) (cycles_from known c.phases before rows) → EachOf (has_phase c.phases) (IsPlainPhase (services_from known c.phases before rows) (cycles_from known c.phases before rows)) 17 splits
 phases_plain known c before rows splits part e =
     let ss = services_from known c.phases before rows in
     let cs = cycles_from known c.phases before rows in
@@ -218,7 +225,7 @@ outs_so out_at P has before (r ∷ rs) h low =
     let rest = outs_so out_at P has (before ++ r ∷ []) rs h (All-tail (λ (z : Row). z.at < 26784000) r rs low) in
     cons_so P (given out_at has before r rs) (outs_from out_at has (before ++ r ∷ []) rs) (given_so P (has r.param) (out_at r.param before r rs) here) rest
 
-rows_early : (before rows : List Row) → IsPart before rows → All (λ (r : Row). r.at < 26784000) rows
+rows_early : (before rows : List Row) → AreOfLog before rows → All (λ (r : Row). r.at < 26784000) rows
 rows_early before rows part =
     let end = part.end in
     All-weaker (λ (r : Row). r.at < part.to) (λ (r : Row). r.at < 26784000) (λ r lt. omega (arith, lt, end)) rows (below_end part.from part.to rows part.own)
@@ -275,7 +282,7 @@ delay_short known p before r rest lt =
     let short = lapse_short (is_walk p) (is_call p) known r.at before lt in
     elim (cases_Bool (is_walk p r)) [ inl t ↦ rw t short | inr f ↦ rw f tt ]
 
-ped_plain : (known : ℕ → Bool) (c : Settings) (before rows : List Row) (p : ℕ) (n : PedSum) → IsPart before rows → HasDelays (delays_from known c before rows) p n → IsPlainPed known c before rows p n
+ped_plain : (known : ℕ → Bool) (c : Settings) (before rows : List Row) (p : ℕ) (n : PedSum) → AreOfLog before rows → HasDelays (delays_from known c before rows) p n → IsPlainPed known c before rows p n
 unfolding ped_sum_of
 ped_plain known c before rows p n part e =
     let ds = delays_from known c before rows in
@@ -287,6 +294,7 @@ ped_plain known c before rows p n part e =
       walks = ap (λ (x : PedSum). x.walks) e ∙ own_length ds p few (λ d. d.ped);
       delays = ap (λ (x : PedSum). x.delays) e ∙ own_kept ds p few (λ d. d.ped) (λ d. ran d.wait);
       sum = ap (λ (x : PedSum). x.sum) e ∙ own_sum ds p few (λ d. d.ped) (λ d. ran d.wait) short;
+      greatest = ap (λ (x : PedSum). x.greatest) e;
       uncalled = ap (λ (x : PedSum). x.uncalled) e ∙ own_count ds p few (λ d. d.ped) (λ d. is_not_begun d.wait);
       partial = ap (λ (x : PedSum). x.partial) e ∙ own_count ds p few (λ d. d.ped) (λ d. is_partial d.wait);
     }
@@ -315,7 +323,7 @@ event_dwell known p before r rest lt =
       | inr f ↦ elim (cases_Bool (is_exit p r)) [ inl t ↦ rw (f, t) short | inr g ↦ rw (f, g) tt ]
     ]
 
-preempt_plain : (known : ℕ → Bool) (c : Settings) (before rows : List Row) (p : ℕ) (n : PreemptSum) → IsPart before rows → HasEvents (events_from known c before rows) p n → IsPlainPreempt known c before rows p n
+preempt_plain : (known : ℕ → Bool) (c : Settings) (before rows : List Row) (p : ℕ) (n : PreemptSum) → AreOfLog before rows → HasEvents (events_from known c before rows) p n → IsPlainPreempt known c before rows p n
 unfolding preempt_sum_of
 preempt_plain known c before rows p n part e =
     let es = events_from known c before rows in
@@ -377,7 +385,7 @@ cycles_plain p d rows cs few some short = record {
   tenths = sum_plain cycle_tenths cs some short;
 }
 
-have_plain : (known : ℕ → Bool) (c : Settings) (before rows : List Row) (a : Approach) (n : CycleNumbers) (o : Option ℕ) → IsPart before rows → n ≡ cycle_numbers known c before rows a o → HavePlainCycles known c before rows a n o
+have_plain : (known : ℕ → Bool) (c : Settings) (before rows : List Row) (a : Approach) (n : CycleNumbers) (o : Option ℕ) → AreOfLog before rows → n ≡ cycle_numbers known c before rows a o → HavePlainCycles known c before rows a n o
 have_plain known c before rows a n None part e = e
 have_plain known c before rows a n (Some d) part e =
     let seen = told known a.phase d a.travel (before ++ rows) in
@@ -392,7 +400,7 @@ have_plain known c before rows a n (Some d) part e =
     subst (λ (m : CycleNumbers). ArePlainCycles a.phase d seen its m) (sym e)
     (cycles_plain a.phase d seen its (omega (arith, less, most)) (omega (arith, outs, kept, few)) (All-filter is_its (λ (x : Cycle). cycle_length x ≤ 600000000) all (cycles_short known c before rows part)))
 
-each_cycles : (known : ℕ → Bool) (c : Settings) (before rows : List Row) (sums : List ArrivalSum) → IsPart before rows → HaveCycles known c before rows sums → Each (λ a x. HavePlainCycles known c before rows a (cycle_part x) a.advance) c.approaches sums
+each_cycles : (known : ℕ → Bool) (c : Settings) (before rows : List Row) (sums : List ArrivalSum) → AreOfLog before rows → HaveCycles known c before rows sums → Each (λ a x. HavePlainCycles known c before rows a (cycle_part x) a.advance) c.approaches sums
 each_cycles known c before rows sums part e =
     let f = λ (a : Approach). cycle_numbers known c before rows a a.advance in
     let size : length sums ≡ length c.approaches = sym (length-map sums cycle_part) ∙ (ap (λ (zs : List CycleNumbers). length zs) e ∙ length-map c.approaches f) in
@@ -456,7 +464,7 @@ nothing_counted : split_sum_of [] ≡ no_verdicts
 unfolding split_sum_of capped
 nothing_counted = refl
 
-hour_verdicts : (c : Settings) (s : Store) (hour : ℕ) (x : SplitSum) (o : Option StopBar) → IsPart (earlier_rows s hour) (own_rows s hour) → IsApproachSum (log_of c.specs s) c hour (earlier_rows s hour ++ own_rows s hour) x o → HavePlainVerdicts (log_of c.specs s) c (ending (first_tenth hour) (end_tenth hour)) (open_in c.window.hours hour) (earlier_rows s hour ++ own_rows s hour) x o
+hour_verdicts : (c : Settings) (s : Store) (hour : ℕ) (x : SplitSum) (o : Option StopBar) → AreOfLog (earlier_rows s hour) (own_rows s hour) → IsApproachSum (log_of c.specs s) c hour (earlier_rows s hour ++ own_rows s hour) x o → HavePlainVerdicts (log_of c.specs s) c (ending (first_tenth hour) (first_tenth (hour + 1))) (open_by c (hour + 1)) (earlier_rows s hour ++ own_rows s hour) x o
 hour_verdicts c s hour x None part e = e ∙ nothing_counted
 hour_verdicts c s hour x (Some b) part (i, at, is) =
     let upto = earlier_rows s hour ++ own_rows s hour in
@@ -467,22 +475,38 @@ hour_verdicts c s hour x (Some b) part (i, at, is) =
     let q = open_few c.window.hours hour all in
     let r = all_few (is_known s) c.phases b.phase upto in
     let few = part.few in
-    (i, at, verdicts_plain (log_of c.specs s) i b ended waiting x is.verdicts (omega (arith, p, q, r, few)) is.each is.sums)
+    let plain = verdicts_plain (log_of c.specs s) i b ended waiting x is.verdicts (omega (arith, p, q, r, few)) is.each is.sums in
+    let next : end_tenth hour ≡ first_tenth (hour + 1) = omega arith in
+    (i, at, subst (λ (t : ℕ). ArePlainVerdicts (log_of c.specs s) i b (ending (first_tenth hour) t all) (cond (nat_le c.window.hours (hour + 1)) (left t all) []) x) next plain)
 
-log_verdicts : (c : Settings) (s : Store) (x : SplitSum) (o : Option StopBar) → IsStore s → IsApproachTotal (log_of c.specs s) c x o → HavePlainVerdicts (log_of c.specs s) c (due (window_end (log_of c.specs s))) (left (window_end (log_of c.specs s))) (known_rows s) x o
-log_verdicts c s x None store e = e ∙ nothing_counted
-log_verdicts c s x (Some b) store (i, at, is) =
+-- each red window ends after tenth 0
+all_ending : (end : ℕ) (ss : List Service) → due end ss ≡ ending 0 end ss
+all_ending end ss = filter_same (λ (x : Service). nat_le (x.r + 50) end) (λ x. nat_lt 0 (x.r + 50) && nat_le (x.r + 50) end) ss
+    (λ k d lt. let x = get_or ss k d in sym (ap (λ v. v && nat_le (x.r + 50) end) (lt-ltb 0 (x.r + 50) (omega arith))))
+
+-- those that aren't over by the window's end are open
+left_open : (c : Settings) (ss : List Service) → left (first_tenth c.window.hours) ss ≡ open_by c c.window.hours ss
+left_open c ss = let hours = c.window.hours in sym (ap (λ v. cond v (left (first_tenth hours) ss) []) (le-leb hours hours (omega arith)))
+
+log_verdicts : (c : Settings) (s : Store) (x : SplitSum) (o : Option StopBar) → IsStore s → length s.hours ≡ c.window.hours → IsApproachTotal (log_of c.specs s) c x o → HavePlainVerdicts (log_of c.specs s) c (ending 0 (first_tenth c.window.hours)) (open_by c c.window.hours) (known_rows s) x o
+log_verdicts c s x None store size e = e ∙ nothing_counted
+log_verdicts c s x (Some b) store size (i, at, is) =
     let end = window_end (log_of c.specs s) in
     let all = services_upto (is_known s) c.phases b.phase (known_rows s) in
     let is_due : Service → Bool = λ y. nat_le (y.r + 50) end in
     let both = length-filter_both is_due (λ y. not (is_due y)) (λ y. refl) all in
     let r = all_few (is_known s) c.phases b.phase (known_rows s) in
     let few = known_few s store in
-    (i, at, verdicts_plain (log_of c.specs s) i b (due end all) (left end all) x is.verdicts (omega (arith, both, r, few)) is.each is.sums)
+    let plain = verdicts_plain (log_of c.specs s) i b (due end all) (left end all) x is.verdicts (omega (arith, both, r, few)) is.each is.sums in
+    let Are : List Service → List Service → Type 0 = λ judged waiting. ArePlainVerdicts (log_of c.specs s) i b judged waiting x in
+    let last : end ≡ first_tenth c.window.hours = omega arith in
+    let over : due end all ≡ ending 0 (first_tenth c.window.hours) all = ap (λ (t : ℕ). due t all) last ∙ all_ending (first_tenth c.window.hours) all in
+    let waits : left end all ≡ open_by c c.window.hours all = ap (λ (t : ℕ). left t all) last ∙ left_open c all in
+    (i, at, subst (λ ss. Are (ending 0 (first_tenth c.window.hours) all) ss) waits (subst (λ ss. Are ss (left end all)) over plain))
 
 -- ---- arrivals and actuations
 
-hour_arrivals : (c : Settings) (s : Store) (hour : ℕ) (a : Approach) (x : ArrivalSum) (o : Option ℕ) → IsPart (earlier_rows s hour) (own_rows s hour) → HasArrivals (MayBeIn c s) (is_known s) c a (earlier_rows s hour) (own_rows s hour) hour x o → HavePlainArrivals c s (λ d. due_in (is_known s) c hour d a.travel (earlier_rows s hour ++ own_rows s hour)) (is_seen (is_known s) hour) (earlier_rows s hour) (own_rows s hour) a x o
+hour_arrivals : (c : Settings) (s : Store) (hour : ℕ) (a : Approach) (x : ArrivalSum) (o : Option ℕ) → AreOfLog (earlier_rows s hour) (own_rows s hour) → HasArrivals (MayBeIn c s) (is_known s) c a (earlier_rows s hour) (own_rows s hour) hour x o → HavePlainArrivals c s (λ d. filter (counts_between c hour (hour + 1)) (arrivals_at (is_known s) d a.travel (earlier_rows s hour ++ own_rows s hour))) (is_seen_by (is_known s) (hour + 1)) (earlier_rows s hour) (own_rows s hour) a x o
 hour_arrivals c s hour a x None part is = is
 hour_arrivals c s hour a x (Some d) part is =
     let upto = earlier_rows s hour ++ own_rows s hour in
@@ -501,11 +525,37 @@ hour_arrivals c s hour a x (Some d) part is =
       fault = is.fault ∙ length_plain (ons_of d (faults_from (is_known s) (earlier_rows s hour) (own_rows s hour))) (omega (arith, f, low));
     }
 
-log_arrivals : (c : Settings) (s : Store) (a : Approach) (x : ArrivalSum) (o : Option ℕ) → HaveTotals c s a x o → HavePlainArrivals c s (λ d. arrivals_at (is_known s) d a.travel (known_rows s)) (λ y. is_known s y.at) [] (known_rows s) a x o
-log_arrivals c s a x None is = is
-log_arrivals c s a x (Some d) is = record { arrivals = is.arrivals; judged = is.judged; unseen = is.unseen; fault = is.fault }
+-- each arrival counts in the window
+all_count : (c : Settings) (x : Row) → counts_between c 0 c.window.hours x ≡ true
+all_count c x =
+    let hours = c.window.hours in
+    and_from (nat_le (point 0) x.at) (eqb hours hours || nat_lt x.at (point hours)) (le-leb (point 0) x.at (omega arith)) (or_left (eqb hours hours) (nat_lt x.at (point hours)) (eq-eqb hours hours refl))
 
-acted_plain : (c : Settings) (s : Store) (before rows : List Row) (a : Approach) (x : ArrivalSum) (o : Option ℕ) → IsPart before rows → HasActuations (MayBeIn c s) (is_known s) c a before rows x o → HavePlainActuations c s before rows a x o
+-- and is seen exactly where its tenth is known
+seen_known : (s : Store) (hours : ℕ) (x : Row) → length s.hours ≡ hours → is_known s x.at ≡ is_seen_by (is_known s) hours x
+seen_known s hours x size = elim (cases_lt x.at (point hours)) [
+  | inl lt ↦ sym (ap (λ v. is_known s x.at && v) (lt-ltb x.at (point hours) lt) ∙ and_true (is_known s x.at))
+  | inr ge ↦ let un = past_unknown s x.at (omega arith) in un ∙ sym (and_left (is_known s x.at) (nat_lt x.at (point hours)) un)
+]
+
+log_arrivals : (c : Settings) (s : Store) (a : Approach) (x : ArrivalSum) (o : Option ℕ) → length s.hours ≡ c.window.hours → HaveTotals c s a x o → HavePlainArrivals c s (λ d. filter (counts_between c 0 c.window.hours) (arrivals_at (is_known s) d a.travel (known_rows s))) (is_seen_by (is_known s) c.window.hours) [] (known_rows s) a x o
+log_arrivals c s a x None size is = is
+log_arrivals c s a x (Some d) size is =
+    let sees : Row → Bool = is_seen_by (is_known s) c.window.hours in
+    let ons = arrivals_at (is_known s) d a.travel (known_rows s) in
+    let faults = ons_of d (faults_from (is_known s) [] (known_rows s)) in
+    let all : filter (counts_between c 0 c.window.hours) ons ≡ ons = filter_all (counts_between c 0 c.window.hours) ons (λ k e lt. all_count c (get_or ons k e)) in
+    let seen = filter_same (λ y. is_known s y.at) sees ons (λ k e lt. seen_known s c.window.hours (get_or ons k e) size) in
+    let hidden = filter_same (λ y. not (is_known s y.at)) (λ y. not (sees y)) ons (λ k e lt. ap (λ v. not v) (seen_known s c.window.hours (get_or ons k e) size)) in
+    let plain : ArePlainArrivals c s a sees ons faults x = record {
+      arrivals = is.arrivals;
+      judged = subst (λ ys. AreJudged (MayBeIn c s) c a.phase is_green ys x.green x.not_green x.undecided) seen is.judged;
+      unseen = is.unseen ∙ ap (λ (ys : List Row). length ys) hidden;
+      fault = is.fault;
+    } in
+    subst (λ ys. ArePlainArrivals c s a sees ys faults x) (sym all) plain
+
+acted_plain : (c : Settings) (s : Store) (before rows : List Row) (a : Approach) (x : ArrivalSum) (o : Option ℕ) → AreOfLog before rows → HasActuations (MayBeIn c s) (is_known s) c a before rows x o → HavePlainActuations c s before rows a x o
 acted_plain c s before rows a x None part is = is
 acted_plain c s before rows a x (Some d) part is =
     let p = ons_few (is_arrival (is_known s)) d before rows in
@@ -519,52 +569,76 @@ acted_plain c s before rows a x (Some d) part is =
 
 -- ---- a report
 
-part_plain : (c : Settings) (s : Store) (before rows : List Row) (n : Numbers) → IsPart before rows → n.splits ≡ phase_sums c.phases (services_from (is_known s) c.phases before rows) (cycles_from (is_known s) c.phases before rows) → AreNumbers (is_known s) c before rows n.others → HaveCycles (is_known s) c before rows n.arrivals → Each (λ a x. HavePlainActuations c s before rows a x a.stop_bar) c.approaches n.arrivals → ArePlain c s before rows n
-part_plain c s before rows n part phases others cycles acted =
-    let known = is_known s in
-    let few = part_few before rows part in
-    record {
-      phases = phases_plain known c before rows n.splits part phases;
-      peds = each_as (has_number c.peds) (HasDelays (delays_from known c before rows)) (IsPlainPed known c before rows) 17 n.others.peds (λ p x is. ped_plain known c before rows p x part is) others.peds;
-      preempts = each_as (has_number c.preempts) (HasEvents (events_from known c before rows)) (IsPlainPreempt known c before rows) 17 n.others.preempts (λ p x is. preempt_plain known c before rows p x part is) others.preempts;
-      coordination = λ on. rows_plain rows n.others.coordination few (others.coordination on);
-      cycles = each_cycles known c before rows n.arrivals part cycles;
-      actuations = acted;
-    }
+each_pair : {A S : Type 0} (P Q R : A → S → Type 0) (xs : List A) (ss : List S) → ((a : A) (x : S) → P a x → Q a x → R a x) → Each P xs ss → Each Q xs ss → Each R xs ss
+each_pair P Q R [] [] h p q = tt
+each_pair P Q R [] (y ∷ ys) h p q = absurd p
+each_pair P Q R (x ∷ xs) [] h p q = absurd p
+each_pair P Q R (x ∷ xs) (y ∷ ys) h p q = (h x y p.0 q.0, each_pair P Q R xs ys h p.1 q.1)
 
-hour_plain : (c : Settings) (s : Store) (all : List Numbers) (hour : ℕ) (z : Numbers) → IsStore s → IsReport c s all → hour < length s.hours → IsPlainHour c s hour (get_or all hour z)
+peds_plain : (known : ℕ → Bool) (c : Settings) (before rows : List Row) (n : OtherNumbers) → AreOfLog before rows → AreNumbers known c before rows n → EachOf (has_number c.peds) (IsPlainPed known c before rows) 17 n.peds
+peds_plain known c before rows n part is = each_as (has_number c.peds) (HasDelays (delays_from known c before rows)) (IsPlainPed known c before rows) 17 n.peds (λ p x so. ped_plain known c before rows p x part so) is.peds
+
+preempts_plain : (known : ℕ → Bool) (c : Settings) (before rows : List Row) (n : OtherNumbers) → AreOfLog before rows → AreNumbers known c before rows n → EachOf (has_number c.preempts) (IsPlainPreempt known c before rows) 17 n.preempts
+preempts_plain known c before rows n part is = each_as (has_number c.preempts) (HasEvents (events_from known c before rows)) (IsPlainPreempt known c before rows) 17 n.preempts (λ p x so. preempt_plain known c before rows p x part so) is.preempts
+
+hour_plain : (c : Settings) (s : Store) (all : List Numbers) (hour : ℕ) (z : Numbers) → IsStore s → IsReport c s all → hour < length s.hours → IsHourOf c s hour (get_or all hour z)
 hour_plain c s all hour z store is lt =
-    let here = (is.each hour z lt).measures in
+    let here = is.each hour z lt in
+    let measures = here.measures in
     let part = hour_part s hour store lt in
+    let known = is_known s in
     let before = earlier_rows s hour in
     let rows = own_rows s hour in
     let n = get_or all hour z in
     let May = MayBeIn c s in
-    let judged = each_of_places (λ a x. HasJudged May (is_known s) c before rows hour a x) c.approaches n.arrivals here.judged.size here.judged.each in
+    let long : 36000 ≡ 36000 * (hour + 1 - hour) = omega arith in
+    let next : first_tenth hour + 36000 ≡ first_tenth (hour + 1) = omega arith in
+    let judged = each_of_places (λ a x. HasJudged May known c before rows hour a x) c.approaches n.arrivals measures.judged.size measures.judged.each in
     record {
-      own = part_plain c s before rows n part here.phases here.numbers here.whole_cycles
-          (each_of (λ a x. HasJudged May (is_known s) c before rows hour a x) (λ a x. HavePlainActuations c s before rows a x a.stop_bar) c.approaches n.arrivals (λ a x so. acted_plain c s before rows a x a.stop_bar part so.actuations) judged);
-      states = here.states;
-      verdicts = each_of (λ a x. IsApproachSum (log_of c.specs s) c hour (before ++ rows) x (bar_with a a.stop_bar)) (λ a x. HavePlainVerdicts (log_of c.specs s) c (ending (first_tenth hour) (end_tenth hour)) (open_in c.window.hours hour) (before ++ rows) x (bar_with a a.stop_bar)) c.approaches n.failures
-          (λ a x so. hour_verdicts c s hour x (bar_with a a.stop_bar) part so) here.verdicts;
-      arrivals = each_of (λ a x. HasJudged May (is_known s) c before rows hour a x) (λ a x. HavePlainArrivals c s (λ d. due_in (is_known s) c hour d a.travel (before ++ rows)) (is_seen (is_known s) hour) before rows a x a.advance) c.approaches n.arrivals
-          (λ a x so. hour_arrivals c s hour a x a.advance part so.arrivals) judged;
+      held_hours = here.held_hours ∙ hour_held s hour (λ h. cond (is_some h) 1 0) lt;
+      held_rows = here.held_rows ∙ hour_held s hour count_in lt;
+      known_tenths = here.known_tenths ∙ ap (λ (k : ℕ). count_from known (first_tenth hour) k) long;
+      lines = here.lines;
+      are_lines = hour_lines c s hour here.lines here.are_lines;
+      rules = here.rules;
+      phases = phases_plain known c before rows n.splits part measures.phases;
+      peds = peds_plain known c before rows n.others part measures.numbers;
+      preempts = preempts_plain known c before rows n.others part measures.numbers;
+      coordination = λ on. rows_plain rows n.others.coordination (part_few before rows part) (measures.numbers.coordination on);
+      off = measures.numbers.off;
+      states = hour_states (MeetsIn c s) c (first_tenth hour) (first_tenth (hour + 1)) next n.others measures.states;
+      verdicts = each_of (λ a x. IsApproachSum (log_of c.specs s) c hour (before ++ rows) x (bar_with a a.stop_bar)) (λ a x. HavePlainVerdicts (log_of c.specs s) c (ending (first_tenth hour) (first_tenth (hour + 1))) (open_by c (hour + 1)) (before ++ rows) x (bar_with a a.stop_bar)) c.approaches n.failures
+          (λ a x so. hour_verdicts c s hour x (bar_with a a.stop_bar) part so) measures.verdicts;
+      approaches = each_pair (λ a x. HasJudged May known c before rows hour a x) (λ a x. HavePlainCycles known c before rows a (cycle_part x) a.advance) (λ a x. IsApproachPart c s hour (hour + 1) before rows a x) c.approaches n.arrivals
+          (λ a x so whole. record { arrivals = hour_arrivals c s hour a x a.advance part so.arrivals; cycles = whole; actuations = acted_plain c s before rows a x a.stop_bar part so.actuations }) judged (each_cycles known c before rows n.arrivals part measures.whole_cycles);
     }
 
-total_plain : (c : Settings) (s : Store) (all : List Numbers) → IsStore s → length s.hours ≡ c.window.hours → IsReport c s all → IsPlainTotal c s (total_of all)
+total_plain : (c : Settings) (s : Store) (all : List Numbers) → IsStore s → length s.hours ≡ c.window.hours → IsReport c s all → IsWindowOf c s (total_of all)
 total_plain c s all store size is =
+    let hours = c.window.hours in
     let total = log_total c s all store is in
     let part = log_part s store in
+    let known = is_known s in
+    let rows = known_rows s in
     let n = total_of all in
-    let arrived = arrival_totals c s all store size is in
+    let lines = lines_total c s all hours store is size in
     record {
-      all = part_plain c s [] (known_rows s) n part total.splits total.others total.arrivals
-          (each_of (AreTotalsOf c s) (λ a x. HavePlainActuations c s [] (known_rows s) a x a.stop_bar) c.approaches n.arrivals (λ a x so. acted_plain c s [] (known_rows s) a x a.stop_bar part so.actuations) arrived);
-      states = state_totals c s all store is;
-      verdicts = each_of (λ a x. IsApproachTotal (log_of c.specs s) c x (bar_with a a.stop_bar)) (λ a x. HavePlainVerdicts (log_of c.specs s) c (due (window_end (log_of c.specs s))) (left (window_end (log_of c.specs s))) (known_rows s) x (bar_with a a.stop_bar)) c.approaches n.failures
-          (λ a x so. log_verdicts c s x (bar_with a a.stop_bar) store so) (split_totals c s all store size is);
-      arrivals = each_of (AreTotalsOf c s) (λ a x. HavePlainArrivals c s (λ d. arrivals_at (is_known s) d a.travel (known_rows s)) (λ y. is_known s y.at) [] (known_rows s) a x a.advance) c.approaches n.arrivals
-          (λ a x so. log_arrivals c s a x a.advance so.arrivals) arrived;
+      held_hours = hours_total c s all is hours size;
+      held_rows = rows_total c s all is hours size;
+      known_tenths = known_total c s all store is hours size;
+      lines = lines.lines;
+      are_lines = lines.are_lines;
+      rules = lines.counts;
+      phases = phases_plain known c [] rows n.splits part total.splits;
+      peds = peds_plain known c [] rows n.others part total.others;
+      preempts = preempts_plain known c [] rows n.others part total.others;
+      coordination = λ on. rows_plain rows n.others.coordination (part_few [] rows part) (total.others.coordination on);
+      off = total.others.off;
+      states = subst (λ (k : ℕ). AreStatesBetween (MeetsIn c s) 0 (first_tenth k) c n.others) size (state_totals c s all store is);
+      verdicts = each_of (λ a x. IsApproachTotal (log_of c.specs s) c x (bar_with a a.stop_bar)) (λ a x. HavePlainVerdicts (log_of c.specs s) c (ending 0 (first_tenth hours)) (open_by c hours) rows x (bar_with a a.stop_bar)) c.approaches n.failures
+          (λ a x so. log_verdicts c s x (bar_with a a.stop_bar) store size so) (split_totals c s all store size is);
+      approaches = each_pair (AreTotalsOf c s) (λ a x. HavePlainCycles known c [] rows a (cycle_part x) a.advance) (λ a x. IsApproachPart c s 0 hours [] rows a x) c.approaches n.arrivals
+          (λ a x so whole. record { arrivals = log_arrivals c s a x a.advance size so.arrivals; cycles = whole; actuations = acted_plain c s [] rows a x a.stop_bar part so.actuations }) (arrival_totals c s all store size is) (each_cycles known c [] rows n.arrivals part total.arrivals);
     }
 
 pub sums_plain : SumsArePlain

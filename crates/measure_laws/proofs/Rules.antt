@@ -30,7 +30,7 @@ count_both k xs ys =
     let u = sum_by-append (λ (l : AuditLine). cond (l.rule == k && is_undecided l.verdict) 1 0) xs ys in
     rw (a, b, u) refl
 
-counts_both : (n : ℕ) (xs ys : List AuditLine) → merged count_sum (counts_of n xs) (counts_of n ys) ≡ counts_of n (xs ++ ys)
+pub counts_both : (n : ℕ) (xs ys : List AuditLine) → merged count_sum (counts_of n xs) (counts_of n ys) ≡ counts_of n (xs ++ ys)
 unfolding counts_of
 counts_both n xs ys = merged_maps count_sum (λ k. count_of_rule k xs) (λ k. count_of_rule k ys) (λ k. count_of_rule k (xs ++ ys)) (range_with_len 1 n) (λ k. count_both k xs ys)
 

@@ -1,17 +1,22 @@
--- No number of a report stands at the last value of a u64: each is the count or the sum itself.
-use Rattle.std.specs.Prelude.{ℕ, ◌≡◌, ◌<◌, ◌++◌, ◌==◌, Bool, true, not, List, [], Option, Some, None, filter, length, sum, sum_by, count_by, slice_index_or}
+-- The numbers of a part of a log, of some hours or of its whole window: each is a count, a sum, a least or a greatest of what the part has.
+use Rattle.std.specs.Prelude.{ℕ, zero, suc, ◌≡◌, ◌<◌, ◌+◌, ◌-◌, ◌*◌, ◌++◌, ◌==◌, ◌&&◌, ◌||◌, if◌then◌else◌, Bool, true, false, not, List, [], Option, Some, None, is_some, nat_le, nat_lt, take, drop, map, filter, length, sum, sum_by, count_by, slice_index_or}
 use Rattle.sig_base.specs.declared.values.Row.{Row}
 use Rattle.sig_base.specs.Numbers.{has_number, has_phase}
-use Rattle.board.specs.Logs.{end_tenth, first_tenth}
-use Rattle.hour_store.specs.Store.{IsStore, Store, is_known, known_rows}
-use Rattle.signal_log.specs.Log.{Log, log_of, window_end}
+use Rattle.sig_base.specs.HourRows.{Shown}
+use Rattle.board.specs.Logs.{first_tenth}
+use Rattle.hour_store.specs.Store.{IsStore, Store, count_in, is_known, known_rows}
+use Rattle.signal_log.specs.Log.{HasHistory, Log, log_of}
 use Rattle.ring_config.specs.Settings.{Settings}
 use Rattle.ring_config.specs.declared.items.Approach.{Approach}
 use Rattle.service_cut.specs.declared.items.Cycle.{Cycle}
 use Rattle.service_cut.specs.declared.items.Service.{Service}
 use Rattle.service_cut.specs.declared.items.Termination.TheVariants.{ForceOff, GapOut, MaxOut, Unlogged}
 use Rattle.service_cut.specs.Cut.{cycles_from, services_from}
-use Rattle.split_windows.specs.Windows.{due, left}
+use Rattle.hour_sums.specs.Numbers.{greatest, least}
+use Rattle.hour_sweep.specs.Hours.{point}
+use Rattle.rule_audit.specs.declared.lines.AuditLine.{AuditLine}
+use Rattle.rule_audit.specs.Rules.{rules_for}
+use Rattle.split_windows.specs.Windows.{left}
 use Rattle.stop_bar.specs.declared.bars.StopBar.{StopBar}
 use Rattle.stop_bar.specs.All.{IsPlaceOf, bar_with}
 use Rattle.stop_bar.specs.Bars.{ending, services_upto}
@@ -21,13 +26,12 @@ use Rattle.split_measures.specs.declared.sums.PhaseSum.{PhaseSum}
 use Rattle.split_measures.specs.declared.verdict.SplitVerdict.{SplitVerdict}
 use Rattle.split_measures.specs.declared.verdict.SplitVerdict.TheVariants.{Fail, Pass, Undecided, Fault}
 use Rattle.split_measures.specs.Failures.{is_verdict}
-use Rattle.split_measures.specs.Hours.{open_in}
 use Rattle.split_measures.specs.Phases.{cycle_length, cycles_of as cycles_of_phase, is_end, services_of, split}
 use Rattle.split_measures.specs.Verdicts.{IsVerdict}
 use Rattle.other_measures.specs.declared.sums.CoordSum.{CoordSum}
 use Rattle.other_measures.specs.declared.sums.PedSum.{PedSum}
 use Rattle.other_measures.specs.declared.sums.PreemptSum.{PreemptSum}
-use Rattle.other_measures.specs.Hours.{AreStates, delays_from, events_from}
+use Rattle.other_measures.specs.Hours.{delays_from, events_from, no_coordination}
 use Rattle.other_measures.specs.States.{EachOf}
 use Rattle.other_measures.specs.Sums.{delays_of, events_of, is_entry_event, is_late_entry, is_late_exit, is_not_begun, is_partial, preempt_delays, preempt_dwells, waits}
 use Rattle.cycle_arrivals.specs.Arrivals.{ons_of}
@@ -35,20 +39,24 @@ use Rattle.cycle_arrivals.specs.Green.{arrivals_in, green_arrivals_in, green_ten
 use Rattle.arrival_measures.specs.declared.sums.ArrivalSum.{ArrivalSum}
 use Rattle.arrival_measures.specs.Cycles.{CycleNumbers, cycle_tenths}
 use Rattle.arrival_measures.specs.Faults.{arrivals_from, faults_from}
-use Rattle.arrival_measures.specs.Hours.{cycle_part, cycles_of, due_in, is_seen, no_actuations, no_arrivals, no_cycles}
+use Rattle.arrival_measures.specs.Hours.{cycle_part, cycles_of, no_actuations, no_arrivals, no_cycles}
 use Rattle.arrival_measures.specs.Judged.{AreJudged, is_green, is_red}
 use Rattle.arrival_measures.specs.Travel.{arrivals_at, told}
 use Rattle.hour_work.specs.Measures.{MayBeIn, MeetsIn}
-use Rattle.hour_work.specs.Numbers.{Numbers, total_of}
+use Rattle.hour_work.specs.Numbers.{Numbers, count_from, total_of}
 use Rattle.hour_work.specs.Reports.{IsReport}
+use Rattle.hour_work.specs.Verdicts.{AreAuditLines}
+use Rattle.hour_work.specs.Counts.{counts_of}
 use Rattle.hour_work.specs.Rows.{earlier_rows, own_rows}
-use Rattle.measure_laws.specs.States.{AreStatesUpto}
+use Rattle.measure_laws.specs.States.{AreStatesBetween}
 
 -- ---- phases
 
--- the numbers of phase p: how many of these services and of these cycles are its own, how many of the services ended in each way, and the sums of their splits and of the lengths of the cycles
+-- the numbers of phase p: how many of these services and of these cycles are its own, how many of the services ended in each way, their least and greatest split, and the sums of their splits and of the lengths of the cycles
 pub record IsPlainPhase (ss : List Service) (cs : List Cycle) (p : ℕ) (n : PhaseSum) : Type 0 where
   pub services : n.services ≡ length (services_of p ss)
+  pub least : n.least ≡ least (map split (services_of p ss))
+  pub greatest : n.greatest ≡ greatest (map split (services_of p ss))
   pub sum : n.sum ≡ sum_by split (services_of p ss)
   pub gap_out : n.gap_out ≡ count_by (λ s. is_end GapOut s.end) (services_of p ss)
   pub max_out : n.max_out ≡ count_by (λ s. is_end MaxOut s.end) (services_of p ss)
@@ -59,11 +67,12 @@ pub record IsPlainPhase (ss : List Service) (cs : List Cycle) (p : ℕ) (n : Pha
 
 -- ---- pedestrian signals, preempts and the coordination
 
--- the numbers of pedestrian signal p: how many delays among these rows are its own, how many of them are whole and the sum of those, and how many have no call or an unknown one
+-- the numbers of pedestrian signal p: how many delays among these rows are its own, how many of them are whole, the sum and the greatest of those, and how many have no call or an unknown one
 pub record IsPlainPed (known : ℕ → Bool) (c : Settings) (before rows : List Row) (p : ℕ) (n : PedSum) : Type 0 where
   pub walks : n.walks ≡ length (delays_of p (delays_from known c before rows))
   pub delays : n.delays ≡ length (waits (delays_of p (delays_from known c before rows)))
   pub sum : n.sum ≡ sum (waits (delays_of p (delays_from known c before rows)))
+  pub greatest : n.greatest ≡ greatest (waits (delays_of p (delays_from known c before rows)))
   pub uncalled : n.uncalled ≡ count_by (λ d. is_not_begun d.wait) (delays_of p (delays_from known c before rows))
   pub partial : n.partial ≡ count_by (λ d. is_partial d.wait) (delays_of p (delays_from known c before rows))
 
@@ -144,31 +153,64 @@ abbrev pub HavePlainCycles : (ℕ → Bool) → Settings → List Row → List R
 HavePlainCycles known c before rows a n None = n ≡ no_cycles
 HavePlainCycles known c before rows a n (Some d) = ArePlainCycles a.phase d (told known a.phase d a.travel (before ++ rows)) (cycles_of known c a.phase before rows) n
 
--- ---- a report
+-- ---- a part of a log
 
--- the numbers of what ends among these known rows, where the first rows stand before them: phase by phase, signal by signal and preempt by preempt, of the coordination where it is tracked, and approach by approach
-pub record ArePlain (c : Settings) (s : Store) (before rows : List Row) (n : Numbers) : Type 0 where
+-- what is held of the hours from `first` up to `last`, that one left out
+abbrev pub held_between : Store → ℕ → ℕ → List (Option Shown)
+held_between s first last = take (last - first) (drop first s.hours)
+
+-- the audit lines of so many hours from this one on, one hour after another
+unfoldable pub AreLinesFrom : Settings → Store → ℕ → ℕ → List AuditLine → Type 0
+AreLinesFrom c s hour zero lines = lines ≡ []
+AreLinesFrom c s hour (suc n) lines = (own : List AuditLine) × (rest : List AuditLine) × AreAuditLines c s hour own × AreLinesFrom c s (hour + 1) n rest × (lines ≡ own ++ rest)
+
+-- the arrival counts in these hours: it comes in one of them, or later where they end with the window
+abbrev pub counts_between : Settings → ℕ → ℕ → Row → Bool
+counts_between c first last x = nat_le (point first) x.at && (last == c.window.hours || nat_lt x.at (point last))
+
+-- what the phase shows when a vehicle arrives can be asked: the arrival's tenth is known, and before the hour `last`
+abbrev pub is_seen_by : (ℕ → Bool) → ℕ → Row → Bool
+is_seen_by known last x = known x.at && nat_lt x.at (point last)
+
+-- where the hours end with the window the services whose red window isn't over at its end, else none
+abbrev pub open_by : Settings → ℕ → List Service → List Service
+open_by c last ss = if nat_le c.window.hours last then left (first_tenth last) ss else []
+
+-- the numbers of an approach: of its arrivals, of its phase's whole cycles, and of its actuations
+pub record IsApproachPart (c : Settings) (s : Store) (first last : ℕ) (before rows : List Row) (a : Approach) (n : ArrivalSum) : Type 0 where
+  pub arrivals : HavePlainArrivals c s (λ d. filter (counts_between c first last) (arrivals_at (is_known s) d a.travel (before ++ rows))) (is_seen_by (is_known s) last) before rows a n a.advance
+  pub cycles : HavePlainCycles (is_known s) c before rows a (cycle_part n) a.advance
+  pub actuations : HavePlainActuations c s before rows a n a.stop_bar
+
+-- the numbers of the hours from `first` up to `last`, that one left out, with these known rows, where the first rows stand before them: what is held and known, the counts of the rules by the audit lines, and by number or in file order those of phases, of pedestrian signals, preempts and the coordination with their tenths in states, of stop bars and of approaches
+pub record IsPart (c : Settings) (s : Store) (first last : ℕ) (before rows : List Row) (n : Numbers) : Type 0 where
+  pub held_hours : n.held_hours ≡ count_by is_some (held_between s first last)
+  pub held_rows : n.held_rows ≡ sum_by count_in (held_between s first last)
+  pub known_tenths : n.known_tenths ≡ count_from (is_known s) (first_tenth first) (36000 * (last - first))
+  pub lines : List AuditLine
+  pub are_lines : AreLinesFrom c s first (last - first) lines
+  pub rules : n.rules ≡ counts_of (length (rules_for c)) lines
   pub phases : EachOf (has_phase c.phases) (IsPlainPhase (services_from (is_known s) c.phases before rows) (cycles_from (is_known s) c.phases before rows)) 17 n.splits
   pub peds : EachOf (has_number c.peds) (IsPlainPed (is_known s) c before rows) 17 n.others.peds
   pub preempts : EachOf (has_number c.preempts) (IsPlainPreempt (is_known s) c before rows) 17 n.others.preempts
   pub coordination : c.coordination ≡ true → HasPlainRows rows n.others.coordination
-  pub cycles : Each (λ a x. HavePlainCycles (is_known s) c before rows a (cycle_part x) a.advance) c.approaches n.arrivals
-  pub actuations : Each (λ a x. HavePlainActuations c s before rows a x a.stop_bar) c.approaches n.arrivals
+  pub off : c.coordination ≡ false → n.others.coordination ≡ no_coordination
+  pub states : AreStatesBetween (MeetsIn c s) (first_tenth first) (first_tenth last) c n.others
+  pub verdicts : Each (λ a x. HavePlainVerdicts (log_of c.specs s) c (ending (first_tenth first) (first_tenth last)) (open_by c last) (before ++ rows) x (bar_with a a.stop_bar)) c.approaches n.failures
+  pub approaches : Each (IsApproachPart c s first last before rows) c.approaches n.arrivals
 
--- the numbers of an hour of a report: of what ends in it, of its tenths in states, of the services whose red window ends in it, with those that are open where it is the window's last, and of the arrivals that count in it
-pub record IsPlainHour (c : Settings) (s : Store) (hour : ℕ) (n : Numbers) : Type 0 where
-  pub own : ArePlain c s (earlier_rows s hour) (own_rows s hour) n
-  pub states : AreStates (MeetsIn c s) (first_tenth hour) c n.others
-  pub verdicts : Each (λ a x. HavePlainVerdicts (log_of c.specs s) c (ending (first_tenth hour) (end_tenth hour)) (open_in c.window.hours hour) (earlier_rows s hour ++ own_rows s hour) x (bar_with a a.stop_bar)) c.approaches n.failures
-  pub arrivals : Each (λ a x. HavePlainArrivals c s (λ d. due_in (is_known s) c hour d a.travel (earlier_rows s hour ++ own_rows s hour)) (is_seen (is_known s) hour) (earlier_rows s hour) (own_rows s hour) a x a.advance) c.approaches n.arrivals
+-- the numbers of one hour
+abbrev pub IsHourOf : Settings → Store → ℕ → Numbers → Type 0
+IsHourOf c s hour n = IsPart c s hour (hour + 1) (earlier_rows s hour) (own_rows s hour) n
 
--- the totals of a report: of what ends in the whole log, of all its tenths in states, of the services whose red window is over by its end and of the others, and of all arrivals
-pub record IsPlainTotal (c : Settings) (s : Store) (n : Numbers) : Type 0 where
-  pub all : ArePlain c s [] (known_rows s) n
-  pub states : AreStatesUpto (MeetsIn c s) (first_tenth (length s.hours)) c n.others
-  pub verdicts : Each (λ a x. HavePlainVerdicts (log_of c.specs s) c (due (window_end (log_of c.specs s))) (left (window_end (log_of c.specs s))) (known_rows s) x (bar_with a a.stop_bar)) c.approaches n.failures
-  pub arrivals : Each (λ a x. HavePlainArrivals c s (λ d. arrivals_at (is_known s) d a.travel (known_rows s)) (λ y. is_known s y.at) [] (known_rows s) a x a.advance) c.approaches n.arrivals
+-- the numbers of the whole window
+abbrev pub IsWindowOf : Settings → Store → Numbers → Type 0
+IsWindowOf c s n = IsPart c s 0 c.window.hours [] (known_rows s) n
 
--- the numbers of each hour of a report, and its totals
+-- each hour of a report has the numbers of that hour, and its totals are those of the whole window: no count and no sum stands at the last value of a u64
 abbrev pub SumsArePlain : Type 0
-SumsArePlain = (c : Settings) (s : Store) (all : List Numbers) → IsStore s → length s.hours ≡ c.window.hours → IsReport c s all → ((hour : ℕ) (d : Numbers) → hour < length s.hours → IsPlainHour c s hour (slice_index_or all hour d)) × IsPlainTotal c s (total_of all)
+SumsArePlain = (c : Settings) (s : Store) (all : List Numbers) → IsStore s → length s.hours ≡ c.window.hours → IsReport c s all → ((hour : ℕ) (d : Numbers) → hour < length s.hours → IsHourOf c s hour (slice_index_or all hour d)) × IsWindowOf c s (total_of all)
+
+-- a part of a log has one value of its numbers
+abbrev pub PartsAreOne : Type 0
+PartsAreOne = (c : Settings) (s : Store) (first last : ℕ) (before rows : List Row) (a b : Numbers) → HasHistory (log_of c.specs s) → IsPart c s first last before rows a → IsPart c s first last before rows b → a ≡ b

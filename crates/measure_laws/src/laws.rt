@@ -51,11 +51,12 @@ pub fn rule_totals_are_of_the_log()
     ensures { RuleTotals }
 {}
 
-/// Law: no sum of a report stands still at the last value of a u64. Of a store that has all hours
-/// of its window each count and each sum of the measures, in an hour and in the totals, is that of
-/// what is counted itself: of services and cycles of phases, delays of pedestrian signals, entries
-/// and exits of preempts, rows of the coordination, tenths in states, verdicts at stop bars, and
-/// arrivals, actuations and whole cycles of approaches.
+/// Law: of a store that has all hours of its window each hour of a report has the numbers of that hour, and the totals are those of the whole window, in the
+/// same words: which hours and rows are held, which tenths are known, the counts of the rules by the
+/// audit lines, and of the measures what is counted itself, with its sums, its least and its
+/// greatest: of services and cycles of phases, delays of pedestrian signals, entries and exits of
+/// preempts, rows of the coordination, tenths in states, verdicts at stop bars, and arrivals,
+/// actuations and whole cycles of approaches. No sum stands still at the last value of a u64.
 pub fn sums_are_plain()
     ensures { SumsArePlain }
 {}

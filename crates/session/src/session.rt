@@ -153,6 +153,7 @@ impl<L> Session<L> {
         ensures report { IsReport self.now.config self.now.store result.now }
         ensures counted { AreCounted (length (rules_for self.now.config)) result.now }
         ensures history { HasHistory (log_of self.now.config.specs self.now.store) }
+        ensures store { IsStore self.now.store }
     {
         &self.worked.report
     }

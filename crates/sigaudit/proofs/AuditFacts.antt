@@ -32,9 +32,10 @@ use Rattle.report_text.specs.declared.refusal.Refusal.TheVariants.{Edit}
 use Rattle.sigaudit.specs.Turns.{refuses, writes}
 use Rattle.report_text.specs.Audit.{EndIn, IsLineIn, audit_start, lines_text}
 use Rattle.report_text.specs.Heads.{verdicts_head}
-use Rattle.sigaudit.specs.Audit.{AddsHour, AreFailing, AreVerdicts, IsAudited, IsReportOf, failing_at, failing_of}
+use Rattle.sigaudit.specs.Audit.{AddsHour, AreFailing, AreVerdicts, IsAudited, failing_at, failing_of}
 use Rattle.hour_work.specs.Counts.{is_kept}
 use Rattle.sigaudit.specs.Run.{TakesBy, TakesPut}
+use Rattle.sigaudit.proofs.PartFacts.{IsTold, window_told}
 use Rattle.sigaudit.proofs.TakeFacts.{by_refusal}
 use Rattle.sigaudit.specs.declared.status.Stopped.{Stopped}
 use Rattle.sigaudit.specs.declared.status.Stopped.TheVariants as stopped
@@ -218,22 +219,22 @@ adds_lines c s hour lines lines' old new h e n = (lines, h, n ∙ ap (λ (zs : L
 
 -- ---- an audit
 
-audit_turn : (c : Settings) (n : ℕ) (s : Store) (all : List Numbers) (lines : List AuditLine) → IsReportOf c s all → AreFailing c s 0 c.window.hours lines
+audit_turn : (c : Settings) (n : ℕ) (s : Store) (all : List Numbers) (lines : List AuditLine) → IsTold c s all → AreFailing c s 0 c.window.hours lines
     → IsAudited c n s (writes (audit_start n c.specs (rules_for c) (total_of all).rules ++ lines_text c.window lines) s)
-audit_turn c n s all lines report failing = (all, lines, report, failing, refl)
+audit_turn c n s all lines told failing = (total_of all, lines, told.history, window_told c s all told, failing, refl)
 
 -- it was written, or cut off in it
 pub audit_done : (c c' : Settings) (n : ℕ) (s : Store) (all : List Numbers) (rules : List Rule) (total : Numbers) (lines lines' : List AuditLine) (w w' : Taken) → c' ≡ c → rules ≡ rules_for c → total ≡ total_of all
-    → IsReportOf c s all → AreFailing c s 0 c.window.hours lines → lines' ≡ lines → Writes w w' (audit_start n c'.specs rules total.rules ++ lines_text c'.window lines') → TakesBy (IsAudited c n s) w w' s (Ok false)
-audit_done c c' n s all rules total lines lines' w w' ec er et report failing el h =
+    → IsTold c s all → AreFailing c s 0 c.window.hours lines → lines' ≡ lines → Writes w w' (audit_start n c'.specs rules total.rules ++ lines_text c'.window lines') → TakesBy (IsAudited c n s) w w' s (Ok false)
+audit_done c c' n s all rules total lines lines' w w' ec er et told failing el h =
     let h' = rw (ec, er, et, el) at h in
-    (writes (audit_start n c.specs (rules_for c) (total_of all).rules ++ lines_text c.window lines) s, audit_turn c n s all lines report failing, h', refl, refl)
+    (writes (audit_start n c.specs (rules_for c) (total_of all).rules ++ lines_text c.window lines) s, audit_turn c n s all lines told failing, h', refl, refl)
 
 pub audit_cut : (c c' : Settings) (n : ℕ) (s : Store) (all : List Numbers) (rules : List Rule) (total : Numbers) (lines lines' : List AuditLine) (w w' : Taken) → c' ≡ c → rules ≡ rules_for c → total ≡ total_of all
-    → IsReportOf c s all → AreFailing c s 0 c.window.hours lines → lines' ≡ lines → Stops w w' (audit_start n c'.specs rules total.rules ++ lines_text c'.window lines') → TakesBy (IsAudited c n s) w w' s (Err stopped.Fault)
-audit_cut c c' n s all rules total lines lines' w w' ec er et report failing el h =
+    → IsTold c s all → AreFailing c s 0 c.window.hours lines → lines' ≡ lines → Stops w w' (audit_start n c'.specs rules total.rules ++ lines_text c'.window lines') → TakesBy (IsAudited c n s) w w' s (Err stopped.Fault)
+audit_cut c c' n s all rules total lines lines' w w' ec er et told failing el h =
     let h' = rw (ec, er, et, el) at h in
-    (writes (audit_start n c.specs (rules_for c) (total_of all).rules ++ lines_text c.window lines) s, audit_turn c n s all lines report failing, h')
+    (writes (audit_start n c.specs (rules_for c) (total_of all).rules ++ lines_text c.window lines) s, audit_turn c n s all lines told failing, h')
 
 -- ---- the verdicts of an hour
 

@@ -19,13 +19,14 @@ use Rattle.session.specs.Edits as change
 use Rattle.script_lines.specs.Words.{Said}
 use Rattle.script_lines.specs.Words as line
 use Rattle.sigaudit.specs.Turns.{Turn, passes, refuses, writes}
-use Rattle.sigaudit.specs.Audit.{AreVerdicts, IsAudited, IsReportOf}
+use Rattle.sigaudit.specs.Audit.{AreVerdicts, IsAudited}
 use Rattle.sigaudit.specs.Points.{points_of_phase}
 use Rattle.sigaudit.specs.Offsets.{offsets_of}
 use Rattle.sigaudit.specs.Script.{edit_said, hour_bytes, hour_file, wanted_for, IsEdited, IsFetched, IsMeasured, IsMeasuredOf, IsRead, IsTurn}
 use Rattle.sigaudit.specs.Run.{World, world, Takes, TakesBy, TakesPut}
 use Rattle.sigaudit.specs.declared.status.Stopped.{Stopped}
 use Rattle.sigaudit.specs.declared.status.Stopped.TheVariants as stopped
+use Rattle.sigaudit.proofs.PartFacts.{IsTold, hour_past, hour_told, hour_within, window_told}
 use Rattle.sigaudit.proofs.TakeFacts.{by_refusal, takes_as, takes_of_by}
 
 -- ---- files of hours
@@ -74,34 +75,34 @@ inside_line files c n hour name make s s' old new r lt h =
 
 -- ---- measures
 
-pub measures_done : (c c' : Settings) (n : ℕ) (s : Store) (all : List Numbers) (x : Numbers) (w w' : Taken) → c' ≡ c → IsReportOf c s all → x ≡ total_of all → Writes w w' (window_measures n c' x) → TakesBy (IsMeasured c n s) w w' s (Ok false)
+pub measures_done : (c c' : Settings) (n : ℕ) (s : Store) (all : List Numbers) (x : Numbers) (w w' : Taken) → c' ≡ c → IsTold c s all → x ≡ total_of all → Writes w w' (window_measures n c' x) → TakesBy (IsMeasured c n s) w w' s (Ok false)
 measures_done c c' n s all x w w' ec h ex k =
     let k' = rw (ec, ex) at k in
-    (writes (window_measures n c (total_of all)) s, (all, h, refl), k', refl, refl)
+    (writes (window_measures n c (total_of all)) s, (total_of all, h.history, window_told c s all h, refl), k', refl, refl)
 
-pub measures_cut : (c c' : Settings) (n : ℕ) (s : Store) (all : List Numbers) (x : Numbers) (w w' : Taken) → c' ≡ c → IsReportOf c s all → x ≡ total_of all → Stops w w' (window_measures n c' x) → TakesBy (IsMeasured c n s) w w' s (Err stopped.Fault)
+pub measures_cut : (c c' : Settings) (n : ℕ) (s : Store) (all : List Numbers) (x : Numbers) (w w' : Taken) → c' ≡ c → IsTold c s all → x ≡ total_of all → Stops w w' (window_measures n c' x) → TakesBy (IsMeasured c n s) w w' s (Err stopped.Fault)
 measures_cut c c' n s all x w w' ec h ex k =
     let k' = rw (ec, ex) at k in
-    (writes (window_measures n c (total_of all)) s, (all, h, refl), k')
+    (writes (window_measures n c (total_of all)) s, (total_of all, h.history, window_told c s all h, refl), k')
 
 -- the measures of an hour, which are there
-hour_measured : (c : Settings) (n hour : ℕ) (s : Store) (all : List Numbers) (x : Numbers) → IsReportOf c s all → Some x ≡ slice_get all hour → IsMeasuredOf c n hour s (writes (hour_measures n hour c x) s)
-hour_measured c n hour s all x h e = (all, h, rw (← e) refl)
+hour_measured : (c : Settings) (n hour : ℕ) (s : Store) (all : List Numbers) (x : Numbers) → IsTold c s all → Some x ≡ slice_get all hour → IsMeasuredOf c n hour s (nat_lt hour c.window.hours) (writes (hour_measures n hour c x) s)
+hour_measured c n hour s all x h e = rw (lt-ltb hour c.window.hours (hour_within c s all hour x h e)) (x, h.history, hour_told c s all hour x h e, refl)
 
-pub hour_outside : (c c' : Settings) (n hour : ℕ) (s : Store) (all : List Numbers) (w w' : Taken) (r : Result Bool Stopped) → c' ≡ c → IsReportOf c s all → None ≡ slice_get all hour
-    → ((x : Store) → TakesPut (refuses c' n (Edit OutOfWindow) x) w w' x r) → TakesBy (IsMeasuredOf c n hour s) w w' s r
+pub hour_outside : (c c' : Settings) (n hour : ℕ) (s : Store) (all : List Numbers) (w w' : Taken) (r : Result Bool Stopped) → c' ≡ c → IsTold c s all → None ≡ slice_get all hour
+    → ((x : Store) → TakesPut (refuses c' n (Edit OutOfWindow) x) w w' x r) → TakesBy (IsMeasuredOf c n hour s (nat_lt hour c.window.hours)) w w' s r
 hour_outside c c' n hour s all w w' r ec h e k =
-    let is : IsMeasuredOf c n hour s (refuses c n (Edit OutOfWindow) s) = (all, h, rw (← e) refl) in
-    by_refusal (IsMeasuredOf c n hour s) c c' n (Edit OutOfWindow) s w w' r ec is k
+    let is : IsMeasuredOf c n hour s (nat_lt hour c.window.hours) (refuses c n (Edit OutOfWindow) s) = rw (le-ltb hour c.window.hours (hour_past c s all hour h e)) refl in
+    by_refusal (IsMeasuredOf c n hour s (nat_lt hour c.window.hours)) c c' n (Edit OutOfWindow) s w w' r ec is k
 
-pub hour_done : (c c' : Settings) (n hour : ℕ) (s : Store) (all : List Numbers) (x : Numbers) (w w' : Taken) → c' ≡ c → IsReportOf c s all → Some x ≡ slice_get all hour → Writes w w' (hour_measures n hour c' x)
-    → TakesBy (IsMeasuredOf c n hour s) w w' s (Ok false)
+pub hour_done : (c c' : Settings) (n hour : ℕ) (s : Store) (all : List Numbers) (x : Numbers) (w w' : Taken) → c' ≡ c → IsTold c s all → Some x ≡ slice_get all hour → Writes w w' (hour_measures n hour c' x)
+    → TakesBy (IsMeasuredOf c n hour s (nat_lt hour c.window.hours)) w w' s (Ok false)
 hour_done c c' n hour s all x w w' ec h e k =
     let k' = rw ec at k in
     (writes (hour_measures n hour c x) s, hour_measured c n hour s all x h e, k', refl, refl)
 
-pub hour_cut : (c c' : Settings) (n hour : ℕ) (s : Store) (all : List Numbers) (x : Numbers) (w w' : Taken) → c' ≡ c → IsReportOf c s all → Some x ≡ slice_get all hour → Stops w w' (hour_measures n hour c' x)
-    → TakesBy (IsMeasuredOf c n hour s) w w' s (Err stopped.Fault)
+pub hour_cut : (c c' : Settings) (n hour : ℕ) (s : Store) (all : List Numbers) (x : Numbers) (w w' : Taken) → c' ≡ c → IsTold c s all → Some x ≡ slice_get all hour → Stops w w' (hour_measures n hour c' x)
+    → TakesBy (IsMeasuredOf c n hour s (nat_lt hour c.window.hours)) w w' s (Err stopped.Fault)
 hour_cut c c' n hour s all x w w' ec h e k =
     let k' = rw ec at k in
     (writes (hour_measures n hour c x) s, hour_measured c n hour s all x h e, k')
@@ -136,7 +137,7 @@ pub turn_measures : (files : Files) (c : Settings) (n : ℕ) (s : Store) (t : Tu
 unfolding IsTurn
 turn_measures files c n s t h = h
 
-pub turn_hour : (files : Files) (c : Settings) (n hour : ℕ) (s : Store) (t : Turn) → IsMeasuredOf c n hour s t → IsTurn files c n (line.measures_of hour) s t
+pub turn_hour : (files : Files) (c : Settings) (n hour : ℕ) (s : Store) (t : Turn) → IsMeasuredOf c n hour s (nat_lt hour c.window.hours) t → IsTurn files c n (line.measures_of hour) s t
 unfolding IsTurn
 turn_hour files c n hour s t h = h
 

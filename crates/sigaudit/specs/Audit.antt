@@ -7,8 +7,8 @@ use Rattle.signal_log.specs.Log.{HasHistory, log_of}
 use Rattle.rule_audit.specs.declared.lines.AuditLine.{AuditLine}
 use Rattle.rule_audit.specs.Rules.{rules_for}
 use Rattle.hour_work.specs.Counts.{is_kept}
-use Rattle.hour_work.specs.Numbers.{Numbers, total_of}
-use Rattle.hour_work.specs.Reports.{IsReport}
+use Rattle.hour_work.specs.Numbers.{Numbers}
+use Rattle.measure_laws.specs.Plain.{IsWindowOf}
 use Rattle.session.specs.Windows.{AreHourLines}
 use Rattle.report_text.specs.declared.refusal.Refusal.TheVariants.{Edit}
 use Rattle.report_text.specs.Heads.{verdicts_head}
@@ -33,15 +33,11 @@ AreFailing c s hour (suc n) failing =
 abbrev pub AddsHour : Settings → Store → ℕ → List AuditLine → List AuditLine → Type 0
 AddsHour c s hour old new = (lines : List AuditLine) × AreHourLines c s hour true lines × (new ≡ old ++ failing_of lines)
 
--- this is the report of a store with which some history agrees, so that no obligation has two verdicts
-abbrev pub IsReportOf : Settings → Store → List Numbers → Type 0
-IsReportOf c s all = HasHistory (log_of c.specs s) × IsReport c s all
-
--- the turn of a line that asks for an audit: how many verdicts each rule has in the window, by the store's report, and then the broken and undecided ones hour by hour, each broken one with its window
+-- the turn of a line that asks for an audit of a store with which some history agrees, so that no obligation has two verdicts: how many verdicts each rule has in the window, and then the broken and undecided ones hour by hour, each broken one with its window
 abbrev pub IsAudited : Settings → ℕ → Store → Turn → Type 0
 IsAudited c n s t =
-    (report : List Numbers) × (lines : List AuditLine) × IsReportOf c s report × AreFailing c s 0 c.window.hours lines
-    × (t ≡ writes (audit_start n c.specs (rules_for c) (total_of report).rules ++ lines_text c.window lines) s)
+    (total : Numbers) × (lines : List AuditLine) × HasHistory (log_of c.specs s) × IsWindowOf c s total × AreFailing c s 0 c.window.hours lines
+    × (t ≡ writes (audit_start n c.specs (rules_for c) total.rules ++ lines_text c.window lines) s)
 
 -- the turn of a line that asks for the verdicts of one hour, the kept ones among them; an hour past the window is refused
 abbrev pub AreVerdicts : Settings → ℕ → ℕ → Store → Bool → Turn → Type 0

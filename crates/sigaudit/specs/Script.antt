@@ -10,7 +10,8 @@ use Rattle.sig_base.specs.declared.values.EditError.TheVariants as edits
 use Rattle.row_reader.specs.Rows.{Wanted}
 use Rattle.ring_config.specs.Settings.{Settings}
 use Rattle.hour_store.specs.Store.{Store}
-use Rattle.hour_work.specs.Numbers.{Numbers, total_of}
+use Rattle.hour_work.specs.Numbers.{Numbers}
+use Rattle.measure_laws.specs.Plain.{IsHourOf, IsWindowOf}
 use Rattle.signal_log.specs.Log.{HasHistory, IsContradiction, log_of}
 use Rattle.session.specs.Edits.{Change, hour_change, step_of}
 use Rattle.session.specs.Edits as change
@@ -89,18 +90,14 @@ TakesLoad c load s want t = IsFetched c load.number load.hour (hour_change load.
 abbrev pub load_bytes : Files → Settings → LoadLine → Result (List ℕ) Refusal
 load_bytes files c load = hour_bytes files c load.hour load.name.now
 
--- the turn of a line that asks for the measures of the window: those of the store's report
+-- the turn of a line that asks for the measures of the window
 abbrev pub IsMeasured : Settings → ℕ → Store → Turn → Type 0
-IsMeasured c n s t = (report : List Numbers) × IsReportOf c s report × (t ≡ writes (window_measures n c (total_of report)) s)
+IsMeasured c n s t = (total : Numbers) × HasHistory (log_of c.specs s) × IsWindowOf c s total × (t ≡ writes (window_measures n c total) s)
 
--- the turn with the measures of one hour; an hour past the window has no numbers in the report
-abbrev pub numbers_turn : Settings → ℕ → ℕ → Store → Option Numbers → Turn
-numbers_turn c n hour s (Some numbers) = writes (hour_measures n hour c numbers) s
-numbers_turn c n hour s None = refuses c n (Edit OutOfWindow) s
-
--- the turn of a line that asks for the measures of one hour: those of the store's report
-abbrev pub IsMeasuredOf : Settings → ℕ → ℕ → Store → Turn → Type 0
-IsMeasuredOf c n hour s t = (report : List Numbers) × IsReportOf c s report × (t ≡ numbers_turn c n hour s (slice_get report hour))
+-- the turn of a line that asks for the measures of one hour; an hour past the window is refused
+abbrev pub IsMeasuredOf : Settings → ℕ → ℕ → Store → Bool → Turn → Type 0
+IsMeasuredOf c n hour s true t = (numbers : Numbers) × HasHistory (log_of c.specs s) × IsHourOf c s hour numbers × (t ≡ writes (hour_measures n hour c numbers) s)
+IsMeasuredOf c n hour s false t = t ≡ refuses c n (Edit OutOfWindow) s
 
 -- the edit of a line that needs no file
 abbrev pub edit_said : Said → Option Change
@@ -130,7 +127,7 @@ IsTurn files c n (line.unblank from to) s t = IsEdited c n None s (change.unblan
 IsTurn files c n line.audit s t = IsAudited c n s t
 IsTurn files c n (line.verdicts hour) s t = AreVerdicts c n hour s (nat_lt hour c.window.hours) t
 IsTurn files c n line.measures s t = IsMeasured c n s t
-IsTurn files c n (line.measures_of hour) s t = IsMeasuredOf c n hour s t
+IsTurn files c n (line.measures_of hour) s t = IsMeasuredOf c n hour s (nat_lt hour c.window.hours) t
 IsTurn files c n (line.points p) s t = t ≡ points_of_phase c n p s
 IsTurn files c n (line.offsets name) s t = t ≡ offsets_of c n name s
 

@@ -234,8 +234,9 @@ fn hour_line<L, K: Sink>(
     session: &Session<L>,
     sink: &mut K,
 ) -> Result<bool, Stopped>
-    ensures { TakesBy (IsMeasuredOf session.now.config number hour session.now.store)
-        (K.taken sink.old) (K.taken sink.new) session.now.store result }
+    ensures { TakesBy (IsMeasuredOf session.now.config number hour session.now.store
+        (nat_lt hour session.now.config.window.hours)) (K.taken sink.old) (K.taken sink.new)
+        session.now.store result }
 {
     let config = session.config();
     let Some(part) = session.report().hour(hour) else {

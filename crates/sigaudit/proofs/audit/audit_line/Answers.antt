@@ -15,9 +15,9 @@ pub returns-in_err-put_audit-clause-turn : goal.returns-in_err-put_audit-clause-
 returns-in_err-put_audit-clause-turn g c =
     rw (fault_at c.from_residual-in_err-put_audit.result c.from_residual-in_err-put_audit.ensures.1)
     (audit_cut c.args.session.now.config c.config.result.now c.args.number c.args.session.now.store c.report.result.now c.rules.result.now c.total-total.result.now c.in_ok-failing.failing.items c.deref.result.now _ _
-    c.config.ensures.value c.rules.ensures c.total-total.ensures (c.report.ensures.history, c.report.ensures.report) c.in_ok-failing.ensures.lines c.deref.ensures.value c.in_err-put_audit.ensures)
+    c.config.ensures.value c.rules.ensures c.total-total.ensures (record { history = c.report.ensures.history; store = c.report.ensures.store; hours = c.config.ensures.hours; report = c.report.ensures.report }) c.in_ok-failing.ensures.lines c.deref.ensures.value c.in_err-put_audit.ensures)
 
 pub returns-clause-turn : goal.returns-clause-turn
 returns-clause-turn g c =
     audit_done c.args.session.now.config c.config.result.now c.args.number c.args.session.now.store c.report.result.now c.rules.result.now c.total-total.result.now c.in_ok-failing.failing.items c.deref.result.now _ _
-    c.config.ensures.value c.rules.ensures c.total-total.ensures (c.report.ensures.history, c.report.ensures.report) c.in_ok-failing.ensures.lines c.deref.ensures.value c.in_ok-put_audit.ensures
+    c.config.ensures.value c.rules.ensures c.total-total.ensures (record { history = c.report.ensures.history; store = c.report.ensures.store; hours = c.config.ensures.hours; report = c.report.ensures.report }) c.in_ok-failing.ensures.lines c.deref.ensures.value c.in_ok-put_audit.ensures

@@ -70,13 +70,13 @@ returns-in-Measures-clause-never_fall g c = never_of_by (IsMeasured c.args.sessi
 
 pub returns-in-MeasuresOf-clause-turn : goal.returns-in-MeasuresOf-clause-turn
 returns-in-MeasuresOf-clause-turn g c = λ files told.
-    line_by files c.args.session.now.config c.args.number (seen c.args.line) (line.measures_of c.in-MeasuresOf.hour) c.args.session.now.store (IsMeasuredOf c.args.session.now.config c.args.number c.in-MeasuresOf.hour c.args.session.now.store) (g.S.Shelf.counts c.args.shelf.now) _ _ c.args.session.now.store c.hour_line.result (ap seen c.in-MeasuresOf.is) (turn_hour files c.args.session.now.config c.args.number c.in-MeasuresOf.hour c.args.session.now.store) (c.hour_line.ensures)
+    line_by files c.args.session.now.config c.args.number (seen c.args.line) (line.measures_of c.in-MeasuresOf.hour) c.args.session.now.store (IsMeasuredOf c.args.session.now.config c.args.number c.in-MeasuresOf.hour c.args.session.now.store (nat_lt c.in-MeasuresOf.hour c.args.session.now.config.window.hours)) (g.S.Shelf.counts c.args.shelf.now) _ _ c.args.session.now.store c.hour_line.result (ap seen c.in-MeasuresOf.is) (turn_hour files c.args.session.now.config c.args.number c.in-MeasuresOf.hour c.args.session.now.store) (c.hour_line.ensures)
 
 pub returns-in-MeasuresOf-clause-cause : goal.returns-in-MeasuresOf-clause-cause
-returns-in-MeasuresOf-clause-cause g c = caused_of_by (IsMeasuredOf c.args.session.now.config c.args.number c.in-MeasuresOf.hour c.args.session.now.store) (g.S.Shelf.counts c.args.shelf.now) (g.S.Shelf.counts c.args.shelf.now) _ _ c.args.session.now.store c.hour_line.result refl (c.hour_line.ensures)
+returns-in-MeasuresOf-clause-cause g c = caused_of_by (IsMeasuredOf c.args.session.now.config c.args.number c.in-MeasuresOf.hour c.args.session.now.store (nat_lt c.in-MeasuresOf.hour c.args.session.now.config.window.hours)) (g.S.Shelf.counts c.args.shelf.now) (g.S.Shelf.counts c.args.shelf.now) _ _ c.args.session.now.store c.hour_line.result refl (c.hour_line.ensures)
 
 pub returns-in-MeasuresOf-clause-never_fall : goal.returns-in-MeasuresOf-clause-never_fall
-returns-in-MeasuresOf-clause-never_fall g c = never_of_by (IsMeasuredOf c.args.session.now.config c.args.number c.in-MeasuresOf.hour c.args.session.now.store) (g.S.Shelf.counts c.args.shelf.now) (g.S.Shelf.counts c.args.shelf.now) _ _ c.args.session.now.store c.hour_line.result (omega arith) (omega arith) (omega arith) (c.hour_line.ensures)
+returns-in-MeasuresOf-clause-never_fall g c = never_of_by (IsMeasuredOf c.args.session.now.config c.args.number c.in-MeasuresOf.hour c.args.session.now.store (nat_lt c.in-MeasuresOf.hour c.args.session.now.config.window.hours)) (g.S.Shelf.counts c.args.shelf.now) (g.S.Shelf.counts c.args.shelf.now) _ _ c.args.session.now.store c.hour_line.result (omega arith) (omega arith) (omega arith) (c.hour_line.ensures)
 
 pub returns-in-Points-clause-turn : goal.returns-in-Points-clause-turn
 returns-in-Points-clause-turn g c = λ files told.

@@ -32,6 +32,27 @@ SUBJECTS = [
      " sigaudit.Transcript session.Opens sigaudit.Counting sigaudit.Run"),
 ]
 
+# What the words may ask for, in an order in which the next adds little: title, the definitions that its clauses cite,
+# and of a definition by cases the case that counts.
+REQUESTS = [
+    ("nothing that can be done", "sigaudit.Run.IsRun", "sigaudit.Transcript.IsAnswer=None"),
+    ("a count (`--count`)", "sigaudit.Run.IsRun",
+     "sigaudit.Transcript.IsAnswer=for_count sigaudit.Transcript.outcome_of=Count"),
+    ("a packed hour (`--pack`)", "sigaudit.Run.IsRun",
+     "sigaudit.Transcript.IsAnswer=for_pack sigaudit.Transcript.outcome_of=Pack"),
+    ("a script over a configuration (`--config`, `--script`)", "sigaudit.Run.IsRun",
+     "sigaudit.Transcript.IsAnswer=for_run sigaudit.Transcript.IsAimOutcome=for_lines"),
+    ("how often it opens each hour", "sigaudit.Counting.OpensAnswer sigaudit.Counting.WhereTaken", ""),
+    ("a demonstration (`--demo`)", "sigaudit.Run.IsRun sigaudit.Run.LeavesShelf",
+     "sigaudit.Transcript.IsAnswer=for_demo sigaudit.Transcript.IsAimOutcome=for_lines"),
+    ("what a rule leaves undecided (`--rule`, `--at`)", "sigaudit.Run.IsPairsRun",
+     "sigaudit.Transcript.IsAnswer=for_pairs sigaudit.Transcript.IsAimOutcome=for_rule"),
+]
+
+BY_REQUEST = """
+Who wants to know of one request alone needs only what its case of [`IsAnswer`](#IsAnswer) rests on, with the frame of a run, which is that of the first line.
+"""
+
 # Laws above definitions: `crate.Name.definition crate function clause..`; a nameless clause is `-`. Of the first list the
 # law says all that the definition says, in other words; of the second some of it.
 EQUATES = """

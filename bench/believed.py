@@ -105,17 +105,32 @@ class Believed:
         self.models = values_of_types()
         self.functions = {crate: functions_of(crate) for crate in ours}
 
-    def cited_by(self, each):
-        """The definitions and declared types that it cites, in order, without those that a bound variable hides."""
+    def cited_by(self, each, lines=None):
+        """The definitions and declared types that it cites, or that these lines of it do, in order, without those that
+        a bound variable hides."""
         found, module = [], each.module
         bound = bound_in(each.lines) - set(module.definitions)
-        text = "\n".join(each.lines)
+        text = "\n".join(each.lines if lines is None else lines)
         for cited, path, name, _ in self.closure.cited(text, module.names, module.modules, module.definitions, bound):
             if cited is None and path and not OF_THE_PROGRAM & set(path.split(".")):
                 cited = self.declared(path, name)
             if cited and cited is not each and cited not in found:
                 found.append(cited)
         return found
+
+    def under_cases(self, roots, cases):
+        """All definitions that these lead to. Of those that `cases` names by key, the lines with its word alone count:
+        these are functions by what the words ask for."""
+        reached, wanted = set(), [self.by_key[key] for key in roots]
+        while wanted:
+            each = wanted.pop()
+            if each in reached:
+                continue
+            reached.add(each)
+            word = cases.get(key_of(each))
+            lines = None if word is None else [line for line in each.lines if re.search(r"\b%s\b" % word, line)]
+            wanted += [other for other in self.cited_by(each, lines) if isinstance(other, Definition)]
+        return reached
 
     def declared(self, path, name):
         """The type of this path, or that of this variant; else the name is one of a library."""

@@ -9,3 +9,4 @@ pub mod States
 pub mod GreenSums
 pub mod Parts
 pub mod Plain
+pub mod OnePart

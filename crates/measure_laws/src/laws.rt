@@ -2,7 +2,7 @@
 ghost use Rattle.std.specs.Prelude.{true, false};
 ghost use Rattle.arrival_measures.specs.Judged.{AllPass, NonePass, is_green};
 ghost use Rattle.measure_laws.specs.Green.{GreenNumbers, HourGreen, OpenCyclesShow, TotalGreen};
-ghost use Rattle.measure_laws.specs.Plain.{SumsArePlain};
+ghost use Rattle.measure_laws.specs.Plain.{PartsAreOne, SumsArePlain};
 ghost use Rattle.measure_laws.specs.States.{StateTotals};
 ghost use Rattle.measure_laws.specs.Sums.{ArrivalsAddUp, SplitsAddUp, SumsKeepAddingUp};
 ghost use Rattle.measure_laws.specs.Totals.{ArrivalTotals, RuleTotals, SplitTotals};
@@ -51,14 +51,20 @@ pub fn rule_totals_are_of_the_log()
     ensures { RuleTotals }
 {}
 
-/// Law: of a store that has all hours of its window each hour of a report has the numbers of that hour, and the totals are those of the whole window, in the
-/// same words: which hours and rows are held, which tenths are known, the counts of the rules by the
-/// audit lines, and of the measures what is counted itself, with its sums, its least and its
-/// greatest: of services and cycles of phases, delays of pedestrian signals, entries and exits of
-/// preempts, rows of the coordination, tenths in states, verdicts at stop bars, and arrivals,
-/// actuations and whole cycles of approaches. No sum stands still at the last value of a u64.
+/// Law: of a store that has all hours of its window each hour of a report has the numbers of that
+/// hour, and the totals are those of the whole window, in the same words: which hours and rows are
+/// held, which tenths are known, the counts of the rules by the audit lines, and of the measures
+/// what is counted itself, with its sums, its least and its greatest: of services and cycles of
+/// phases, delays of pedestrian signals, entries and exits of preempts, rows of the coordination,
+/// tenths in states, verdicts at stop bars, and arrivals, actuations and whole cycles of
+/// approaches. No sum stands still at the last value of a u64.
 pub fn sums_are_plain()
     ensures { SumsArePlain }
+{}
+
+/// Law: where some history agrees with a store, a part of its log has one value of its numbers.
+pub fn parts_are_one()
+    ensures { PartsAreOne }
 {}
 
 /// Law: of a cycle that has begun before an hour point and isn't over there, the rows before the

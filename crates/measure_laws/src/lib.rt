@@ -9,6 +9,6 @@ mod laws;
 
 pub use laws::{
     arrival_totals_are_of_the_log, arrivals_add_up, green_is_of_all_histories,
-    open_cycles_show_green, rule_totals_are_of_the_log, split_totals_are_of_the_log, splits_add_up,
-    state_totals_are_of_the_log, sums_are_plain, sums_keep_adding_up,
+    open_cycles_show_green, parts_are_one, rule_totals_are_of_the_log, split_totals_are_of_the_log,
+    splits_add_up, state_totals_are_of_the_log, sums_are_plain, sums_keep_adding_up,
 };

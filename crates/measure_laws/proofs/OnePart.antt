@@ -32,7 +32,7 @@ use Rattle.split_measures.specs.Verdicts.{IsVerdict}
 use Rattle.other_measures.specs.declared.sums.CoordSum.{CoordSum}
 use Rattle.other_measures.specs.declared.sums.PedSum.{PedSum}
 use Rattle.other_measures.specs.declared.sums.PreemptSum.{PreemptSum}
-use Rattle.other_measures.specs.Hours.{OtherNumbers, no_coordination}
+use Rattle.other_measures.specs.Hours.{OtherNumbers}
 use Rattle.other_measures.specs.States.{EachOf, coordination, input, ped_detector, service}
 use Rattle.arrival_measures.specs.declared.sums.ArrivalSum.{ArrivalSum}
 use Rattle.arrival_measures.specs.Cycles.{CycleNumbers}
@@ -45,7 +45,7 @@ use Rattle.hour_work.specs.Measures.{MayBeIn, MeetsIn}
 use Rattle.hour_work.specs.Numbers.{Numbers}
 use Rattle.hour_work.proofs.OneLaws.{one_lines}
 use Rattle.measure_laws.specs.Plain.{AreLinesFrom, ArePlainVerdicts, HasPlainRows, HavePlainActuations, HavePlainArrivals, HavePlainCycles, HavePlainVerdicts, IsApproachPart, IsPart, IsPlainPed, IsPlainPhase, IsPlainPreempt, PartsAreOne, open_by}
-use Rattle.measure_laws.specs.States.{AreStatesBetween, HasCoordinationBetween, HasDetectorBetween, HasStatesBetween, HasTenthsBetween}
+use Rattle.measure_laws.specs.States.{HasCoordinationBetween, HasDetectorBetween, HasStatesBetween, HasTenthsBetween}
 
 -- ---- lists of what is one
 

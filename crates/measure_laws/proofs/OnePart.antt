@@ -60,7 +60,7 @@ each_one R (x ∷ xs) (y ∷ ys) (z ∷ zs) one h k =
     let rest = each_one R xs ys zs one h.1 k.1 in
     cc
 
--- by number, where one says it or two together do
+-- by number
 
 numbers_one : {A : Type 0} (has : ℕ → Bool) (Is : ℕ → A → Type 0) (n : ℕ) (xs zs : List A) → ((p : ℕ) (x z : A) → Is p x → Is p z → x ≡ z) → EachOf has Is n xs → EachOf has Is n zs → xs ≡ zs
 unfolding EachOf
@@ -71,6 +71,7 @@ numbers_one has Is (suc n) xs zs one (inl (e, rest)) (inr (f, more)) = absurd (l
 numbers_one has Is (suc n) xs zs one (inr (e, rest)) (inl (f, more)) = absurd (let bad : true ≡ false = sym f ∙ e in cc)
 numbers_one has Is (suc n) xs zs one (inr (e, rest)) (inr (f, more)) = numbers_one has Is n xs zs one rest more
 
+-- what two say of a list by number they say together
 both_said : {A : Type 0} (has : ℕ → Bool) (Is As : ℕ → A → Type 0) (n : ℕ) (xs : List A) → EachOf has Is n xs → EachOf has As n xs → EachOf has (λ p x. Is p x × As p x) n xs
 unfolding EachOf
 both_said has Is As zero xs h g = h

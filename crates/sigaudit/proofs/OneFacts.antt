@@ -1,6 +1,5 @@
 -- A script has one transcript, which begins with what is written for its first lines.
 use Rattle.std.proofs.Common.{◌≡◌, ◌++◌, ◌+◌, ◌∙◌, ℕ, zero, suc, List, [], ◌∷◌, length, take, Bool, true, false, Option, Some, None, Result, Ok, Err, refl, sym, ap, ap₂, inl, inr, append_assoc, append-nil, nat_lt}
-use Rattle.std.specs.Prelude.{slice_get}
 use Rattle.outside.specs.Shelf.{Files}
 use Rattle.sig_base.specs.HourRows.{Shown}
 use Rattle.sig_base.specs.declared.values.Row.{Row}
@@ -9,7 +8,7 @@ use Rattle.sig_base.specs.declared.values.EditError.{EditError}
 use Rattle.sig_base.specs.declared.values.EditError.TheVariants.{Contradiction}
 use Rattle.sigaudit.specs.declared.hour_file.Unread.{Unread}
 use Rattle.sigaudit.specs.HourFile.{hour_said}
-use Rattle.hour_store.specs.Store.{Store, nothing_held}
+use Rattle.hour_store.specs.Store.{Store, known_rows, nothing_held}
 use Rattle.ring_config.specs.Reading.{Read}
 use Rattle.ring_config.specs.Settings.{Settings, config_of}
 use Rattle.signal_log.specs.Log.{HasHistory, Log, log_of}
@@ -21,12 +20,13 @@ use Rattle.session.specs.Windows.{AreHourLines, AreWithWindows, HasWindow, with_
 use Rattle.signal_log.specs.Laws.{ContradictionIsOne}
 use Rattle.rule_audit.specs.declared.lines.AuditLine.{AuditLine}
 use Rattle.rule_audit.specs.Rules.{rules_for}
-use Rattle.hour_work.specs.Numbers.{Numbers, total_of}
+use Rattle.hour_work.specs.Numbers.{Numbers}
+use Rattle.hour_work.specs.Rows.{earlier_rows, own_rows}
 use Rattle.hour_work.specs.Verdicts.{AreAuditLines}
-use Rattle.hour_work.specs.Reports.{IsReport}
+use Rattle.measure_laws.specs.Plain.{PartsAreOne}
 use Rattle.report_text.specs.declared.refusal.Refusal.{Refusal}
 use Rattle.report_text.specs.declared.refusal.Refusal.TheVariants.{Edit}
-use Rattle.report_text.specs.Measures.{window_measures}
+use Rattle.report_text.specs.Measures.{hour_measures, window_measures}
 use Rattle.session.specs.Edits.{Change, hour_change, step_of}
 use Rattle.sigaudit.proofs.MovedFacts.{moved_once}
 use Rattle.session.specs.Edits as change
@@ -41,22 +41,18 @@ use Rattle.sigaudit.specs.Turns.{Turn, refuses, writes}
 use Rattle.report_text.specs.Audit.{audit_start, lines_text}
 use Rattle.report_text.specs.Heads.{verdicts_head}
 use Rattle.sigaudit.specs.Audit.{AreFailing, AreVerdicts, IsAudited}
-use Rattle.sigaudit.specs.Script.{accepts, IsEdited, IsMade, IsFetched, IsMeasured, IsMeasuredOf, IsRead, IsTold, IsTurn, Told, followed, hour_bytes, numbers_turn, wanted_for}
+use Rattle.sigaudit.specs.Script.{accepts, IsEdited, IsMade, IsFetched, IsMeasured, IsMeasuredOf, IsRead, IsTold, IsTurn, Told, followed, hour_bytes, wanted_for}
 use Rattle.sigaudit.specs.Transcript.{BeginsWithFirstLines, HaveOneTranscript, IsAnswer, IsConfigOutcome, IsFileOutcome, IsScriptOutcome, Outcome, asks_pairs, first_lines, limited, outcome, told_outcome}
 
 -- where some history agrees an hour has one list of lines
 abbrev pub LinesAreOne : Type 0
 LinesAreOne = (c : Settings) (s : Store) (hour : ℕ) (a b : List AuditLine) → HasHistory (log_of c.specs s) → AreAuditLines c s hour a → AreAuditLines c s hour b → a ≡ b
 
--- where some history agrees a store has one report
-abbrev pub ReportsAreOne : Type 0
-ReportsAreOne = (c : Settings) (s : Store) (a b : List Numbers) → HasHistory (log_of c.specs s) → IsReport c s a → IsReport c s b → a ≡ b
-
 -- what the crates below say is one
 pub record Laws : Type 0 where
   pub row : ContradictionIsOne
   pub lines : LinesAreOne
-  pub report : ReportsAreOne
+  pub parts : PartsAreOne
   pub window : WindowIsOne
 
 -- ---- a line has one turn
@@ -88,13 +84,14 @@ one_fetched laws c n hour make s (Err refusal) t t' h k = both h k
 
 one_measured : Laws → (c : Settings) (n : ℕ) (s : Store) (t t' : Turn) → IsMeasured c n s t → IsMeasured c n s t' → t ≡ t'
 one_measured laws c n s t t' h k =
-    let same = laws.report c s h.0 k.0 h.1.0 h.1.1 k.1.1 in
-    h.2 ∙ ap (λ (all : List Numbers). writes (window_measures n c (total_of all)) s) same ∙ sym k.2
+    let same = laws.parts c s 0 c.window.hours [] (known_rows s) h.0 k.0 h.1 h.2 k.2 in
+    h.3 ∙ ap (λ (total : Numbers). writes (window_measures n c total) s) same ∙ sym k.3
 
-one_measured_of : Laws → (c : Settings) (n hour : ℕ) (s : Store) (t t' : Turn) → IsMeasuredOf c n hour s t → IsMeasuredOf c n hour s t' → t ≡ t'
-one_measured_of laws c n hour s t t' h k =
-    let same = laws.report c s h.0 k.0 h.1.0 h.1.1 k.1.1 in
-    h.2 ∙ ap (λ (all : List Numbers). numbers_turn c n hour s (slice_get all hour)) same ∙ sym k.2
+one_measured_of : Laws → (c : Settings) (n hour : ℕ) (s : Store) (b : Bool) (t t' : Turn) → IsMeasuredOf c n hour s b t → IsMeasuredOf c n hour s b t' → t ≡ t'
+one_measured_of laws c n hour s true t t' h k =
+    let same = laws.parts c s hour (hour + 1) (earlier_rows s hour) (own_rows s hour) h.0 k.0 h.1 h.2 k.2 in
+    h.3 ∙ ap (λ (numbers : Numbers). writes (hour_measures n hour c numbers) s) same ∙ sym k.3
+one_measured_of laws c n hour s false t t' h k = both h k
 
 -- a broken line has one window, every other has none
 one_window : Laws → (log : Log) (rules : List Rule) (rows : List Row) (l : AuditLine) (x y : Option (ℕ × ℕ)) → HasWindow log rules rows l x → HasWindow log rules rows l y → x ≡ y
@@ -131,10 +128,10 @@ one_failing laws c s some hour (suc n) a b h k =
 
 one_audit : Laws → (c : Settings) (n : ℕ) (s : Store) (t t' : Turn) → IsAudited c n s t → IsAudited c n s t' → t ≡ t'
 one_audit laws c n s t t' h k =
-    let report = laws.report c s h.0 k.0 h.2.0 h.2.1 k.2.1 in
-    let lines = one_failing laws c s h.2.0 0 c.window.hours h.1 k.1 h.3 k.3 in
-    h.4 ∙ ap (λ (all : List Numbers). writes (audit_start n c.specs (rules_for c) (total_of all).rules ++ lines_text c.window h.1) s) report
-    ∙ ap (λ (ls : List AuditLine). writes (audit_start n c.specs (rules_for c) (total_of k.0).rules ++ lines_text c.window ls) s) lines ∙ sym k.4
+    let totals = laws.parts c s 0 c.window.hours [] (known_rows s) h.0 k.0 h.2 h.3 k.3 in
+    let lines = one_failing laws c s h.2 0 c.window.hours h.1 k.1 h.4 k.4 in
+    h.5 ∙ ap (λ (total : Numbers). writes (audit_start n c.specs (rules_for c) total.rules ++ lines_text c.window h.1) s) totals
+    ∙ ap (λ (ls : List AuditLine). writes (audit_start n c.specs (rules_for c) k.0.rules ++ lines_text c.window ls) s) lines ∙ sym k.5
 
 one_verdicts : Laws → (c : Settings) (n hour : ℕ) (s : Store) (b : Bool) (t t' : Turn) → AreVerdicts c n hour s b t → AreVerdicts c n hour s b t' → t ≡ t'
 one_verdicts laws c n hour s true t t' h k =
@@ -154,7 +151,7 @@ one_turn laws files c n (line.unblank from to) s t t' h k = one_edit laws c n No
 one_turn laws files c n line.audit s t t' h k = one_audit laws c n s t t' h k
 one_turn laws files c n (line.verdicts hour) s t t' h k = one_verdicts laws c n hour s (nat_lt hour c.window.hours) t t' h k
 one_turn laws files c n line.measures s t t' h k = one_measured laws c n s t t' h k
-one_turn laws files c n (line.measures_of hour) s t t' h k = one_measured_of laws c n hour s t t' h k
+one_turn laws files c n (line.measures_of hour) s t t' h k = one_measured_of laws c n hour s (nat_lt hour c.window.hours) t t' h k
 one_turn laws files c n (line.points p) s t t' h k = both h k
 one_turn laws files c n (line.offsets name) s t t' h k = both h k
 

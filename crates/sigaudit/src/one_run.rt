@@ -29,6 +29,7 @@ use crate::words::Words;
 use command_line::{Refused, Request, parse_words};
 use decisive::window_is_one;
 use hour_work::reports_are_one;
+use measure_laws::parts_are_one;
 use outside::{FetchError, Shelf, Sink};
 use report_text::{put_config_error, put_usage};
 use ring_config::{Config, ConfigError, read_config};
@@ -554,5 +555,6 @@ pub fn transcripts_are_one()
 {
     some_history_agrees();
     reports_are_one();
+    parts_are_one();
     window_is_one();
 }

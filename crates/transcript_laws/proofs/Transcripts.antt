@@ -1,6 +1,5 @@
 -- It can't be that there is no transcript.
-use Rattle.std.proofs.Common.{◌≡◌, inl, inr, ℕ, zero, suc, ◌+◌, ◌<◌, ◌≤◌, Bool, true, false, if◌then◌else◌, nat_lt, nat_eq, List, [], ◌∷◌, ◌++◌, length, Option, Some, None, Result, Ok, Err, refl, subst, arith}
-use Rattle.std.specs.Prelude.{slice_get}
+use Rattle.std.proofs.Common.{◌≡◌, inl, inr, ℕ, zero, suc, ◌+◌, ◌<◌, ◌≤◌, Bool, true, false, if◌then◌else◌, nat_lt, nat_eq, List, [], ◌∷◌, ◌++◌, length, get_or, Option, Some, None, Result, Ok, Err, refl, subst, arith}
 use Rattle.std.specs.List.{starts_with}
 use Rattle.std.proofs.lemmas.Bool.Decides.{nat_tests}
 use Rattle.outside.specs.Shelf.{Files}
@@ -21,13 +20,16 @@ use Rattle.ring_config.specs.Sound.{IsSound}
 use Rattle.rule_audit.specs.declared.lines.AuditLine.{AuditLine}
 use Rattle.rule_audit.specs.Rules.{rules_for}
 use Rattle.hour_work.specs.Numbers.{Numbers, total_of}
+use Rattle.hour_work.specs.Reports.{IsReport}
+use Rattle.measure_laws.specs.Plain.{IsHourOf, IsWindowOf}
+use Rattle.measure_laws.proofs.Plain.{sums_plain}
 use Rattle.session.specs.Edits.{Change, hour_change, step_of}
 use Rattle.session.specs.Edits as change
 use Rattle.report_text.specs.declared.refusal.Refusal.{Refusal}
 use Rattle.report_text.specs.declared.refusal.Refusal.TheVariants.{BadLine, Edit}
 use Rattle.report_text.specs.Audit.{audit_start, lines_text}
 use Rattle.report_text.specs.Heads.{verdicts_head}
-use Rattle.report_text.specs.Measures.{window_measures}
+use Rattle.report_text.specs.Measures.{hour_measures, window_measures}
 use Rattle.report_text.specs.ConfigRefusal.{config_text}
 use Rattle.report_text.specs.Usage.{usage_text}
 use Rattle.command_line.specs.Words.{Asked, for_count, for_demo, for_pack, for_pairs, for_run}
@@ -37,14 +39,14 @@ use Rattle.script_lines.specs.Words.{Said, said}
 use Rattle.script_lines.specs.Words as line
 use Rattle.sigaudit.specs.Aims.{for_lines}
 use Rattle.sigaudit.specs.Asked.{asked_of, hour_asked}
-use Rattle.sigaudit.specs.Audit.{AreFailing, AreVerdicts, IsAudited, IsReportOf, failing_of}
+use Rattle.sigaudit.specs.Audit.{AreFailing, AreVerdicts, IsAudited, failing_of}
 use Rattle.sigaudit.specs.declared.file.Task.TheVariants.{Count, Pack}
 use Rattle.sigaudit.specs.declared.hour_file.Unread.{Unread}
 use Rattle.sigaudit.specs.declared.status.Ended.TheVariants as ended
 use Rattle.sigaudit.specs.HourFile.{hour_said, of_packed, of_records}
 use Rattle.sigaudit.specs.Offsets.{advance_of, offsets_turn}
 use Rattle.sigaudit.specs.Points.{points_turn}
-use Rattle.sigaudit.specs.Script.{IsEdited, IsFetched, IsMade, IsMeasured, IsMeasuredOf, IsRead, IsTold, IsTurn, Told, accepts, followed, hour_bytes, hour_file, nothing_told, numbers_turn, wanted_for}
+use Rattle.sigaudit.specs.Script.{IsEdited, IsFetched, IsMade, IsMeasured, IsMeasuredOf, IsRead, IsTold, IsTurn, Told, accepts, followed, hour_bytes, hour_file, nothing_told, wanted_for}
 use Rattle.sigaudit.specs.Transcript.{BeginsWithFirstLines, IsAnswer, IsConfigOutcome, IsFileOutcome, IsScriptOutcome, Outcome, asks_pairs, file_outcome, limited, outcome, told_outcome}
 use Rattle.sigaudit.specs.Turns.{Turn, passes, refuses, refuses_file, writes}
 use Rattle.transcript_laws.specs.Exists.{FrontsAreOfTranscripts, NotNone, TranscriptsExist}
@@ -124,9 +126,17 @@ load_exists : (files : Files) (c : Settings) (n hour : ℕ) (replaces : Bool) (n
 load_exists files c n hour replaces name s sound going = file_exists c n hour replaces s (files name) (nat_lt hour c.window.hours) sound going refl
 
 -- it can't be that such a store has no report
-pub report_of_exists : (c : Settings) (s : Store) → IsSound c → IsGoing c s → NotNone ((all : List Numbers) × IsReportOf c s all)
-report_of_exists c s sound going =
-    with (report_exists c s sound going.is_store going.hours going.history (λ hour lt. audit_exists c s hour sound going.is_store going.history lt)) (λ (all, report). (all, (going.history, report)))
+report_of_exists : (c : Settings) (s : Store) → IsSound c → IsGoing c s → NotNone ((all : List Numbers) × IsReport c s all)
+report_of_exists c s sound going = report_exists c s sound going.is_store going.hours going.history (λ hour lt. audit_exists c s hour sound going.is_store going.history lt)
+
+-- nor that its window has no numbers, or an hour of it
+window_exists : (c : Settings) (s : Store) → IsSound c → IsGoing c s → NotNone ((total : Numbers) × IsWindowOf c s total)
+window_exists c s sound going =
+    with (report_of_exists c s sound going) (λ (all, report). (total_of all, (sums_plain c s all going.is_store going.hours going.history report).1))
+
+hour_exists : (c : Settings) (s : Store) (hour : ℕ) → IsSound c → IsGoing c s → hour < length s.hours → NotNone ((numbers : Numbers) × IsHourOf c s hour numbers)
+hour_exists c s hour sound going lt =
+    with (report_of_exists c s sound going) (λ (all, report). (get_or all hour (total_of all), (sums_plain c s all going.is_store going.hours going.history report).0 hour (total_of all) lt))
 
 failing_exist : (c : Settings) (s : Store) (hour n : ℕ) → IsSound c → IsGoing c s → hour + n ≤ length s.hours → NotNone ((failing : List AuditLine) × AreFailing c s hour n failing)
 unfolding AreFailing
@@ -138,9 +148,9 @@ failing_exist c s hour (suc n) sound going le =
 audited_exists : (c : Settings) (n : ℕ) (s : Store) → IsSound c → IsGoing c s → ATurn c (IsAudited c n s)
 audited_exists c n s sound going =
     let hours = going.hours in
-    after (report_of_exists c s sound going) (λ (all, report).
+    after (window_exists c s sound going) (λ (total, is).
     with (failing_exist c s 0 c.window.hours sound going (omega arith)) (λ (lines, are).
-    (writes (audit_start n c.specs (rules_for c) (total_of all).rules ++ lines_text c.window lines) s, (all, lines, report, are, refl), going)))
+    (writes (audit_start n c.specs (rules_for c) total.rules ++ lines_text c.window lines) s, (total, lines, going.history, is, are, refl), going)))
 
 verdicts_exist : (c : Settings) (n hour : ℕ) (s : Store) (b : Bool) → IsSound c → IsGoing c s → nat_lt hour c.window.hours ≡ b → ATurn c (AreVerdicts c n hour s b)
 verdicts_exist c n hour s true sound going e =
@@ -149,14 +159,12 @@ verdicts_exist c n hour s true sound going e =
 verdicts_exist c n hour s false sound going e = turn_is c (refuses c n (Edit OutOfWindow) s) going
 
 measured_exists : (c : Settings) (n : ℕ) (s : Store) → IsSound c → IsGoing c s → ATurn c (IsMeasured c n s)
-measured_exists c n s sound going = with (report_of_exists c s sound going) (λ (all, report). (writes (window_measures n c (total_of all)) s, (all, report, refl), going))
+measured_exists c n s sound going = with (window_exists c s sound going) (λ (total, is). (writes (window_measures n c total) s, (total, going.history, is, refl), going))
 
-numbers_going : (c : Settings) (n hour : ℕ) (s : Store) (o : Option Numbers) → IsGoing c s → IsGoing c (numbers_turn c n hour s o).store
-numbers_going c n hour s None going = going
-numbers_going c n hour s (Some numbers) going = going
-
-measured_of_exists : (c : Settings) (n hour : ℕ) (s : Store) → IsSound c → IsGoing c s → ATurn c (IsMeasuredOf c n hour s)
-measured_of_exists c n hour s sound going = with (report_of_exists c s sound going) (λ (all, report). (numbers_turn c n hour s (slice_get all hour), (all, report, refl), numbers_going c n hour s (slice_get all hour) going))
+measured_of_exists : (c : Settings) (n hour : ℕ) (s : Store) (b : Bool) → IsSound c → IsGoing c s → nat_lt hour c.window.hours ≡ b → ATurn c (IsMeasuredOf c n hour s b)
+measured_of_exists c n hour s true sound going e =
+    with (hour_exists c s hour sound going (in_window c s hour going e)) (λ (numbers, is). (writes (hour_measures n hour c numbers) s, (numbers, going.history, is, refl), going))
+measured_of_exists c n hour s false sound going e = turn_is c (refuses c n (Edit OutOfWindow) s) going
 
 points_going : (c : Settings) (n p : ℕ) (s : Store) (b : Bool) → IsGoing c s → IsGoing c (points_turn c n p s b).store
 points_going c n p s true going = going
@@ -179,7 +187,7 @@ turn_exists files c n (line.unblank from to) s sound going = edited_exists c n N
 turn_exists files c n line.audit s sound going = audited_exists c n s sound going
 turn_exists files c n (line.verdicts hour) s sound going = verdicts_exist c n hour s (nat_lt hour c.window.hours) sound going refl
 turn_exists files c n line.measures s sound going = measured_exists c n s sound going
-turn_exists files c n (line.measures_of hour) s sound going = measured_of_exists c n hour s sound going
+turn_exists files c n (line.measures_of hour) s sound going = measured_of_exists c n hour s (nat_lt hour c.window.hours) sound going refl
 turn_exists files c n (line.points p) s sound going = turn_is c (points_turn c n p s (has_phase c.phases p)) (points_going c n p s (has_phase c.phases p) going)
 turn_exists files c n (line.offsets name) s sound going = turn_is c (offsets_turn c n name s (advance_of c name)) (offsets_going c n name s (advance_of c name) going)
 

@@ -1,5 +1,5 @@
 -- What two stores have in common at an hour point.
-use Rattle.std.specs.Prelude.{◌≡◌, ◌<◌, ◌↔◌, ◌-ℤ◌, ◌<ℤ◌, ℕ, ℤ, pos, true, List, [], Option, length, map}
+use Rattle.std.specs.Prelude.{◌≡◌, ◌<◌, ◌≤◌, ◌↔◌, ◌-ℤ◌, ◌<ℤ◌, ℕ, ℤ, pos, true, List, [], Option, length, map}
 use Rattle.sig_base.specs.Numbers.{has_number, has_phase}
 use Rattle.reach.specs.Runs.{State}
 use Rattle.board.specs.Hours.{Clamped}
@@ -64,9 +64,9 @@ CarryIsSame = (c : Settings) (s t : Store) (k : ℕ) (carry : Carried) → IsCar
 abbrev pub FutureIsSame : Type 0
 FutureIsSame = (c : Settings) (s t : Store) (k : ℕ) (future : List (List (Option ℤ))) → IsFutureAt c s k future → IsFutureAt c t k future → IsSameFuture c s t k
 
--- where up to a point both stores say the same, so do all values that say what the one and what the other says
+-- where up to a point of both windows both stores say the same, so do all values that say what the one and what the other says
 abbrev pub CarriesAreOne : Type 0
-CarriesAreOne = (c : Settings) (s t : Store) (k : ℕ) (a b : Carried) → IsSound c → IsStore s → IsStore t → IsCarryAt c s k a → IsCarryAt c t k b → IsSameCarry c s t k → SaySame a b
+CarriesAreOne = (c : Settings) (s t : Store) (k : ℕ) (a b : Carried) → IsSound c → IsStore s → IsStore t → k ≤ length s.hours → k ≤ length t.hours → IsCarryAt c s k a → IsCarryAt c t k b → IsSameCarry c s t k → SaySame a b
 
 -- where from a point on both can be completed from the same states, values that admit those of the one and those of the other are equal
 abbrev pub FuturesAreOne : Type 0

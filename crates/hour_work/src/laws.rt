@@ -19,7 +19,7 @@ ghost use Rattle.hour_work.specs.Rows.{earlier_rows, own_rows};
 ghost use Rattle.hour_work.specs.Verdicts.{AreAuditLines};
 ghost use Rattle.hour_work.specs.Measures.{CyclesShow, cycles_in, over_hours, services_in};
 ghost use Rattle.hour_work.specs.Reports.{IsReport};
-ghost use Rattle.hour_work.specs.Moved.{CarriesAreOne, FuturesAreOne};
+ghost use Rattle.hour_work.specs.Moved.{CarriesAreOne, CarryIsSame, FutureIsSame, FuturesAreOne};
 
 /// Law: where some history agrees with a store, it has one report, and each hour has one list of
 /// audit lines.
@@ -94,8 +94,12 @@ pub fn green_before_yellow()
 
 /// Law: what a store says up to an hour point is one value but for the ranges in which its states
 /// are written, and what it can be completed from there is one value; so two stores have the same
-/// there exactly where all values of the one are the same as all values of the other.
+/// there exactly where all values of the one are the same as all values of the other. And where one
+/// value is what both say, they say the same: of each channel the same states, and of all else that
+/// is under way the same.
 pub fn points_are_one()
     ensures carries { CarriesAreOne }
     ensures futures { FuturesAreOne }
+    ensures same_carry { CarryIsSame }
+    ensures same_future { FutureIsSame }
 {}

@@ -166,8 +166,8 @@ one_flag c s t k sound is is_new le le_new same d has =
     let x = faulty_at c s k d i sound is le at in
     let y = faulty_at c t k d i sound is_new le_new at in
     let one = same_both (faulty (is_known s) (first_tenth k) (earlier_rows s k) d) (faulty (is_known t) (first_tenth k) (earlier_rows t k) d)
-        (λ f. y.1 (faults_follow c s t k i (λ u. (same.states i u lt).1) (x.0 f)))
-        (λ f. x.1 (faults_follow c t s k i (λ u. (same.states i u lt).0) (y.0 f))) in
+    (λ f. y.1 (faults_follow c s t k i (λ u. (same.states i u lt).1) (x.0 f)))
+    (λ f. x.1 (faults_follow c t s k i (λ u. (same.states i u lt).0) (y.0 f))) in
     ap (λ (b : Bool). let flag : Flag = record { fault = b } in flag) one
 
 -- ---- all together
@@ -223,3 +223,14 @@ says_itself a = record {
 
 pub says_refl : (a b : Carried) → a ≡ b → SaySame a b
 says_refl a b e = subst (λ (x : Carried). SaySame a x) e (says_itself a)
+
+pub says_back : (a b : Carried) → SaySame a b → SaySame b a
+says_back a b h = record {
+  pasts = (sym h.pasts.0, λ i lt. let one = h.pasts.1 i (subst (λ (n : ℕ). i < n) (sym h.pasts.0) lt) in (sym one.0, λ u. ((one.1 u).1, (one.1 u).0)));
+  known = sym h.known;
+  cuts = sym h.cuts;
+  closing = sym h.closing;
+  splits = sym h.splits;
+  others = sym h.others;
+  arrivals = sym h.arrivals;
+}

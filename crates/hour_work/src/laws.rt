@@ -92,11 +92,12 @@ pub fn green_before_yellow()
         (diagrams_of (is_known s) c p (known_rows s)) }
 {}
 
-/// Law: what a store says up to an hour point is one value but for the ranges in which its states
-/// are written, and what it can be completed from there is one value; so two stores have the same
-/// there exactly where all values of the one are the same as all values of the other. And where one
-/// value is what both say, they say the same: of each channel the same states, and of all else that
-/// is under way the same.
+/// Law: where two stores say the same up to an hour point of both windows, all values that say what
+/// the one and what the other says are the same but for the ranges in which their states are
+/// written; where both can be completed from the same states at a point, all values that admit
+/// these are equal. And where one value says what both say, they say the same of each channel and
+/// of all that is under way; where one admits what both can be completed from, these are the same
+/// states.
 pub fn points_are_one()
     ensures carries { CarriesAreOne }
     ensures futures { FuturesAreOne }

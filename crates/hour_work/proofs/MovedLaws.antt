@@ -1,56 +1,81 @@
 -- What a store says at an hour point is one.
-use Rattle.std.proofs.Common.{◌≡◌, ◌∙◌, refl, sym, subst, ℕ, suc, ◌<◌, ℤ, Option, Some, None, List, [], ◌∷◌, length, get_or, ◌⊎◌, inl, inr, arith}
+use Rattle.std.proofs.Common.{◌≡◌, ◌∙◌, ◌↔◌, refl, sym, ap, subst, ℕ, suc, ◌<◌, ◌≤◌, ℤ, pos, ◌-ℤ◌, Bool, true, nat_lt, Option, Some, None, List, [], ◌∷◌, length, get_or, ◌⊎◌, inl, inr, arith}
+use Rattle.std.proofs.lemmas.Bool.{and_parts}
 use Rattle.sig_base.specs.declared.values.Row.{Row}
+use Rattle.sig_base.specs.Numbers.{has_number, has_phase}
+use Rattle.event_codes.specs.declared.channels.Kind.TheVariants.{Detector}
 use Rattle.span_set.specs.declared.set.Span.{Span}
+use Rattle.span_set.proofs.Sets.{int_cases}
+use Rattle.reach.specs.Runs.{State, state}
 use Rattle.reach.proofs.Later.{same_admits}
-use Rattle.hour_store.specs.Store.{Store}
-use Rattle.board.specs.Logs.{no_spec}
+use Rattle.hour_store.specs.Store.{IsStore, Store, is_known}
+use Rattle.board.specs.Logs.{first_tenth, no_spec}
 use Rattle.board.specs.Places.{AreSamePasts, HaveSameStates}
 use Rattle.board.proofs.Starting.{same_latest}
 use Rattle.signal_log.specs.Log.{Log, log_of}
-use Rattle.signal_log.specs.Points.{AreAheadsAt, ArePastsAt}
-use Rattle.ring_config.specs.Settings.{Settings}
+use Rattle.signal_log.specs.Points.{ArePastsAt}
+use Rattle.ring_config.specs.Settings.{Settings, is_tracked_as, spec_place}
 use Rattle.ring_config.specs.Sound.{IsSound}
 use Rattle.ring_config.specs.declared.items.Approach.{Approach}
-use Rattle.other_measures.specs.Crossing.{Crossing}
+use Rattle.ring_config.proofs.TrackLaws.{same_both}
+use Rattle.hour_sweep.specs.Hours.{point}
+use Rattle.hour_sweep.specs.Numbers.{table}
+use Rattle.hour_sweep.proofs.Tables.{table_at, table_same}
+use Rattle.service_cut.specs.Parts.{part_of, room}
+use Rattle.service_cut.proofs.Rooms.{has_room}
+use Rattle.other_measures.specs.Crossing.{Crossing, places}
+use Rattle.other_measures.specs.Peds.{ped_of}
+use Rattle.other_measures.specs.Preempts.{preempt_of}
+use Rattle.other_measures.proofs.Starts.{number_low}
 use Rattle.stop_bar.specs.Crossing.{Crossing as AtBar}
 use Rattle.stop_bar.specs.declared.bars.StopBar.{StopBar}
 use Rattle.stop_bar.specs.All.{AreAtBars, IsPlaceOf, bar_with, bars_of}
 use Rattle.stop_bar.specs.Bars.{IsAtBar}
 use Rattle.stop_bar.specs.Lists.{Each}
+use Rattle.stop_bar.specs.Own.{detector}
 use Rattle.stop_bar.proofs.Hours.{crosses_once}
-use Rattle.split_measures.proofs.Approaches.{place_there}
-use Rattle.arrival_measures.specs.Crossing.{CarryParts}
-use Rattle.hour_work.specs.Moved.{CarriesAreOne, FuturesAreOne, SaySame}
-use Rattle.hour_work.specs.Points.{Carried, IsCarryAt}
+use Rattle.stop_bar.proofs.ToldAt.{place_channel}
+use Rattle.split_measures.proofs.Approaches.{place_there, some_there}
+use Rattle.arrival_measures.specs.declared.faults.Flag.{Flag}
+use Rattle.arrival_measures.specs.Crossing.{CarryParts, flag_of, has_detector}
+use Rattle.arrival_measures.specs.Faults.{faulty}
+use Rattle.fault_rows.specs.Sure.{LeadsToFault, fault}
+use Rattle.fault_rows.proofs.Before.{faulty_by_states}
+use Rattle.hour_work.specs.Moved.{CarriesAreOne, CarryIsSame, FutureIsSame, FuturesAreOne, IsSameCarry, IsSameFuture, LeadsTo, SaySame}
+use Rattle.hour_work.specs.Points.{Carried, IsFutureAt}
 use Rattle.hour_work.specs.Rows.{earlier_rows}
+use Rattle.hour_work.proofs.WholeLog.{earlier_ordered, rows_after, rows_of_order}
 
 -- ---- states
 
-one_past : (log : Log) (k : ℕ) (a b : List (List (List Span))) → ArePastsAt log k a → ArePastsAt log k b → (i : ℕ) → i < length log.specs → HaveSameStates (get_or a i []) (get_or b i [])
-one_past log k a b x y i lt = (
-  (x.shape.1 i no_spec lt).0 ∙ sym (y.shape.1 i no_spec lt).0,
-  λ u. (λ h. (y.states i lt u).1 ((x.states i lt u).0 h), λ h. (x.states i lt u).1 ((y.states i lt u).0 h)),
-)
+module _ (c : Settings) (s t : Store) (k : ℕ) where
+  one_past : (a b : List (List (List Span))) → ArePastsAt (log_of c.specs s) k a → ArePastsAt (log_of c.specs t) k b → IsSameCarry c s t k → (i : ℕ) → i < length c.specs → HaveSameStates (get_or a i []) (get_or b i [])
+  one_past a b x y same i lt = (
+    (x.shape.1 i no_spec lt).0 ∙ sym (y.shape.1 i no_spec lt).0,
+    λ u. (
+      λ h. (y.states i lt u).1 ((same.states i u lt).0 ((x.states i lt u).0 h)),
+      λ h. (x.states i lt u).1 ((same.states i u lt).1 ((y.states i lt u).0 h)),
+    ),
+  )
 
-pub one_pasts : (log : Log) (k : ℕ) (a b : List (List (List Span))) → ArePastsAt log k a → ArePastsAt log k b → AreSamePasts a b
-one_pasts log k a b x y = (x.shape.0 ∙ sym y.shape.0, λ i lt. one_past log k a b x y i (subst (λ (n : ℕ). i < n) x.shape.0 lt))
+  one_pasts : (a b : List (List (List Span))) → ArePastsAt (log_of c.specs s) k a → ArePastsAt (log_of c.specs t) k b → IsSameCarry c s t k → AreSamePasts a b
+  one_pasts a b x y same = (x.shape.0 ∙ sym y.shape.0, λ i lt. one_past a b x y same i (subst (λ (n : ℕ). i < n) x.shape.0 lt))
 
-same_states : (a b d : List (List Span)) → HaveSameStates a b → HaveSameStates b d → HaveSameStates a d
-same_states a b d x y = (x.0 ∙ y.0, λ u. (λ h. (y.1 u).0 ((x.1 u).0 h), λ h. (x.1 u).1 ((y.1 u).1 h)))
+  one_ahead : (a b : List (List (Option ℤ))) → IsFutureAt c s k a → IsFutureAt c t k b → IsSameFuture c s t k → (i : ℕ) → i < length c.specs → get_or a i [] ≡ get_or b i []
+  one_ahead a b x y same i lt =
+      (same_admits (get_or a i []) (get_or b i [])).1 (
+        x.shape.1 i no_spec lt ∙ sym (y.shape.1 i no_spec lt),
+        λ u. (
+          λ h. (y.states i lt u).1 ((same i u lt).0 ((x.states i lt u).0 h)),
+          λ h. (x.states i lt u).1 ((same i u lt).1 ((y.states i lt u).0 h)),
+        ),
+      )
 
-pub same_on : (a b d : List (List (List Span))) → AreSamePasts a b → AreSamePasts b d → AreSamePasts a d
-same_on a b d x y = (x.0 ∙ y.0, λ i lt. same_states (get_or a i []) (get_or b i []) (get_or d i []) (x.1 i lt) (y.1 i (subst (λ (n : ℕ). i < n) x.0 lt)))
+pub futures_one : FuturesAreOne
+futures_one c s t k a b x y same = same_latest a b (x.shape.0 ∙ sym y.shape.0) (λ i lt. one_ahead c s t k a b x y same i (subst (λ (n : ℕ). i < n) x.shape.0 lt))
 
-one_ahead : (log : Log) (k : ℕ) (a b : List (List (Option ℤ))) → AreAheadsAt log k a → AreAheadsAt log k b → (i : ℕ) → i < length log.specs → get_or a i [] ≡ get_or b i []
-one_ahead log k a b x y i lt =
-    (same_admits (get_or a i []) (get_or b i [])).1 (
-      x.shape.1 i no_spec lt ∙ sym (y.shape.1 i no_spec lt),
-      λ u. (λ h. (y.states i lt u).1 ((x.states i lt u).0 h), λ h. (x.states i lt u).1 ((y.states i lt u).0 h)),
-    )
-
-pub one_aheads : (log : Log) (k : ℕ) (a b : List (List (Option ℤ))) → AreAheadsAt log k a → AreAheadsAt log k b → a ≡ b
-one_aheads log k a b x y = same_latest a b (x.shape.0 ∙ sym y.shape.0) (λ i lt. one_ahead log k a b x y i (subst (λ (n : ℕ). i < n) x.shape.0 lt))
+pub future_same : FutureIsSame
+future_same c s t k future x y i u lt = (λ h. (y.states i lt u).0 ((x.states i lt u).1 h), λ h. (x.states i lt u).0 ((y.states i lt u).1 h))
 
 -- ---- what is under way
 
@@ -101,38 +126,80 @@ module _ (log : Log) (c : Settings) (k : ℕ) (before : List Row) where
         one_more y (bars_of xs) j place us vs (one_bars xs (λ i d a b lt at is. placed (suc i) d a b (omega arith) at is)) (subst (λ (z : List StopBar). Each AtOf z us) same h) (subst (λ (z : List StopBar). Each AtOf z vs) same g)
   ]
 
-pub one_splits : (log : Log) (c : Settings) (k : ℕ) (before : List Row) (us vs : List AtBar) → IsSound c → AreAtBars log c before k us → AreAtBars log c before k vs → us ≡ vs
+one_splits : (log : Log) (c : Settings) (k : ℕ) (before : List Row) (us vs : List AtBar) → IsSound c → AreAtBars log c before k us → AreAtBars log c before k vs → us ≡ vs
 one_splits log c k before us vs sound h g = one_bars log c k before c.approaches (λ i d a b lt at is. place_there c i d a b sound lt at is) us vs h g
 
--- ---- both together
+-- ---- tables
 
-half_one : (c : Settings) (s : Store) (k : ℕ) (a b : Carried) → IsSound c → IsCarryAt c s k a → IsCarryAt c s k b → SaySame a b
-half_one c s k a b sound x y = record {
-  pasts = one_pasts (log_of c.specs s) k a.pasts b.pasts x.pasts y.pasts;
-  known = x.known ∙ sym y.known;
-  cuts = x.cuts.parts_are ∙ sym y.cuts.parts_are;
-  closing = x.closing ∙ sym y.closing;
-  splits = one_splits (log_of c.specs s) c k (earlier_rows s k) a.splits b.splits sound x.splits y.splits;
-  others = one_crossing a.others b.others (x.others.peds_are ∙ sym y.others.peds_are) (x.others.preempts_are ∙ sym y.others.preempts_are);
-  arrivals = one_open a.arrivals b.arrivals (x.arrivals.crossings_are ∙ sym y.arrivals.crossings_are) (x.arrivals.flags_are ∙ sym y.arrivals.flags_are);
+-- equal tables have the same part at each number that has a place
+one_part : {A : Type 0} (has : ℕ → Bool) (n p : ℕ) (f g : ℕ → A) → table has n f ≡ table has n g → has p ≡ true → p < n → f p ≡ g p
+one_part has n p f g same there lt =
+    let at : Some (f p) ≡ Some (g p) = sym (table_at has n p f there lt) ∙ (ap (λ ps. get_or ps p None) same ∙ table_at has n p g there lt) in
+    cc
+
+-- ---- detectors
+
+-- where the one store's states are all of colour Fault, so are the other's, whose states are the same but for old entries
+faults_follow : (c : Settings) (s t : Store) (k i : ℕ) → ((u : State) → LeadsTo c t k i u → LeadsTo c s k i u) → LeadsToFault (log_of c.specs s) i (first_tenth k) → LeadsToFault (log_of c.specs t) i (first_tenth k)
+faults_follow c s t k i same all v reached =
+    let limit : ℤ = pos (first_tenth k) -ℤ pos 36001 in
+    let old : (u : State) → LeadsTo c s k i u → u.colour ≡ fault = λ u h. elim h [
+      | inl (here, late) ↦ all u here
+      | inr (at, (e, there, early)) ↦ all (state u.colour e) there
+    ] in
+    elim (int_cases v.entry limit) [
+      | inl (_, early) ↦ old (state v.colour limit) (same (state v.colour limit) (inr (refl, (v.entry, reached, early))))
+      | inr (_, late) ↦ old v (same v (inl (reached, late)))
+    ]
+
+-- at a point that is in the window, the known rows are those before it and those from it on
+faulty_at : (c : Settings) (s : Store) (k d i : ℕ) → IsSound c → IsStore s → k ≤ length s.hours → spec_place c.specs (detector d) ≡ Some i → (faulty (is_known s) (first_tenth k) (earlier_rows s k) d ≡ true) ↔ LeadsToFault (log_of c.specs s) i (first_tenth k)
+faulty_at c s k d i sound is le at =
+    let rest = rows_after s k is le in
+    faulty_by_states c s d i (first_tenth k) (earlier_rows s k) rest.rows sound is at rest.parts (rows_of_order 0 (point k) (earlier_rows s k) (earlier_ordered s k is le)) (rows_of_order (point k) (point (length s.hours)) rest.rows rest.order)
+
+one_flag : (c : Settings) (s t : Store) (k : ℕ) → IsSound c → IsStore s → IsStore t → k ≤ length s.hours → k ≤ length t.hours → IsSameCarry c s t k → (d : ℕ) → has_detector c d ≡ true → flag_of (is_known s) (first_tenth k) (earlier_rows s k) d ≡ flag_of (is_known t) (first_tenth k) (earlier_rows t k) d
+one_flag c s t k sound is is_new le le_new same d has =
+    let tracked = (and_parts (nat_lt d 129) (is_tracked_as c Detector d) has).1 in
+    let (i, at) = some_there (spec_place c.specs (detector d)) (sound.tracked (detector d) ∙ tracked) in
+    let lt = (place_channel c.specs d i at).0 in
+    let x = faulty_at c s k d i sound is le at in
+    let y = faulty_at c t k d i sound is_new le_new at in
+    let one = same_both (faulty (is_known s) (first_tenth k) (earlier_rows s k) d) (faulty (is_known t) (first_tenth k) (earlier_rows t k) d)
+    (λ f. y.1 (faults_follow c s t k i (λ u. (same.states i u lt).1) (x.0 f)))
+    (λ f. x.1 (faults_follow c t s k i (λ u. (same.states i u lt).0) (y.0 f))) in
+    ap (λ (b : Bool). let flag : Flag = record { fault = b } in flag) one
+
+-- ---- all together
+
+pub carry_same : CarryIsSame
+carry_same c s t k carry x y = record {
+  states = λ i u lt. (λ h. (y.pasts.states i lt u).0 ((x.pasts.states i lt u).1 h), λ h. (x.pasts.states i lt u).0 ((y.pasts.states i lt u).1 h));
+  known = sym x.known ∙ y.known;
+  phases = λ p has. one_part (has_phase c.phases) (room c.phases) p (part_of (is_known s) (first_tenth k) (earlier_rows s k)) (part_of (is_known t) (first_tenth k) (earlier_rows t k)) (sym x.cuts.parts_are ∙ y.cuts.parts_are) has (has_room c.phases p has);
+  closing = sym x.closing ∙ y.closing;
+  bars = (carry.splits, x.splits, y.splits);
+  peds = λ p has. one_part (has_number c.peds) (places c.peds) p (ped_of (is_known s) (first_tenth k) (earlier_rows s k)) (ped_of (is_known t) (first_tenth k) (earlier_rows t k)) (sym x.others.peds_are ∙ y.others.peds_are) has (number_low c.peds p has);
+  preempts = λ p has. one_part (has_number c.preempts) (places c.preempts) p (preempt_of (is_known s) (first_tenth k) (earlier_rows s k)) (preempt_of (is_known t) (first_tenth k) (earlier_rows t k)) (sym x.others.preempts_are ∙ y.others.preempts_are) has (number_low c.preempts p has);
+  approaches = sym x.arrivals.crossings_are ∙ y.arrivals.crossings_are;
 }
 
 pub carries_one : CarriesAreOne
-carries_one c s t k a b sound x y (m, p, q) =
-    let h = half_one c s k a m sound x p in
-    let g = half_one c t k m b sound q y in
+carries_one c s t k a b sound is is_new le le_new x y same =
+    let (ats, p, q) = same.bars in
+    let phases = table_same (has_phase c.phases) (room c.phases) (part_of (is_known s) (first_tenth k) (earlier_rows s k)) (part_of (is_known t) (first_tenth k) (earlier_rows t k)) same.phases in
+    let peds = table_same (has_number c.peds) (places c.peds) (ped_of (is_known s) (first_tenth k) (earlier_rows s k)) (ped_of (is_known t) (first_tenth k) (earlier_rows t k)) same.peds in
+    let preempts = table_same (has_number c.preempts) (places c.preempts) (preempt_of (is_known s) (first_tenth k) (earlier_rows s k)) (preempt_of (is_known t) (first_tenth k) (earlier_rows t k)) same.preempts in
+    let flags = table_same (has_detector c) 129 (flag_of (is_known s) (first_tenth k) (earlier_rows s k)) (flag_of (is_known t) (first_tenth k) (earlier_rows t k)) (one_flag c s t k sound is is_new le le_new same) in
     record {
-      pasts = same_on a.pasts m.pasts b.pasts h.pasts g.pasts;
-      known = h.known ∙ g.known;
-      cuts = h.cuts ∙ g.cuts;
-      closing = h.closing ∙ g.closing;
-      splits = h.splits ∙ g.splits;
-      others = h.others ∙ g.others;
-      arrivals = h.arrivals ∙ g.arrivals;
+      pasts = one_pasts c s t k a.pasts b.pasts x.pasts y.pasts same;
+      known = x.known ∙ (same.known ∙ sym y.known);
+      cuts = x.cuts.parts_are ∙ (phases ∙ sym y.cuts.parts_are);
+      closing = x.closing ∙ (same.closing ∙ sym y.closing);
+      splits = one_splits (log_of c.specs s) c k (earlier_rows s k) a.splits ats sound x.splits p ∙ one_splits (log_of c.specs t) c k (earlier_rows t k) ats b.splits sound q y.splits;
+      others = one_crossing a.others b.others (x.others.peds_are ∙ (peds ∙ sym y.others.peds_are)) (x.others.preempts_are ∙ (preempts ∙ sym y.others.preempts_are));
+      arrivals = one_open a.arrivals b.arrivals (x.arrivals.crossings_are ∙ (same.approaches ∙ sym y.arrivals.crossings_are)) (x.arrivals.flags_are ∙ (flags ∙ sym y.arrivals.flags_are));
     }
-
-pub futures_one : FuturesAreOne
-futures_one c s t k a b x y (m, p, q) = one_aheads (log_of c.specs s) k a m x p ∙ one_aheads (log_of c.specs t) k m b q y
 
 -- ---- values
 
@@ -156,3 +223,14 @@ says_itself a = record {
 
 pub says_refl : (a b : Carried) → a ≡ b → SaySame a b
 says_refl a b e = subst (λ (x : Carried). SaySame a x) e (says_itself a)
+
+pub says_back : (a b : Carried) → SaySame a b → SaySame b a
+says_back a b h = record {
+  pasts = (sym h.pasts.0, λ i lt. let one = h.pasts.1 i (subst (λ (n : ℕ). i < n) (sym h.pasts.0) lt) in (sym one.0, λ u. ((one.1 u).1, (one.1 u).0)));
+  known = sym h.known;
+  cuts = sym h.cuts;
+  closing = sym h.closing;
+  splits = sym h.splits;
+  others = sym h.others;
+  arrivals = sym h.arrivals;
+}

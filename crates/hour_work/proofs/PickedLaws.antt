@@ -15,7 +15,6 @@ use Rattle.channel_tables.specs.declared.spec.Spec.{Spec}
 use Rattle.reach.specs.Runs.{State}
 use Rattle.board.specs.History.{events_at}
 use Rattle.board.specs.Logs.{HourLog, end_tenth, first_tenth, no_row, no_spec}
-use Rattle.board.specs.Moves.{RowsIn}
 use Rattle.board.specs.Verdicts.{MayPassRow}
 use Rattle.board.proofs.Cutting.{events_join, none_after}
 use Rattle.hour_store.specs.Store.{Store, is_known, known_rows as all_known}
@@ -47,7 +46,7 @@ use Rattle.hour_work.specs.Rows.{earlier_rows, own_rows}
 use Rattle.hour_work.proofs.GreenLaws.{parts_are}
 use Rattle.hour_work.proofs.MeasureLaws.{hour_is, own_known}
 use Rattle.hour_work.proofs.SeenLaws.{seen_log, seen_rows, seen_shown, tells}
-use Rattle.hour_work.proofs.WholeLog.{earlier_ordered, hour_within}
+use Rattle.hour_work.proofs.WholeLog.{earlier_ordered, hour_within, rows_of_order}
 
 -- ---- a row with a detector ahead
 
@@ -165,10 +164,6 @@ module _ (c : Settings) (p : ℕ) (known : ℕ → Bool) where
         ]
 
 -- ---- rows before a tenth
-
-rows_of_order : (a b : ℕ) (rows : List Row) → AreOrdered a b rows → RowsIn a b rows
-rows_of_order a b [] h = h
-rows_of_order a b (x ∷ xs) h = (h.0, h.1, rows_of_order x.at b xs h.2)
 
 place_of : (c : Settings) (d : ℕ) (o : Option ℕ) → spec_place c.specs (detector d) ≡ o → is_some o ≡ true → (i : ℕ) × (spec_place c.specs (detector d) ≡ Some i)
 place_of c d None e h = absurd (let bad : false ≡ true = h in cc)

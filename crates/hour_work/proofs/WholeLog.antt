@@ -1,9 +1,10 @@
 -- The known rows of all hours, and what is listed of them.
-use Rattle.std.proofs.Common.{◌≡◌, ◌∙◌, ℕ, zero, suc, ◌+◌, ◌-◌, ◌<◌, ◌≤◌, Bool, List, [], ◌++◌, Option, Some, None, length, refl, sym, ap, subst, arith}
+use Rattle.std.proofs.Common.{◌≡◌, ◌∙◌, ℕ, zero, suc, ◌+◌, ◌-◌, ◌<◌, ◌≤◌, Bool, List, [], ◌∷◌, ◌++◌, Option, Some, None, length, refl, sym, ap, subst, arith}
 use Rattle.std.specs.Prelude.{option_map}
 use Rattle.std.proofs.lemmas.List.{append-nil, append_assoc, take_all}
 use Rattle.sig_base.specs.HourRows.{Shown}
 use Rattle.sig_base.specs.declared.values.Row.{Row}
+use Rattle.board.specs.Moves.{RowsIn}
 use Rattle.hour_store.specs.Store.{IsOfHour, IsStore, Store, held_at, is_known, known_rows, rows_of}
 use Rattle.hour_sweep.specs.Rows.{known_rows as rows_known}
 use Rattle.hour_sweep.specs.Hours.{AreOrdered, point}
@@ -21,6 +22,10 @@ held_ordered known hour (Some h) of =
     let end : point hour + 36000 ≡ point (hour + 1) = omega arith in
     let rows = rise_ordered (point hour) (point hour + 36000) h.rows (omega arith) (of h refl).rows_are.rise in
     filter_ordered known (point hour) (point (hour + 1)) (point hour) h.rows (omega arith) (subst (λ (t : ℕ). AreOrdered (point hour) t h.rows) end rows)
+
+pub rows_of_order : (a b : ℕ) (rows : List Row) → AreOrdered a b rows → RowsIn a b rows
+rows_of_order a b [] h = h
+rows_of_order a b (x ∷ xs) h = (h.0, h.1, rows_of_order x.at b xs h.2)
 
 -- an hour's known rows stand in order in the hour
 pub own_ordered : (s : Store) (hour : ℕ) → IsStore s → AreOrdered (point hour) (point (hour + 1)) (own_rows s hour)
@@ -67,6 +72,23 @@ rows_between s k (suc d) is le =
 pub all_rows : (s : Store) → earlier_rows s (length s.hours) ≡ known_rows s
 all_rows s = ap (λ hours. rows_known (is_known s) (rows_of hours)) (take_all (length s.hours) s.hours (omega arith))
 
+-- the known rows are those before a point, and those from it on
+pub record IsSplit (s : Store) (k : ℕ) : Type 0 where
+  pub rows : List Row
+  pub parts : known_rows s ≡ earlier_rows s k ++ rows
+  pub order : AreOrdered (point k) (point (length s.hours)) rows
+
+pub rows_after : (s : Store) (k : ℕ) → IsStore s → k ≤ length s.hours → IsSplit s k
+rows_after s k is le =
+    let count = length s.hours - k in
+    let rest = rows_between s k count is (omega arith) in
+    let end : k + count ≡ length s.hours = omega arith in
+    record {
+      rows = rest.rows;
+      parts = sym (all_rows s) ∙ (ap (λ j. earlier_rows s j) (sym end) ∙ rest.joined);
+      order = subst (λ j. AreOrdered (point k) (point j) rest.rows) end rest.order;
+    }
+
 -- the known rows are those before an hour, its own, and those of the hours after it
 pub record IsWithin (s : Store) (hour : ℕ) : Type 0 where
   pub later : List Row
@@ -75,13 +97,11 @@ pub record IsWithin (s : Store) (hour : ℕ) : Type 0 where
 
 pub hour_within : (s : Store) (hour : ℕ) → IsStore s → hour < length s.hours → IsWithin s hour
 hour_within s hour is lt =
-    let count = length s.hours - (hour + 1) in
-    let rest = rows_between s (hour + 1) count is (omega arith) in
-    let end : hour + 1 + count ≡ length s.hours = omega arith in
+    let rest = rows_after s (hour + 1) is (omega arith) in
     record {
       later = rest.rows;
-      parts = sym (all_rows s) ∙ (ap (λ j. earlier_rows s j) (sym end) ∙ (rest.joined ∙ (ap (λ rs. rs ++ rest.rows) (earlier_more s hour lt) ∙ append_assoc (earlier_rows s hour) (own_rows s hour) rest.rows)));
-      order = subst (λ j. AreOrdered (point (hour + 1)) (point j) rest.rows) end rest.order;
+      parts = rest.parts ∙ (ap (λ rs. rs ++ rest.rows) (earlier_more s hour lt) ∙ append_assoc (earlier_rows s hour) (own_rows s hour) rest.rows);
+      order = rest.order;
     }
 
 -- ---- lists

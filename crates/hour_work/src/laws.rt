@@ -19,7 +19,7 @@ ghost use Rattle.hour_work.specs.Rows.{earlier_rows, own_rows};
 ghost use Rattle.hour_work.specs.Verdicts.{AreAuditLines};
 ghost use Rattle.hour_work.specs.Measures.{CyclesShow, cycles_in, over_hours, services_in};
 ghost use Rattle.hour_work.specs.Reports.{IsReport};
-ghost use Rattle.hour_work.specs.Moved.{CarriesAreOne, FuturesAreOne};
+ghost use Rattle.hour_work.specs.Moved.{CarriesAreOne, CarryIsSame, FutureIsSame, FuturesAreOne};
 
 /// Law: where some history agrees with a store, it has one report, and each hour has one list of
 /// audit lines.
@@ -92,10 +92,15 @@ pub fn green_before_yellow()
         (diagrams_of (is_known s) c p (known_rows s)) }
 {}
 
-/// Law: what a store says up to an hour point is one value but for the ranges in which its states
-/// are written, and what it can be completed from there is one value; so two stores have the same
-/// there exactly where all values of the one are the same as all values of the other.
+/// Law: where two stores say the same up to an hour point of both windows, all values that say what
+/// the one and what the other says are the same but for the ranges in which their states are
+/// written; where both can be completed from the same states at a point, all values that admit
+/// these are equal. And where one value says what both say, they say the same of each channel and
+/// of all that is under way; where one admits what both can be completed from, these are the same
+/// states.
 pub fn points_are_one()
     ensures carries { CarriesAreOne }
     ensures futures { FuturesAreOne }
+    ensures same_carry { CarryIsSame }
+    ensures same_future { FutureIsSame }
 {}

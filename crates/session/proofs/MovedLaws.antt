@@ -10,7 +10,7 @@ use Rattle.signal_log.specs.Log.{HasHistory, log_of}
 use Rattle.hour_work.specs.Moved.{IsSameCarry, IsSameFuture}
 use Rattle.hour_work.specs.Numbers.{Numbers, Summed, patched}
 use Rattle.hour_work.specs.Points.{Carried, IsCarryAt, IsFutureAt}
-use Rattle.hour_work.proofs.MovedLaws.{carries_one, futures_one}
+use Rattle.hour_work.proofs.MovedLaws.{carries_one, carry_same, future_same, futures_one, says_back}
 use Rattle.hour_work.proofs.OneLaws.{one_report}
 use Rattle.hour_work.proofs.PatchLaws.{patched-below, patched-past}
 use Rattle.session.specs.Edits.{Change}
@@ -26,18 +26,10 @@ no_carry = record { pasts = []; known = true; cuts = []; closing = []; splits = 
 module _ (c : Settings) (s t : Store) (sound : IsSound c) (is : IsStore s) (is_new : IsStore t) (hours : length t.hours ≡ length s.hours) where
   -- where the same is kept, both stores say the same
   same_carry : (xs ys : List Carried) (k : ℕ) → AreCarries c s xs → AreCarries c t ys → k ≤ length s.hours → get_or ys k no_carry ≡ get_or xs k no_carry → IsSameCarry c s t k
-  same_carry xs ys k are are_new le e = (
-    get_or xs k no_carry,
-    carry_kept c s xs is are k no_carry le,
-    subst (λ (v : Carried). IsCarryAt c t k v) e (carry_kept c t ys is_new are_new k no_carry (omega arith)),
-  )
+  same_carry xs ys k are are_new le e = carry_same c s t k (get_or xs k no_carry) (carry_kept c s xs is are k no_carry le) (subst (λ (v : Carried). IsCarryAt c t k v) e (carry_kept c t ys is_new are_new k no_carry (omega arith)))
 
   same_future : (xs ys : List Ahead) (k : ℕ) → AreFutures c s xs → AreFutures c t ys → k ≤ length s.hours → get_or ys k [] ≡ get_or xs k [] → IsSameFuture c s t k
-  same_future xs ys k are are_new le e = (
-    get_or xs k [],
-    future_kept c s xs is are k [] le,
-    subst (λ (v : Ahead). IsFutureAt c t k v) e (future_kept c t ys is_new are_new k [] (omega arith)),
-  )
+  same_future xs ys k are are_new le e = future_same c s t k (get_or xs k []) (future_kept c s xs is are k [] le) (subst (λ (v : Ahead). IsFutureAt c t k v) e (future_kept c t ys is_new are_new k [] (omega arith)))
 
   -- the points at the end of what is new
   pub end_same : (first last : ℕ) (xs fresh : List Carried) (to : ℕ) → to ≡ first + length fresh → AreCarries c s xs → AreNewCarries c t first last xs fresh → (to ≡ length s.hours) ⊎ IsSameCarry c s t to
@@ -49,11 +41,11 @@ module _ (c : Settings) (s t : Store) (sound : IsSound c) (is : IsStore s) (is_n
       ]
 
   pub end_least : (first last : ℕ) (xs fresh : List Carried) (to k : ℕ) → to ≡ first + length fresh → AreCarries c s xs → AreNewCarries c t first last xs fresh → last < k → k < to → IsSameCarry c s t k → ⊥
-  end_least first last xs fresh to k te are new low high (v, old, other) =
+  end_least first last xs fresh to k te are new low high same =
       let within = new.within in
       let kept = carry_kept c s xs is are k no_carry (omega arith) in
       let fresh_one = carry_kept c t (patched xs (first + 1) fresh) is_new new.forth k no_carry (omega arith) in
-      new.differ k no_carry low (omega arith) (carries_one c t s k (get_or (patched xs (first + 1) fresh) k no_carry) (get_or xs k no_carry) sound fresh_one kept (v, other, old))
+      new.differ k no_carry low (omega arith) (says_back (get_or xs k no_carry) (get_or (patched xs (first + 1) fresh) k no_carry) (carries_one c s t k (get_or xs k no_carry) (get_or (patched xs (first + 1) fresh) k no_carry) sound is is_new (omega arith) (omega arith) kept fresh_one same))
 
   -- the point at the start of what is new
   pub start_same : (first last : ℕ) (xs : List Ahead) (from : ℕ) (fresh : List Ahead) → last < length s.hours → AreFutures c s xs → AreNewFutures c t first last xs from fresh → (from ≡ 0) ⊎ IsSameFuture c s t from

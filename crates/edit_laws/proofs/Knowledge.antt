@@ -96,8 +96,8 @@ known_after : (s t : Store) (ch : Change) (k : ℕ) → IsTaken s ch → Makes s
 known_after s t (load r) k p q = load_known s t r k p.1 q
 known_after s t (replace r) k p q = replace_known s t r k p.1 q
 known_after s t (withdraw hour) k p q = withdraw_known s t hour k q
-known_after s t (blank f u) k p q = blank_known s t f u k q.0 q.1.1
-known_after s t (unblank f u) k p q = unblank_known s t f u k q.0 q.1.1
+known_after s t (blank f u) k p q = blank_known s t f u k q.0 q.2
+known_after s t (unblank f u) k p q = unblank_known s t f u k q.0 q.2
 
 pub known_moves : KnowledgeMoves
 known_moves s t ch k is e = let p = made_told s is ch t e in known_after s t ch k p.0 p.1

@@ -8,9 +8,9 @@ use Rattle.span_set.specs.Changes.{span}
 use Rattle.span_set.proofs.Sets.{int_cases, le_cases, member_test}
 use Rattle.hour_store.specs.Store.{IsStore, Store}
 use Rattle.session.specs.Edits.{reaches_out}
-use Rattle.session.specs.Ranges.{blanked_with, blanked_without, is_between, is_blanked, ranges_of}
+use Rattle.session.specs.Ranges.{With, Without, blanked_with, blanked_without, is_between, is_blanked, ranges_of}
 use Rattle.session.proofs.RangeLaws.{Passes, ranges_above, ranges_members, with_is, without_is}
-use Rattle.edit_laws.specs.Stores.{AreWith, AreWithout, IsRange}
+use Rattle.edit_laws.specs.Stores.{IsRange}
 use Rattle.edit_laws.specs.Refusals.{ReachesOut}
 
 -- the test of a range that reaches out of the window, and what it says
@@ -85,7 +85,7 @@ ranges_have s test P few lie says e =
     there (negsuc k) p = let w = (lie (negsuc k) p).0 in absurd (omega (arith, ints))
 
 -- the ranges with those of the range, and without them
-pub ranges_with : (s : Store) → IsStore s → (f t : ℤ) → pos 0 ≤ℤ f → t ≤ℤ pos (36000 * length s.hours) → AreWith s f t (ranges_of (length s.hours) (blanked_with s f t))
+pub ranges_with : (s : Store) → IsStore s → (f t : ℤ) → pos 0 ≤ℤ f → t ≤ℤ pos (36000 * length s.hours) → AreRanges (ranges_of (length s.hours) (blanked_with s f t)) × With s.blanks f t (ranges_of (length s.hours) (blanked_with s f t))
 ranges_with s is f t low high = (
   ranges_good s (blanked_with s f t) is.few,
   ranges_have s (blanked_with s f t) (λ e. Member s.blanks e ⊎ Within (span f t) e) is.few (λ e m. elim m [
@@ -94,15 +94,15 @@ ranges_with s is f t low high = (
   ]) (with_test s f t),
 )
 
-pub ranges_without : (s : Store) → IsStore s → (f t : ℤ) → AreWithout s f t (ranges_of (length s.hours) (blanked_without s f t))
+pub ranges_without : (s : Store) → IsStore s → (f t : ℤ) → AreRanges (ranges_of (length s.hours) (blanked_without s f t)) × Without s.blanks f t (ranges_of (length s.hours) (blanked_without s f t))
 ranges_without s is f t = (
   ranges_good s (blanked_without s f t) is.few,
   ranges_have s (blanked_without s f t) (λ e. Member s.blanks e × (Within (span f t) e → ⊥)) is.few (λ e m. is.blanked e m.0) (without_test s f t),
 )
 
 -- there are no others
-pub with_one : (s : Store) → IsStore s → (f t : ℤ) → IsRange s f t → (xs ys : List Span) → AreWith s f t xs → AreWith s f t ys → xs ≡ ys
-with_one s is f t r xs ys p q = with_is s (length s.hours) f t xs is.few is.blanked r.0 r.2 p.0 p.1 ∙ sym (with_is s (length s.hours) f t ys is.few is.blanked r.0 r.2 q.0 q.1)
+pub with_one : (s : Store) → IsStore s → (f t : ℤ) → IsRange s f t → (xs ys : List Span) → AreRanges xs → With s.blanks f t xs → AreRanges ys → With s.blanks f t ys → xs ≡ ys
+with_one s is f t r xs ys x p y q = with_is s (length s.hours) f t xs is.few is.blanked r.0 r.2 x p ∙ sym (with_is s (length s.hours) f t ys is.few is.blanked r.0 r.2 y q)
 
-pub without_one : (s : Store) → IsStore s → (f t : ℤ) → (xs ys : List Span) → AreWithout s f t xs → AreWithout s f t ys → xs ≡ ys
-without_one s is f t xs ys p q = without_is s (length s.hours) f t xs is.few is.blanked p.0 p.1 ∙ sym (without_is s (length s.hours) f t ys is.few is.blanked q.0 q.1)
+pub without_one : (s : Store) → IsStore s → (f t : ℤ) → (xs ys : List Span) → AreRanges xs → Without s.blanks f t xs → AreRanges ys → Without s.blanks f t ys → xs ≡ ys
+without_one s is f t xs ys x p y q = without_is s (length s.hours) f t xs is.few is.blanked x p ∙ sym (without_is s (length s.hours) f t ys is.few is.blanked y q)

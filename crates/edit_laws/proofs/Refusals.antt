@@ -57,7 +57,7 @@ module _ (s : Store) (store : IsStore s) where
   blank_refused f t EmptyRange p = rw (in_test s f t p.0 p.2, not_below f t p.1) refl
   blank_refused f t TooManyBlanks p =
       let r = p.0 in
-      blank_step s (length s.hours) f t p.1.0 refl store.few store.blanked (in_test s f t r.0 r.2) r.1 p.1.1.0 p.1.1.1 ∙ many_blanks s p.1.0 p.1.2
+      blank_step s (length s.hours) f t p.1.0 refl store.few store.blanked (in_test s f t r.0 r.2) r.1 p.1.1 p.1.2 ∙ many_blanks s p.1.0 p.1.3
   blank_refused f t AlreadyHeld p = absurd p
   blank_refused f t NotHeld p = absurd p
   blank_refused f t TooManyRows p = absurd p
@@ -70,7 +70,7 @@ module _ (s : Store) (store : IsStore s) where
   unblank_refused f t EmptyRange p = rw (in_test s f t p.0 p.2, not_below f t p.1) refl
   unblank_refused f t TooManyBlanks p =
       let r = p.0 in
-      unblank_step s (length s.hours) f t p.1.0 refl store.few store.blanked (in_test s f t r.0 r.2) r.1 p.1.1.0 p.1.1.1 ∙ many_blanks s p.1.0 p.1.2
+      unblank_step s (length s.hours) f t p.1.0 refl store.few store.blanked (in_test s f t r.0 r.2) r.1 p.1.1 p.1.2 ∙ many_blanks s p.1.0 p.1.3
   unblank_refused f t AlreadyHeld p = absurd p
   unblank_refused f t NotHeld p = absurd p
   unblank_refused f t TooManyRows p = absurd p

@@ -70,7 +70,7 @@ module _ (s : Store) (store : IsStore s) where
       | inl some ↦ rw some.0 (
           let good = ranges_with s store f t in_it.1 in_it.2 in
           let new = ranges_of (length s.hours) (blanked_with s f t) in
-          blanks_told s (with_blanks s new) (blank f t) (λ many. ((in_it.1, some.1, in_it.2), (new, good, many))) (λ few. (((in_it.1, some.1, in_it.2), (new, good, few)), (refl, good)))
+          blanks_told s (with_blanks s new) (blank f t) (λ many. ((in_it.1, some.1, in_it.2), (new, good.0, good.1, many))) (λ few. (((in_it.1, some.1, in_it.2), (new, good.0, good.1, few)), (refl, good.0, good.1)))
           )
       | inr none ↦ rw none.0 (in_it.1, none.1, in_it.2)
     ])
@@ -84,7 +84,7 @@ module _ (s : Store) (store : IsStore s) where
       | inl some ↦ rw some.0 (
           let good = ranges_without s store f t in
           let new = ranges_of (length s.hours) (blanked_without s f t) in
-          blanks_told s (with_blanks s new) (unblank f t) (λ many. ((in_it.1, some.1, in_it.2), (new, good, many))) (λ few. (((in_it.1, some.1, in_it.2), (new, good, few)), (refl, good)))
+          blanks_told s (with_blanks s new) (unblank f t) (λ many. ((in_it.1, some.1, in_it.2), (new, good.0, good.1, many))) (λ few. (((in_it.1, some.1, in_it.2), (new, good.0, good.1, few)), (refl, good.0, good.1)))
           )
       | inr none ↦ rw none.0 (in_it.1, none.1, in_it.2)
     ])

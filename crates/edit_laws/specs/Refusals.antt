@@ -3,9 +3,11 @@ use Rattle.std.specs.Prelude.{◌≡◌, ◌⊎◌, ◌↔◌, ◌*◌, ◌<◌,
 use Rattle.sig_base.specs.declared.values.EditError.{EditError}
 use Rattle.sig_base.specs.declared.values.EditError.TheVariants.{OutOfWindow, AlreadyHeld, NotHeld, EmptyRange, TooManyRows, TooManyBlanks}
 use Rattle.span_set.specs.declared.set.Span.{Span}
+use Rattle.span_set.specs.Spans.{AreRanges}
 use Rattle.hour_store.specs.Store.{IsStore, Store}
 use Rattle.session.specs.Edits.{Change, load, replace, withdraw, blank, unblank, step_of}
-use Rattle.edit_laws.specs.Stores.{AreWith, AreWithout, IsRange, is_held, rows_with}
+use Rattle.session.specs.Ranges.{With, Without}
+use Rattle.edit_laws.specs.Stores.{IsRange, is_held, rows_with}
 
 -- a tenth from `from` to `to` isn't one of the window, nor its end
 abbrev pub ReachesOut : Store → ℤ → ℤ → Type 0
@@ -27,10 +29,10 @@ IsRefused s (withdraw hour) OutOfWindow = length s.hours ≤ hour
 IsRefused s (withdraw hour) NotHeld = (hour < length s.hours) × (is_held s hour ≡ false)
 IsRefused s (blank from to) OutOfWindow = ReachesOut s from to
 IsRefused s (blank from to) EmptyRange = IsEmptyRange s from to
-IsRefused s (blank from to) TooManyBlanks = IsRange s from to × ((ranges : List Span) × AreWith s from to ranges × (10000 < length ranges))
+IsRefused s (blank from to) TooManyBlanks = IsRange s from to × ((ranges : List Span) × AreRanges ranges × With s.blanks from to ranges × (10000 < length ranges))
 IsRefused s (unblank from to) OutOfWindow = ReachesOut s from to
 IsRefused s (unblank from to) EmptyRange = IsEmptyRange s from to
-IsRefused s (unblank from to) TooManyBlanks = IsRange s from to × ((ranges : List Span) × AreWithout s from to ranges × (10000 < length ranges))
+IsRefused s (unblank from to) TooManyBlanks = IsRange s from to × ((ranges : List Span) × AreRanges ranges × Without s.blanks from to ranges × (10000 < length ranges))
 IsRefused s _ _ = ⊥
 
 -- an edit gives an error exactly where it is the first reason to refuse it

@@ -19,21 +19,13 @@ rows_with s r = (rows_held s + length r.rows) - count_in (held_at s r.hour)
 abbrev pub IsRange : Store → ℤ → ℤ → Type 0
 IsRange s from to = (pos 0 ≤ℤ from) × (from <ℤ to) × (to ≤ℤ pos (36000 * length s.hours))
 
--- these are the ranges, in order and none touching the next, of the tenths that are blanked and those of the range
-abbrev pub AreWith : Store → ℤ → ℤ → List Span → Type 0
-AreWith s from to ranges = AreRanges ranges × With s.blanks from to ranges
-
--- these are the ranges, in order and none touching the next, of the tenths that are blanked without those of the range
-abbrev pub AreWithout : Store → ℤ → ℤ → List Span → Type 0
-AreWithout s from to ranges = AreRanges ranges × Without s.blanks from to ranges
-
--- the edit isn't refused
+-- the edit isn't refused; ranges are in order and none touches the next, so that a set of tenths has one list of them
 abbrev pub IsTaken : Store → Change → Type 0
 IsTaken s (load r) = (r.hour < length s.hours) × (is_held s r.hour ≡ false) × (rows_with s r ≤ 20000000)
 IsTaken s (replace r) = (r.hour < length s.hours) × (is_held s r.hour ≡ true) × (rows_with s r ≤ 20000000)
 IsTaken s (withdraw hour) = (hour < length s.hours) × (is_held s hour ≡ true)
-IsTaken s (blank from to) = IsRange s from to × ((ranges : List Span) × AreWith s from to ranges × (length ranges ≤ 10000))
-IsTaken s (unblank from to) = IsRange s from to × ((ranges : List Span) × AreWithout s from to ranges × (length ranges ≤ 10000))
+IsTaken s (blank from to) = IsRange s from to × ((ranges : List Span) × AreRanges ranges × With s.blanks from to ranges × (length ranges ≤ 10000))
+IsTaken s (unblank from to) = IsRange s from to × ((ranges : List Span) × AreRanges ranges × Without s.blanks from to ranges × (length ranges ≤ 10000))
 
 -- the second store has this of the hour and of each other hour what the first one has, and the same is blanked
 pub record HasOf (s : Store) (hour : ℕ) (x : Option Shown) (t : Store) : Type 0 where
@@ -47,8 +39,8 @@ abbrev pub Makes : Store → Change → Store → Type 0
 Makes s (load r) t = HasOf s r.hour (Some r) t
 Makes s (replace r) t = HasOf s r.hour (Some r) t
 Makes s (withdraw hour) t = HasOf s hour None t
-Makes s (blank from to) t = (t.hours ≡ s.hours) × AreWith s from to t.blanks
-Makes s (unblank from to) t = (t.hours ≡ s.hours) × AreWithout s from to t.blanks
+Makes s (blank from to) t = (t.hours ≡ s.hours) × AreRanges t.blanks × With s.blanks from to t.blanks
+Makes s (unblank from to) t = (t.hours ≡ s.hours) × AreRanges t.blanks × Without s.blanks from to t.blanks
 
 -- an edit gives a store exactly where it isn't refused and this is the store that it makes
 abbrev pub EditsMakeStores : Type 0

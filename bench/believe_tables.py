@@ -87,6 +87,8 @@ row_reader.Stamp.stamp_in row_reader read_stamp value forms
 row_reader.Stamp.hour_stamp_of row_reader read_hour_stamp value forms
 row_reader.Order.in_row_order row_reader put_in_order order rise permutation tenths
 sig_base.Stamp.stamp_at sig_base Window::stamp value shows
+session.Edits.step_of edit_laws edits_make_stores made
+session.Edits.step_of edit_laws refusals_in_order refused
 """
 TELLS = """
 

@@ -1,5 +1,5 @@
 -- The transcript of a script.
-use Rattle.std.specs.Prelude.{◌≡◌, ◌⊎◌, ℕ, ◌+◌, ◌||◌, ◌*◌, ◌^◌, nat_lt, List, [], ◌∷◌, ◌++◌, length, slice_get, if◌then◌else◌, Option, Some, None, Result, Ok, Err, Bool, true, false}
+use Rattle.std.specs.Prelude.{◌≡◌, ◌⊎◌, ℕ, ◌+◌, ◌||◌, ◌*◌, ◌^◌, nat_lt, List, [], ◌∷◌, ◌++◌, length, if◌then◌else◌, Option, Some, None, Result, Ok, Err, Bool, true, false}
 use Rattle.outside.specs.Shelf.{Files}
 use Rattle.sig_base.specs.HourRows.{Shown}
 use Rattle.sig_base.specs.declared.values.Applied.{Applied}
@@ -26,7 +26,7 @@ use Rattle.sigaudit.specs.declared.hour_file.Unread.{Unread}
 use Rattle.sigaudit.specs.declared.script.LoadLine.{LoadLine}
 use Rattle.sigaudit.specs.HourFile.{hour_said}
 use Rattle.sigaudit.specs.Turns.{Turn, passes, refuses, refuses_file, writes}
-use Rattle.sigaudit.specs.Audit.{AreVerdicts, IsAudited, IsReportOf}
+use Rattle.sigaudit.specs.Audit.{AreVerdicts, IsAudited}
 use Rattle.sigaudit.specs.Points.{points_of_phase}
 use Rattle.sigaudit.specs.Offsets.{offsets_of}
 

@@ -132,11 +132,11 @@ report_of_exists c s sound going = report_exists c s sound going.is_store going.
 -- nor that its window has no numbers, or an hour of it
 window_exists : (c : Settings) (s : Store) → IsSound c → IsGoing c s → NotNone ((total : Numbers) × IsWindowOf c s total)
 window_exists c s sound going =
-    with (report_of_exists c s sound going) (λ (all, report). (total_of all, (sums_plain c s all going.is_store going.hours going.history report).1))
+    with (report_of_exists c s sound going) (λ (all, report). (total_of all, (sums_plain c s all going.is_store going.hours report).1))
 
 hour_exists : (c : Settings) (s : Store) (hour : ℕ) → IsSound c → IsGoing c s → hour < length s.hours → NotNone ((numbers : Numbers) × IsHourOf c s hour numbers)
 hour_exists c s hour sound going lt =
-    with (report_of_exists c s sound going) (λ (all, report). (get_or all hour (total_of all), (sums_plain c s all going.is_store going.hours going.history report).0 hour (total_of all) lt))
+    with (report_of_exists c s sound going) (λ (all, report). (get_or all hour (total_of all), (sums_plain c s all going.is_store going.hours report).0 hour (total_of all) lt))
 
 failing_exist : (c : Settings) (s : Store) (hour n : ℕ) → IsSound c → IsGoing c s → hour + n ≤ length s.hours → NotNone ((failing : List AuditLine) × AreFailing c s hour n failing)
 unfolding AreFailing

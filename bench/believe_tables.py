@@ -15,7 +15,7 @@ SUBJECTS = [
      " other_measures.Preempts other_measures.Sums other_measures.States other_measures.Hours cycle_arrivals.Arrivals"
      " cycle_arrivals.Own cycle_arrivals.Green arrival_measures.Faults arrival_measures.Travel arrival_measures.Cycles"
      " arrival_measures.Judged arrival_measures.Hours arrival_measures.Points offset_search hour_work.Rows hour_work.Measures"
-     " hour_work.Numbers hour_work.Reports"),
+     " hour_work.Numbers measure_laws"),
     ("What moves", "reach.Past reach.Ahead board.Hours board.Places board.Stops signal_log.Points service_cut.Parts"
      " detector_state split_windows stop_bar.Crossing other_measures.Crossing cycle_arrivals.Opens arrival_measures.Crossing"
      " hour_work.Points hour_work.Moved session.Moved"),
@@ -67,16 +67,6 @@ arrival_measures.Faults.is_fault_row fault_rows fault_rows_are_sure -
 arrival_measures.Faults.is_arrival fault_rows fault_rows_are_sure -
 free_channels.Tells.IsSure free_channels colours_tell -
 free_channels.Tells.IsColourReached free_channels colours_tell -
-hour_work.Measures.services_in hour_work hours_make_up_the_log own_services
-hour_work.Measures.cycles_in hour_work hours_make_up_the_log own_cycles
-hour_work.Numbers.total_of hour_work totals_are_of_the_log splits others arrivals
-hour_work.Numbers.total_of measure_laws split_totals_are_of_the_log -
-hour_work.Numbers.total_of measure_laws arrival_totals_are_of_the_log -
-hour_work.Numbers.total_of measure_laws state_totals_are_of_the_log -
-hour_work.Numbers.total_of measure_laws rule_totals_are_of_the_log -
-split_measures.Phases.added split_measures numbers_add_up -
-other_measures.Sums.ped_added other_measures numbers_add_up delays
-other_measures.Sums.preempt_added other_measures numbers_add_up events
 hour_pack.Reading.reading hour_pack reading_is_exact -
 ring_config.Settings.config_of config_laws configurations_are_accepted files
 ring_config.Settings.config_at config_laws configurations_are_accepted documents
@@ -106,12 +96,7 @@ other_measures.Hours.delays_from hour_work hours_make_up_the_log delays
 other_measures.Hours.events_from hour_work hours_make_up_the_log events
 arrival_measures.Points.points_from hour_work hours_make_up_the_log points
 arrival_measures.Points.diagrams_of arrival_measures diagrams_fit -
-split_measures.Failures.both_sums measure_laws sums_keep_adding_up -
-split_measures.Hours.IsSplitSum measure_laws splits_add_up -
-split_measures.Hours.AreSplitSums split_measures split_sums_are_one -
 split_measures.Verdicts.IsVerdict split_measures numbers_tell -
-arrival_measures.Hours.AreAllJudged measure_laws arrivals_add_up -
-arrival_measures.Hours.added measure_laws sums_keep_adding_up -
 detector_state.Hours.AreTenths split_windows tenths_are_one -
 state_tenths.Ranges.Counts free_channels numbers_bound -
 state_tenths.Ranges.Counts free_channels numbers_reached -
@@ -119,11 +104,12 @@ stop_bar.Bars.IsAtBar stop_bar what_crosses_is_one -
 stop_bar.Bars.ending stop_bar windows_are_listed_once -
 split_windows.Windows.ArePending split_windows pending_are_one -
 hour_work.Verdicts.AreAuditLines hour_work reports_are_one lines
-hour_work.Reports.IsReport hour_work reports_are_one report
-hour_work.Reports.IsReport measure_laws sums_are_plain -
-hour_work.Reports.IsReport measure_laws green_is_of_all_histories hours totals
-hour_work.Points.IsCarryAt hour_work points_are_one carries
-hour_work.Points.IsFutureAt hour_work points_are_one futures
+hour_work.Moved.IsSameCarry hour_work points_are_one carries same_carry
+hour_work.Moved.IsSameFuture hour_work points_are_one futures same_future
+measure_laws.Plain.IsHourOf measure_laws sums_are_plain -
+measure_laws.Plain.IsWindowOf measure_laws sums_are_plain -
+measure_laws.Plain.IsPart measure_laws parts_are_one -
+session.Edits.step_of edit_laws knowledge_moves known
 rule_audit.Rules.rules_for rule_audit rules_are_of_their_channels -
 rule_audit.Obligations.obligations_from filling_pair obligations_have_lines -
 board.Verdicts.IsVerdict decisive clause_by_terms -
@@ -132,10 +118,6 @@ decisive.Window.HasLogVerdict decisive more_is_known broken idle open grows
 decisive.Window.IsDecisive decisive window_is_one -
 signal_log.Log.HasHistory signal_log some_history_agrees history
 signal_log.Log.IsContradiction signal_log some_history_agrees none one
-signal_log.Points.ArePastsAt signal_log points_at_both_ends first
-signal_log.Points.AreAheadsAt signal_log points_at_both_ends last
-signal_log.Points.ArePastsAt signal_log points_see_one_side before
-signal_log.Points.AreAheadsAt signal_log points_see_one_side after
 signal_log.States.MayBeAtEnd signal_log channels_combine -
 hour_store.Store.nothing_held signal_log nothing_contradicts -
 hour_store.Store.is_known signal_log less_is_known -
@@ -160,7 +142,7 @@ HEADLINE = """
 6. An edit that isn't refused so is [accepted where some history agrees](sigaudit.Script.IsMade) with the new store, and answered by [the hours that move](session.Moved.Moves); else it is refused by [the row at which the store contradicts itself](signal_log.Log.IsContradiction), and nothing has changed.
 7. [An audit](sigaudit.Audit.IsAudited) judges [what is to be judged](hour_work.Verdicts.obligations_in) by [the rules](rule_audit.Rules.rules_for) over all histories that agree with the store: [a duration](rule_audit.Judged.IsIntervalVerdict), and [what channels show together](board.Verdicts.IsVerdict), is kept in all of them, broken in none, or else undecided; where the interval ends in none it is idle, and has no line.
 8. Each broken line has [the stretch of the log that decides it](decisive.Window.IsDecisive).
-9. Measures are those of [the store's report](hour_work.Reports.IsReport): [of services and cycles](hour_work.Measures.AreMeasures) by the known rows, and [split failures](split_measures.Verdicts.IsVerdict), [arrivals](arrival_measures.Judged.AreJudged) and [tenths in a state](state_tenths.States.Meets) over all histories; those of the window are [the hours' together](hour_work.Numbers.total_of).
+9. Measures are [the numbers of a part of the log](measure_laws.Plain.IsPart), of [an hour](measure_laws.Plain.IsHourOf) or of [the whole window](measure_laws.Plain.IsWindowOf), in the same words: [of services and cycles](measure_laws.Plain.IsPlainPhase) by the known rows, and [split failures](split_measures.Verdicts.IsVerdict), [arrivals](arrival_measures.Judged.AreJudged) and [tenths in a state](state_tenths.States.Meets) over all histories.
 10. Each end of a run [has its cause](sigaudit.Run.HasCause), whatever shelf and sink tell; words that ask for fillings are answered by [one right answer of several](sigaudit.Run.IsPairsRun); and edits open [the hours that move, and few others](sigaudit.Counting.OpensAnswer).
 """
 

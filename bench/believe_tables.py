@@ -134,7 +134,7 @@ sigaudit.Transcript.IsBeginning transcript_laws transcripts_exist begins
 
 # The headline in ten sentences; `[words](crate.Name.definition)` leads to the definition.
 HEADLINE = """
-1. A run gets words, a shelf of files and a sink of bytes. Where the shelf tells its files, and the words don't ask for fillings of unknown tenths, [it ends as the transcript does](sigaudit.Run.IsRun) and writes exactly its bytes; or it ends with `Fault` and a count of faults rose, or with `Memory`, and [wrote a front of what the transcript begins with](sigaudit.Run.WritesBeginning).
+1. A run gets words, a shelf of files and a sink of bytes. Where the shelf reveals its files, and the words don't ask for fillings of unknown tenths, [it ends as the transcript does](sigaudit.Run.IsRun) and writes exactly its bytes; or it ends with `Fault` and a count of faults rose, or with `Memory`, and [wrote a prefix of what the transcript begins with](sigaudit.Run.WritesBeginning).
 2. [The transcript](sigaudit.Transcript.IsTranscript) is what [the words ask for](sigaudit.Asked.asked_of), [answered from the files](sigaudit.Transcript.IsAnswer): the usage line, a count, a packed hour, a script over a configuration, or [the same over made-up files](sigaudit.Transcript.IsDemoOutcome).
 3. [What a configuration says](ring_config.Settings.config_of) is accepted or refused by its bytes alone; then [each line of the script](script_lines.Lines.lines_of), by [what it says](script_lines.Words.said), has [its turn](sigaudit.Script.IsTurn) over a store that at first [holds nothing](hour_store.Store.nothing_held).
 4. [A store](hour_store.Store.Store) has for each hour nothing or the rows that [the hour's file says](sigaudit.HourFile.hour_said), and the blanked tenths; [a tenth is known](hour_store.Store.is_known) where its hour is held and it isn't blanked; an edit [makes another store of it, or is refused](session.Edits.step_of) by the first reason in a fixed order.
@@ -143,7 +143,7 @@ HEADLINE = """
 7. [An audit](sigaudit.Audit.IsAudited) judges [what is to be judged](hour_work.Verdicts.obligations_in) by [the rules](rule_audit.Rules.rules_for) over all histories that agree with the store: [a duration](rule_audit.Judged.IsIntervalVerdict), and [what channels show together](board.Verdicts.IsVerdict), is kept in all of them, broken in none, or else undecided; where the interval ends in none it is idle, and has no line.
 8. Each broken line has [the stretch of the log that decides it](decisive.Window.IsDecisive).
 9. Measures are [the numbers of a part of the log](measure_laws.Plain.IsPart), of [an hour](measure_laws.Plain.IsHourOf) or of [the whole window](measure_laws.Plain.IsWindowOf), in the same words: [of services and cycles](measure_laws.Plain.IsPlainPhase) by the known rows, and [split failures](split_measures.Verdicts.IsVerdict), [arrivals](arrival_measures.Judged.AreJudged) and [tenths in a state](state_tenths.States.Meets) over all histories.
-10. Each end of a run [has its cause](sigaudit.Run.HasCause), whatever shelf and sink tell; words that ask for fillings are answered by [one right answer of several](sigaudit.Run.IsPairsRun); and edits open [the hours that move, and few others](sigaudit.Counting.OpensAnswer).
+10. Each end of a run [has its cause](sigaudit.Run.HasCause), whatever shelf and sink reveal; words that ask for fillings are answered by [one right answer of several](sigaudit.Run.IsPairsRun); and edits open [the hours that move, and few others](sigaudit.Counting.OpensAnswer).
 """
 
 ANTT = """
@@ -167,7 +167,7 @@ A clause is a proposition, and a proposition is a type in `Type 0`. A name of ty
 | `find p xs`, `position p xs`, `list_any p xs`, `list_all p xs`, `count_by p xs`, `sum xs`, `range_with_len a n` | the first element that passes the test p, its place, whether some does, whether all do, how many do; the sum; the n numbers from a on |
 | `slice_get xs i`, `slice_index_or xs i d`, `slice_index xs i` | what stands at place i, from 0: `None`, d or 0 where nothing does |
 | `Option A`, `Some x`, `None`; `Result A E`, `Ok x`, `Err e`; `IfSome o (λ x. P)` | a value or nothing; a value or an error; P of the value, where there is one. `option_map f o` is f of the value, `unwrap_or o d` the value or d |
-| `Appends a b bytes` | of bytes that may be told or not: where a is told so is b, and it is a with these bytes behind it |
+| `Appends a b bytes` | of bytes that may be revealed or not: where a is revealed so is b, and it is a with these bytes behind it |
 | `λ x. e`, `let x = e in ..`, `if c then a else b`, `do x ← e ..` | a function, a name, a choice; e and what follows it, unless e is an error |
 | `abbrev`, `unfoldable`, `pub`, `{A : Type 0}` | how the checker opens a name, who may use it, an argument that is left out: none of it matters for the meaning |
 
@@ -184,7 +184,7 @@ Words that stand everywhere: a *tenth* is a tenth of a second, counted from the 
 """
 
 CLAUSES = """
-A `Shelf` has of its own, beside its calls, `S.files`: what is at each name, where it is told, and `S.counts`: how often a file was missing, a fetch failed and a file was too long. A `Sink` has `K.taken`: the bytes that it took, where they are told, and how often it failed. The shelf and the sink in memory tell all; those of a disk and of standard output tell nothing, so of these the clauses without `IfSome` alone say something. `words` are the words after the program's name, `reads` how often each hour of the window was opened. The answer is a `Status`; `exit_code` gives each its number, from 0 for `Done` to 6 for `NoFile`.
+A `Shelf` has of its own, beside its calls, `S.files`: what is at each name, where it is revealed, and `S.counts`: how often a file was missing, a fetch failed and a file was too long. A `Sink` has `K.taken`: the bytes that it took, where they are revealed, and how often it failed. The shelf and the sink in memory reveal all; those of a disk and of standard output reveal nothing, so of these the clauses without `IfSome` alone say something. `words` are the words after the program's name, `reads` how often each hour of the window was opened. The answer is a `Status`; `exit_code` gives each its number, from 0 for `Done` to 6 for `NoFile`.
 """
 
 MARKS = """

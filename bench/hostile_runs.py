@@ -92,7 +92,7 @@ class Bench:
         self.check(name, fine, "wanted status %s%s;" % (status, "" if out is None else " and %r" % out[:100]))
 
     def expect_front(self, name, whole_status, whole, cut):
-        """The last run is whole, or ended with the status `cut` after a front of the whole output."""
+        """The last run is whole, or ended with the status `cut` after a prefix of the whole output."""
         whole_run = self.status == whole_status and self.out == whole
         fine = whole_run or self.status == cut and whole.startswith(self.out)
         self.check(name, fine and not self.err, "wanted the whole run, or status %d and a front;" % cut)

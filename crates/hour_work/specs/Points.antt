@@ -89,12 +89,12 @@ IsFutureAt c s k future = AreAheadsAt (log_of c.specs s) k future
 abbrev pub IsFutureFor : Settings → Store → ℕ → List (List (Option ℤ)) → Type 0
 IsFutureFor c s k future = AreAheadsFor (log_of c.specs s) k future
 
--- an error that isn't want of memory names the row at which the log contradicts itself
+-- an error that isn't out of memory names the row at which the log contradicts itself
 abbrev pub NamesRow : Log → ForwardError → Type 0
 NamesRow log (Contradiction row) = IsContradiction log row
 NamesRow log Memory = Unit {0}
 
--- an error that isn't want of memory names the hour's first known row after which its channel has no state, from these states before the hour
+-- an error that isn't out of memory names the hour's first known row after which its channel has no state, from these states before the hour
 abbrev pub NamesStop : List Spec → ℕ → Option (List Row) → List Span → List (List (List Span)) → ForwardError → Type 0
 NamesStop specs hour rows blanks before (Contradiction row) = IsStopOver specs hour rows blanks before row
 NamesStop specs hour rows blanks before Memory = Unit {0}

@@ -4,7 +4,7 @@ use Rattle.outside.specs.Counted.{Rose}
 use Rattle.outside.specs.declared.shelf.FetchError.{FetchError}
 use Rattle.outside.specs.declared.shelf.FetchError.TheVariants.{Missing, Failed, TooLong, Memory}
 
--- the files that a shelf tells: at each name the bytes of a file, or nothing
+-- the files that a shelf reveals: at each name the bytes of a file, or nothing
 abbrev pub Files : Type 0
 Files = List ℕ → Option (List ℕ)
 

@@ -4,27 +4,27 @@ use Rattle.sig_base.specs.Reads.{one_more}
 use Rattle.std.specs.Io.KnownBytes.{Appends}
 use Rattle.outside.specs.Counted.{Rose}
 
--- what a sink took, where it is told, and how often it failed
+-- what a sink took, where it is revealed, and how often it failed
 pub record Taken : Type 0 where
   pub written : Option (List ℕ)
   pub faults : ℕ
 
--- where the sink tells its bytes, they grew by a front of the text
-abbrev pub AppendsFront : Option (List ℕ) → Option (List ℕ) → List ℕ → Type 0
-AppendsFront old new text = (front : List ℕ) × (rest : List ℕ) × (text ≡ front ++ rest) × Appends old new front
+-- where the sink reveals its bytes, they grew by a prefix of the text
+abbrev pub AppendsPrefix : Option (List ℕ) → Option (List ℕ) → List ℕ → Type 0
+AppendsPrefix old new text = (front : List ℕ) × (rest : List ℕ) × (text ≡ front ++ rest) × Appends old new front
 
 -- the whole text was written and no fault came
 pub record Writes (old new : Taken) (text : List ℕ) : Type 0 where
   pub same : new.faults ≡ old.faults
   pub wrote : Appends old.written new.written text
 
--- the count of faults rose, and a front of the text was written
+-- the count of faults rose, and a prefix of the text was written
 pub record Stops (old new : Taken) (text : List ℕ) : Type 0 where
   pub grew : old.faults ≤ new.faults
   pub rose : Rose old.faults new.faults
-  pub front : AppendsFront old.written new.written text
+  pub front : AppendsPrefix old.written new.written text
 
--- at Ok the whole text was written and no fault came; at an Err a front of it was, and the count of faults rose
+-- at Ok the whole text was written and no fault came; at an Err a prefix of it was, and the count of faults rose
 abbrev pub Puts : {T E : Type 0} → Taken → Taken → List ℕ → Result T E → Type 0
 Puts old new text (Ok _) = Writes old new text
 Puts old new text (Err _) = Stops old new text
@@ -37,7 +37,7 @@ pub record SinkState : Type 0 where
   pub failing : ℕ
   pub faults : ℕ
 
--- it tells its bytes
+-- it reveals its bytes
 abbrev pub taken_of : SinkState → Taken
 taken_of s = record { written = Some s.bytes; faults = s.faults }
 

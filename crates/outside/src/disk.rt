@@ -1,4 +1,4 @@
-// Files of the file system, which tells nothing.
+// Files of the file system, which reveals nothing.
 ghost use Rattle.std.specs.Prelude.{◌≡◌, None, List, ℕ};
 ghost use Rattle.outside.specs.Shelf.{IsFetched, IsRead, no_faults};
 
@@ -10,7 +10,7 @@ use std::marker::Model;
 use std::rt::Files;
 
 /// The files of the file system, by their paths. It counts its answers, up to the last value of a
-/// u64, and tells nothing of what the files hold.
+/// u64, and reveals nothing of what the files hold.
 #[derive(Drop)]
 pub struct DiskShelf<'a, R> {
     files: &'a R,

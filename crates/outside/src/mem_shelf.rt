@@ -1,4 +1,4 @@
-// A shelf in memory, which tells all that it holds.
+// A shelf in memory, which reveals all that it holds.
 ghost use Rattle.std.specs.Prelude.{◌≡◌, [], ◌∷◌, ◌++◌, List, ℕ, Option, Some, OnOk, OnErr, option_map, IfSome, IsErrOf, Contains, ◌↔◌};
 ghost use Rattle.sig_base.specs.Reads.{one_more};
 ghost use Rattle.outside.specs.Shelf.{IsFetch, IsCounted, IsFetched, no_faults};

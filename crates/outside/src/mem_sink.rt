@@ -1,4 +1,4 @@
-// A sink in memory with a fixed room, which tells its bytes.
+// A sink in memory with a fixed room, which reveals its bytes.
 ghost use Rattle.std.specs.Prelude.{◌≡◌, [], IfOk};
 ghost use Rattle.outside.specs.Sink.{IsPut, Puts, taken_of};
 

@@ -1,4 +1,4 @@
-// A writer as a sink, which tells nothing.
+// A writer as a sink, which reveals nothing.
 ghost use Rattle.std.specs.Prelude.{◌≡◌, None};
 
 use crate::{PutFailed, Sink};
@@ -6,7 +6,7 @@ use std::io::Write;
 use std::marker::Model;
 
 /// Standard output, or another writer. It counts its faults, up to the last value of a u64, and
-/// tells nothing of what arrived.
+/// reveals nothing of what arrived.
 #[derive(Drop)]
 pub struct OutSink<W> {
     to: W,

@@ -18,14 +18,14 @@ pub enum FetchError {
 
 /// Files by name, from outside.
 pub trait Shelf {
-    /// What is at each name, where it is told.
+    /// What is at each name, where it is revealed.
     ghost files: { Self → Option Files };
 
     /// How often a file was missing, a fetch failed, and a file was too long.
     ghost counts: { Self → Counts };
 
     /// Appends the bytes of the file of this name, at most `limit` of them. After an error `into` is
-    /// as before. Each error but want of memory raises its own count, and no other count moves.
+    /// as before. Each error but out of memory raises its own count, and no other count moves.
     fn fetch(
         &mut self,
         alloc: Global,

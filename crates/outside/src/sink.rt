@@ -6,10 +6,10 @@ pub struct PutFailed;
 
 /// Takes bytes in order, to the outside.
 pub trait Sink {
-    /// The bytes that were taken, where they are told, and how often it has failed.
+    /// The bytes that were taken, where they are revealed, and how often it has failed.
     ghost taken: { Self → Taken };
 
-    /// Takes all the bytes, or fails after a front of them and raises its count of faults.
+    /// Takes all the bytes, or fails after a prefix of them and raises its count of faults.
     fn put(&mut self, bytes: &[u8]) -> Result<(), PutFailed>
         ensures { Puts (taken self.old) (taken self.new) bytes.now result };
 }

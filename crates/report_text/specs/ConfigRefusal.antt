@@ -49,7 +49,7 @@ fault_head fault = codes "config refused: " ++ (fault ++ [])
 abbrev pub fault_text : List ℕ → KeyAt → List ℕ
 fault_text fault at = fault_head fault ++ place_text at.table at.entry at.key
 
--- the line of a refused configuration; want of memory has none
+-- the line of a refused configuration; out of memory has none
 abbrev pub config_text : ConfigError → List ℕ
 config_text NotToml = codes "config refused: not toml\n"
 config_text (Missing at) = fault_text (codes "missing ") at
@@ -59,7 +59,7 @@ config_text (Repeated at) = fault_text (codes "repeated ") at
 config_text (TooMany at) = fault_text (codes "too many ") at
 config_text Memory = []
 
--- this is want of memory, which no definition gives
+-- this is out of memory, which no definition gives
 abbrev pub is_config_memory : ConfigError → Bool
 is_config_memory NotToml = false
 is_config_memory (Missing at) = false

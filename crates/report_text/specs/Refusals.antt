@@ -42,7 +42,7 @@ edit_text w line (Contradiction row) =
     refused line ++ line_of (codes "contradiction " ∷ stamp_at w row.at ∷ codes " code " ∷ decimal row.code ∷ codes " param " ∷ decimal row.param ∷ [])
 edit_text w line NoMemoryForEdit = []
 
--- the line of a refusal; want of memory has none
+-- the line of a refusal; out of memory has none
 abbrev pub refusal_text : Span → Option ℕ → Refusal → List ℕ
 refusal_text w line BadLine = refused line ++ line_of (codes "bad line" ∷ [])
 refusal_text w line MissingFile = refused line ++ line_of (codes "missing file" ∷ [])

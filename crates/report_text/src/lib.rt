@@ -1,4 +1,4 @@
-//! The lines that sigaudit prints. Each call appends exactly its text to a sink, or a front of it
+//! The lines that sigaudit prints. Each call appends exactly its text to a sink, or a prefix of it
 //! where the sink fails; none takes memory. The texts are those of `docs/FORMATS.md`.
 #![tactic(auto)]
 

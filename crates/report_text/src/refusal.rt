@@ -144,7 +144,7 @@ fn put_edit_refusal<K: Sink>(
 }
 
 /// Writes the line of a refused script line, or of the counted file where there is no line number.
-/// Want of memory has no line.
+/// Out of memory has no line.
 pub fn put_refusal<K: Sink>(
     window: &Window,
     line: Option<u32>,

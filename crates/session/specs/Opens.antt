@@ -26,7 +26,7 @@ pub record AreOpened (from to low high : ℕ) (old new : List ℕ) : Type 0 wher
   pub within : (h : ℕ) → h < length old → from ≤ h → h < to → IsOpened low high (slice_index old h) (slice_index new h)
   pub outside : (h : ℕ) → (h < from) ⊎ (to ≤ h) → slice_index new h ≡ slice_index old h
 
--- an error that isn't want of memory names a row of the hour
+-- an error that isn't out of memory names a row of the hour
 abbrev pub NamesRowOf : ℕ → ForwardError → Type 0
 NamesRowOf hour (stop.Contradiction row) = row.at / 36000 ≡ hour
 NamesRowOf hour stop.Memory = Unit {0}

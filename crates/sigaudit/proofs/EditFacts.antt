@@ -91,7 +91,7 @@ names_row c w s new ch Memory ew el h = tt
 
 -- ---- what an edit tells
 
--- a refusal other than want of memory is a turn of the line
+-- a refusal other than out of memory is a turn of the line
 refused_turn : (c : Settings) (n : ℕ) (loaded : Option (ℕ × ℕ)) (s new : Store) (ch : Change) (to : Result Store EditError) (e : EditError) → is_edit_memory e ≡ false → Steps c to s new (Err e)
     → (new ≡ s) × IsMade c n loaded s ch to (refuses c n (Edit e) s)
 refused_turn c n loaded s new ch to OutOfWindow ne h = (h.0, rw h.1 refl)

@@ -24,7 +24,7 @@ use Rattle.report_text.specs.ConfigRefusal.{config_text, is_config_memory}
 use Rattle.report_text.specs.Usage.{usage_text}
 use Rattle.sigaudit.specs.Aims.{Aim, for_lines, for_rule}
 use Rattle.sigaudit.specs.Transcript.{Outcome, outcome, file_outcome, outcome_of, first_lines, told_outcome, ended_by, limited, asks_pairs, IsAimOutcome, IsAnswer, IsConfigOutcome, IsFileOutcome, IsScriptOutcome}
-use Rattle.sigaudit.specs.Run.{World, world, RunsAs, CountsText, IsPairsRun, IsRun, HasCause, NeedsWords, IsCaused, TellsAll, ScriptCause, PutsOutcome, WritesBeginning, WritesFront, IsCutOff}
+use Rattle.sigaudit.specs.Run.{World, world, RunsAs, CountsText, IsPairsRun, IsRun, HasCause, NeedsWords, IsCaused, TellsAll, ScriptCause, PutsOutcome, WritesBeginning, WritesPrefix, IsCutOff}
 use Rattle.sigaudit.specs.Script.{nothing_told}
 use Rattle.sigaudit.proofs.ScriptFacts.{told_nothing}
 use Rattle.sigaudit.specs.declared.status.Status.{Status}
@@ -326,7 +326,7 @@ whole_answer (Some (for_count file signal day hour)) files lines o e h = absurd 
 whole_answer (Some (for_pack file signal day hour)) files lines o e h = absurd (cc)
 whole_answer (Some (for_demo hours)) files lines o e h = absurd (cc)
 
-front_of : (words : List (List ℕ)) (files : Files) (old new : World) → asks_pairs (asked_of words) ≡ true → IsCutOff (IsAnswer (asked_of words) files) old new → WritesFront words files old new
+front_of : (words : List (List ℕ)) (files : Files) (old new : World) → asks_pairs (asked_of words) ≡ true → IsCutOff (IsAnswer (asked_of words) files) old new → WritesPrefix words files old new
 front_of words files old new some (inl h) = inl h
 front_of words files old new some (inr h) = inr (h.1.bytes, h.1.ended, whole_answer (asked_of words) files (first_lines h.0) h.1 some h.2, h.3)
 

@@ -3,7 +3,7 @@ use Rattle.std.specs.Prelude.{◌≡◌, ◌≤◌, ◌⊎◌, ℕ, List, [], le
 use Rattle.std.specs.Io.KnownBytes.{Appends}
 use Rattle.outside.specs.Counted.{Rose}
 use Rattle.outside.specs.Shelf.{Counts, Files}
-use Rattle.outside.specs.Sink.{AppendsFront, Stops, Taken, Writes}
+use Rattle.outside.specs.Sink.{AppendsPrefix, Stops, Taken, Writes}
 use Rattle.hour_store.specs.Store.{Store, nothing_held}
 use Rattle.sig_base.specs.Window.{Span}
 use Rattle.report_text.specs.declared.refusal.Refusal.{Refusal}
@@ -58,12 +58,12 @@ AsksRun _ = ⊥
 abbrev pub Ends : ((List ℕ → List (List ℕ)) → Outcome → Type 0) → Ended → World → World → Type 0
 Ends Is e old new = (bytes : List ℕ) × Is lines_of (outcome bytes e) × WritesAll bytes old new
 
--- nothing was written, or a front of the text where the script ends after its first lines, for some number of them
+-- nothing was written, or a prefix of the text where the script ends after its first lines, for some number of them
 abbrev pub IsCutOff : ((List ℕ → List (List ℕ)) → Outcome → Type 0) → World → World → Type 0
 IsCutOff Is old new =
-    Appends old.written new.written [] ⊎ ((k : ℕ) × (o : Outcome) × Is (first_lines k) o × AppendsFront old.written new.written o.bytes)
+    Appends old.written new.written [] ⊎ ((k : ℕ) × (o : Outcome) × Is (first_lines k) o × AppendsPrefix old.written new.written o.bytes)
 
--- a run ended as the outcome says and wrote all of it, or was cut off by a counted fault or want of memory
+-- a run ended as the outcome says and wrote all of it, or was cut off by a counted fault or out of memory
 abbrev pub RunsAs : ((List ℕ → List (List ℕ)) → Outcome → Type 0) → World → World → Status → Type 0
 RunsAs Is old new Done = Ends Is ended.Done old new
 RunsAs Is old new SomeRefused = Ends Is ended.SomeRefused old new
@@ -77,11 +77,11 @@ RunsAs Is old new Memory = IsCutOff Is old new
 abbrev pub WritesTranscript : List (List ℕ) → Files → Ended → World → World → Type 0
 WritesTranscript words files e old new = (bytes : List ℕ) × IsTranscript words files bytes e × WritesAll bytes old new
 
--- a front was written of what the transcript begins with, up to some line of a script
+-- a prefix was written of what the transcript begins with, up to some line of a script
 abbrev pub WritesBeginning : List (List ℕ) → Files → World → World → Type 0
-WritesBeginning words files old new = (k : ℕ) × (bytes : List ℕ) × IsBeginning k words files bytes × AppendsFront old.written new.written bytes
+WritesBeginning words files old new = (k : ℕ) × (bytes : List ℕ) × IsBeginning k words files bytes × AppendsPrefix old.written new.written bytes
 
--- the headline: the run ended as the transcript of the words and the files does and wrote exactly its bytes; or it was cut off, by a counted fault or want of memory, after a front of what the transcript begins with
+-- the headline: the run ended as the transcript of the words and the files does and wrote exactly its bytes; or it was cut off, by a counted fault or out of memory, after a prefix of what the transcript begins with
 abbrev pub IsRun : List (List ℕ) → Files → World → World → Status → Type 0
 IsRun words files old new Done = WritesTranscript words files ended.Done old new
 IsRun words files old new SomeRefused = WritesTranscript words files ended.SomeRefused old new
@@ -91,22 +91,22 @@ IsRun words files old new NoFile = WritesTranscript words files ended.NoFile old
 IsRun words files old new Fault = HasFault old new × WritesBeginning words files old new
 IsRun words files old new Memory = WritesBeginning words files old new
 
--- nothing was written, or a front of some bytes that are a transcript of the words and the files
-abbrev pub WritesFront : List (List ℕ) → Files → World → World → Type 0
-WritesFront words files old new =
-    Appends old.written new.written [] ⊎ ((bytes : List ℕ) × (e : Ended) × IsTranscript words files bytes e × AppendsFront old.written new.written bytes)
+-- nothing was written, or a prefix of some bytes that are a transcript of the words and the files
+abbrev pub WritesPrefix : List (List ℕ) → Files → World → World → Type 0
+WritesPrefix words files old new =
+    Appends old.written new.written [] ⊎ ((bytes : List ℕ) × (e : Ended) × IsTranscript words files bytes e × AppendsPrefix old.written new.written bytes)
 
--- the headline where the words ask for what a rule leaves undecided, so that more than one transcript is right: the run ended as one of them does and wrote exactly its bytes; or it was cut off, by a counted fault or want of memory, after a front of one, maybe before anything was written
+-- the headline where the words ask for what a rule leaves undecided, so that more than one transcript is right: the run ended as one of them does and wrote exactly its bytes; or it was cut off, by a counted fault or out of memory, after a prefix of one, maybe before anything was written
 abbrev pub IsPairsRun : List (List ℕ) → Files → World → World → Status → Type 0
 IsPairsRun words files old new Done = WritesTranscript words files ended.Done old new
 IsPairsRun words files old new SomeRefused = WritesTranscript words files ended.SomeRefused old new
 IsPairsRun words files old new Usage = ⊥
 IsPairsRun words files old new BadConfig = WritesTranscript words files ended.BadConfig old new
 IsPairsRun words files old new NoFile = WritesTranscript words files ended.NoFile old new
-IsPairsRun words files old new Fault = HasFault old new × WritesFront words files old new
-IsPairsRun words files old new Memory = WritesFront words files old new
+IsPairsRun words files old new Fault = HasFault old new × WritesPrefix words files old new
+IsPairsRun words files old new Memory = WritesPrefix words files old new
 
--- why a run that was asked for this ended so, whether or not the files and the bytes are told
+-- why a run that was asked for this ended so, whether or not the files and the bytes are revealed
 abbrev pub HasCause : Option Asked → World → World → Status → Type 0
 HasCause asked old new Done = IsSome asked × NoFault old new
 HasCause asked old new SomeRefused = IsSome asked × NoFault old new
@@ -141,9 +141,9 @@ IsCaused old new (Ok _) = NoFault old new
 IsCaused old new (Err stopped.Fault) = HasFault old new
 IsCaused old new (Err stopped.Memory) = ⊤
 
--- nothing was written of a line, or a front of the text of a turn that it may have
+-- nothing was written of a line, or a prefix of the text of a turn that it may have
 abbrev pub BeginsTurn : (Turn → Type 0) → Option (List ℕ) → Option (List ℕ) → Type 0
-BeginsTurn Is old new = Appends old new [] ⊎ ((t : Turn) × Is t × AppendsFront old new t.text)
+BeginsTurn Is old new = Appends old new [] ⊎ ((t : Turn) × Is t × AppendsPrefix old new t.text)
 
 -- a line of a script was taken with a turn that it has: all that it writes was written, the store is the one after it, and the answer says whether it was refused; or the run was cut off in it
 abbrev pub Takes : (Turn → Type 0) → World → World → Store → Result Bool Stopped → Type 0
@@ -163,11 +163,11 @@ TakesPut t old new store (Ok refused) = Writes old new t.text × (store ≡ t.st
 TakesPut t old new store (Err stopped.Fault) = Stops old new t.text
 TakesPut t old new store (Err stopped.Memory) = new ≡ old
 
--- a front of the text of the first k lines was written, for some k
+-- a prefix of the text of the first k lines was written, for some k
 abbrev pub TellsFirst : Files → Settings → List (List ℕ) → Store → World → World → Type 0
-TellsFirst files c lines s old new = (k : ℕ) × (told : Told) × IsTold files c 1 (take k lines) s told × AppendsFront old.written new.written told.text
+TellsFirst files c lines s old new = (k : ℕ) × (told : Told) × IsTold files c 1 (take k lines) s told × AppendsPrefix old.written new.written told.text
 
--- all lines of a script were taken, which left the second store of the first one, or a front of the text of the first of them was written
+-- all lines of a script were taken, which left the second store of the first one, or a prefix of the text of the first of them was written
 abbrev pub TellsAll : Files → Settings → List (List ℕ) → Store → Store → World → World → Result Bool Stopped → Type 0
 TellsAll files c lines s last old new (Ok refused) = (told : Told) × IsTold files c 1 lines s told × Appends old.written new.written told.text × NoFault old new × (refused ≡ told.refused) × (last ≡ told.store)
 TellsAll files c lines s last old new (Err stopped.Fault) = HasFault old new × TellsFirst files c lines s old new

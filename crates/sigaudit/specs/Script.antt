@@ -30,7 +30,7 @@ use Rattle.sigaudit.specs.Audit.{AreVerdicts, IsAudited}
 use Rattle.sigaudit.specs.Points.{points_of_phase}
 use Rattle.sigaudit.specs.Offsets.{offsets_of}
 
--- this is want of memory, which no definition gives
+-- this is out of memory, which no definition gives
 abbrev pub is_edit_memory : EditError → Bool
 is_edit_memory edits.OutOfWindow = false
 is_edit_memory edits.AlreadyHeld = false

@@ -502,11 +502,11 @@ fn run_to_end<L, S: Shelf, K: Sink>(
 }
 
 /// Does all that the program does: it writes the transcript of the words and the files, and answers
-/// how the run ended. Where the shelf tells its files and the sink its bytes, the bytes that this
-/// call adds are the transcript. Where the answer is `Fault` or `Memory` they are a front of what
+/// how the run ended. Where the shelf reveals its files and the sink its bytes, the bytes that this
+/// call adds are the transcript. Where the answer is `Fault` or `Memory` they are a prefix of what
 /// the transcript begins with: of the text of the script's first lines, for some number of them.
 /// Words that ask for what a rule leaves undecided have as many transcripts as there are ways to
-/// show it; the bytes are one of these, or a front of one.
+/// show it; the bytes are one of these, or a prefix of one.
 pub fn run<L, S: Shelf, K: Sink>(
     alloc: Global,
     words: &Words,
@@ -523,7 +523,7 @@ pub fn run<L, S: Shelf, K: Sink>(
         → IsPairsRun words.now files (world (S.counts shelf.old) (K.taken sink.old))
         (world (S.counts shelf.new) (K.taken sink.new)) result) }
 
-    // Each answer has its cause, whatever the shelf and the sink tell.
+    // Each answer has its cause, whatever the shelf and the sink reveal.
     ensures cause { HasCause (asked_of words.now) (world (S.counts shelf.old) (K.taken sink.old))
         (world (S.counts shelf.new) (K.taken sink.new)) result }
     ensures usage { NeedsWords (asked_of words.now) (world (S.counts shelf.old) (K.taken sink.old))

@@ -349,7 +349,7 @@ fn take_line<L, S: Shelf, K: Sink>(
 }
 
 /// Takes the lines of a script in their order, numbered from 1, and answers whether one of them was
-/// refused. The bytes written are the texts of the lines, or a front of them where the run was cut
+/// refused. The bytes written are the texts of the lines, or a prefix of them where the run was cut
 /// off.
 pub fn run_script<L, S: Shelf, K: Sink>(
     alloc: Global,

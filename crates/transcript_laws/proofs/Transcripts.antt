@@ -49,7 +49,7 @@ use Rattle.sigaudit.specs.Points.{points_turn}
 use Rattle.sigaudit.specs.Script.{IsEdited, IsFetched, IsMade, IsMeasured, IsMeasuredOf, IsRead, IsTold, IsTurn, Told, accepts, followed, hour_bytes, hour_file, nothing_told, wanted_for}
 use Rattle.sigaudit.specs.Transcript.{BeginsWithFirstLines, IsAnswer, IsConfigOutcome, IsFileOutcome, IsScriptOutcome, Outcome, asks_pairs, file_outcome, limited, outcome, told_outcome}
 use Rattle.sigaudit.specs.Turns.{Turn, passes, refuses, refuses_file, writes}
-use Rattle.transcript_laws.specs.Exists.{FrontsAreOfTranscripts, NotNone, TranscriptsExist}
+use Rattle.transcript_laws.specs.Exists.{PrefixesAreOfTranscripts, NotNone, TranscriptsExist}
 use Rattle.transcript_laws.proofs.Chance.{some, then as after, with}
 use Rattle.transcript_laws.proofs.AuditExists.{audit_exists, hour_lines_exist}
 use Rattle.transcript_laws.proofs.ConfigRead.{IsReadable, config_readable}
@@ -230,7 +230,7 @@ pub transcripts_exist : TranscriptsExist
 transcripts_exist words files e = with (answer_exists (asked_of words) files lines_of e) (λ (o, is). (o.bytes, o.ended, is))
 
 -- nor that none begins with what is written for a script's first lines
-pub fronts_are : BeginsWithFirstLines → FrontsAreOfTranscripts
+pub fronts_are : BeginsWithFirstLines → PrefixesAreOfTranscripts
 fronts_are begins words files k front e is = with (transcripts_exist words files e) (λ (bytes, ended, whole).
     let (rest, same) = begins words files bytes front ended k e whole is in
     (bytes, ended, rest, whole, same))

@@ -16,8 +16,8 @@ TranscriptsExist =
     → NotNone ((bytes : List ℕ) × (ended : Ended) × IsTranscript words files bytes ended)
 
 -- it can't be, unless the words ask for pairs, that no transcript begins with what a script's first lines write
-abbrev pub FrontsAreOfTranscripts : Type 0
-FrontsAreOfTranscripts =
+abbrev pub PrefixesAreOfTranscripts : Type 0
+PrefixesAreOfTranscripts =
     (words : List (List ℕ)) (files : Files) (k : ℕ) (front : List ℕ) → asks_pairs (asked_of words) ≡ false
     → IsBeginning k words files front
     → NotNone ((bytes : List ℕ) × (ended : Ended) × (rest : List ℕ) × IsTranscript words files bytes ended

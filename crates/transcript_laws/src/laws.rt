@@ -1,5 +1,5 @@
 // What there is.
-ghost use Rattle.transcript_laws.specs.Exists.{FrontsAreOfTranscripts, TranscriptsExist};
+ghost use Rattle.transcript_laws.specs.Exists.{PrefixesAreOfTranscripts, TranscriptsExist};
 
 use sigaudit::transcripts_are_one;
 
@@ -7,7 +7,7 @@ use sigaudit::transcripts_are_one;
 /// words and files, nor that none begins with what is written for a script's first lines.
 pub fn transcripts_exist()
     ensures exists { TranscriptsExist }
-    ensures begins { FrontsAreOfTranscripts }
+    ensures begins { PrefixesAreOfTranscripts }
 {
     transcripts_are_one();
 }

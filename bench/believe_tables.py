@@ -79,6 +79,7 @@ row_reader.Order.in_row_order row_reader put_in_order order rise permutation ten
 sig_base.Stamp.stamp_at sig_base Window::stamp value shows
 session.Edits.step_of edit_laws edits_make_stores made
 session.Edits.step_of edit_laws refusals_in_order refused
+script_lines.Words.said line_laws lines_are_said said
 """
 TELLS = """
 

@@ -24,7 +24,7 @@ not_entry p r e =
     let code : r.code ≡ 111 = eqb-true r.code 111 (and_parts (r.param == p) (r.code == 111) e).1 in
     and_right (r.param == p) (r.code == 105) (ne_eqb r.code 105 (λ f. omega arith))
 
-module _ (known : ℕ → Bool) (p a b : ℕ) (before : List Row) where
+module _ (known : ℕ → Bool) (p : ℕ) (before : List Row) where
   call_seen : (t : ℕ) (o : Option (Row × List Row)) (x : Row) → LastIs (λ z. says p 102 z || says p 105 z) before o → call_in known t p (option_map (λ f. f.0) o) ≡ Some x → IsCall known t before p x
   unfolding is_input
   call_seen t None x li e = cc
@@ -61,10 +61,7 @@ module _ (known : ℕ → Bool) (p a b : ℕ) (before : List Row) where
 
   -- the three kinds of event
   module _ (r : Row) where
-    abbrev Entered : Type 0
-    Entered = says p 105 r ≡ true
-
-    entry_alone : Entered → IsWaiting known r.at before p None → IsEvent known p before r p true None true None false
+    entry_alone : says p 105 r ≡ true → IsWaiting known r.at before p None → IsEvent known p before r p true None true None false
     entry_alone y h =
         let not_exit : says p 111 r ≡ true → ⊥ = λ x. both_ways (says p 105 r) (not_entry p r x) y in
         record {
@@ -77,7 +74,7 @@ module _ (known : ℕ → Bool) (p a b : ℕ) (before : List Row) where
           late_exit = (λ e. absurd (cc), λ d. absurd (not_exit d.0));
         }
 
-    entry_after : Entered → (x : Row) → x.at ≤ r.at → IsCall known r.at before p x → IsEvent known p before r p true (Some (r.at - x.at)) false None false
+    entry_after : says p 105 r ≡ true → (x : Row) → x.at ≤ r.at → IsCall known r.at before p x → IsEvent known p before r p true (Some (r.at - x.at)) false None false
     entry_after y x le h =
         let not_exit : says p 111 r ≡ true → ⊥ = λ z. both_ways (says p 105 r) (not_entry p r z) y in
         record {
@@ -95,10 +92,10 @@ module _ (known : ℕ → Bool) (p a b : ℕ) (before : List Row) where
           late_exit = (λ e. absurd (cc), λ d. absurd (not_exit d.0));
         }
 
-    exited : says p 111 r ≡ true → AreOrdered a b before → All (λ z. z.at ≤ r.at) before
+    exited : (a b : ℕ) → says p 111 r ≡ true → AreOrdered a b before → All (λ z. z.at ≤ r.at) before
         → IsEvent known p before r p false None false (ran (lapse_of r.at (last_row_of (is_service p) (says p 107) known r.at before))) (is_partial (lapse_of r.at (last_row_of (is_service p) (says p 107) known r.at before)))
-    exited y w low =
-        let not_entered : Entered → ⊥ = λ e. both_ways (says p 105 r) (not_entry p r y) e in
+    exited a b y w low =
+        let not_entered : says p 105 r ≡ true → ⊥ = λ e. both_ways (says p 105 r) (not_entry p r y) e in
         record {
           number = refl;
           entry = (λ e. absurd (cc), λ e. absurd (not_entered e));
@@ -116,18 +113,18 @@ module _ (known : ℕ → Bool) (p a b : ℕ) (before : List Row) where
         let h = call_told r.at x e in
         inr (x, e, (all_at P h.1.to_x x h.0 (All-same P (h.1.to_x ++ x ∷ h.0) before (sym h.1.joined) low)).0, h)
 
-    pub event_is : (rest : List Row) → AreOrdered a b (before ++ r ∷ rest) → MatchOption (event_at known p before r rest) (is_service p r ≡ false) (λ e. IsEvent known p before r e.preempt (is_entry_event e.event) (delay_in e.event) (is_late_entry e.event) (dwell_in e.event) (is_late_exit e.event))
+    pub event_is : (a b : ℕ) (rest : List Row) → AreOrdered a b (before ++ r ∷ rest) → MatchOption (event_at known p before r rest) (is_service p r ≡ false) (λ e. IsEvent known p before r e.preempt (is_entry_event e.event) (delay_in e.event) (is_late_entry e.event) (dwell_in e.event) (is_late_exit e.event))
     unfolding event_at is_entry is_exit is_dwell
-    event_is rest w =
+    event_is a b rest w =
         let low = earlier_low a b before r rest w in
         elim (cases_Bool (says p 105 r)) [
           | inl y ↦ elim (call_cases (call_of known r.at p before) refl low) [ inl c ↦ rw (y, c.0) (entry_alone y c.1) | inr c ↦ rw (y, c.1) (entry_after y c.0 c.2 c.3) ]
-          | inr n ↦ elim (cases_Bool (says p 111 r)) [ inl y ↦ rw (n, y) (exited y (front_ordered a b before r rest w) low) | inr m ↦ rw (n, m) refl ]
+          | inr n ↦ elim (cases_Bool (says p 111 r)) [ inl y ↦ rw (n, y) (exited a b y (front_ordered a b before r rest w) low) | inr m ↦ rw (n, m) refl ]
         ]
 
-  pub preempt_is : (t : ℕ) (part : PreemptPart) → AreOrdered a b before → (preempt_of known t before p ≡ part) ↔ IsPreempt known t before p part
+  pub preempt_is : (a b t : ℕ) (part : PreemptPart) → AreOrdered a b before → (preempt_of known t before p ≡ part) ↔ IsPreempt known t before p part
   unfolding is_entry is_exit is_dwell
-  preempt_is t part w = (
+  preempt_is a b t part w = (
     λ e. record {
       number = sym (ap (λ (x : PreemptPart). x.number) e);
       call = waiting_told t part.call (ap (λ (x : PreemptPart). x.call) e);

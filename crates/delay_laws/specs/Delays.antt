@@ -4,8 +4,7 @@ use Rattle.sig_base.specs.declared.values.Row.{Row}
 use Rattle.other_measures.specs.declared.peds.PedPart.{PedPart}
 use Rattle.delay_laws.specs.Standing.{HasNotBegun, HasRun, IsLastRow, NoneStands, says}
 
--- row r begins a walk (21) of pedestrian signal p; it was waited from the first call (45) since the last begin of walk on, where that
--- stands; no call came since; or no begin of walk stands
+-- row r begins a walk (21) of pedestrian signal p, and the wait for it has run since the first call (45) after the last begin of walk; or no call has come since that one; or no begin of walk stands
 pub record IsDelay (known : ℕ → Bool) (p : ℕ) (before : List Row) (r : Row) (ped : ℕ) (wait : Option ℕ) (is_uncalled is_partial : Bool) : Type 0 where
   pub number : ped ≡ p
   pub walk : says p 21 r ≡ true

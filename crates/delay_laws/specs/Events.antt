@@ -4,11 +4,11 @@ use Rattle.sig_base.specs.declared.values.Row.{Row}
 use Rattle.other_measures.specs.declared.preempts.PreemptPart.{PreemptPart}
 use Rattle.delay_laws.specs.Standing.{HasRun, IsLastRow, NoneStands, Stands, says}
 
--- row x turns the call input (102) of preempt p on, and stands at tenth t: the input wasn't turned on again since, and no entry (105) came
+-- row x turns the call input (102) of preempt p on and stands at tenth t: since then the input wasn't turned on again and no entry (105) came
 abbrev pub IsCall : (ℕ → Bool) → ℕ → List Row → ℕ → Row → Type 0
 IsCall known t before p x = (since : List Row) × Stands (says p 102) (λ z. says p 102 z || says p 105 z) known t before x since
 
--- the call of preempt p that stands at tenth t; there is none
+-- the call of preempt p that stands at tenth t, or None where none does
 abbrev pub IsWaiting : (ℕ → Bool) → ℕ → List Row → ℕ → Option Row → Type 0
 IsWaiting known t before p None = (x : Row) → IsCall known t before p x → ⊥
 IsWaiting known t before p (Some x) = IsCall known t before p x
@@ -17,8 +17,7 @@ IsWaiting known t before p (Some x) = IsCall known t before p x
 abbrev pub is_service : ℕ → Row → Bool
 is_service p x = says p 105 x || says p 111 x
 
--- row r is an entry of preempt p, n tenths after the call that stands, or where none stands; or it is an exit, before which preempt p
--- dwelt from the first begin of dwell (107) since the last entry or exit on, where that stands, or none of these stands
+-- row r is an entry of preempt p, n tenths after the call that stands, or while none stands; or an exit, where the dwell has run since the first begin of dwell (107) after the last entry or exit, or while none of these stands
 pub record IsEvent (known : ℕ → Bool) (p : ℕ) (before : List Row) (r : Row) (preempt : ℕ) (is_entry : Bool) (delay : Option ℕ) (is_late_entry : Bool) (dwell : Option ℕ) (is_late_exit : Bool) : Type 0 where
   pub number : preempt ≡ p
   pub entry : (is_entry ≡ true) ↔ (says p 105 r ≡ true)

@@ -1,4 +1,4 @@
--- Rows that stand at a tenth: none of their kind has come after them, and each tenth since is known.
+-- Rows that stand at a tenth: none of their kind has come since, and each tenth since is known.
 use Rattle.std.specs.Prelude.{ℕ, ◌≡◌, ◌+◌, ◌<◌, ◌≤◌, ◌==◌, ◌&&◌, Bool, true, false, List, ◌∷◌, ◌++◌, Option, Some, None, All}
 use Rattle.sig_base.specs.declared.values.Row.{Row}
 use Rattle.service_cut.specs.Whole.{IsFirst}
@@ -12,7 +12,7 @@ says p code x = (x.param == p) && (x.code == code)
 abbrev pub AreKnown : (ℕ → Bool) → ℕ → ℕ → Type 0
 AreKnown known a t = (tenth : ℕ) → a ≤ tenth → tenth < t → known tenth ≡ true
 
--- row x passes the first test, none of the rows since it passes the second, and each tenth since it is known
+-- of the rows before tenth t row x passes the first test and none since it the second, and each tenth since it is known
 pub record Stands (test over : Row → Bool) (known : ℕ → Bool) (t : ℕ) (before : List Row) (x : Row) (since : List Row) : Type 0 where
   pub to_x : List Row
   pub joined : before ≡ to_x ++ x ∷ since
@@ -20,21 +20,21 @@ pub record Stands (test over : Row → Bool) (known : ℕ → Bool) (t : ℕ) (b
   pub none : All (λ z. over z ≡ false) since
   pub all_known : AreKnown known x.at t
 
--- of no row that passes is each tenth since known
+-- there is no row that passes the test and since which each tenth is known
 abbrev pub NoneStands : (Row → Bool) → (ℕ → Bool) → ℕ → List Row → Type 0
 NoneStands test known t before = All (λ z. test z ≡ true → AreKnown known z.at t → ⊥) before
 
--- the first of the rows that passes; none does
+-- the first of the rows that passes the test, or None where none does
 abbrev pub IsStart : (Row → Bool) → List Row → Option Row → Type 0
 IsStart test rows None = All (λ z. test z ≡ false) rows
 IsStart test rows (Some y) = (to_y : List Row) × (from_y : List Row) × IsFirst test rows y to_y from_y
 
--- the last row that passes the first test, where it stands at tenth t, with the first one since it that passes the second
+-- the last row that passes the first test, where it stands at tenth t, with the first row since that starts something, or None where none stands
 abbrev pub IsLastRow : (Row → Bool) → (Row → Bool) → (ℕ → Bool) → ℕ → List Row → Option LastRow → Type 0
 IsLastRow test starts known t before None = NoneStands test known t before
 IsLastRow test starts known t before (Some l) = (since : List Row) × Stands test test known t before l.row since × IsStart starts since l.first
 
--- it ran n tenths up to tenth t: from the first row that starts it since the last one that passes the first test, which stands
+-- it has run n tenths at tenth t: since row y, the first that starts it after row x, the last that passes the first test, which stands
 pub record HasRun (test starts : Row → Bool) (known : ℕ → Bool) (t : ℕ) (before : List Row) (n : ℕ) : Type 0 where
   pub x : Row
   pub since : List Row
@@ -43,7 +43,7 @@ pub record HasRun (test starts : Row → Bool) (known : ℕ → Bool) (t : ℕ) 
   pub first : IsStart starts since (Some y)
   pub tenths : y.at + n ≡ t
 
--- since the last row that passes the first test, which stands, none has started it
+-- no row has started it since row x, the last that passes the first test, which stands
 pub record HasNotBegun (test starts : Row → Bool) (known : ℕ → Bool) (t : ℕ) (before : List Row) : Type 0 where
   pub x : Row
   pub since : List Row

@@ -11,10 +11,11 @@ ghost use Rattle.delay_laws.specs.Standing.{says};
 ghost use Rattle.delay_laws.specs.Delays.{IsDelay, IsPed};
 ghost use Rattle.delay_laws.specs.Events.{IsEvent, IsPreempt, is_service};
 
-/// Law: among ordered rows exactly the begins of walk end a wait. It ran from the first call since
-/// the last begin of walk, where each tenth since that one is known; it hadn't begun where no call
-/// came since; and it is partial where of no begin of walk before each tenth since is known. What is
-/// under way at a tenth is such a begin of walk with the first call since.
+/// Law: among ordered rows exactly the begins of walk of a pedestrian signal end a wait. It has run
+/// since the first call after the last begin of walk, where each tenth since that one is known; it
+/// is uncalled where no call has come since; and it is partial where there is no begin of walk before
+/// since which each tenth is known. What is under way at a tenth is such a begin of walk with the
+/// first call after it.
 pub fn delays_are_whole()
     ensures delays { (known : ℕ → Bool) (p a b : ℕ) (before : List Row) (r : Row) (rest : List Row)
         → AreOrdered a b (before ++ r ∷ rest)
@@ -24,11 +25,13 @@ pub fn delays_are_whole()
         → AreOrdered a b before → (ped_of known t before p ≡ part) ↔ IsPed known t before p part }
 {}
 
-/// Law: among ordered rows exactly the entries and the exits of a preempt are its events. An entry's
-/// delay ran from the call that stands: the last time that the input was turned on, where no entry
-/// came since and each tenth since is known. An exit's dwell ran from the first begin of dwell since
-/// the last entry or exit, where each tenth since that one is known; and it is partial where of no
-/// entry or exit before each tenth since is known.
+/// Law: among ordered rows exactly the entries and the exits of a preempt are its events. The delay of
+/// an entry has run since the input was last turned on, where no entry has come since then and each
+/// tenth since is known; else it isn't known. The dwell of an exit has run since the first begin of
+/// dwell after the last entry or exit, where each tenth since that one is known; there is none where
+/// no dwell has begun since; and it is partial where there is no entry or exit before since which
+/// each tenth is known. What is under way at a tenth is such a call, and such an entry or exit with
+/// the first begin of dwell after it.
 pub fn events_are_whole()
     ensures events { (known : ℕ → Bool) (p a b : ℕ) (before : List Row) (r : Row) (rest : List Row)
         → AreOrdered a b (before ++ r ∷ rest)

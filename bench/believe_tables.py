@@ -80,6 +80,10 @@ sig_base.Stamp.stamp_at sig_base Window::stamp value shows
 session.Edits.step_of edit_laws edits_make_stores made
 session.Edits.step_of edit_laws refusals_in_order refused
 script_lines.Words.said line_laws lines_are_said said
+other_measures.Peds.delay_at delay_laws delays_are_whole delays
+other_measures.Peds.ped_of delay_laws delays_are_whole peds
+other_measures.Preempts.event_at delay_laws events_are_whole events
+other_measures.Preempts.preempt_of delay_laws events_are_whole preempts
 """
 TELLS = """
 
@@ -167,7 +171,7 @@ A clause is a proposition, and a proposition is a type in `Type 0`. A name of ty
 | `List A`, `[]`, `x ∷ xs`, `++`, `length`, `map f xs`, `filter p xs`, `take n xs`, `fold`, `flat_map`, `All P xs` | lists, as in other languages. A text is the list of its bytes, and `codes "ab"` are those of `ab` |
 | `find p xs`, `position p xs`, `list_any p xs`, `list_all p xs`, `count_by p xs`, `sum xs`, `range_with_len a n` | the first element that passes the test p, its place, whether some does, whether all do, how many do; the sum; the n numbers from a on |
 | `slice_get xs i`, `slice_index_or xs i d`, `slice_index xs i` | what stands at place i, from 0: `None`, d or 0 where nothing does |
-| `Option A`, `Some x`, `None`; `Result A E`, `Ok x`, `Err e`; `IfSome o (λ x. P)` | a value or nothing; a value or an error; P of the value, where there is one. `option_map f o` is f of the value, `unwrap_or o d` the value or d |
+| `Option A`, `Some x`, `None`; `Result A E`, `Ok x`, `Err e`; `IfSome o (λ x. P)`; `MatchOption o P (λ x. Q)` | a value or nothing; a value or an error; P of the value, where there is one; P where there is none, and Q of the value where there is one. `option_map f o` is f of the value, `unwrap_or o d` the value or d |
 | `Appends a b bytes` | of bytes that may be revealed or not: where a is revealed so is b, and it is a with these bytes behind it |
 | `λ x. e`, `let x = e in ..`, `if c then a else b`, `do x ← e ..` | a function, a name, a choice; e and what follows it, unless e is an error |
 | `abbrev`, `unfoldable`, `pub`, `{A : Type 0}` | how the checker opens a name, who may use it, an argument that is left out: none of it matters for the meaning |

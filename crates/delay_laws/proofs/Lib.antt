@@ -1,0 +1,4 @@
+pub mod Standing
+pub mod Lapses
+pub mod Delays
+pub mod Events

@@ -1,0 +1,3 @@
+pub mod Standing
+pub mod Delays
+pub mod Events

@@ -1,5 +1,6 @@
 -- A time of day.
-use Rattle.std.specs.Prelude.{◌≡◌, ◌≤◌, ◌⊎◌, ◌+◌, ◌*◌, ℕ, List, [], ◌++◌, length, codes, decimal, All}
+use Rattle.std.specs.Prelude.{◌≡◌, ◌↔◌, ◌≤◌, ◌⊎◌, ◌+◌, ◌*◌, ℕ, List, [], ◌++◌, length, codes, decimal, Some, All}
+use Rattle.row_reader.specs.Stamp.{time_of}
 use Rattle.stamp_laws.specs.Numbers.{IsNumber}
 
 -- `0` to `9`
@@ -37,3 +38,7 @@ pub record IsTime (text : List ℕ) (tenths : ℕ) : Type 0 where
   pub minutes : minute ≤ 59
   pub seconds : second ≤ 59
   pub is : tenths ≡ 36000 * hour + 600 * minute + 10 * second + tenth
+
+-- exactly the texts of times are read as times
+abbrev pub TimesAreRead : Type 0
+TimesAreRead = (text : List ℕ) (tenths : ℕ) → (time_of text ≡ Some tenths) ↔ IsTime text tenths

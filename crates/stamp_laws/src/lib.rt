@@ -6,4 +6,4 @@
 
 mod laws;
 
-pub use laws::{numbers_are_read, stamps_are_read};
+pub use laws::{dates_are_read, hours_are_read, numbers_are_read, stamps_are_read, times_are_read};

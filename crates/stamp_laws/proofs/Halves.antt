@@ -30,11 +30,12 @@ second_there (Some x) (Some y) day tenth e = ap (λ (o : Option (ℤ × ℕ)). o
 midnight : forms.IsTime (codes "0:00:00") 0
 midnight = record { hour = codes "0"; minute = codes "00"; seconds = codes "00"; form = refl; of_minute = 0; seconds_are = inl (record { second = 0; form = refl; is = refl }); is = refl }
 
+-- a date is read as that of its midnight
 date_reads : (text : List ℕ) (day : ℤ) → forms.IsDashed text day ⊎ forms.IsSlashed text day → date_of text ≡ Some day
 date_reads text day h =
-    let s : stamp_of (text ++ 32 ∷ codes "0:00:00") ≡ Some (day, 0) = stamp-to (text ++ 32 ∷ codes "0:00:00") day 0 (record { date = text; gap = 32; time = codes "0:00:00"; form = refl; gap_is = inl refl; date_is = h; time_is = midnight }) in
+    let f : forms.IsStamp (text ++ 32 ∷ codes "0:00:00") day 0 = record { date = text; gap = 32; time = codes "0:00:00"; form = refl; gap_is = inl refl; date_is = h; time_is = midnight } in
     let l = date-lacks 32 text day refl (λ q. omega arith) (λ q. omega arith) h in
-    first_there (date_of text) (time_of (codes "0:00:00")) day 0 (sym (halves text (codes "0:00:00") l) ∙ s)
+    first_there (date_of text) (time_of (codes "0:00:00")) day 0 (sym (halves text (codes "0:00:00") l) ∙ stamp-to _ day 0 f)
 
 pub dates_read : DatesAreRead
 dates_read text day = (λ e. date_is text day (date-from text day e), λ h. date_reads text day (date_gives text day h))
@@ -48,12 +49,14 @@ epoch : forms.IsDashed (codes "1970-01-01") first_day
 unfolding first_day
 epoch = record { year = codes "1970"; month = codes "01"; date = codes "01"; form = refl; is = refl }
 
+-- a time is read as that of a day
 time_reads : (text : List ℕ) (tenth : ℕ) → forms.IsTime text tenth → time_of text ≡ Some tenth
 time_reads text tenth h =
-    let s : stamp_of (codes "1970-01-01" ++ 32 ∷ text) ≡ Some (first_day, tenth) = stamp-to (codes "1970-01-01" ++ 32 ∷ text) first_day tenth (record { date = codes "1970-01-01"; gap = 32; time = text; form = refl; gap_is = inl refl; date_is = inl epoch; time_is = h }) in
+    let f : forms.IsStamp (codes "1970-01-01" ++ 32 ∷ text) first_day tenth = record { date = codes "1970-01-01"; gap = 32; time = text; form = refl; gap_is = inl refl; date_is = inl epoch; time_is = h } in
     let l = date-lacks 32 (codes "1970-01-01") first_day refl (λ q. omega arith) (λ q. omega arith) (inl epoch) in
-    second_there (date_of (codes "1970-01-01")) (time_of text) first_day tenth (sym (halves (codes "1970-01-01") text l) ∙ s)
+    second_there (date_of (codes "1970-01-01")) (time_of text) first_day tenth (sym (halves (codes "1970-01-01") text l) ∙ stamp-to _ first_day tenth f)
 
+-- what a text that is read was cut into
 was_cut : {A : Type 0} (f : List ℕ → List ℕ → Option A) (o : Option (List ℕ × List ℕ)) (v : A) → at_cut f o ≡ Some v → (a : List ℕ) × (b : List ℕ) × (o ≡ Some (a, b)) × (f a b ≡ Some v)
 was_cut f None v e = cc
 was_cut f (Some p) v e = (p.0, p.1, refl, e)

@@ -89,7 +89,7 @@ short (suc j) k n acc lt h =
         rw pow-succ' (omega arith)
 
 -- a number with at most k digits is below that power of ten
-pub decimal_below : (k n : ℕ) → k < 64 → length (decimal n) ≤ k → n < 10 ^ k
+decimal_below : (k n : ℕ) → k < 64 → length (decimal n) ≤ k → n < 10 ^ k
 unfolding digits
 decimal_below k n lt h = short 64 k n [] lt (omega arith)
 

@@ -4,7 +4,7 @@ use Rattle.jiff_core.specs.Calendar.{days_from_civil, days_in_month}
 use Rattle.row_reader.specs.Stamp.{date_of}
 use Rattle.stamp_laws.specs.Numbers.{IsNumber}
 
--- a year of four digits, and a month and a date of two or of at least so many: the calendar has that date, and it is this day counted from 1970-01-01
+-- a year of four digits, and a month and a date of at most two and at least so many; the calendar has them, and this is the day, counted from 1970-01-01
 pub record IsDayOf (least : ℕ) (year_text month_text date_text : List ℕ) (day : ℤ) : Type 0 where
   pub year : ℕ
   pub month : ℕ
@@ -18,7 +18,7 @@ pub record IsDayOf (least : ℕ) (year_text month_text date_text : List ℕ) (da
   pub last : date ≤ days_in_month (pos year) month
   pub counted : day ≡ days_from_civil (pos year) month date
 
--- YYYY-MM-DD
+-- YYYY-MM-DD, with two digits of month and day
 pub record IsDashed (text : List ℕ) (day : ℤ) : Type 0 where
   pub year : List ℕ
   pub month : List ℕ

@@ -2,7 +2,7 @@
 use Rattle.std.specs.Prelude.{◌≡◌, ◌↔◌, ◌<◌, ◌≤◌, ◌^◌, ℕ, List, ◌++◌, length, replicate, decimal, Some}
 use Rattle.row_reader.specs.Number.{number_of}
 
--- the text is the number in decimal, after zeros or none, and has `least` to `most` digits
+-- the text is the number in decimal, after zeros or none, where 0x30 is `0`; it has `least` to `most` digits
 pub record IsNumber (least most : ℕ) (text : List ℕ) (n : ℕ) : Type 0 where
   pub zeros : ℕ
   pub form : text ≡ replicate zeros 0x30 ++ decimal n

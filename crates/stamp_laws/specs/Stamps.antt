@@ -6,7 +6,7 @@ use Rattle.stamp_laws.specs.Numbers.{IsNumber}
 use Rattle.stamp_laws.specs.Dates.{IsDashed, IsDate}
 use Rattle.stamp_laws.specs.Times.{IsTime}
 
--- the text names this tenth of this day
+-- a date, one space or `T`, and a time: the text names this tenth of this day
 pub record IsStamp (text : List ℕ) (day : ℤ) (tenths : ℕ) : Type 0 where
   pub date : List ℕ
   pub time : List ℕ
@@ -21,7 +21,7 @@ pub record IsStampIn (window : Span) (text : List ℕ) (at : ℤ) : Type 0 where
   pub stamp : IsStamp text day tenths
   pub is : (pos (36000 * window.hour) +ℤ at) ≡ (((day -ℤ window.day) *ℤ pos 864000) +ℤ pos tenths)
 
--- YYYY-MM-DDTHH
+-- YYYY-MM-DDTHH, with an hour of two digits
 pub record IsHour (text : List ℕ) (day : ℤ) (hour : ℕ) : Type 0 where
   pub date : List ℕ
   pub hour_text : List ℕ

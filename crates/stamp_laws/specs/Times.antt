@@ -19,7 +19,7 @@ pub record IsBroken (text : List ℕ) (tenth : ℕ) : Type 0 where
 abbrev pub IsFraction : List ℕ → ℕ → Type 0
 IsFraction text tenth = IsBroken text tenth ⊎ ((text ≡ []) × (tenth ≡ 0))
 
--- H:MM:SS with an hour of one or two digits, and a fraction or none, in tenths
+-- H:MM:SS with an hour of one or two digits, and a fraction or none: so many tenths after midnight
 pub record IsTime (text : List ℕ) (tenths : ℕ) : Type 0 where
   pub hour_text : List ℕ
   pub minute_text : List ℕ

@@ -73,8 +73,12 @@ ring_config.Settings.config_at config_laws configurations_are_accepted documents
 ring_config.Walk.entries_of config_laws tables_are_accepted accepted refused
 hour_pack.Reading.reading hour_pack faults_have_causes -
 hour_pack.Number.number_bytes hour_pack numbers_have_one_spelling each one
-row_reader.Stamp.stamp_in row_reader read_stamp value forms
-row_reader.Stamp.hour_stamp_of row_reader read_hour_stamp value forms
+row_reader.Number.number_of stamp_laws numbers_are_read numbers
+row_reader.Stamp.date_of stamp_laws dates_are_read dates
+row_reader.Stamp.time_of stamp_laws times_are_read times
+row_reader.Stamp.stamp_of stamp_laws stamps_are_read stamps
+row_reader.Stamp.stamp_in stamp_laws stamps_are_read windows
+row_reader.Stamp.hour_stamp_of stamp_laws hours_are_read hours
 row_reader.Order.in_row_order row_reader put_in_order order rise permutation tenths
 sig_base.Stamp.stamp_at sig_base Window::stamp value shows
 session.Edits.step_of edit_laws edits_make_stores made

@@ -1,0 +1,4 @@
+pub mod Numbers
+pub mod Dates
+pub mod Times
+pub mod Stamps

@@ -11,7 +11,7 @@ use Rattle.ring_config.specs.Settings.{Settings, spec_place}
 abbrev pub is_green : ℕ → Bool
 is_green c = c == green
 
--- the colour is Red, YellowDone, Clear or ClearDone
+-- the colour is Red, YellowDone, Clear or ClearDone; On, in which green hasn't begun, isn't counted as red
 abbrev pub is_red : ℕ → Bool
 is_red c = c == red || c == yellow_done || c == clear || c == clear_done
 

@@ -22,7 +22,8 @@ pub struct ArrivalSum {
     pub unseen: u64,
     /// The rows at which the advance detector goes on while it is sure to have a fault.
     pub fault: u64,
-    /// The arrivals in whole cycles.
+    /// The arrivals of known rows in whole cycles. One whose row lies before the cycle, at an unknown
+    /// tenth, is missing.
     pub cycle_arrivals: u64,
     /// Those of them at whose arrival tenth's end the phase is green.
     pub cycle_green: u64,
@@ -31,8 +32,8 @@ pub struct ArrivalSum {
     /// The lengths of all whole cycles.
     pub cycle_tenths: u64,
     pub actuations: u64,
-    /// The actuations at whose tenth's end the phase is red, at the end of its clearance or between
-    /// in all histories.
+    /// The actuations at whose tenth's end the phase is Red, YellowDone, Clear or ClearDone in all
+    /// histories; On isn't counted as red.
     pub red: u64,
     /// Those at whose tenth's end it is so in none.
     pub not_red: u64,

@@ -2,7 +2,7 @@
 use Rattle.std.specs.Prelude.{ℕ, [], ◌∷◌, codes}
 use Rattle.channel_tables.specs.Table.{Line, Table, line}
 
--- a fault has been reported, and neither the detector's restoration nor an actuation since
+-- a fault has begun, and no row 81, 82 or 83 has come since
 abbrev fault : ℕ
 fault = 2
 

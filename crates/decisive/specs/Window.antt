@@ -70,14 +70,14 @@ pub record IsLeastFrom (C B : ℕ → Type 0) (low v : ℕ) : Type 0 where
   pub holds : B v
   pub least : (w : ℕ) → C w → low ≤ w → w < v → B w → ⊥
 
--- of the candidates C up to high, u is the greatest with which B holds
+-- of the candidates C up to high, that one with it, u is the greatest with which B holds
 pub record IsGreatestTo (C B : ℕ → Type 0) (high u : ℕ) : Type 0 where
   pub candidate : C u
   pub early : u ≤ high
   pub holds : B u
   pub greatest : (w : ℕ) → C w → w ≤ high → u < w → B w → ⊥
 
--- the stretch from u to v decides that the obligation is broken: v is the least end with which it is broken by the log up to there alone, and u then the greatest begin with which it still is
+-- the stretch from u to v decides that the obligation is broken: v is the least candidate from the obligation's tenth on with which it is broken by the log up to there alone, and u then the greatest candidate up to that tenth, it with it, from which on it still is
 pub record IsDecisive (log : Log) (rows : List Row) (o : Obligation) (u v : ℕ) : Type 0 where
   pub end : IsLeastFrom (IsCandidate log o) (λ w. HasLogVerdict (only 0 w log) rows o Broken) o.at v
   pub begin : IsGreatestTo (IsCandidate log o) (λ w. HasLogVerdict (only w v log) rows o Broken) o.at u

@@ -74,7 +74,7 @@ abbrev pub IsMet : Asked → ℕ → Type 0
 IsMet (Only c) mask = (d : ℕ) → Has mask d ↔ (d ≡ c)
 IsMet (May c) mask = Has mask c
 
--- at how many of the tenths from a up to b the detector was sure to be on, and at how many it may have been, and whether it was sure to have a fault at one of them
+-- at how many of the tenths from a up to b the detector was sure to be on, and at how many it may have been, and whether it was sure to have a fault at one of them, each by the log up to there
 pub record AreTenths (log : Log) (i a b : ℕ) (t : OnTenths) : Type 0 where
   pub least : Counts (IsSure log i 1) a b t.least
   pub greatest : Counts (IsColourReached log i 1) a b t.greatest

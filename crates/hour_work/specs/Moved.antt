@@ -33,7 +33,7 @@ pub record SaySame (a b : Carried) : Type 0 where
 abbrev pub LeadsTo : Settings → Store → ℕ → ℕ → State → Type 0
 LeadsTo c s k i u = Clamped (pos (first_tenth k) -ℤ pos 36001) (IsReached (log_of c.specs s) i (first_tenth k)) u
 
--- from the state, which it may have at point k, channel i can go on to the window's end so that the store is met
+-- from the state, of any colour of its machine and entered before point k, channel i can go on to the window's end so that the store is met
 abbrev pub CanGoOn : Settings → Store → ℕ → ℕ → State → Type 0
 CanGoOn c s k i u = (u.colour < (track_at (log_of c.specs s) i).rules.colours) × (u.entry <ℤ pos (first_tenth k)) × IsCompleted (log_of c.specs s) i (first_tenth k) u
 
@@ -41,7 +41,7 @@ CanGoOn c s k i u = (u.colour < (track_at (log_of c.specs s) i).rules.colours) �
 abbrev pub Agree : {X : Type 0} → Store → Store → (Store → X) → Type 0
 Agree s t of = of s ≡ of t
 
--- both stores say the same at point k of what came before: each channel can have come to the same states, the tenth before is known or isn't, and under way are the same services, yellows and cycles of each phase, the same services whose red window isn't over, the same at stop bars, the same calls and services of each pedestrian signal and preempt, and the same of each approach
+-- both stores say the same at point k of what came before: each channel can have come to the same states, where entries older than an hour count as one; the tenth before is known or isn't; and under way are the same service, yellow and cycle of each phase, the same services whose red window isn't over, the same at stop bars, of each pedestrian signal the same last walk with the first call since, of each preempt the same waiting call and the same last entry or exit with the first dwell since, and of each approach the same cycle so far and the same arrivals still to come
 pub record IsSameCarry (c : Settings) (s t : Store) (k : ℕ) : Type 0 where
   pub states : (i : ℕ) (u : State) → i < length c.specs → LeadsTo c s k i u ↔ LeadsTo c t k i u
   pub known : Agree s t (λ x. is_known_before (is_known x) (first_tenth k))
@@ -52,7 +52,7 @@ pub record IsSameCarry (c : Settings) (s t : Store) (k : ℕ) : Type 0 where
   pub preempts : (p : ℕ) → has_number c.preempts p ≡ true → Agree s t (λ x. preempt_of (is_known x) (first_tenth k) (earlier_rows x k) p)
   pub approaches : Agree s t (λ x. map (crossing_of (is_known x) (first_tenth k) (earlier_rows x k)) c.approaches)
 
--- from the same states at point k both stores' windows can be met to their ends
+-- at point k the same states of each channel can go on to the window's end by the one store and by the other
 abbrev pub IsSameFuture : Settings → Store → Store → ℕ → Type 0
 IsSameFuture c s t k = (i : ℕ) (u : State) → i < length c.specs → CanGoOn c s k i u ↔ CanGoOn c t k i u
 

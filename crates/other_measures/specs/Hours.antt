@@ -60,7 +60,7 @@ pub record HasRows (rows : List Row) (s : CoordSum) : Type 0 where
   pub yields : s.yields ≡ rows_with 151 rows
   pub begins : s.begins ≡ rows_with 152 rows
 
--- the numbers of an hour of pedestrian signals, preempts and the coordination
+-- the numbers of pedestrian signals, preempts and the coordination, of an hour or of the window
 pub record OtherNumbers : Type 0 where
   pub peds : List PedSum
   pub preempts : List PreemptSum

@@ -24,7 +24,7 @@ is_dwell p x = (x.param == p) && (x.code == 107)
 unfoldable pub is_exit : ℕ → Row → Bool
 is_exit p x = (x.param == p) && (x.code == 111)
 
--- a row that was found, where it is a call that still stands and every tenth since is known
+-- a row that was found, where it is a row 102 and every tenth since is known; whether the input has gone off since (104) isn't asked
 abbrev pub call_in : (ℕ → Bool) → ℕ → ℕ → Option Row → Option Row
 call_in known t p None = None
 call_in known t p (Some x) = if live known x.at t && is_input p x then Some x else None
@@ -33,7 +33,7 @@ call_in known t p (Some x) = if live known x.at t && is_input p x then Some x el
 unfoldable pub call_of : (ℕ → Bool) → ℕ → ℕ → List Row → Option Row
 call_of known t p before = call_in known t p (last (λ z. is_input p z || is_entry p z) before)
 
--- the service of preempt p that goes on at tenth t: the last of its entries and exits, where every tenth since is known, with the first begin of dwell after it
+-- the last entry or exit of preempt p, where every tenth from it up to t is known, with the first begin of dwell after it
 abbrev pub service_of : (ℕ → Bool) → ℕ → ℕ → List Row → Option LastRow
 service_of known t p before = last_row_of (λ z. is_entry p z || is_exit p z) (is_dwell p) known t before
 

@@ -21,7 +21,7 @@ abbrev pub is_not_begun : Lapse → Bool
 is_not_begun NotBegun = true
 is_not_begun _ = false
 
--- the begin isn't known, since an unknown tenth lies between
+-- the begin isn't known: there is no earlier row since which every tenth is known
 abbrev pub is_partial : Lapse → Bool
 is_partial Partial = true
 is_partial _ = false
@@ -66,7 +66,7 @@ abbrev pub is_entry_event : Event → Bool
 is_entry_event (Entry d) = true
 is_entry_event (Exit l) = false
 
--- an entry whose delay isn't known
+-- an entry before which no call is known since the last entry, also where there was none
 abbrev pub is_late_entry : Event → Bool
 is_late_entry (Entry None) = true
 is_late_entry (Entry (Some n)) = false

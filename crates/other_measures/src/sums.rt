@@ -21,7 +21,7 @@ pub struct PedSum {
     pub partial: u64,
     /// The known tenths at whose end the detector is on in all histories.
     pub detector_on: u64,
-    /// The known tenths at whose end it is neither on nor off in all histories.
+    /// The known tenths at whose end it is neither on in all histories nor off in all of them.
     pub detector_undecided: u64,
 }
 
@@ -33,7 +33,7 @@ pub struct PreemptSum {
     /// The entries whose call is known.
     pub delays: u64,
     pub sum: u64,
-    /// The entries whose call isn't known.
+    /// The entries before which no call is known since the last entry, also where there was none.
     pub partial: u64,
     /// The exits that a dwell came before.
     pub dwells: u64,

@@ -24,7 +24,7 @@ use Rattle.rule_audit.specs.Obligations.{Obligation}
 
 -- ---- interval rules
 
--- the row changes the channel's colour away from this one
+-- the row, which is one of the channel, changes its colour away from this one
 abbrev pub Leaves : Spec → Row → ℕ → Type 0
 Leaves s r colour = (l : ℕ) × (letter_in_table r.code r.param ≡ Some l) × ((d : ℕ) × ((rules_of s).next colour l ≡ Some d) × (d ≢ colour))
 

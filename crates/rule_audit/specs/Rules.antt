@@ -38,7 +38,7 @@ is_in specs kind n cs = record { spec = unwrap_or (spec_place specs (record { ki
 abbrev pub is_in_none : List Spec → Kind → ℕ → List ℕ → Term
 is_in_none specs kind n cs = is_in specs kind n (others kind cs)
 
--- the colours in which a phase is served: from its call's start to the end of its red clearance
+-- the colours in which a phase is served: On, Green, Term, Yellow and Clear; not YellowDone, in which no clearance runs
 abbrev pub served : List ℕ
 served = phase.on ∷ phase.green ∷ phase.term ∷ phase.yellow ∷ phase.clear ∷ []
 

@@ -13,11 +13,12 @@ use std::alloc::Global;
 /// An audit rule. The numbers are those of the phases, the pedestrian signal or the overlap.
 #[derive(Drop)]
 pub enum Rule {
-    /// How long a colour of a channel is to last: judged before each row that ends the colour.
+    /// How long a colour of a channel is to last: judged before each row that ends the colour. One
+    /// that ends at no known tenth of the window isn't judged, however long it lasts.
     Interval(IntervalItem),
     /// Two phases that aren't served together, the lower number first.
     Conflict(u8, u8, Clause),
-    /// Walk comes only while the signal's own phase is on or green.
+    /// Walk is shown only while the signal's own phase is on or green.
     Companion(u8, Clause),
     /// The overlap is green only while one of its parents is served.
     Parents(u8, Clause),

@@ -22,7 +22,7 @@ Touches (withdraw hour) first last = (first ≡ hour) × (last ≡ hour)
 Touches (blank from to) first last = IsIn from first × IsIn (to -ℤ pos 1) last
 Touches (unblank from to) first last = IsIn from first × IsIn (to -ℤ pos 1) last
 
--- the hours that move between two stores which differ from the hour `first` to the hour `last` alone. They begin at the greatest point at or before the hour `first` from which both can be completed from the same states, or at the window's start; they end at the least point after the hour `last` up to which both say the same, or at the window's end
+-- the hours that move between two stores which differ from the hour `first` to the hour `last` alone. They begin at the greatest point at or before the hour `first` from which both can be completed from the same states, or at the window's start; they end at the least point after the hour `last` up to which both say the same, or at the window's end. The numbers and the verdicts of all other hours stay, but not always the windows of their broken lines or the diagrams of cycles that cross a point
 pub record AreMoved (c : Settings) (s t : Store) (first last : ℕ) (moved : Applied) : Type 0 where
   pub from_low : moved.from ≤ first
   pub from_same : (moved.from ≡ 0) ⊎ IsSameFuture c s t moved.from

@@ -122,7 +122,7 @@ abbrev pub OpensAsked : Files → List ℕ → List ℕ → Option Asked → Typ
 OpensAsked files old new (Some (for_run config script)) = OpensFile files for_lines script old new (limited (2 ^ 20) (files config))
 OpensAsked files old new _ = ⊤
 
--- where the words ask for a script over a configuration, both files are there and within their limits, the configuration is accepted, and each line of the script can be counted: each hour is opened as often as said
+-- where the words ask for a script over a configuration, both files are there and within their limits, the configuration is accepted, and each line of the script can be counted: each hour is opened as often as `AreCounted` says; of demonstrations, of fillings and of scripts with audits nothing is said
 abbrev pub OpensAnswer : Files → List ℕ → List ℕ → Option Asked → Type 0
 OpensAnswer files old new asked =
     (config script bytes text : List ℕ) (c : Settings) → asked ≡ Some (for_run config script) → limited (2 ^ 20) (files config) ≡ Some bytes → config_of bytes ≡ Ok c → limited (4 * 2 ^ 20) (files script) ≡ Some text

@@ -34,7 +34,7 @@ arrival_of x p = record { length = x.to - x.from; green = x.green; yellow = x.ye
 abbrev pub arrivals_at : ℕ → Cycle → Point → List Arrival
 arrivals_at place x p = if p.approach == place then arrival_of x p ∷ [] else []
 
--- the arrivals in a diagram at this approach
+-- the arrivals in a diagram at this approach; none where its cycle isn't taken
 abbrev pub arrivals_in : ℕ → Diagram → List Arrival
 arrivals_in place d = if is_taken d.cycle then flat_map (arrivals_at place d.cycle) d.points else []
 

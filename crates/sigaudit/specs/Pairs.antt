@@ -22,7 +22,7 @@ tenth_within hours (negsuc n) = None
 abbrev pub place_of : Settings → ℕ → Option ℤ → Option (ℕ × ℕ)
 place_of c rule at = both (rule_within (length (rules_for c)) rule) (option_and_then (tenth_within c.window.hours) at)
 
--- the text of one pair for each line of the store's audit that says undecided there, in the order of the audit; a rule or a tenth that isn't there has none
+-- the text of one pair for each line of the store's audit that says undecided there, in the order of the audit; a rule or a tenth that isn't there is answered by the line that there is nothing undecided
 abbrev pub AreFound : Settings → Store → Option (ℕ × ℕ) → List ℕ → Type 0
 AreFound c s None text = text ≡ nothing_text
 AreFound c s (Some p) text =

@@ -48,7 +48,7 @@ HasFault old new = Rose old.counts.failed new.counts.failed ⊎ Rose old.faults 
 abbrev pub WritesAll : List ℕ → World → World → Type 0
 WritesAll bytes old new = Appends old.written new.written bytes × NoFault old new
 
--- the words ask for a script over a configuration, their own or that of a demonstration
+-- the words ask for a script over a configuration of their own, for its texts or for what a rule leaves undecided; a demonstration isn't such
 abbrev pub AsksRun : Option Asked → Type 0
 AsksRun (Some (for_run config script)) = ⊤
 AsksRun (Some (for_pairs config script rule at)) = ⊤
@@ -106,7 +106,7 @@ IsPairsRun words files old new NoFile = WritesTranscript words files ended.NoFil
 IsPairsRun words files old new Fault = HasFault old new × WritesPrefix words files old new
 IsPairsRun words files old new Memory = WritesPrefix words files old new
 
--- why a run that was asked for this ended so, whether or not the files and the bytes are revealed
+-- what holds where a run that was asked for this ended so, whether or not the files and the bytes are revealed; of `Memory` nothing is said
 abbrev pub HasCause : Option Asked → World → World → Status → Type 0
 HasCause asked old new Done = IsSome asked × NoFault old new
 HasCause asked old new SomeRefused = IsSome asked × NoFault old new

@@ -103,7 +103,7 @@ abbrev pub IsConfigOutcome : Files → Aim → List ℕ → Read Settings → (L
 IsConfigOutcome files aim script (Err e) lines o = o ≡ outcome (config_text e) ended.BadConfig
 IsConfigOutcome files aim script (Ok c) lines o = IsAimOutcome files c aim (limited (4 * 2 ^ 20) (files script)) lines o
 
--- the outcome for the configuration's file, which has a limit of 1 MiB
+-- the outcome for what is at the configuration's name, within its limit
 abbrev pub IsFileOutcome : Files → Aim → List ℕ → Option (List ℕ) → (List ℕ → List (List ℕ)) → Outcome → Type 0
 IsFileOutcome files aim script None lines o = o ≡ outcome [] ended.NoFile
 IsFileOutcome files aim script (Some bytes) lines o = IsConfigOutcome files aim script (config_of bytes) lines o

@@ -21,7 +21,7 @@ is_end _ _ = false
 abbrev pub ends_by : Termination → Service → ℕ
 ends_by e s = if is_end e s.end then 1 else 0
 
--- the split of a service: the tenths from its begin of green to its end of yellow
+-- the split of a service: the tenths from its begin of green to its end of yellow, without red clearance
 abbrev pub split : Service → ℕ
 split s = s.r - s.b
 

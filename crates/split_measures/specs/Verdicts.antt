@@ -31,7 +31,7 @@ abbrev pub verdicts_by : Frac → List Windows → List SplitVerdict
 verdicts_by high [] = []
 verdicts_by high (w ∷ ws) = verdict_by high w ∷ verdicts_by high ws
 
--- the service is a split failure in the history: the stop bar's detector is on long enough in its green and in its red window
+-- the service is a split failure in the history: the stop bar's detector is on long enough in its green and in its red window; in a green without a tenth it always is
 pub record FailsIn (log : Log) (i : ℕ) (high : Frac) (s : Service) (h : History) : Type 0 where
   pub green : ℕ
   pub red : ℕ

@@ -13,7 +13,7 @@ use reach::{AgeBound, Test};
 pub enum Asked {
     /// It has this colour in all histories. Colours are 0 to 15.
     Colour(u8),
-    /// It has none of the colours below this number in all histories.
+    /// No colour below this number is the one that it has in all histories.
     NoneOf(u8),
 }
 

@@ -180,7 +180,7 @@ A clause is a proposition, and a proposition is a type in `Type 0`. A name of ty
 | `(x : A) (y : B) → P`, precedence | for all of both. `→` binds weakest: `P → Q ↔ R` is `P → (Q ↔ R)`, and `a ≡ b → P` is `(a ≡ b) → P` |
 | `zero`, `suc n`, `tt` | 0, n + 1; the proof of `⊤` |
 | `min`, `max`, `^`, `%`, `\|\|`, `-ℤ`, `*ℤ`, `<ℤ` | the lesser, the greater; power, remainder; or; as above, of integers |
-| `drop n xs`, `replicate n x`, `slice_set xs i x`, `sum_by f xs`, `filter_map f xs`, `decimal n`, `bytes_eq a b`, `starts_with p xs`, `is_some o`, `option_or o p`, `option_and_then f o`, `cons_option o xs` | without the first n; n times x; xs with x at place i; the sum of f of each; f of each, where it gives a value; the decimal digits of n; equal texts; whether xs begins with p; whether there is a value; o, or p where there is none; f of the value; the value before xs, where there is one |
+| `drop n xs`, `replicate n x`, `slice_set xs i x`, `sum_by f xs`, `filter_map f xs`, `decimal n`, `bytes_eq a b`, `starts_with nat_eq xs p`, `is_some o`, `option_or o p`, `option_and_then f o`, `cons_option o xs` | without the first n; n times x; xs with x at place i; the sum of f of each; f of each, where it gives a value; the decimal digits of n; equal texts; whether xs begins with p; whether there is a value; o, or p where there is none; f of the value; the value before xs, where there is one |
 | `λ x. e`, `let x = e in ..`, `if c then a else b`, `do x ← e ..` | a function, a name, a choice; e and what follows it, unless e is an error |
 | `abbrev`, `unfoldable`, `pub`, `{A : Type 0}` | how the checker opens a name, who may use it, an argument that is left out: none of it matters for the meaning |
 

@@ -48,10 +48,11 @@ HasFault old new = Rose old.counts.failed new.counts.failed ⊎ Rose old.faults 
 abbrev pub WritesAll : List ℕ → World → World → Type 0
 WritesAll bytes old new = Appends old.written new.written bytes × NoFault old new
 
--- the words ask for a script over a configuration of their own, for its texts or for what a rule leaves undecided; a demonstration isn't such
+-- the words ask for a script over a configuration: their own, for its texts or for what a rule leaves undecided, or that of a demonstration
 abbrev pub AsksRun : Option Asked → Type 0
 AsksRun (Some (for_run config script)) = ⊤
 AsksRun (Some (for_pairs config script rule at)) = ⊤
+AsksRun (Some (for_demo hours)) = ⊤
 AsksRun _ = ⊥
 
 -- the run wrote all of what the words and the files give where the run ends so, and no fault came

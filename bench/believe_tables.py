@@ -7,17 +7,17 @@ SUBJECTS = [
     ("Codes and machines", "event_codes colour_machine channel_tables"),
     ("Store and edits", "hour_store session.Ranges session.Edits"),
     ("Histories and agreement", "reach.Runs board.Channels board.History signal_log.Log signal_log.Rows signal_log.States"
-     " free_channels"),
+     " signal_log.Points free_channels"),
     ("Rules and verdicts", "reach.Tests board.Verdicts rule_audit hour_work.Verdicts hour_work.Counts"),
     ("Decisive windows", "decisive session.Windows"),
     ("Measures", "hour_sums hour_sweep.Numbers service_cut.Signs service_cut.Services service_cut.Cycles service_cut.Cut"
-     " state_tenths stop_bar.Lists stop_bar.Bars stop_bar.All split_measures other_measures.LastRows other_measures.Peds"
+     " state_tenths detector_state split_windows stop_bar.Crossing stop_bar.Lists stop_bar.Bars"
+     " stop_bar.All split_measures other_measures.LastRows other_measures.Peds"
      " other_measures.Preempts other_measures.Sums other_measures.States other_measures.Hours cycle_arrivals.Arrivals"
      " cycle_arrivals.Own cycle_arrivals.Green arrival_measures.Faults arrival_measures.Travel arrival_measures.Cycles"
      " arrival_measures.Judged arrival_measures.Hours arrival_measures.Points offset_search hour_work.Rows hour_work.Measures"
      " hour_work.Numbers measure_laws"),
-    ("What moves", "reach.Past reach.Ahead board.Hours board.Places board.Stops signal_log.Points service_cut.Parts"
-     " detector_state split_windows stop_bar.Crossing other_measures.Crossing cycle_arrivals.Opens arrival_measures.Crossing"
+    ("What moves", "board.Hours service_cut.Parts cycle_arrivals.Opens arrival_measures.Crossing"
      " hour_work.Points hour_work.Moved session.Moved"),
     ("Files", "row_reader hour_pack sigaudit.HourFile"),
     ("Configuration", "ring_config"),
@@ -199,7 +199,7 @@ Words that stand everywhere: a range *from a up to b* leaves b out, unless it is
 """
 
 CLAUSES = """
-A `Shelf` has of its own, beside its calls, `S.files`: what is at each name, where it is revealed, and `S.counts`: how often a file was missing, a fetch failed and a file was too long. A `Sink` has `K.taken`: the bytes that it took, where they are revealed, and how often it failed. The shelf and the sink in memory reveal all; those of a disk and of standard output reveal nothing. So of a run with a disk or standard output only `cause`, `usage`, `alone`, `never_fall` and `grow` say something: that it too writes the transcript doesn't follow from the clauses, but rests on `run` being one code for all shelves and sinks, and on a disk giving what is at the name. `words` are the words after the program's name, `reads` how often each hour of the window was opened. The answer is a `Status`; `exit_code` gives each its number, from 0 for `Done` to 6 for `NoFile`.
+A `Shelf` has of its own, beside its calls, `S.files`: what is at each name, where it is revealed, and `S.counts`: how often a file was missing, a fetch failed and a file was too long. A `Sink` has `K.taken`: the bytes that it took, where they are revealed, and how often it failed. The shelf and the sink in memory reveal all; those of a disk and of standard output reveal nothing. So of a run with a disk or standard output only `cause`, `usage`, `alone`, `never_fall` and `grow` say something: that it too writes the transcript doesn't follow from the clauses, but rests on `run` being one code for all shelves and sinks, and on a disk giving what is at the name. `Global` is the allocator, and `L` a mark that ties a counter to the rows of one store. A `Words` is seen as the list of its texts, a `Reads` as the list of its 744 counts. `words` are the words after the program's name, `reads` how often each hour of the window was opened. The answer is a `Status`; `exit_code` gives each its number, from 0 for `Done` to 6 for `NoFile`.
 """
 
 MARKS = """

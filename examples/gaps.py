@@ -28,9 +28,12 @@ what these scores are worth together by telling gaps that it cuts into the log i
 All draws have fixed seeds: the same log gives the same scores.
 """
 import bisect
+import collections
 import heapq
+import itertools
 import math
 import multiprocessing
+import operator
 import random
 
 import fits
@@ -186,10 +189,13 @@ class Channel:
 
     @staticmethod
     def across(holes, begin, end, gap):
-        """Whether another hole than the gap lies between two rows."""
+        """Whether another hole than that of the gap lies between two rows, or begins or ends there: one that is put
+        over several gaps has rows in it, and what follows such a row may be lost."""
         k = bisect.bisect_right(holes, (begin, -1))
+        if k and holes[k - 1][1] > begin:
+            k -= 1
         while k < len(holes) and holes[k][0] < end:
-            if holes[k][1] <= end and holes[k] != gap:
+            if not (holes[k][0] <= gap[0] and gap[1] <= holes[k][1]):
                 return True
             k += 1
         return False
@@ -221,6 +227,13 @@ def longer(times, than, own):
     return max(0, len(times) - bisect.bisect_right(times, than) - own)
 
 
+def usual_step(tenths):
+    """The most usual time from one stamp to the next. A logger that writes in batches and stamps by these has its own;
+    then a gap needs half of it more to lack one."""
+    steps = collections.Counter(map(operator.sub, tenths[1:], tenths))
+    return max(steps, key=steps.get, default=1)
+
+
 class Gaps:
     """The gaps of a log, each with its score. stretches are (begin, end, rows) of hours that follow one another without
     one missing, rows (tenth, code, parameter) in order; rings says the ring of each phase; contradicts says of a gap
@@ -235,24 +248,23 @@ class Gaps:
         for begin, end in self.stretches:
             for tenth in range(begin, end, BIN):
                 known[bin_of(tenth)] += BIN
-        self.tenths, marks = [], {}
-        for _, _, rows in stretches:
-            for tenth, code, param in rows:
-                if not self.tenths or self.tenths[-1] != tenth:
-                    self.tenths.append(tenth)
-                group = group_of(code, param, rings)
-                marks.setdefault(group, {}).setdefault(tenth, []).append((code, param))
-        self.channels = {}
-        for group in sorted(marks):
-            channel = self.channels[group] = Channel()
-            for tenth, here in marks.pop(group).items():
-                channel.add(tenth, tuple(here[-1:]) if group[0] == "detector" else tuple(sorted(set(here))))
+        self.tenths, channels = [], collections.defaultdict(Channel)
+        for tenth, rows in itertools.groupby(itertools.chain(*(rows for _, _, rows in stretches)), lambda row: row[0]):
+            self.tenths.append(tenth)
+            here = {}
+            for _, code, param in rows:
+                here.setdefault(group_of(code, param, rings), []).append((code, param))
+            for group, mine in here.items():
+                channels[group].add(tenth, tuple(mine[-1:] if group[0] == "detector" else sorted(set(mine))))
+        self.channels = dict(sorted(channels.items()))
+        for channel in self.channels.values():
             channel.count(known, missing)
         self.every = Channel()
         for tenth in self.tenths:
             self.every.add(tenth, 0)
         self.every.count(known, missing)
-        self.own = [(t, u) for t, u in zip(self.tenths, self.tenths[1:]) if u - t >= LEAST and not any(
+        self.least = max(LEAST, 3 * usual_step(self.tenths) // 2)
+        self.own = [(t, u) for t, u in zip(self.tenths, self.tenths[1:]) if u - t >= self.least and not any(
             t < end and begin < u for begin, end in missing)]
 
     def enough(self):
@@ -319,7 +331,7 @@ class Gaps:
         if not 0 < i < j < len(self.tenths) or self.tenths[i - 1] < begin or self.tenths[j] >= end:
             return None
         gap = self.tenths[i - 1], self.tenths[j]
-        return (*gap, length) if gap[1] - gap[0] >= LEAST else None
+        return (*gap, length) if gap[1] - gap[0] >= self.least else None
 
     def learn(self, jobs=1):
         """The weights: the log's own gaps against cuts, again without those of its own that look like cuts. False where
@@ -350,7 +362,7 @@ class Gaps:
         return self.odds(self.vector((begin, end)))
 
     def take(self, holes):
-        """From now on these are known holes: rows on both sides of one tell nothing together."""
+        """From now on these are known holes, apart from one another: rows on both sides of one tell nothing together."""
         self.holes = sorted([*self.holes, *((begin, end - 1) for begin, end in holes)])
 
     def find(self, least=WEAK, taken=LIKELY):

@@ -10,17 +10,19 @@ what these scores are worth together by telling gaps that it cuts into the log i
 2. A channel's score. Its last row before the gap is x, the first after it y. Without a hole, the row after an x that
    hadn't come up to the gap was y and came when it did: the share of it is counted among the log's own times from an
    x to the next row, most of all those at this time of day. With a hole, y is the first row of a channel that goes on
-   unseen: counted are the times before a y that last longer than the silence behind the gap. The score is the
-   logarithm of the second share over the first. It is a likelihood ratio of renewal processes with marks, by
-   empirical distributions (D. R. Cox and P. A. W. Lewis, The Statistical Analysis of Series of Events, 1966). The
-   gap's own time is left out of what it is compared with. Lengths of yellow, least greens, walks, and that a detector
-   goes on and off in turns come out of the counts; none stands here as a rule.
+   unseen: counted are the times before a y that last longer than the silence behind the gap. The second share over the
+   first is a likelihood ratio of renewal processes with marks, by empirical distributions (D. R. Cox and P. A. W. Lewis,
+   The Statistical Analysis of Series of Events, 1966). The gap's own time is left out of what it is compared with.
+   If x and y are odd together, the hole may be in any gap between them: so each has its part of the ratio, by their
+   number. And a hole that took no row of a channel leaves x and y as they are: so the score is the logarithm of 1 and
+   that part together, and a channel that goes on as ever says nothing. Lengths of yellow, least greens, walks, and that
+   a detector goes on and off in turns come out of the counts; none stands here as a rule.
 3. What scores are worth together. Channels depend on one another, so their scores don't just add. CUTS stretches are
    cut out of the log at random places with lengths from SHORTEST to LONGEST, of those that leave no contradiction
    (the others are found without a model), and a logistic regression over the numbers of `vector` tells the gaps that
-   so come from the log's own. The log's own gaps may hide holes: the
-   regression is fitted again without those that look like cuts (the case of learning from positive and unlabelled
-   examples: C. Elkan and K. Noto, Learning Classifiers from Only Positive and Unlabeled Data, 2008).
+   so come from the log's own, but those where the log contradicts itself. These may hide holes too: the regression is
+   fitted again without those that look like cuts (the case of learning from positive and unlabelled examples: C. Elkan
+   and K. Noto, Learning Classifiers from Only Positive and Unlabeled Data, 2008).
 4. Best first. The likeliest gap is taken as a hole, and rows on both sides of it count together no longer; so it
    explains its neighbours away. Then the next.
 5. Other cuts, which the regression hasn't seen, tell which outages are found in this log, and which aren't.
@@ -47,7 +49,7 @@ ENOUGH = 30           # times of a row: a share of one in thirty is told from no
 ENOUGH_GAPS = 200     # gaps around a time of day, to rank a silence among them
 CUTS = 500            # for learning: 25 for each number of a vector
 SHORTEST, LONGEST = 50, 18000   # tenths: their lengths, five seconds to half an hour
-FAR = 8.0             # no channel's score is more: one odd row alone isn't a hole (e^8 is 1 in 3,000)
+FAR = 3000            # no channel's ratio is more: one odd row alone isn't a hole
 ROUNDS = 4            # of learning without the gaps that look like cuts
 RIDGE = 1.0           # of the regression. On d1 of bench/days and another day all from 0.1 to 1 find the same; fifths of
                       # the gaps and cuts, left out in turn, are told apart by 1.5 % of the log likelihood better with
@@ -145,8 +147,9 @@ class Channel:
         i, j = bisect.bisect_right(self.tenths, begin) - 1, bisect.bisect_left(self.tenths, end)
         return None if i < 0 or j == len(self.tenths) else (i, j)
 
-    def score(self, begin, end, holes):
-        """The logarithm of how much likelier its rows on both sides are with a hole in the gap; 0 across another."""
+    def score(self, begin, end, holes, begins):
+        """How much likelier its rows on both sides are with a hole in the gap, a logarithm; 0 where they tell nothing,
+        as across another hole. `begins` has where the log's gaps begin."""
         sides = self.sides(begin, end)
         if sides is None:
             return 0.0
@@ -167,8 +170,10 @@ class Channel:
         share = (density(all_xy, spans, own) + tail) / (longer(all_x, age, own) + 1)
         share = (density(near_xy, spans, own_x) + 4 * share) / (longer(near_x, age, own_x) + 4)
         fresh = (longer(near_y, silence, own_y) + 0.5) / known
-        most = min(FAR, math.log(1 + len(all_x)))    # a row that was seen twice can't say much
-        return max(-most, min(most, math.log(fresh / share)))
+        most = min(FAR, 1 + len(all_x))    # a row that was seen twice can't say much
+        left = bisect.bisect_left
+        others = left(begins, begin) - left(begins, before) + left(begins, after) - left(begins, end)
+        return math.log1p(min(most, fresh / share) / (1 + others))
 
     def explained(self, begin, end):
         """Its rows on both sides of a gap, and what usually follows such a row."""
@@ -237,10 +242,11 @@ def usual_step(tenths):
 class Gaps:
     """The gaps of a log, each with its score. stretches are (begin, end, rows) of hours that follow one another without
     one missing, rows (tenth, code, parameter) in order; rings says the ring of each phase; contradicts says of a gap
-    whether the machines find a hole in it by themselves, were there a hole."""
+    whether the machines find a hole in it by themselves, were there a hole; wrong has the first and the last tenth of
+    each stretch in which they do find one."""
 
-    def __init__(self, stretches, rings, contradicts=lambda gap: False):
-        self.holes, self.contradicts = [], contradicts
+    def __init__(self, stretches, rings, contradicts, wrong):
+        self.holes, self.contradicts, self.wrong = [], contradicts, wrong
         self.stretches = [(begin, end) for begin, end, _ in stretches]
         missing = [(a[1], b[0]) for a, b in zip(self.stretches, self.stretches[1:])]
         self.days = sum(end - begin for begin, end in self.stretches) / (24 * logs.HOUR)
@@ -266,6 +272,7 @@ class Gaps:
         self.least = max(LEAST, 3 * usual_step(self.tenths) // 2)
         self.own = [(t, u) for t, u in zip(self.tenths, self.tenths[1:]) if u - t >= self.least and not any(
             t < end and begin < u for begin, end in missing)]
+        self.begins = [begin for begin, _ in self.own]
 
     def enough(self):
         """Whether there is something to learn from: gaps enough to tell twenty numbers, rows enough to cut."""
@@ -297,10 +304,10 @@ class Gaps:
                         + right(self.tenths, end + reach) - left(self.tenths, end))
 
     def scores(self, begin, end):
-        return {group: channel.score(begin, end, self.holes) for group, channel in self.channels.items()}
+        return {group: channel.score(begin, end, self.holes, self.begins) for group, channel in self.channels.items()}
 
     def vector(self, gap):
-        """What the regression is told of a gap: 14 numbers, and six products where one bends with another."""
+        """What the regression is told of a gap: 13 numbers, and six products where one bends with another."""
         begin, end = gap
         sums = dict.fromkeys(SUMMED, 0.0)
         each = self.scores(begin, end)
@@ -311,7 +318,7 @@ class Gaps:
         silent, length = self.silent(begin, end), math.log(end - begin)
         odd = min(40.0, sum(score - 3 for score in worst if score > 3))    # those that fit 20 times worse and more
         busy = self.busy(begin, end, logs.HOUR // 2)
-        plain = [*sums.values(), silent, length, worst[0], worst[1] + worst[2], sum(s for s in worst if s < 0), odd,
+        plain = [*sums.values(), silent, length, worst[0], worst[1] + worst[2], odd,
                  self.busy(begin, end, logs.HOUR // 12), busy]
         bent = [length * busy, worst[0] * busy, math.log(0.01 + silent), math.log1p(odd), busy * busy, length * length]
         return [max(-12.0, min(40.0, value)) for value in plain] + bent
@@ -343,8 +350,10 @@ class Gaps:
             return False
         made = [self.vector(cut[:2]) for cut in cuts]
         self.vectors = dict(zip(self.own, spread(self.vector, self.own, jobs)))
-        step = max(1, len(self.own) // 4000)
-        own = list(self.vectors.values())[::step]
+        own = [vector for (begin, end), vector in self.vectors.items()
+               if not any(low < end and begin < high for low, high in self.wrong)]
+        step = max(1, len(own) // 4000)
+        own = own[::step]
         self.base = math.log(len(made) / self.days)
         self.weights, kept = fits.regression(own, made, step, RIDGE), own
         for _ in range(ROUNDS):

@@ -126,10 +126,12 @@ def model_of(log, config, jobs=1):
     """The model of a log, learned; None where the log is too small."""
     rings = {entry["number"]: entry["ring"] for entry in (config or {}).get("phase", [])}
     rows, floors = machine_rows(log), machines.floors_of(config)
-    odd = {kind for kind, *_ in misfits(rows, contradictions(rows, floors, log.missing()))}
+    wrong = contradictions(rows, floors, log.missing())
+    odd = {kind for kind, *_ in misfits(rows, wrong)}
     rows = {channel: mine for channel, mine in rows.items() if channel[0] not in odd}
     stretches = [(begin, end, log.rows(begin, end)) for begin, end in log.stretches()]
-    model = gaps.Gaps(stretches, rings, contradicts(rows, floors))
+    model = gaps.Gaps(stretches, rings, contradicts(rows, floors),
+                      [(low, high) for _, low, high, channel, _ in wrong if channel[0] not in odd])
     return model if model.enough() and model.learn(jobs) else None
 
 

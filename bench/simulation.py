@@ -4,12 +4,14 @@
     rows = signal.days(2)                     # (tenth, code, parameter) in order, of two days from START on
     text = signal.config(hours=48)            # its configuration
 
-START is a Tuesday. The controller has two rings and a barrier. It runs free by night and coordinated by plans by day, with gap-outs (code
-4), greatest greens (5) and force-offs (6), walks on call, and rests in the green of the main street while nobody calls.
-Vehicles come in Poisson fashion, on the main street in platoons of another signal's cycle, pass the advance loop, queue
-at the stop bar, and leave at two seconds' headway. The log has what a controller writes: detectors, calls, phases,
-walks, coordination; each as legal for the machines of docs/FORMATS.md. What is drawn and what isn't modelled (lanes
-that change, turns on red, preemption) is to be read below; d1 and d3 in bench/days are of another simulation.
+The first day, from START on, is a Tuesday. The controller has two rings and a barrier. It runs free by night and
+coordinated by plans by day, with gap-outs (code 4), greatest greens (5) and force-offs (6), walks on call, and rests in
+the green of the main street while nobody calls. Vehicles come in Poisson fashion, on the main street in platoons of
+another signal's cycle, pass the advance loop, queue at the stop bar, and leave at two seconds' headway. The log has
+what a controller writes: detectors, calls, phases, walks, coordination; each as legal for the machines of
+docs/FORMATS.md.
+What is drawn and what isn't modelled (lanes that change, turns on red, preemption) is to be read below; d1 and d3 in
+bench/days are of another simulation.
 """
 import heapq
 import math
@@ -26,7 +28,8 @@ MAIN = (2, 6)
 SHARES = (.04, .02, .015, .015, .03, .12, .38, .85, .9, .65, .6, .65, .72, .7, .72, .82, .95, 1.0, .8, .55, .4, .3, .17, .08)
 PLANS = ((6, 9), (9, 15), (15, 19), (19, 22))   # hours of coordination; free without one
 # A Saturday's and a Sunday's: no peaks, and one plan, that of the weekdays' noon.
-WEEKEND = (.1, .07, .05, .04, .03, .04, .1, .18, .32, .48, .6, .68, .7, .68, .66, .65, .64, .6, .52, .42, .34, .26, .2, .14)
+WEEKEND = (.1, .07, .05, .04, .03, .04, .1, .18, .32, .48, .6, .68, .7, .68, .66, .65, .64, .6, .52, .42, .34, .26, .2,
+           .14)
 WEEKEND_PLAN = 9, 19
 
 

@@ -11,12 +11,12 @@ what these scores are worth together by telling gaps that it cuts into the log i
    hadn't come up to the gap was y and came when it did: the share of it is counted among the log's own times from an
    x to the next row, most of all those at this time of day. With a hole, y is the first row of a channel that goes on
    unseen: counted are the times before a y that last longer than the silence behind the gap. The second share over the
-   first is a likelihood ratio of renewal processes with marks, by empirical distributions (D. R. Cox and P. A. W. Lewis,
-   The Statistical Analysis of Series of Events, 1966). The gap's own time is left out of what it is compared with.
-   If x and y are odd together, the hole may be in any gap between them: so each has its part of the ratio, by their
-   number. And a hole that took no row of a channel leaves x and y as they are: so the score is the logarithm of 1 and
-   that part together, and a channel that goes on as ever says nothing. Lengths of yellow, least greens, walks, and that
-   a detector goes on and off in turns come out of the counts; none stands here as a rule.
+   first is a likelihood ratio of renewal processes with marks, by empirical distributions (D. R. Cox and P. A. W.
+   Lewis, The Statistical Analysis of Series of Events, 1966). The gap's own time is left out of what it is compared
+   with. If x and y are odd together, the hole may be in any gap between them: so each has its part of the ratio, by
+   their number. And a hole that took no row of a channel leaves x and y as they are: so the score is the logarithm of
+   1 and that part together, and a channel that goes on as ever says nothing. Lengths of yellow, least greens, walks,
+   and that a detector goes on and off in turns come out of the counts; none stands here as a rule.
 3. What scores are worth together. Channels depend on one another, so their scores don't just add. CUTS stretches are
    cut out of the log at random places with lengths from SHORTEST to LONGEST, of those that leave no contradiction
    (the others are found without a model), and a logistic regression over the numbers of `vector` tells the gaps that
@@ -47,13 +47,12 @@ BINS = 24 * logs.HOUR // BIN
 WIDTHS = (3, 6, 12, 24, BINS // 2)    # so many bins to each side are counted together, until there are ENOUGH
 ENOUGH = 30           # times of a row: a share of one in thirty is told from none
 ENOUGH_GAPS = 200     # gaps around a time of day, to rank a silence among them
-CUTS = 500            # for learning: 25 for each number of a vector
+CUTS = 500            # for learning: 25 and more for each number of a vector
 SHORTEST, LONGEST = 50, 18000   # tenths: their lengths, five seconds to half an hour
 FAR = 3000            # no channel's ratio is more: one odd row alone isn't a hole
+FULL = 40.0           # no number of a vector is more: what ten channels say that fit worst is enough
 ROUNDS = 4            # of learning without the gaps that look like cuts
-RIDGE = 1.0           # of the regression. On d1 of bench/days and another day all from 0.1 to 1 find the same; fifths of
-                      # the gaps and cuts, left out in turn, are told apart by 1.5 % of the log likelihood better with
-                      # 0.1 than with 1, and by 2 % worse with 3. The largest that finds the same trusts odd numbers least
+RIDGE = 1.0           # of the regression: before the log is seen, a number of spread 1 is held to weigh some 1
 RING_CODES = {0, 1, 3, 4, 5, 6, 7, 8, 9, 10, 11, 12}
 CALLS = {43: "call", 44: "call", 45: "ped_detector"}
 SUMMED = ("ring", "detector", "ped", "ped_detector", "call", "other")
@@ -239,6 +238,10 @@ def usual_step(tenths):
     return max(steps, key=steps.get, default=1)
 
 
+def overlaps(gap, stretches):
+    return any(gap[0] < end and begin < gap[1] for begin, end in stretches)
+
+
 class Gaps:
     """The gaps of a log, each with its score. stretches are (begin, end, rows) of hours that follow one another without
     one missing, rows (tenth, code, parameter) in order; rings says the ring of each phase; contradicts says of a gap
@@ -246,7 +249,7 @@ class Gaps:
     each stretch in which they do find one."""
 
     def __init__(self, stretches, rings, contradicts, wrong):
-        self.holes, self.contradicts, self.wrong = [], contradicts, wrong
+        self.holes, self.contradicts = [], contradicts
         self.stretches = [(begin, end) for begin, end, _ in stretches]
         missing = [(a[1], b[0]) for a, b in zip(self.stretches, self.stretches[1:])]
         self.days = sum(end - begin for begin, end in self.stretches) / (24 * logs.HOUR)
@@ -254,29 +257,35 @@ class Gaps:
         for begin, end in self.stretches:
             for tenth in range(begin, end, BIN):
                 known[bin_of(tenth)] += BIN
-        self.tenths, channels = [], collections.defaultdict(Channel)
-        for tenth, rows in itertools.groupby(itertools.chain(*(rows for _, _, rows in stretches)), lambda row: row[0]):
+        self.tenths = []
+        self.channels = self.read(stretches, rings)
+        self.every = Channel()
+        for tenth in self.tenths:
+            self.every.add(tenth, 0)
+        for channel in (self.every, *self.channels.values()):
+            channel.count(known, missing)
+        self.least = max(LEAST, 3 * usual_step(self.tenths) // 2)
+        self.own = [gap for gap in zip(self.tenths, self.tenths[1:])
+                    if gap[1] - gap[0] >= self.least and not overlaps(gap, missing)]
+        self.begins = [begin for begin, _ in self.own]
+        self.examples = [gap for gap in self.own if not overlaps(gap, wrong)]
+
+    def read(self, stretches, rings):
+        """The channels by their groups in order, of all rows."""
+        found = collections.defaultdict(Channel)
+        every = itertools.chain.from_iterable(rows for _, _, rows in stretches)
+        for tenth, rows in itertools.groupby(every, lambda row: row[0]):
             self.tenths.append(tenth)
             here = {}
             for _, code, param in rows:
                 here.setdefault(group_of(code, param, rings), []).append((code, param))
             for group, mine in here.items():
-                channels[group].add(tenth, tuple(mine[-1:] if group[0] == "detector" else sorted(set(mine))))
-        self.channels = dict(sorted(channels.items()))
-        for channel in self.channels.values():
-            channel.count(known, missing)
-        self.every = Channel()
-        for tenth in self.tenths:
-            self.every.add(tenth, 0)
-        self.every.count(known, missing)
-        self.least = max(LEAST, 3 * usual_step(self.tenths) // 2)
-        self.own = [(t, u) for t, u in zip(self.tenths, self.tenths[1:]) if u - t >= self.least and not any(
-            t < end and begin < u for begin, end in missing)]
-        self.begins = [begin for begin, _ in self.own]
+                found[group].add(tenth, tuple(mine[-1:] if group[0] == "detector" else sorted(set(mine))))
+        return dict(sorted(found.items()))
 
     def enough(self):
         """Whether there is something to learn from: gaps enough to tell twenty numbers, rows enough to cut."""
-        return len(self.own) >= 100 and len(self.tenths) >= 1000
+        return len(self.examples) >= 100 and len(self.tenths) >= 1000
 
     def rank(self, begin, end):
         """How many gaps around this time of day last at least as long, and of how many; the times themselves."""
@@ -316,12 +325,12 @@ class Gaps:
             sums[kind if kind in sums else "other"] += score
         worst = sorted(each.values(), reverse=True) + [0.0] * 3
         silent, length = self.silent(begin, end), math.log(end - begin)
-        odd = min(40.0, sum(score - 3 for score in worst if score > 3))    # those that fit 20 times worse and more
+        odd = min(FULL, sum(score - 3 for score in worst if score > 3))    # those that fit 20 times worse and more
         busy = self.busy(begin, end, logs.HOUR // 2)
         plain = [*sums.values(), silent, length, worst[0], worst[1] + worst[2], odd,
                  self.busy(begin, end, logs.HOUR // 12), busy]
         bent = [length * busy, worst[0] * busy, math.log(0.01 + silent), math.log1p(odd), busy * busy, length * length]
-        return [max(-12.0, min(40.0, value)) for value in plain] + bent
+        return [min(FULL, value) for value in plain] + bent
 
     def draw(self, rng, shortest, longest, hours=None):
         """A stretch at random, cut out of the log: (row before, row after, length); None where no row is lost."""
@@ -350,10 +359,8 @@ class Gaps:
             return False
         made = [self.vector(cut[:2]) for cut in cuts]
         self.vectors = dict(zip(self.own, spread(self.vector, self.own, jobs)))
-        own = [vector for (begin, end), vector in self.vectors.items()
-               if not any(low < end and begin < high for low, high in self.wrong)]
-        step = max(1, len(own) // 4000)
-        own = own[::step]
+        step = max(1, len(self.examples) // 4000)
+        own = [self.vectors[gap] for gap in self.examples[::step]]
         self.base = math.log(len(made) / self.days)
         self.weights, kept = fits.regression(own, made, step, RIDGE), own
         for _ in range(ROUNDS):
@@ -371,14 +378,13 @@ class Gaps:
         return self.odds(self.vector((begin, end)))
 
     def take(self, holes):
-        """From now on these are known holes, apart from one another: rows on both sides of one tell nothing together."""
+        """From now on these are known holes, none over another: rows on both sides of one tell nothing together."""
         self.holes = sorted([*self.holes, *((begin, end - 1) for begin, end in holes)])
 
     def find(self, least=WEAK, taken=LIKELY):
         """The likeliest gaps one after another, each from `taken` on held for a hole before the next: (odds, gap)."""
         heap = [(-self.odds(vector), gap) for gap, vector in self.vectors.items()]
-        heap = [entry for entry in heap if -entry[0] >= least and not any(
-            begin < entry[1][1] and entry[1][0] < end for begin, end in self.holes)]
+        heap = [entry for entry in heap if -entry[0] >= least and not overlaps(entry[1], self.holes)]
         heapq.heapify(heap)
         found, scored_at = [], {}
         while heap:
@@ -402,7 +408,7 @@ class Gaps:
                 cuts = []
                 for _ in range(40 * CHANCE_CUTS):
                     cut = self.draw(rng, shortest, longest, (first, last))
-                    if cut and not any(a < cut[1] and cut[0] < b for a, b in self.holes):
+                    if cut and not overlaps(cut[:2], self.holes):
                         cuts.append(cut)
                     if len(cuts) == CHANCE_CUTS:
                         break

@@ -56,8 +56,8 @@ RIDGE = 1.0           # of the regression: before the log is seen, a number of s
 RING_CODES = {0, 1, 3, 4, 5, 6, 7, 8, 9, 10, 11, 12}
 CALLS = {43: "call", 44: "call", 45: "ped_detector"}
 SUMMED = ("ring", "detector", "ped", "ped_detector", "call", "other")
-# Grades by the logarithm of the odds of a hole, were there one cut a day that doesn't contradict. Without a hole, two
-# simulated days had one `likely` gap in a week, and six `weak` ones a day.
+# Grades by the logarithm of the odds of a hole, were there one cut a day that doesn't contradict. Without a hole, three
+# simulated days, d1 and d3 of bench/days among them, had no `likely` gap, and six `weak` ones a day.
 SURE, LIKELY, WEAK = 0.0, -2.5, -5.0
 # The lengths and the parts of the day of `chances`, in tenths and hours; CHANCE_CUTS draws for each of both.
 LENGTHS = (50, 150, 600, 3000, 18000)

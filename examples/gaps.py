@@ -52,9 +52,9 @@ SHORTEST, LONGEST = 50, 18000   # tenths: their lengths, five seconds to half an
 FAR = 3000            # no channel's ratio is more: one odd row alone isn't a hole
 FULL = 40.0           # no number of a vector is more: what ten channels say that fit worst is enough
 ROUNDS = 4            # of learning without the gaps that look like cuts
-RIDGE = 1.0           # of the regression: before the log is seen, a number of spread 1 is held to weigh some 1. Fifths of
-                      # the gaps and cuts of three days, left out in turn, are told apart best with it on two of them,
-                      # and by 1 % of the log likelihood worse than with 0.1 on one
+RIDGE = 1.0           # of the regression: before the log is seen, a number of spread 1 is held to weigh some 1. Fifths
+                      # of the gaps and cuts of three days, left out in turn, are told apart best with it on two of
+                      # them, and by 1 % of the log likelihood worse than with 0.1 on one
 RING_CODES = {0, 1, 3, 4, 5, 6, 7, 8, 9, 10, 11, 12}
 CALLS = {43: "call", 44: "call", 45: "ped_detector"}
 SUMMED = ("ring", "detector", "ped", "ped_detector", "call", "other")

@@ -4,12 +4,14 @@
     rows = signal.days(2)                     # (tenth, code, parameter) in order, of two days from START on
     text = signal.config(hours=48)            # its configuration
 
-The controller has two rings and a barrier. It runs free by night and coordinated by plans by day, with gap-outs (code
-4), greatest greens (5) and force-offs (6), walks on call, and rests in the green of the main street while nobody calls.
-Vehicles come in Poisson fashion, on the main street in platoons of another signal's cycle, pass the advance loop, queue
-at the stop bar, and leave at two seconds' headway. The log has what a controller writes: detectors, calls, phases,
-walks, coordination; each as legal for the machines of docs/FORMATS.md. What is drawn and what isn't modelled (lanes
-that change, turns on red, preemption) is to be read below; d1 and d3 in bench/days are of another simulation.
+The first day, from START on, is a Tuesday. The controller has two rings and a barrier. It runs free by night and
+coordinated by plans by day, with gap-outs (code 4), greatest greens (5) and force-offs (6), walks on call, and rests in
+the green of the main street while nobody calls. Vehicles come in Poisson fashion, on the main street in platoons of
+another signal's cycle, pass the advance loop, queue at the stop bar, and leave at two seconds' headway. The log has
+what a controller writes: detectors, calls, phases, walks, coordination; each as legal for the machines of
+docs/FORMATS.md.
+What is drawn and what isn't modelled (lanes that change, turns on red, preemption) is to be read below; d1 and d3 in
+bench/days are of another simulation.
 """
 import heapq
 import math
@@ -25,6 +27,14 @@ MAIN = (2, 6)
 # The share of the busiest hour's flow at each hour, from midnight on: a town's weekday.
 SHARES = (.04, .02, .015, .015, .03, .12, .38, .85, .9, .65, .6, .65, .72, .7, .72, .82, .95, 1.0, .8, .55, .4, .3, .17, .08)
 PLANS = ((6, 9), (9, 15), (15, 19), (19, 22))   # hours of coordination; free without one
+# A Saturday's and a Sunday's: no peaks, and one plan, that of the weekdays' noon.
+WEEKEND = (.1, .07, .05, .04, .03, .04, .1, .18, .32, .48, .6, .68, .7, .68, .66, .65, .64, .6, .52, .42, .34, .26, .2,
+           .14)
+WEEKEND_PLAN = 9, 19
+
+
+def is_weekend(tenth):
+    return tenth // DAY % 7 in (6, 0)    # days count from a Monday, the first
 
 
 class Lane:
@@ -101,10 +111,13 @@ class Signal:
         hours = (tenth - START) / logs.HOUR % 24 - (self.shift if 5 < (tenth - START) / logs.HOUR % 24 < 21 else 0)
         place = int(hours) % 24
         part = hours - int(hours)
-        return (1 - part) * SHARES[place] + part * SHARES[(place + 1) % 24]
+        shares = WEEKEND if is_weekend(tenth) else SHARES
+        return (1 - part) * shares[place] + part * shares[(place + 1) % 24]
 
     def plan_at(self, tenth):
         hour = (tenth - START) // logs.HOUR % 24
+        if is_weekend(tenth):
+            return self.plans[PLANS[1]] if WEEKEND_PLAN[0] <= hour < WEEKEND_PLAN[1] else None
         return next((plan for (low, high), plan in self.plans.items() if low <= hour < high), None)
 
     def at(self, tenth, *what):

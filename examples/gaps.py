@@ -10,17 +10,19 @@ what these scores are worth together by telling gaps that it cuts into the log i
 2. A channel's score. Its last row before the gap is x, the first after it y. Without a hole, the row after an x that
    hadn't come up to the gap was y and came when it did: the share of it is counted among the log's own times from an
    x to the next row, most of all those at this time of day. With a hole, y is the first row of a channel that goes on
-   unseen: counted are the times before a y that last longer than the silence behind the gap. The score is the
-   logarithm of the second share over the first. It is a likelihood ratio of renewal processes with marks, by
-   empirical distributions (D. R. Cox and P. A. W. Lewis, The Statistical Analysis of Series of Events, 1966). The
-   gap's own time is left out of what it is compared with. Lengths of yellow, least greens, walks, and that a detector
-   goes on and off in turns come out of the counts; none stands here as a rule.
+   unseen: counted are the times before a y that last longer than the silence behind the gap. The second share over the
+   first is a likelihood ratio of renewal processes with marks, by empirical distributions (D. R. Cox and P. A. W.
+   Lewis, The Statistical Analysis of Series of Events, 1966). The gap's own time is left out of what it is compared
+   with. If x and y are odd together, the hole may be in any gap between them: so each has its part of the ratio, by
+   their number. And a hole that took no row of a channel leaves x and y as they are: so the score is the logarithm of
+   1 and that part together, and a channel that goes on as ever says nothing. Lengths of yellow, least greens, walks,
+   and that a detector goes on and off in turns come out of the counts; none stands here as a rule.
 3. What scores are worth together. Channels depend on one another, so their scores don't just add. CUTS stretches are
    cut out of the log at random places with lengths from SHORTEST to LONGEST, of those that leave no contradiction
    (the others are found without a model), and a logistic regression over the numbers of `vector` tells the gaps that
-   so come from the log's own. The log's own gaps may hide holes: the
-   regression is fitted again without those that look like cuts (the case of learning from positive and unlabelled
-   examples: C. Elkan and K. Noto, Learning Classifiers from Only Positive and Unlabeled Data, 2008).
+   so come from the log's own, but those where the log contradicts itself. These may hide holes too: the regression is
+   fitted again without those that look like cuts (the case of learning from positive and unlabelled examples: C. Elkan
+   and K. Noto, Learning Classifiers from Only Positive and Unlabeled Data, 2008).
 4. Best first. The likeliest gap is taken as a hole, and rows on both sides of it count together no longer; so it
    explains its neighbours away. Then the next.
 5. Other cuts, which the regression hasn't seen, tell which outages are found in this log, and which aren't.
@@ -28,9 +30,12 @@ what these scores are worth together by telling gaps that it cuts into the log i
 All draws have fixed seeds: the same log gives the same scores.
 """
 import bisect
+import collections
 import heapq
+import itertools
 import math
 import multiprocessing
+import operator
 import random
 
 import fits
@@ -42,18 +47,19 @@ BINS = 24 * logs.HOUR // BIN
 WIDTHS = (3, 6, 12, 24, BINS // 2)    # so many bins to each side are counted together, until there are ENOUGH
 ENOUGH = 30           # times of a row: a share of one in thirty is told from none
 ENOUGH_GAPS = 200     # gaps around a time of day, to rank a silence among them
-CUTS = 500            # for learning: 25 for each number of a vector
+CUTS = 500            # for learning: 25 and more for each number of a vector
 SHORTEST, LONGEST = 50, 18000   # tenths: their lengths, five seconds to half an hour
-FAR = 8.0             # no channel's score is more: one odd row alone isn't a hole (e^8 is 1 in 3,000)
+FAR = 3000            # no channel's ratio is more: one odd row alone isn't a hole
+FULL = 40.0           # no number of a vector is more: what ten channels say that fit worst is enough
 ROUNDS = 4            # of learning without the gaps that look like cuts
-RIDGE = 1.0           # of the regression. On d1 of bench/days and another day all from 0.1 to 1 find the same; fifths of
-                      # the gaps and cuts, left out in turn, are told apart by 1.5 % of the log likelihood better with
-                      # 0.1 than with 1, and by 2 % worse with 3. The largest that finds the same trusts odd numbers least
+RIDGE = 1.0           # of the regression: before the log is seen, a number of spread 1 is held to weigh some 1. Fifths
+                      # of the gaps and cuts of three days, left out in turn, are told apart best with it on two of
+                      # them, and by 1 % of the log likelihood worse than with 0.1 on one
 RING_CODES = {0, 1, 3, 4, 5, 6, 7, 8, 9, 10, 11, 12}
 CALLS = {43: "call", 44: "call", 45: "ped_detector"}
 SUMMED = ("ring", "detector", "ped", "ped_detector", "call", "other")
-# Grades by the logarithm of the odds of a hole, were there one cut a day that doesn't contradict. Without a hole, two
-# simulated days had one `likely` gap in a week, and six `weak` ones a day.
+# Grades by the logarithm of the odds of a hole, were there one cut a day that doesn't contradict. Without a hole, three
+# simulated days, d1 and d3 of bench/days among them, had no `likely` gap, and six `weak` ones a day.
 SURE, LIKELY, WEAK = 0.0, -2.5, -5.0
 # The lengths and the parts of the day of `chances`, in tenths and hours; CHANCE_CUTS draws for each of both.
 LENGTHS = (50, 150, 600, 3000, 18000)
@@ -142,8 +148,9 @@ class Channel:
         i, j = bisect.bisect_right(self.tenths, begin) - 1, bisect.bisect_left(self.tenths, end)
         return None if i < 0 or j == len(self.tenths) else (i, j)
 
-    def score(self, begin, end, holes):
-        """The logarithm of how much likelier its rows on both sides are with a hole in the gap; 0 across another."""
+    def score(self, begin, end, holes, begins):
+        """How much likelier its rows on both sides are with a hole in the gap, a logarithm; 0 where they tell nothing,
+        as across another hole. `begins` has where the log's gaps begin."""
         sides = self.sides(begin, end)
         if sides is None:
             return 0.0
@@ -164,8 +171,10 @@ class Channel:
         share = (density(all_xy, spans, own) + tail) / (longer(all_x, age, own) + 1)
         share = (density(near_xy, spans, own_x) + 4 * share) / (longer(near_x, age, own_x) + 4)
         fresh = (longer(near_y, silence, own_y) + 0.5) / known
-        most = min(FAR, math.log(1 + len(all_x)))    # a row that was seen twice can't say much
-        return max(-most, min(most, math.log(fresh / share)))
+        most = min(FAR, 1 + len(all_x))    # a row that was seen twice can't say much
+        left = bisect.bisect_left
+        others = left(begins, begin) - left(begins, before) + left(begins, after) - left(begins, end)
+        return math.log1p(min(most, fresh / share) / (1 + others))
 
     def explained(self, begin, end):
         """Its rows on both sides of a gap, and what usually follows such a row."""
@@ -186,10 +195,13 @@ class Channel:
 
     @staticmethod
     def across(holes, begin, end, gap):
-        """Whether another hole than the gap lies between two rows."""
+        """Whether another hole than that of the gap lies between two rows, or begins or ends there: one that is put
+        over several gaps has rows in it, and what follows such a row may be lost."""
         k = bisect.bisect_right(holes, (begin, -1))
+        if k and holes[k - 1][1] > begin:
+            k -= 1
         while k < len(holes) and holes[k][0] < end:
-            if holes[k][1] <= end and holes[k] != gap:
+            if not (holes[k][0] <= gap[0] and gap[1] <= holes[k][1]):
                 return True
             k += 1
         return False
@@ -221,12 +233,24 @@ def longer(times, than, own):
     return max(0, len(times) - bisect.bisect_right(times, than) - own)
 
 
+def usual_step(tenths):
+    """The most usual time from one stamp to the next. A logger that writes in batches and stamps by these has its own;
+    then a gap needs half of it more to lack one."""
+    steps = collections.Counter(map(operator.sub, tenths[1:], tenths))
+    return max(steps, key=steps.get, default=1)
+
+
+def overlaps(gap, stretches):
+    return any(gap[0] < end and begin < gap[1] for begin, end in stretches)
+
+
 class Gaps:
     """The gaps of a log, each with its score. stretches are (begin, end, rows) of hours that follow one another without
     one missing, rows (tenth, code, parameter) in order; rings says the ring of each phase; contradicts says of a gap
-    whether the machines find a hole in it by themselves, were there a hole."""
+    whether the machines find a hole in it by themselves, were there a hole; wrong has the first and the last tenth of
+    each stretch in which they do find one."""
 
-    def __init__(self, stretches, rings, contradicts=lambda gap: False):
+    def __init__(self, stretches, rings, contradicts, wrong):
         self.holes, self.contradicts = [], contradicts
         self.stretches = [(begin, end) for begin, end, _ in stretches]
         missing = [(a[1], b[0]) for a, b in zip(self.stretches, self.stretches[1:])]
@@ -235,29 +259,35 @@ class Gaps:
         for begin, end in self.stretches:
             for tenth in range(begin, end, BIN):
                 known[bin_of(tenth)] += BIN
-        self.tenths, marks = [], {}
-        for _, _, rows in stretches:
-            for tenth, code, param in rows:
-                if not self.tenths or self.tenths[-1] != tenth:
-                    self.tenths.append(tenth)
-                group = group_of(code, param, rings)
-                marks.setdefault(group, {}).setdefault(tenth, []).append((code, param))
-        self.channels = {}
-        for group in sorted(marks):
-            channel = self.channels[group] = Channel()
-            for tenth, here in marks.pop(group).items():
-                channel.add(tenth, tuple(here[-1:]) if group[0] == "detector" else tuple(sorted(set(here))))
-            channel.count(known, missing)
+        self.tenths = []
+        self.channels = self.read(stretches, rings)
         self.every = Channel()
         for tenth in self.tenths:
             self.every.add(tenth, 0)
-        self.every.count(known, missing)
-        self.own = [(t, u) for t, u in zip(self.tenths, self.tenths[1:]) if u - t >= LEAST and not any(
-            t < end and begin < u for begin, end in missing)]
+        for channel in (self.every, *self.channels.values()):
+            channel.count(known, missing)
+        self.least = max(LEAST, 3 * usual_step(self.tenths) // 2)
+        self.own = [gap for gap in zip(self.tenths, self.tenths[1:])
+                    if gap[1] - gap[0] >= self.least and not overlaps(gap, missing)]
+        self.begins = [begin for begin, _ in self.own]
+        self.examples = [gap for gap in self.own if not overlaps(gap, wrong)]
+
+    def read(self, stretches, rings):
+        """The channels by their groups in order, of all rows."""
+        found = collections.defaultdict(Channel)
+        every = itertools.chain.from_iterable(rows for _, _, rows in stretches)
+        for tenth, rows in itertools.groupby(every, lambda row: row[0]):
+            self.tenths.append(tenth)
+            here = {}
+            for _, code, param in rows:
+                here.setdefault(group_of(code, param, rings), []).append((code, param))
+            for group, mine in here.items():
+                found[group].add(tenth, tuple(mine[-1:] if group[0] == "detector" else sorted(set(mine))))
+        return dict(sorted(found.items()))
 
     def enough(self):
         """Whether there is something to learn from: gaps enough to tell twenty numbers, rows enough to cut."""
-        return len(self.own) >= 100 and len(self.tenths) >= 1000
+        return len(self.examples) >= 100 and len(self.tenths) >= 1000
 
     def rank(self, begin, end):
         """How many gaps around this time of day last at least as long, and of how many; the times themselves."""
@@ -285,10 +315,10 @@ class Gaps:
                         + right(self.tenths, end + reach) - left(self.tenths, end))
 
     def scores(self, begin, end):
-        return {group: channel.score(begin, end, self.holes) for group, channel in self.channels.items()}
+        return {group: channel.score(begin, end, self.holes, self.begins) for group, channel in self.channels.items()}
 
     def vector(self, gap):
-        """What the regression is told of a gap: 14 numbers, and six products where one bends with another."""
+        """What the regression is told of a gap: 13 numbers, and six products where one bends with another."""
         begin, end = gap
         sums = dict.fromkeys(SUMMED, 0.0)
         each = self.scores(begin, end)
@@ -297,12 +327,12 @@ class Gaps:
             sums[kind if kind in sums else "other"] += score
         worst = sorted(each.values(), reverse=True) + [0.0] * 3
         silent, length = self.silent(begin, end), math.log(end - begin)
-        odd = min(40.0, sum(score - 3 for score in worst if score > 3))    # those that fit 20 times worse and more
+        odd = min(FULL, sum(score - 3 for score in worst if score > 3))    # those that fit 20 times worse and more
         busy = self.busy(begin, end, logs.HOUR // 2)
-        plain = [*sums.values(), silent, length, worst[0], worst[1] + worst[2], sum(s for s in worst if s < 0), odd,
+        plain = [*sums.values(), silent, length, worst[0], worst[1] + worst[2], odd,
                  self.busy(begin, end, logs.HOUR // 12), busy]
         bent = [length * busy, worst[0] * busy, math.log(0.01 + silent), math.log1p(odd), busy * busy, length * length]
-        return [max(-12.0, min(40.0, value)) for value in plain] + bent
+        return [min(FULL, value) for value in plain] + bent
 
     def draw(self, rng, shortest, longest, hours=None):
         """A stretch at random, cut out of the log: (row before, row after, length); None where no row is lost."""
@@ -319,7 +349,7 @@ class Gaps:
         if not 0 < i < j < len(self.tenths) or self.tenths[i - 1] < begin or self.tenths[j] >= end:
             return None
         gap = self.tenths[i - 1], self.tenths[j]
-        return (*gap, length) if gap[1] - gap[0] >= LEAST else None
+        return (*gap, length) if gap[1] - gap[0] >= self.least else None
 
     def learn(self, jobs=1):
         """The weights: the log's own gaps against cuts, again without those of its own that look like cuts. False where
@@ -331,8 +361,8 @@ class Gaps:
             return False
         made = [self.vector(cut[:2]) for cut in cuts]
         self.vectors = dict(zip(self.own, spread(self.vector, self.own, jobs)))
-        step = max(1, len(self.own) // 4000)
-        own = list(self.vectors.values())[::step]
+        step = max(1, len(self.examples) // 4000)
+        own = [self.vectors[gap] for gap in self.examples[::step]]
         self.base = math.log(len(made) / self.days)
         self.weights, kept = fits.regression(own, made, step, RIDGE), own
         for _ in range(ROUNDS):
@@ -350,14 +380,13 @@ class Gaps:
         return self.odds(self.vector((begin, end)))
 
     def take(self, holes):
-        """From now on these are known holes: rows on both sides of one tell nothing together."""
+        """From now on these are known holes, none over another: rows on both sides of one tell nothing together."""
         self.holes = sorted([*self.holes, *((begin, end - 1) for begin, end in holes)])
 
     def find(self, least=WEAK, taken=LIKELY):
         """The likeliest gaps one after another, each from `taken` on held for a hole before the next: (odds, gap)."""
         heap = [(-self.odds(vector), gap) for gap, vector in self.vectors.items()]
-        heap = [entry for entry in heap if -entry[0] >= least and not any(
-            begin < entry[1][1] and entry[1][0] < end for begin, end in self.holes)]
+        heap = [entry for entry in heap if -entry[0] >= least and not overlaps(entry[1], self.holes)]
         heapq.heapify(heap)
         found, scored_at = [], {}
         while heap:
@@ -381,7 +410,7 @@ class Gaps:
                 cuts = []
                 for _ in range(40 * CHANCE_CUTS):
                     cut = self.draw(rng, shortest, longest, (first, last))
-                    if cut and not any(a < cut[1] and cut[0] < b for a, b in self.holes):
+                    if cut and not overlaps(cut[:2], self.holes):
                         cuts.append(cut)
                     if len(cuts) == CHANCE_CUTS:
                         break

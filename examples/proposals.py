@@ -3,8 +3,10 @@
 First what the machines and the configuration's floors contradict: a hole lies between the two rows, and is put over the
 likeliest gaps there. Then, these known, the gaps that the model of `gaps` finds likely.
 """
+import array
 import bisect
 import dataclasses
+import itertools
 import math
 
 import gaps
@@ -71,11 +73,17 @@ class Log:
 
     def tenths(self, begin=0, end=math.inf):
         """The tenths with rows, in order."""
-        return sorted({row[0] for row in self.rows(begin, end)})
+        return array.array("q", (tenth for tenth, _ in itertools.groupby(row[0] for row in self.rows(begin, end))))
 
     def silences(self):
-        """The silences of all channels, those at the begin and the end of a stretch too."""
-        return [s for begin, end in self.stretches() for s in silences(begin, end, self.tenths(begin, end))]
+        """The silences of all channels with at least one tenth between two rows, in order; those before the first row
+        of a stretch and after its last too."""
+        for begin, end in self.stretches():
+            last = begin - 1
+            for tenth in itertools.chain(self.tenths(begin, end), (end,)):
+                if tenth > last + 1:
+                    yield max(last, begin), tenth
+                last = tenth
 
     def portions(self):
         """Logs of at most PORTION days each, about as long as one another, each with the first tenth that it isn't
@@ -87,23 +95,16 @@ class Log:
                 for a, b in zip(cuts, cuts[1:])]
 
 
-def silences(begin, end, tenths):
-    """The silences of a stretch with at least one tenth between two rows, or before the first or after the last."""
-    marks = [begin - 1] + list(tenths) + [end]
-    return [(max(a, begin), b) for a, b in zip(marks, marks[1:]) if b > a + 1]
-
-
 def without_repeats(rows):
     """Without the rows that sigaudit leaves out: at their tenth the last of their group is the same."""
-    found, now, last = [], None, {}
+    now, last = None, {}
     for tenth, code, param in rows:
         if tenth != now:
             now, last = tenth, {}
         group = logs.channel_of(code, param) or (code, param)
         if last.get(group) != (code, param):
-            found.append((tenth, code, param))
+            yield tenth, code, param
         last[group] = code, param
-    return found
 
 
 def merged(blanks):
@@ -125,10 +126,12 @@ def model_of(log, config, jobs=1):
     """The model of a log, learned; None where the log is too small."""
     rings = {entry["number"]: entry["ring"] for entry in (config or {}).get("phase", [])}
     rows, floors = machine_rows(log), machines.floors_of(config)
-    odd = {kind for kind, *_ in misfits(rows, contradictions(rows, floors, log.missing()))}
+    wrong = contradictions(rows, floors, log.missing())
+    odd = {kind for kind, *_ in misfits(rows, wrong)}
     rows = {channel: mine for channel, mine in rows.items() if channel[0] not in odd}
     stretches = [(begin, end, log.rows(begin, end)) for begin, end in log.stretches()]
-    model = gaps.Gaps(stretches, rings, contradicts(rows, floors))
+    model = gaps.Gaps(stretches, rings, contradicts(rows, floors),
+                      [(low, high) for _, low, high, channel, _ in wrong if channel[0] not in odd])
     return model if model.enough() and model.learn(jobs) else None
 
 
@@ -166,7 +169,7 @@ def proposals_of(log, end, edges, config, jobs, chances):
         found.small.append((log.stretches()[0][0], log.stretches()[-1][1], len(log.tenths())))
         return found
     settle(log, config, found, model)
-    model.take(hole.blank() for hole in found.holes)
+    model.take(merged(hole.blank() for hole in found.holes))
     for odds, gap in model.find():
         if odds >= gaps.LIKELY:
             found.holes.append(Hole(*gap, gaps.grade_of(odds), odds, in_words(model, gap)))
@@ -191,7 +194,7 @@ def explained(log, config, stamp, jobs=1):
     if not gap:
         return None
     settle(portion, config, found, model)
-    model.take(hole.blank() for hole in found.holes)
+    model.take(merged(hole.blank() for hole in found.holes))
     certain, taken = list(model.holes), []
     for odds, other in model.find():
         if other == gap:

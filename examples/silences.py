@@ -21,6 +21,7 @@ minutes of other hours, or far more often within half a second of going off.
 """
 import array
 import bisect
+import heapq
 import math
 import statistics
 
@@ -29,15 +30,19 @@ import logs
 DAY = 24 * logs.HOUR
 LEAST = 3000         # tenths: a shorter silence isn't judged; queues stand on a loop for minutes
 PAUSE = 1200         # tenths: where the whole log is silent for longer than a cycle, no silence goes on over it
-QUIET = 0.5          # of the mean: hours with fewer rows are quiet ones
+WIDTH = logs.HOUR    # what is usual at a time is what is so from an hour before to an hour after
+FEW = 20             # rows: with fewer in that time it is looked for in twice as long
+END = "end"          # where a stretch of the log ends
+MEASURED = 3         # times as many silences as the tail holds are measured
+MOST = 20            # natural logarithm: so much more than usual is never seen
 ENOUGH = 60          # silences: with fewer, a tail of twenty would be more than a third of all
 TOP, SHARE = 20, 50  # silences in the tail: twenty a day, or one in fifty
 FAULTS = 3           # silences a day: so many of a channel may be faults
 CERTAINTY = 40       # silences: that a tail is geometric is no surer than so many make it, however many there are
 TEAMS = (("detector", "detectors", "ped_detector", "ped_detectors"),
-         ("call", "ped_call", "ped_calls", "green", "greens", "walk"))
+         ("call", "ped_call", "ped_calls", "green", "greens", "walk", "force_off"))
 WITNESSES = 3        # of a team: where one of three is faulty, there is still a second
-ANSWERS = (43, 45)   # codes of calls
+ANSWERS = ("call", "ped_call", "ped_calls", "force_off")
 ANSWERED = 0.75      # of such calls come within half a second as the channel goes on: faults may take a quarter
 GRADES = (("sure", 3.0), ("likely", 1.0), ("weak", 0.5))
 SPARE = 1.5          # of the score: what a silence may lack and still belong to a common one
@@ -47,7 +52,7 @@ PATIENCE = 240       # steps: a silence that isn't seen by then isn't seen
 
 COORDINATION = (131, 132, 150, 151, 152)
 FLASH, NO_FLASH = 173, 2
-CLOCKS = {82: "detector", 90: "ped_detector", 43: "call", 45: "ped_call", 1: "green", 21: "walk"}
+CLOCKS = {82: "detector", 90: "ped_detector", 43: "call", 45: "ped_call", 1: "green", 21: "walk", 6: "force_off"}
 TOTALS = {82: "detectors", 90: "ped_detectors", 45: "ped_calls", 1: "greens"}
 SWITCHES = {81: "detector", 82: "detector", 89: "ped_detector", 90: "ped_detector"}
 STATES = {81: "off", 82: "on", 89: "off", 90: "on"}
@@ -133,35 +138,19 @@ class Log:
 class Usual:
     """The silences of a channel after one kind of row: how many, and how many of them saw how much of each witness."""
 
-    __slots__ = ("count", "seen", "in_order", "mixed", "top", "faults", "teams", "needs", "answers")
+    __slots__ = ("count", "seen", "in_order", "mixed", "top", "faults", "tests", "teams", "needs", "eases",
+                 "answers")
 
-    def __init__(self, size):
-        self.count, self.seen, self.in_order, self.mixed = 0, [{} for _ in range(size)], {}, False
-        self.top, self.faults = TOP, 0
-        self.teams, self.needs, self.answers = [], {}, set()
-
-    @classmethod
-    def joint(cls, several, size):
-        """What several parts of a log tell together."""
-        made = cls(size)
-        made.mixed = True
-        for usual in several:
-            made.count += usual.count
-            for amounts, more in zip(made.seen, usual.seen):
-                for amount, times in more.items():
-                    amounts[amount] = amounts.get(amount, 0) + times
-        return made
+    def __init__(self, size, count, days, mixed=False):
+        self.count, self.seen, self.in_order, self.mixed = count, [{} for _ in range(size)], {}, mixed
+        self.top = max(TOP, min(round(TOP * days), count // 3), count // SHARE)
+        self.faults = max(1, min(round(FAULTS * days), FAULTS * count // ENOUGH))
+        self.tests, self.teams, self.needs, self.eases, self.answers = 0.0, [], {}, {}, set()
 
     def add(self, seen):
-        self.count += 1
         for amounts, amount in zip(self.seen, seen):
             if amount:
                 amounts[amount] = amounts.get(amount, 0) + 1
-
-    def settle(self, days):
-        """How many silences are in the tail, and how many of them may be faults: so many a day, as far as it goes."""
-        self.top = max(TOP, min(round(TOP * days), self.count // 3), self.count // SHARE)
-        self.faults = max(1, min(round(FAULTS * days), FAULTS * self.count // ENOUGH))
 
     def tail(self, witness, without=None):
         """Where the tail begins, how many are in it, how it falls with each event, and from how many that is learned.
@@ -214,153 +203,196 @@ class Usual:
 
 
 class Silence:
-    """A silence: its channel, the row that it follows and the one that ends it, what each witness saw, its score."""
+    """A silence: its channel, the row that it follows and the one that ends it, its score and the witness that counts."""
 
-    __slots__ = ("watch", "channel", "mark", "begin", "end", "next", "seen", "score", "witness")
+    __slots__ = ("watch", "channel", "mark", "begin", "end", "next", "score", "witness")
 
-    def __init__(self, watch, channel, mark, begin, end, following, seen):
+    def __init__(self, watch, channel, mark, begin, end, following):
         self.watch, self.channel, self.mark, self.begin, self.end = watch, channel, mark, begin, end
-        self.next, self.seen, self.score, self.witness = following, seen, -math.inf, None
+        self.next, self.score, self.witness = following, -math.inf, None
+
+
+class Track:
+    """The rows of a channel in order, each with its mark.
+
+    A stretch of the log begins with the mark None and ends with END; None is also the mark of a row that tells nothing.
+    rows are the tenths of the others.
+    """
+
+    __slots__ = ("tenths", "marks", "rows")
+
+    def __init__(self):
+        self.tenths, self.marks, self.rows = array.array("q"), [], array.array("q")
+
+    def add(self, tenth, mark):
+        self.tenths.append(tenth)
+        self.marks.append(mark)
+        if mark not in (None, END):
+            self.rows.append(tenth)
+
+    def silences(self):
+        """Each silence: the mark of the row before it, from, to, the mark of the row that ends it or END."""
+        for mark, begin, following, end in zip(self.marks, self.tenths, self.marks[1:], self.tenths[1:]):
+            if mark != END and following is not None:
+                yield mark, begin, end, following
+
+    def count(self, begin, end):
+        """The rows of the channel between two tenths."""
+        return max(0, bisect.bisect_left(self.rows, end) - bisect.bisect_left(self.rows, begin))
+
+    def span(self, begin, end):
+        """A silence: from, to, how far before and after it is looked for what is usual, and the channel's rows there."""
+        rows, width = self.rows, WIDTH
+        last, first = bisect.bisect_right(rows, begin), bisect.bisect_left(rows, end)
+        while True:
+            count = last - bisect.bisect_left(rows, begin - width) + bisect.bisect_left(rows, end + width) - first
+            if count >= FEW or width >= DAY:
+                return begin, end, width, max(1, count)
+            width *= 2
 
 
 class Watch:
-    """The channels of a log with their silences, learned in one walk over its rows.
+    """The channels of a log with their silences, and what is learned of them.
 
-    groups are channels of several numbers, as ("detector", (1, 2, 3, 4)); without singles there are no others. hush
-    says which rows tell nothing, those of a chattering detector: {detector: [(from, to), ..]}.
+    groups are channels of several numbers, as ("detector", (1, 2, 3, 4)). hush says which rows tell nothing, those of a
+    chattering detector: {detector: [(from, to), ..]}.
     """
 
-    def __init__(self, log, groups=(), hush=None, singles=True):
+    def __init__(self, log, groups=(), hush=None):
         self.log, self.hush = log, hush or {}
-        self.days = log.days()
-        present = sorted({(key >> 16, key & 65535) for key in set(log.keys)})
-        self.witnesses = [(CLOCKS[code], number) for code, number in present if code in CLOCKS]
-        self.witnesses += sorted({(TOTALS[code], None) for code, _ in present if code in TOTALS})
-        self.channels = sorted({channel_of(code, number) for code, number in present} - {None}) if singles else []
-        self.channels += groups
-        place = {witness: place for place, witness in enumerate(self.witnesses)}
-        self.plan = {code << 16 | number: self.deeds(code, number, place) for code, number in present}
-        self.quiet, self.changes, self.flashes = quiet_hours(log), changes_of_coordination(log), log.flashes()
-        self.usual, self.silences, self.open = {}, [], []
-        self.mesh, self.columns = array.array("q"), [array.array("l") for _ in self.witnesses]
-        self.walk()
-        self.answers = self.all_answers()
-        self.learned = self.enough()
-        self.tests = math.log10(max(1, len(self.learned) * len(TEAMS)))
-        self.choose()
-
-    def deeds(self, code, number, place):
-        """What a row does: the channels that it is a row of, each with its mark, and the witnesses that it adds to."""
-        channels, single = [], channel_of(code, number)
-        for which, channel in enumerate(self.channels):
-            if channel == single:
-                channels.append((which, STATES.get(code, (code, number))))
-            elif STATES.get(code) == "on" and SWITCHES[code] == channel[0] and number in channel[1]:
-                channels.append((which, "on"))
-        added = [place[witness] for witness in ((CLOCKS.get(code), number), (TOTALS.get(code), None))
-                 if witness in place]
-        return channels, added
-
-    def part(self, tenth):
-        """The part of the log that a tenth is in: its quiet hours, the others free or coordinated."""
-        if tenth // logs.HOUR * logs.HOUR % DAY in self.quiet:
-            return "quiet"
-        last = bisect.bisect_right(self.changes, (tenth, True)) - 1
-        return "coordinated" if last >= 0 and self.changes[last][1] else "free"
+        self.days, self.spans, self.flashes = log.days(), log.stretches(), log.flashes()
+        self.witnesses, self.moments = self.all_witnesses()
+        self.mesh = array.array("q", (tenth for begin, end in self.spans for tenth in range(begin, end, STEP)))
+        self.columns = [array.array("l", (bisect.bisect_left(moments, tenth) for tenth in self.mesh))
+                        for moments in self.moments]
+        self.channels, self.tracks, self.learned, self.silences, self.open = [], [], {}, [], []
+        self.dark = {}
+        present = {channel_of(key >> 16, key & 65535) for key in set(log.keys)} - {None}
+        self.add(sorted(present) + list(groups))
 
     def hushed(self, key, tenth):
         return SWITCHES.get(key >> 16) == "detector" and any(
             begin <= tenth < end for begin, end in self.hush.get(key & 65535, ()))
 
-    def walk(self):
-        """Goes over the rows and counts; where hours are missing each channel begins anew."""
-        tenths, keys, counts = self.log.tenths, self.log.keys, [0] * len(self.witnesses)
-        for begin, end in self.log.stretches():
-            last, now = [(None, begin, counts[:])] * len(self.channels), begin
+    def all_witnesses(self):
+        """The witnesses, and the tenths at which each saw something."""
+        plan, found = {}, {}
+        for key in set(self.log.keys):
+            code, number = key >> 16, key & 65535
+            named = ((CLOCKS.get(code), number), (TOTALS.get(code), None))
+            plan[key] = [found.setdefault(witness, array.array("q")) for witness in named if witness[0]]
+        for tenth, key in zip(self.log.tenths, self.log.keys):
+            if plan[key] and not (self.hush and self.hushed(key, tenth)):
+                for moments in plan[key]:
+                    moments.append(tenth)
+        witnesses = sorted(found, key=lambda witness: (witness[1] is None, witness[0], witness[1]))
+        return witnesses, [found[witness] for witness in witnesses]
+
+    def add(self, channels):
+        """Takes in channels: their rows, their silences, what is usual for them, and the witnesses that count."""
+        first = len(self.channels)
+        self.channels += channels
+        self.tracks += self.read(channels)
+        for which in range(first, len(self.channels)):
+            self.learn(which)
+        new = [pair for pair in self.learned if pair[0] >= first]
+        kinds = {}
+        for which, _ in self.learned:
+            kinds[self.kind(which)] = kinds.get(self.kind(which), 0) + 1
+        for which, mark in new:
+            usual = self.learned[which, mark]
+            usual.tests = math.log10(len(kinds) * kinds[self.kind(which)] * len(TEAMS))
+            self.choose(which, usual)
+
+    def kind(self, which):
+        kind, numbers = self.channels[which]
+        return kind, len(numbers) > 1
+
+    def read(self, channels):
+        """The tracks of channels."""
+        tracks = [Track() for _ in channels]
+        plan = {key: [(track, mark) for track, channel in zip(tracks, channels)
+                      for mark in [mark_in(channel, key >> 16, key & 65535)] if mark]
+                for key in set(self.log.keys)}
+        tenths, keys = self.log.tenths, self.log.keys
+        for begin, end in self.spans:
+            for track in tracks:
+                track.add(begin, None)
             for row in range(bisect.bisect_left(tenths, begin), bisect.bisect_left(tenths, end)):
-                channels, added = self.plan[keys[row]]
-                if not channels and not added:
-                    continue
-                tenth = tenths[row]
-                while now <= tenth:
-                    self.note(now, counts)
-                    now += STEP
-                if self.hush and self.hushed(keys[row], tenth):
-                    for which, _ in channels:
-                        last[which] = None, tenth, counts[:]
-                    continue
-                for which, mark in channels:
-                    self.close(which, *last[which], tenth, mark, counts)
-                for witness in added:
-                    counts[witness] += 1
-                if channels:
-                    here = counts[:]
-                    for which, mark in channels:
-                        last[which] = mark, tenth, here
-            while now < end:
-                self.note(now, counts)
-                now += STEP
-            for which, (mark, since, before) in enumerate(last):
-                if end - since >= LEAST:
-                    seen = [now - then for now, then in zip(counts, before)]
-                    self.open.append(Silence(self, self.channels[which], mark, since, end, None, seen))
+                for track, mark in plan[keys[row]]:
+                    hushed = self.hush and self.hushed(keys[row], tenths[row])
+                    track.add(tenths[row], None if hushed else mark)
+            for track in tracks:
+                track.add(end, END)
+        return tracks
 
-    def note(self, tenth, counts):
-        self.mesh.append(tenth)
-        for column, count in zip(self.columns, counts):
-            column.append(count)
+    def learn(self, which):
+        """Keeps the long silences of a channel, and learns those after each kind of row that is there often enough.
 
-    def close(self, which, mark, since, before, tenth, following, counts):
-        """A row ends the silence of its channel: it is counted, and kept where it is long."""
-        if mark is None and tenth - since < LEAST:
-            return
-        seen = [now - then for now, then in zip(counts, before)]
-        if mark is not None:
-            key = which, mark, self.part(since)
-            if key not in self.usual:
-                self.usual[key] = Usual(len(counts))
-            self.usual[key].add(seen)
-        if tenth - since >= LEAST:
-            kept = self.open if mark is None else self.silences
-            kept.append(Silence(self, self.channels[which], mark, since, tenth, following, seen))
+        Of the coordination, which is silent for hours after some rows, those after the others are learned together.
+        """
+        channel, track = self.channels[which], self.tracks[which]
+        counted = {mark: [] for mark in track.marks if mark not in (None, END)}
+        for mark, begin, end, following in track.silences():
+            known = mark is not None and following != END
+            if known:
+                counted[mark].append((begin, end))
+            if end - begin >= LEAST:
+                kept = self.silences if known else self.open
+                kept.append(Silence(self, channel, mark, begin, end, None if following == END else following))
+        together = [span for spans in counted.values() for span in spans]
+        for mark, spans in counted.items():
+            if len(spans) >= ENOUGH:
+                self.learned[which, mark] = self.usual(which, spans)
+            elif channel[0] == "coordination" and len(together) >= ENOUGH:
+                self.learned[which, mark] = self.usual(which, together, True)
 
-    def enough(self):
-        """What is learned by channel, mark and part of the log; by day, where one part has too little, of both."""
-        found = {}
-        for (which, mark, part), usual in self.usual.items():
-            if usual.count < ENOUGH and part != "quiet":
-                usual = Usual.joint([self.usual[which, mark, other] for other in ("free", "coordinated")
-                                     if (which, mark, other) in self.usual], len(self.witnesses))
-            if usual.count >= ENOUGH:
-                usual.settle(self.days)
-                found[which, mark, part] = usual
-        return found
+    def usual(self, which, spans, mixed=False):
+        """What is usual in such silences. The longest for their time of day are measured, more than the tail holds."""
+        usual, lengths = Usual(len(self.witnesses), len(spans), self.days, mixed), []
+        for each in spans:
+            begin, end, width, rows = span = self.tracks[which].span(*each)
+            lengths.append((rows * (end - begin) / width, span))
+        for _, span in heapq.nlargest(MEASURED * usual.top, lengths):
+            usual.add([self.amount(which, witness, span) for witness in range(len(self.witnesses))])
+        return usual
 
-    def choose(self):
-        """For each channel, mark and part the two teams of witnesses, and what each has to see for a likely silence."""
-        starts = {}
-        for start in range(0, len(self.mesh), 15):
-            starts.setdefault(self.part(self.mesh[start]), []).append(start)
-        starts = {part: some[::len(some) // 100 + 1] for part, some in starts.items()}
-        wanted = math.log(self.days) - math.log(10) * (dict(GRADES)["likely"] + self.tests)
-        for (which, _, part), usual in self.learned.items():
-            others = [witness for witness in range(len(self.witnesses)) if self.is_other(witness, self.channels[which])]
-            usual.needs = {witness: usual.need(witness, wanted) for witness in others}
-            waits = {witness: [math.log(self.wait(witness, usual.needs[witness], start))
-                               for start in starts.get(part, [0])] for witness in others}
-            answers = {witness for channel, witness in self.answers if channel == which}
-            teams = [self.team(kinds, waits, usual.mixed, answers) for kinds in TEAMS]
-            usual.teams, usual.answers = [team for team in teams if team], answers
+    def amount(self, which, witness, span):
+        """What a witness saw in a silence, as much as it would be if the two always kept the pace of the whole log."""
+        begin, end, width, rows = span
+        moments = self.moments[witness]
+        seen = bisect.bisect_left(moments, end) - bisect.bisect_right(moments, begin)
+        if seen <= 0:
+            return 0
+        others = bisect.bisect_left(moments, end + width) - bisect.bisect_left(moments, begin - width) - seen
+        rows -= sum(self.tracks[which].count(max(begin - width, dark), min(end + width, light))
+                    for dark, light in self.dark.get(witness, ()))
+        return round(self.pace(which, witness) * rows * math.log1p(seen / max(1, others)))
 
-    def team(self, kinds, waits, mixed, answers):
+    def pace(self, which, witness):
+        """How often a witness sees something for each row of a channel."""
+        return len(self.moments[witness]) / len(self.tracks[which].rows)
+
+    def choose(self, which, usual):
+        """The two teams of witnesses for silences of a channel, and what each has to see for a likely one."""
+        track = self.tracks[which]
+        starts = [(start, track.span(self.mesh[start], self.mesh[start]))
+                  for start in range(0, len(self.mesh), max(30, len(self.mesh) // 100))]
+        wanted = math.log(self.days) - math.log(10) * (dict(GRADES)["likely"] + usual.tests)
+        others = [witness for witness in range(len(self.witnesses)) if self.is_other(witness, self.channels[which])]
+        usual.needs = {witness: usual.need(witness, wanted) for witness in others}
+        usual.eases = {witness: usual.need(witness, wanted + SPARE * math.log(10)) for witness in others}
+        usual.answers = self.answers(which)
+        waits = {witness: [math.log(self.wait(which, witness, usual.needs[witness], *start)) for start in starts]
+                 for witness in others if not usual.mixed or witness in usual.answers}
+        usual.teams = [team for team in (self.team(kinds, waits, usual.answers) for kinds in TEAMS) if team]
+
+    def team(self, kinds, waits, answers):
         """The witnesses of these kinds of which the second sees a silence soonest, in the geometric mean.
 
-        The soonest answer is one of them. Greens and calls come as the signal runs, free or coordinated; where both
-        are mixed, answers alone are asked.
+        The soonest answer is one of them.
         """
         rest = [witness for witness in waits if self.witnesses[witness][0] in kinds]
-        if mixed and kinds == TEAMS[1]:
-            rest = [witness for witness in rest if witness in answers]
         chosen = sorted(answers.intersection(rest), key=lambda witness: (sum(waits[witness]), witness))[:1]
         first = [(math.log(PATIENCE),) * 2] * len(next(iter(waits.values()), ()))
         for witness in chosen:
@@ -372,23 +404,19 @@ class Watch:
             first = [tuple(sorted((*two, wait))[:2]) for two, wait in zip(first, waits[chosen[-1]])]
         return chosen if len(chosen) > 1 or set(chosen) & answers else []
 
-    def all_answers(self):
-        """The pairs of a channel and a witness where most calls come as the channel goes on: they are its answer."""
-        found, moments, ons = set(), {}, {}
-        for tenth, key in zip(self.log.tenths, self.log.keys):
-            code, number = key >> 16, key & 65535
-            if code in ANSWERS:
-                for witness in self.plan[key][1]:
-                    moments.setdefault(witness, []).append(tenth)
-            elif STATES.get(code) == "on":
-                for which, _ in self.plan[key][0]:
-                    ons.setdefault(which, []).append(tenth)
-        for which, goes_on in ons.items():
-            for witness, calls in moments.items():
+    def answers(self, which):
+        """The witnesses most of which come as the channel goes on, or as the coordination has a row."""
+        track = self.tracks[which]
+        goes_on = [tenth for tenth, mark in zip(track.tenths, track.marks)
+                   if mark not in (None, END, "off")]
+        found = set()
+        for witness, (kind, _) in enumerate(self.witnesses):
+            moments = self.moments[witness]
+            if kind in ANSWERS and len(moments) >= ENOUGH:
                 at_once = sum(bisect.bisect_left(goes_on, tenth - BOUNCE) < bisect.bisect_right(goes_on, tenth)
-                              for tenth in calls)
-                if len(calls) >= ENOUGH and at_once >= ANSWERED * len(calls):
-                    found.add((which, witness))
+                              for tenth in moments)
+                if at_once >= ANSWERED * len(moments):
+                    found.add(witness)
         return found
 
     def is_other(self, witness, channel):
@@ -399,11 +427,18 @@ class Watch:
         own = kind == channel[0] + "s"
         return not own or 2 * len(channel[1]) < sum(one == channel[0] for one, _ in self.witnesses)
 
-    def wait(self, witness, need, start):
-        """The steps of the mesh from one on until a witness has seen as much as it needs."""
-        column = self.columns[witness]
+    def wait(self, which, witness, need, start, span):
+        """The steps of the mesh from one on until a witness has seen as much as it needs.
+
+        span is the silence outside which it is looked for what is usual: from, to, how far around, the rows there.
+        """
+        begin, end, width, rows = span
+        moments, column = self.moments[witness], self.columns[witness]
+        others = (bisect.bisect_left(moments, end + width) - bisect.bisect_left(moments, end)
+                  + bisect.bisect_left(moments, begin) - bisect.bisect_left(moments, begin - width))
+        more = min(need / (self.pace(which, witness) * rows), MOST)
         stop = min(len(column), start + PATIENCE)
-        seen = bisect.bisect_left(column, column[start] + need, start, stop)
+        seen = bisect.bisect_left(column, column[start] + math.expm1(more) * max(1, others), start, stop)
         return PATIENCE if seen == stop else max(1, seen - start)
 
     def judge(self, silence):
@@ -414,35 +449,44 @@ class Watch:
         """
         if silence.channel[0] == "coordination" and self.flashing(silence) * 2 > silence.end - silence.begin:
             return
-        which, part = self.channels.index(silence.channel), self.part(silence.begin)
-        lacks_row = len(silence.channel[1]) == 1 and silence.mark in ("on", "off") and silence.mark == silence.next
-        marks = [silence.mark] if silence.mark is not None and not lacks_row else [
-            mark for channel, mark, when in self.usual if (channel, when) == (which, part)]
         found = []
-        for mark in marks:
-            usual = self.learned.get((which, mark, part))
-            scores = ([(-self.score(usual, witness, silence), witness) for witness in team]
+        for mark in self.marks(silence):
+            usual = self.learned.get((self.channels.index(silence.channel), mark))
+            scores = ([(self.score(usual, witness, silence), witness) for witness in team]
                       for team in (usual.teams if usual else ()))
-            found.append(min((self.second(team, usual) for team in scores), key=lambda each: each[0],
-                             default=(math.inf, None)))
-        score, silence.witness = max(found, key=lambda each: each[0], default=(math.inf, None))
-        silence.score = -score
+            found.append(max((self.borne_out(team, usual) for team in scores), default=(-math.inf, None)))
+        silence.score, silence.witness = min(found, key=lambda each: each[0], default=(-math.inf, None))
+
+    def marks(self, silence):
+        """The rows that a silence may follow."""
+        lacks_row = len(silence.channel[1]) == 1 and silence.mark in ("on", "off") and silence.mark == silence.next
+        if silence.mark is not None and not lacks_row:
+            return [silence.mark]
+        which = self.channels.index(silence.channel)
+        return sorted({mark for mark in self.tracks[which].marks if mark not in (None, END)}, key=str)
 
     def flashing(self, silence):
         """The tenths of a silence over which the signal flashes."""
         return sum(max(0, min(end, silence.end) - max(begin, silence.begin)) for begin, end in self.flashes)
 
     @staticmethod
-    def second(each, usual):
-        """Of a team (number, witness) with the second least number; an answer needs no second."""
-        alone = [one for one in each if one[1] in usual.answers]
-        return min(sorted(each)[1:2] + alone, key=lambda one: one[0])
+    def borne_out(team, usual):
+        """The highest of a team of (score, witness), as far as the second bears it out; an answer needs no second."""
+        ranked = sorted(team, reverse=True)
+        found = [one for one in ranked if one[1] in usual.answers]
+        if len(ranked) > 1:
+            found.append((min(ranked[0][0], ranked[1][0] + SPARE), ranked[0][1]))
+        return max(found)
 
     def score(self, usual, witness, silence):
-        amount = silence.seen[witness]
+        amount = self.amount_in(witness, silence)
         counted = silence.mark is not None and silence.next is not None
         expected = usual.expected(witness, amount, amount if counted else None)
-        return math.log10(self.days) - expected / math.log(10) - self.tests
+        return math.log10(self.days) - expected / math.log(10) - usual.tests
+
+    def amount_in(self, witness, silence):
+        which = self.channels.index(silence.channel)
+        return self.amount(which, witness, self.tracks[which].span(silence.begin, silence.end))
 
     def judged(self, least):
         """The silences whose score is at least so much, the highest first."""
@@ -451,26 +495,44 @@ class Watch:
         return sorted((silence for silence in self.silences + self.open if silence.score >= least),
                       key=lambda silence: (-silence.score, silence.begin, silence.channel))
 
+    def distrust(self, silences):
+        """Where a detector or input is silent for a cause of its own, it tells nothing as a witness of others."""
+        for silence in silences:
+            kind, numbers = silence.channel
+            concerned = {(kind, number) for number in numbers}
+            if 2 * len(numbers) >= len(self.log.numbers(kind)):
+                concerned.add((kind + "s", None))
+            for witness, named in enumerate(self.witnesses):
+                if named in concerned:
+                    self.dark.setdefault(witness, []).append((silence.begin, silence.end))
+
     def seen_at(self, silence):
         """The tenth at which a silence had lasted long enough to be likely, or None."""
-        usual = self.learned.get((self.channels.index(silence.channel), silence.mark, self.part(silence.begin)))
+        which = self.channels.index(silence.channel)
+        usual = self.learned.get((which, silence.mark))
         start = bisect.bisect_left(self.mesh, silence.begin)
         if usual is None or not usual.teams or start == len(self.mesh):
             return None
-        return max(silence.begin + LEAST, self.mesh[start] + self.found_after(usual, start) * STEP)
+        span = self.tracks[which].span(silence.begin, silence.end)
+        return max(silence.begin + LEAST, self.mesh[start] + self.found_after(which, usual, start, span) * STEP)
 
-    def found_after(self, usual, start):
+    def found_after(self, which, usual, start, span):
         """The steps from one of the mesh on until a silence that begins there is likely."""
-        waits = ([(self.wait(witness, usual.needs[witness], start), witness) for witness in team]
-                 for team in usual.teams)
-        return min((self.second(team, usual)[0] for team in waits), default=PATIENCE)
+        found = [PATIENCE]
+        for team in usual.teams:
+            first, second = ([(self.wait(which, witness, needs[witness], start, span), witness) for witness in team]
+                             for needs in (usual.needs, usual.eases))
+            found += [wait for wait, witness in first if witness in usual.answers]
+            if len(team) > 1:
+                found.append(max(min(first), sorted(second)[1])[0])
+        return min(found)
 
     def learned_channels(self):
-        return {self.channels[which] for (which, _, _), usual in self.learned.items() if usual.teams}
+        return {self.channels[which] for (which, _), usual in self.learned.items() if usual.teams}
 
     def rows_of(self, channel):
         """How many rows a channel has."""
-        return sum(channel_of(key >> 16, key & 65535) == channel for key in self.log.keys)
+        return len(self.tracks[self.channels.index(channel)].rows)
 
     def chances(self):
         """By channel and mark, for each hour of the day the minutes that a silence from then on has to last, or None.
@@ -480,39 +542,37 @@ class Watch:
         times = {}
         for start in range(0, len(self.mesh), 15):
             times.setdefault(self.mesh[start] // logs.HOUR % 24, []).append(start)
-        for which, mark in sorted({each[:2] for each in self.learned}, key=lambda each: (each[0], str(each[1]))):
-            minutes = []
-            for time in range(24):
-                learned = [(self.learned.get((which, mark, self.part(self.mesh[start]))), start)
-                           for start in times.get(time, ())]
-                waits = [self.found_after(usual, start) for usual, start in learned if usual and usual.teams]
-                shortest = LEAST // STEP
-                minutes.append(max(shortest, statistics.median_high(waits)) if waits else None)
-            yield self.channels[which], mark, minutes
+        for (which, mark), usual in sorted(self.learned.items(), key=lambda each: (each[0][0], str(each[0][1]))):
+            if usual.teams:
+                span = self.tracks[which].span
+                waits = [[self.found_after(which, usual, start, span(self.mesh[start], self.mesh[start]))
+                          for start in times.get(time, ())] for time in range(24)]
+                yield self.channels[which], mark, [
+                    max(LEAST // STEP, statistics.median_high(each)) if each else None for each in waits]
 
     def evidence(self, silence):
-        """By mark that it may follow: the part of the log, the silences there, and a line for each witness, or None.
+        """By mark that it may follow: the silences after it, and a line for each witness, or None.
 
-        A line: witness, what it saw; so much was seen, or more, by so many others; the need; how many are expected.
+        A line: witness, what it saw, and that at the pace of the whole log; so much was seen, or more, by so many
+        others; the need; how many are expected.
         """
-        which, part = self.channels.index(silence.channel), self.part(silence.begin)
-        for mark in sorted({mark for channel, mark, when in self.usual if (channel, when) == (which, part)}, key=str):
-            if silence.mark not in (None, mark):
-                continue
-            usual = self.learned.get((which, mark, part))
+        which = self.channels.index(silence.channel)
+        for mark in self.marks(silence):
+            usual = self.learned.get((which, mark))
             if usual is None:
-                yield mark, part, self.usual[which, mark, part].count, None
+                yield mark, None, None
                 continue
             lines = []
             for witness in (witness for team in usual.teams for witness in team):
-                amount = silence.seen[witness]
+                amount, moments = self.amount_in(witness, silence), self.moments[witness]
+                seen = max(0, bisect.bisect_left(moments, silence.end) - bisect.bisect_right(moments, silence.begin))
                 without = amount if silence.mark is not None and silence.next is not None else None
                 edge, reached, _, _ = usual.tail(witness, without)
                 if edge == 0:
                     edge, reached = 1, sum(usual.seen[witness].values()) - bool(without)
                 expected = math.exp(usual.expected(witness, amount, without))
-                lines.append((self.witnesses[witness], amount, edge, reached, usual.needs[witness], expected))
-            yield mark, "free or coordinated" if usual.mixed else part, usual.count, lines
+                lines.append((self.witnesses[witness], seen, amount, edge, reached, usual.needs[witness], expected))
+            yield mark, usual.count, lines
 
 
 def channel_of(code, number):
@@ -522,32 +582,12 @@ def channel_of(code, number):
     return (SWITCHES[code], (number,)) if code in SWITCHES else None
 
 
-def quiet_hours(log):
-    """The times of day at which the hours have less than a share of the mean rows.
-
-    Of each the median of seven hours around is taken, so that no outage of three makes an hour quiet.
-    """
-    rows, hours = {}, {}
-    for hour in log.hours:
-        hours[hour % DAY] = hours.get(hour % DAY, 0) + 1
-    for tenth in log.tenths:
-        time = tenth // logs.HOUR * logs.HOUR % DAY
-        rows[time] = rows.get(time, 0) + 1
-    each = {time: rows.get(time, 0) / number for time, number in hours.items()}
-    mean = len(log.tenths) / max(1, len(log.hours))
-    around = {time: [(time + away * logs.HOUR) % DAY for away in range(-3, 4)] for time in each}
-    return {time for time in each
-            if statistics.median(each[other] for other in around[time] if other in each) < QUIET * mean}
-
-
-def changes_of_coordination(log):
-    """The tenths at which the coordination (code 150; 0 is free) begins or ends: (tenth, whether it begins)."""
-    found, on = [], False
-    for tenth, key in zip(log.tenths, log.keys):
-        if key >> 16 == 150 and bool(key & 65535) != on:
-            on = not on
-            found.append((tenth, on))
-    return found
+def mark_in(channel, code, number):
+    """What a row says in a channel, or None; of several numbers together those alone count that go on."""
+    kind, numbers = channel
+    if channel_of(code, number) == channel:
+        return STATES.get(code, (code, number))
+    return "on" if STATES.get(code) == "on" and SWITCHES[code] == kind and number in numbers else None
 
 
 class Chatter:
@@ -594,12 +634,12 @@ def fullest(counts):
 
 def too_many(log, counts, tests, least):
     """The windows with a count beyond what the fullest of each hour let expect, with their scores."""
-    usual, faulty = Usual(1), FAULTY_HOURS * math.ceil(log.days())
+    usual, faulty = Usual(1, len(log.hours), log.days()), FAULTY_HOURS * math.ceil(log.days())
     if len(log.hours) < 2 * faulty:
         return
-    usual.count, usual.faults, usual.top = len(log.hours), faulty, 3 * faulty
+    usual.faults, usual.top = faulty, 3 * faulty
     for count in fullest(counts).values():
-        usual.seen[0][count] = usual.seen[0].get(count, 0) + 1
+        usual.add([count])
     for begin, count in counts.items():
         expected = usual.expected(0, count)
         score = math.log10(log.days()) - expected / math.log(10) - tests
@@ -671,9 +711,10 @@ def find(log, cards=()):
     groups += [(kind, log.numbers(kind)) for kind in ("detector", "ped_detector")]
     groups = [group for group in dict.fromkeys(groups) if len(group[1]) > 1]
     watch = Watch(log, groups, hush)
+    watch.distrust(watch.judged(dict(GRADES)["sure"]))
     silences = watch.judged(least - SPARE)
     told, rest = known_groups(silences, groups)
-    told += bundles(log, rest, hush)
+    told += bundles(watch, rest)
     found += [finding_of(silence) for silence in told if silence.score >= least]
     return sorted(found, key=lambda each: (each.begin, each.end, each.numbers)), watch
 
@@ -700,7 +741,7 @@ def known_groups(silences, groups):
     return told, rest
 
 
-def bundles(log, silences, hush):
+def bundles(watch, silences):
     """Silences of single channels, those at the same time as one of all their channels together.
 
     Since these are put together after they were seen, such a one is likelier by the number of possible partners.
@@ -712,7 +753,7 @@ def bundles(log, silences, hush):
         rest = [other for other in rest if other not in same]
         (several if len(same) > 1 else alone).append(same)
     channels = {(same[0].channel[0], numbers_of(same)) for same in several}
-    watch = Watch(log, sorted(channels), hush, singles=False) if channels else None
+    watch.add(sorted(channels - set(watch.channels)))
     found = [same[0] for same in alone]
     for same in several:
         common = [silence for silence in watch.silences + watch.open
@@ -720,7 +761,7 @@ def bundles(log, silences, hush):
         if common:
             longest = max(common, key=lambda silence: silence.end - silence.begin)
             watch.judge(longest)
-            partners = sum(channel[0] == longest.channel[0] for channel in same[0].watch.channels)
+            partners = sum(channel[0] == longest.channel[0] for channel in watch.channels)
             longest.score = max(longest.score - math.log10(partners), same[0].score)
             found.append(longest)
         else:

@@ -43,7 +43,6 @@ TEAMS = (("detector", "detectors", "ped_detector", "ped_detectors"),
          ("call", "ped_call", "ped_calls", "green", "greens", "walk", "force_off"))
 WITNESSES = 3        # of a team: where one of three is faulty, there is still a second
 ANSWERS = ("call", "ped_call", "ped_calls", "force_off")
-ANSWERED = 0.75      # of such calls come within half a second as the channel goes on: faults may take a quarter
 GRADES = (("sure", 3.0), ("likely", 1.0), ("weak", 0.5))
 SPARE = 1.5          # of the score: what a silence may lack and still belong to a common one
 COMMON = 0.5         # of their time: what two silences share that are told as one
@@ -138,14 +137,13 @@ class Log:
 class Usual:
     """The silences of a channel after one kind of row: how many, and how many of them saw how much of each witness."""
 
-    __slots__ = ("count", "seen", "in_order", "mixed", "top", "faults", "tests", "teams", "needs", "eases",
-                 "answers")
+    __slots__ = ("count", "seen", "in_order", "top", "faults", "tests", "teams", "needs")
 
-    def __init__(self, size, count, days, mixed=False):
-        self.count, self.seen, self.in_order, self.mixed = count, [{} for _ in range(size)], {}, mixed
+    def __init__(self, size, count, days):
+        self.count, self.seen, self.in_order = count, [{} for _ in range(size)], {}
         self.top = max(TOP, min(round(TOP * days), count // 3), count // SHARE)
         self.faults = max(1, min(round(FAULTS * days), FAULTS * count // ENOUGH))
-        self.tests, self.teams, self.needs, self.eases, self.answers = 0.0, [], {}, {}, set()
+        self.tests, self.teams, self.needs = 0.0, [], {}
 
     def add(self, seen):
         for amounts, amount in zip(self.seen, seen):
@@ -265,8 +263,8 @@ class Watch:
         self.mesh = array.array("q", (tenth for begin, end in self.spans for tenth in range(begin, end, STEP)))
         self.columns = [array.array("l", (bisect.bisect_left(moments, tenth) for tenth in self.mesh))
                         for moments in self.moments]
-        self.channels, self.tracks, self.learned, self.silences, self.open = [], [], {}, [], []
-        self.dark = {}
+        self.channels, self.tracks, self.answers, self.learned, self.silences, self.open = [], [], [], {}, [], []
+        self.dark = {witness: self.flashes[:] for witness, (kind, _) in enumerate(self.witnesses) if kind in TEAMS[1]}
         present = {channel_of(key >> 16, key & 65535) for key in set(log.keys)} - {None}
         self.add(sorted(present) + list(groups))
 
@@ -294,6 +292,7 @@ class Watch:
         self.channels += channels
         self.tracks += self.read(channels)
         for which in range(first, len(self.channels)):
+            self.answers.append(self.all_answers(which))
             self.learn(which)
         new = [pair for pair in self.learned if pair[0] >= first]
         kinds = {}
@@ -302,7 +301,8 @@ class Watch:
         for which, mark in new:
             usual = self.learned[which, mark]
             usual.tests = math.log10(len(kinds) * kinds[self.kind(which)] * len(TEAMS))
-            self.choose(which, usual)
+            if any(usual.seen):
+                self.choose(which, usual)
 
     def kind(self, which):
         kind, numbers = self.channels[which]
@@ -329,7 +329,7 @@ class Watch:
     def learn(self, which):
         """Keeps the long silences of a channel, and learns those after each kind of row that is there often enough.
 
-        Of the coordination, which is silent for hours after some rows, those after the others are learned together.
+        Of the coordination, which is silent for hours after a rare row, answers alone are asked after such a one.
         """
         channel, track = self.channels[which], self.tracks[which]
         counted = {mark: [] for mark in track.marks if mark not in (None, END)}
@@ -345,11 +345,11 @@ class Watch:
             if len(spans) >= ENOUGH:
                 self.learned[which, mark] = self.usual(which, spans)
             elif channel[0] == "coordination" and len(together) >= ENOUGH:
-                self.learned[which, mark] = self.usual(which, together, True)
+                self.learned[which, mark] = Usual(len(self.witnesses), len(together), self.days)
 
-    def usual(self, which, spans, mixed=False):
+    def usual(self, which, spans):
         """What is usual in such silences. The longest for their time of day are measured, more than the tail holds."""
-        usual, lengths = Usual(len(self.witnesses), len(spans), self.days, mixed), []
+        usual, lengths = Usual(len(self.witnesses), len(spans), self.days), []
         for each in spans:
             begin, end, width, rows = span = self.tracks[which].span(*each)
             lengths.append((rows * (end - begin) / width, span))
@@ -357,17 +357,22 @@ class Watch:
             usual.add([self.amount(which, witness, span) for witness in range(len(self.witnesses))])
         return usual
 
-    def amount(self, which, witness, span):
-        """What a witness saw in a silence, as much as it would be if the two always kept the pace of the whole log."""
+    def amount(self, which, witness, span, until=None):
+        """What a witness saw in a silence, or in the part of it before a tenth, at the pace of the whole log.
+
+        That is, as much as it would be if the two always kept the pace that they have in the mean.
+        """
         begin, end, width, rows = span
         moments = self.moments[witness]
-        seen = bisect.bisect_left(moments, end) - bisect.bisect_right(moments, begin)
+        first = bisect.bisect_right(moments, begin)
+        seen = bisect.bisect_left(moments, end if until is None else until) - first
         if seen <= 0:
             return 0
-        others = bisect.bisect_left(moments, end + width) - bisect.bisect_left(moments, begin - width) - seen
+        others = first - bisect.bisect_left(moments, begin - width) + (
+            bisect.bisect_left(moments, end + width) - bisect.bisect_left(moments, end))
         rows -= sum(self.tracks[which].count(max(begin - width, dark), min(end + width, light))
                     for dark, light in self.dark.get(witness, ()))
-        return round(self.pace(which, witness) * rows * math.log1p(seen / max(1, others)))
+        return round(self.pace(which, witness) * max(0, rows) * math.log1p(seen / max(1, others)))
 
     def pace(self, which, witness):
         """How often a witness sees something for each row of a channel."""
@@ -381,43 +386,48 @@ class Watch:
         wanted = math.log(self.days) - math.log(10) * (dict(GRADES)["likely"] + usual.tests)
         others = [witness for witness in range(len(self.witnesses)) if self.is_other(witness, self.channels[which])]
         usual.needs = {witness: usual.need(witness, wanted) for witness in others}
-        usual.eases = {witness: usual.need(witness, wanted + SPARE * math.log(10)) for witness in others}
-        usual.answers = self.answers(which)
         waits = {witness: [math.log(self.wait(which, witness, usual.needs[witness], *start)) for start in starts]
-                 for witness in others if not usual.mixed or witness in usual.answers}
-        usual.teams = [team for team in (self.team(kinds, waits, usual.answers) for kinds in TEAMS) if team]
+                 for witness in others}
+        usual.teams = [self.team(kinds, waits) for kinds in TEAMS]
 
-    def team(self, kinds, waits, answers):
-        """The witnesses of these kinds of which the second sees a silence soonest, in the geometric mean.
-
-        The soonest answer is one of them.
-        """
+    def team(self, kinds, waits):
+        """The witness of these kinds that sees a silence soonest, in the geometric mean, and those that bear it out."""
         rest = [witness for witness in waits if self.witnesses[witness][0] in kinds]
-        chosen = sorted(answers.intersection(rest), key=lambda witness: (sum(waits[witness]), witness))[:1]
-        first = [(math.log(PATIENCE),) * 2] * len(next(iter(waits.values()), ()))
-        for witness in chosen:
-            first = [(wait, two[1]) for two, wait in zip(first, waits[witness])]
+        chosen, first = [], [(math.log(PATIENCE),) * 2] * len(next(iter(waits.values()), ()))
         while len(chosen) < min(WITNESSES, len(rest)):
             sums = [(sum(min(two[1], max(two[0], wait)) for two, wait in zip(first, waits[witness])),
                      sum(waits[witness]), witness) for witness in rest if witness not in chosen]
             chosen.append(min(sums)[2])
             first = [tuple(sorted((*two, wait))[:2]) for two, wait in zip(first, waits[chosen[-1]])]
-        return chosen if len(chosen) > 1 or set(chosen) & answers else []
+        return chosen
 
-    def answers(self, which):
-        """The witnesses most of which come as the channel goes on, or as the coordination has a row."""
-        track = self.tracks[which]
-        goes_on = [tenth for tenth, mark in zip(track.tenths, track.marks)
-                   if mark not in (None, END, "off")]
-        found = set()
+    def all_answers(self, which):
+        """The calls and force-offs that answer a channel, with what each adds to a score that comes without its row.
+
+        Nearly all of them come as the channel goes on, or as the coordination has a row: without it they come in no
+        more silences than may be faults, whatever others see meanwhile.
+        """
+        track, found = self.tracks[which], {}
+        goes_on = [tenth for tenth, mark in zip(track.tenths, track.marks) if mark not in (None, END, "off")]
+        most = max(1, round(FAULTS * self.days))
         for witness, (kind, _) in enumerate(self.witnesses):
             moments = self.moments[witness]
             if kind in ANSWERS and len(moments) >= ENOUGH:
-                at_once = sum(bisect.bisect_left(goes_on, tenth - BOUNCE) < bisect.bisect_right(goes_on, tenth)
-                              for tenth in moments)
-                if at_once >= ANSWERED * len(moments):
-                    found.add(witness)
+                alone = set()
+                for tenth in moments:
+                    row = bisect.bisect_right(goes_on, tenth)
+                    if row == 0 or goes_on[row - 1] < tenth - BOUNCE:
+                        alone.add(row)
+                        if len(alone) > most:
+                            break
+                else:
+                    found[witness] = math.log10((len(moments) + 1) / (len(alone) + 1))
         return found
+
+    def unanswered(self, which, begin, until):
+        """What the answers add that come in a silence: the most that one of them does."""
+        return max((worth * self.seen(witness, begin + BOUNCE, until) for witness, worth in self.answers[which].items()),
+                   default=0)
 
     def is_other(self, witness, channel):
         """Whether a witness isn't of the channel itself, nor the sum over inputs that are mostly its own."""
@@ -449,13 +459,37 @@ class Watch:
         """
         if silence.channel[0] == "coordination" and self.flashing(silence) * 2 > silence.end - silence.begin:
             return
-        found = []
-        for mark in self.marks(silence):
-            usual = self.learned.get((self.channels.index(silence.channel), mark))
-            scores = ([(self.score(usual, witness, silence), witness) for witness in team]
-                      for team in (usual.teams if usual else ()))
-            found.append(max((self.borne_out(team, usual) for team in scores), default=(-math.inf, None)))
-        silence.score, silence.witness = min(found, key=lambda each: each[0], default=(-math.inf, None))
+        which = self.channels.index(silence.channel)
+        span = self.tracks[which].span(silence.begin, silence.end)
+        counted = silence.mark is not None and silence.next is not None
+        silence.score, silence.witness = min((self.score(which, mark, span, silence.end, counted)
+                                              for mark in self.marks(silence)),
+                                             key=lambda each: each[0], default=(-math.inf, None))
+
+    def score(self, which, mark, span, until, counted):
+        """The score of a silence up to a tenth, and the witness that counts; counted where it is one of the usual.
+
+        It is that of a team's highest, as far as the second bears it out. What other detectors see and what comes
+        unanswered counts together: it comes unanswered whatever they see.
+        """
+        usual = self.learned.get((which, mark))
+        if usual is None:
+            return -math.inf, None
+        unanswered = self.unanswered(which, span[0], until)
+        found = [(self.score_of(usual, math.log(usual.count + 1)) + unanswered, None)]
+        for team, more in zip(usual.teams, (unanswered, 0)):
+            ranked = sorted(((self.score_of(usual, self.expected(which, usual, witness, span, until, counted)), witness)
+                             for witness in team), reverse=True)
+            if len(ranked) > 1:
+                found.append((min(ranked[0][0], ranked[1][0] + SPARE) + more, ranked[0][1]))
+        return max(found, key=lambda each: each[0])
+
+    def score_of(self, usual, expected):
+        return (math.log(self.days) - expected) / math.log(10) - usual.tests
+
+    def expected(self, which, usual, witness, span, until, counted):
+        amount = self.amount(which, witness, span, until)
+        return usual.expected(witness, amount, amount if counted else None)
 
     def marks(self, silence):
         """The rows that a silence may follow."""
@@ -468,25 +502,6 @@ class Watch:
     def flashing(self, silence):
         """The tenths of a silence over which the signal flashes."""
         return sum(max(0, min(end, silence.end) - max(begin, silence.begin)) for begin, end in self.flashes)
-
-    @staticmethod
-    def borne_out(team, usual):
-        """The highest of a team of (score, witness), as far as the second bears it out; an answer needs no second."""
-        ranked = sorted(team, reverse=True)
-        found = [one for one in ranked if one[1] in usual.answers]
-        if len(ranked) > 1:
-            found.append((min(ranked[0][0], ranked[1][0] + SPARE), ranked[0][1]))
-        return max(found)
-
-    def score(self, usual, witness, silence):
-        amount = self.amount_in(witness, silence)
-        counted = silence.mark is not None and silence.next is not None
-        expected = usual.expected(witness, amount, amount if counted else None)
-        return math.log10(self.days) - expected / math.log(10) - usual.tests
-
-    def amount_in(self, witness, silence):
-        which = self.channels.index(silence.channel)
-        return self.amount(which, witness, self.tracks[which].span(silence.begin, silence.end))
 
     def judged(self, least):
         """The silences whose score is at least so much, the highest first."""
@@ -507,28 +522,21 @@ class Watch:
                     self.dark.setdefault(witness, []).append((silence.begin, silence.end))
 
     def seen_at(self, silence):
-        """The tenth at which a silence had lasted long enough to be likely, or None."""
+        """The tenth at which a silence had lasted long enough to be likely, to a minute, or None."""
         which = self.channels.index(silence.channel)
-        usual = self.learned.get((which, silence.mark))
-        start = bisect.bisect_left(self.mesh, silence.begin)
-        if usual is None or not usual.teams or start == len(self.mesh):
+        if (which, silence.mark) not in self.learned:
             return None
         span = self.tracks[which].span(silence.begin, silence.end)
-        return max(silence.begin + LEAST, self.mesh[start] + self.found_after(which, usual, start, span) * STEP)
+        return silence.begin + STEP * self.seen_after(which, silence.mark, span)
 
-    def found_after(self, which, usual, start, span):
-        """The steps from one of the mesh on until a silence that begins there is likely."""
-        found = [PATIENCE]
-        for team in usual.teams:
-            first, second = ([(self.wait(which, witness, needs[witness], start, span), witness) for witness in team]
-                             for needs in (usual.needs, usual.eases))
-            found += [wait for wait, witness in first if witness in usual.answers]
-            if len(team) > 1:
-                found.append(max(min(first), sorted(second)[1])[0])
-        return min(found)
+    def seen_after(self, which, mark, span):
+        """The minutes from the begin of a silence on until it is likely: a score only grows."""
+        likely = dict(GRADES)["likely"]
+        return bisect.bisect_left(range(PATIENCE), likely, LEAST // STEP,
+                                  key=lambda minutes: self.score(which, mark, span, span[0] + minutes * STEP, False)[0])
 
     def learned_channels(self):
-        return {self.channels[which] for (which, _), usual in self.learned.items() if usual.teams}
+        return {self.channels[which] for which, _ in self.learned}
 
     def rows_of(self, channel):
         """How many rows a channel has."""
@@ -540,39 +548,41 @@ class Watch:
         The middle one of four beginnings in each hour of the log at that time of day.
         """
         times = {}
-        for start in range(0, len(self.mesh), 15):
-            times.setdefault(self.mesh[start] // logs.HOUR % 24, []).append(start)
-        for (which, mark), usual in sorted(self.learned.items(), key=lambda each: (each[0][0], str(each[0][1]))):
-            if usual.teams:
-                span = self.tracks[which].span
-                waits = [[self.found_after(which, usual, start, span(self.mesh[start], self.mesh[start]))
-                          for start in times.get(time, ())] for time in range(24)]
-                yield self.channels[which], mark, [
-                    max(LEAST // STEP, statistics.median_high(each)) if each else None for each in waits]
+        for tenth in self.mesh[::15]:
+            times.setdefault(tenth // logs.HOUR % 24, []).append(tenth)
+        for which, mark in sorted(self.learned, key=lambda each: (each[0], str(each[1]))):
+            span = self.tracks[which].span
+            waits = [[self.seen_after(which, mark, span(tenth, tenth)) for tenth in times.get(time, ())]
+                     for time in range(24)]
+            yield self.channels[which], mark, [statistics.median_high(each) if each else None for each in waits]
 
     def evidence(self, silence):
-        """By mark that it may follow: the silences after it, and a line for each witness, or None.
+        """By mark that it may follow: the silences after it, a line for each witness, and one for each answer, or None.
 
-        A line: witness, what it saw, and that at the pace of the whole log; so much was seen, or more, by so many
-        others; the need; how many are expected.
+        A witness: its name, what it saw, and that at the pace of the whole log; so much was seen, or more, by so many
+        others; the need; how many are expected. An answer: its name, how many came, and what each adds to the score.
         """
         which = self.channels.index(silence.channel)
+        span = self.tracks[which].span(silence.begin, silence.end)
+        counted = silence.mark is not None and silence.next is not None
+        answers = [(self.witnesses[witness], self.seen(witness, silence.begin + BOUNCE, silence.end), worth)
+                   for witness, worth in self.answers[which].items()]
         for mark in self.marks(silence):
             usual = self.learned.get((which, mark))
-            if usual is None:
-                yield mark, None, None
-                continue
             lines = []
-            for witness in (witness for team in usual.teams for witness in team):
-                amount, moments = self.amount_in(witness, silence), self.moments[witness]
-                seen = max(0, bisect.bisect_left(moments, silence.end) - bisect.bisect_right(moments, silence.begin))
-                without = amount if silence.mark is not None and silence.next is not None else None
-                edge, reached, _, _ = usual.tail(witness, without)
+            for witness in (witness for team in (usual.teams if usual else ()) for witness in team):
+                amount, seen = self.amount(which, witness, span), self.seen(witness, silence.begin, silence.end)
+                edge, reached, _, _ = usual.tail(witness, amount if counted else None)
                 if edge == 0:
-                    edge, reached = 1, sum(usual.seen[witness].values()) - bool(without)
-                expected = math.exp(usual.expected(witness, amount, without))
+                    edge, reached = 1, sum(usual.seen[witness].values()) - (counted and amount > 0)
+                expected = math.exp(self.expected(which, usual, witness, span, None, counted))
                 lines.append((self.witnesses[witness], seen, amount, edge, reached, usual.needs[witness], expected))
-            yield mark, usual.count, lines
+            yield mark, usual and usual.count, lines, answers
+
+    def seen(self, witness, begin, end):
+        """What a witness saw between two tenths."""
+        moments = self.moments[witness]
+        return max(0, bisect.bisect_left(moments, end) - bisect.bisect_right(moments, begin))
 
 
 def channel_of(code, number):

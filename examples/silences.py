@@ -2,19 +2,27 @@
 
 A channel is a detector, a pedestrian input, the coordination, or several detectors or inputs taken as one. Its
 silences run from one of its rows to the next. Each is measured by what the rest of the signal did meanwhile, its
-witnesses: actuations of another detector or of all, calls, greens and walks of a phase. The log itself says how many
-are usual in such a silence. Of those silences that see the most, the twenty largest or one in fifty, the chance falls
-with each further event by a constant factor (a geometric tail); the factor is estimated from them and held for as
-uncertain as so few make it. The three largest of a day count only as no smaller than the next, since they may be
-faults themselves, and the silence that is judged is left out. Quiet hours, free operation and coordination are learned apart.
-So clock time counts for nothing: at night, and where the whole log is lost, the witnesses stand still too.
+witnesses: actuations of another detector or of all, or calls, greens and walks of a phase. By how many rows the channel
+had for each of theirs from an hour before the silence to an hour after it, what they saw is taken at the usual pace:
+as much as it would be if that share were always the mean one. So silences of the busiest hour and of the early morning
+compare. The log itself says how much is usual in a silence of the channel. Of those that see the most, the twenty
+largest or one in fifty, the chance falls with each further event by a constant factor (a geometric tail); the factor is
+estimated from them and held for as uncertain as so few make it. The three largest of a day count only as no smaller
+than the next, since they may be faults themselves, and the silence that is judged is left out. Clock time counts for
+nothing: at night, and where the whole log is lost, the witnesses stand still too.
 
-There are two teams of witnesses, what other detectors saw and what the controller did: where a loop is dead its calls
-are missing too, where only its rows are lost they aren't. The witness that counts is the second best of a team, so
-that no fault of one detector accuses another.
+The witnesses of a channel are three of the other detectors and inputs; where most detectors are of the channel itself,
+of what the controller did. That counts which saw most, as far as a second bears it out, so that no fault of one
+detector accuses another. What is itself silent for a cause of its own tells nothing.
+
+Some calls come only as the channel goes on: the log has no more silences in which one came unanswered than may be
+faults. So where the rows of a detector are lost and its calls aren't, each adds to the score the logarithm of how often
+such a call came answered, whatever other detectors see. So does each force-off for the coordination.
 
 The score of a silence is the decimal logarithm of the days that this signal would have to run until chance alone made
-such a one on any of its channels: 1 is ten days, 3 a thousand.
+such a one on any of its channels: 1 is ten days, 3 a thousand. What chance may do is shared out alike among the kinds
+of channels, one detector, several, one input, several, the coordination, and then among those of a kind: all inputs
+together fail no more rarely than a detector, and are one channel beside many.
 
 A detector chatters where in a minute, or in ten as a share of all, it goes on far more often than in the fullest
 minutes of other hours, or far more often within half a second of going off.
@@ -39,12 +47,12 @@ ENOUGH = 60          # silences: with fewer, a tail of twenty would be more than
 TOP, SHARE = 20, 50  # silences in the tail: twenty a day, or one in fifty
 FAULTS = 3           # silences a day: so many of a channel may be faults
 CERTAINTY = 40       # silences: that a tail is geometric is no surer than so many make it, however many there are
-TEAMS = (("detector", "detectors", "ped_detector", "ped_detectors"),
-         ("call", "ped_call", "ped_calls", "green", "greens", "walk", "force_off"))
-WITNESSES = 3        # of a team: where one of three is faulty, there is still a second
+INPUTS = ("detector", "detectors", "ped_detector", "ped_detectors")
+CONTROLLER = ("call", "ped_call", "ped_calls", "green", "greens", "walk")
+WITNESSES = 3        # of a channel: where one of three is faulty, there is still one and a second
 ANSWERS = ("call", "ped_call", "ped_calls", "force_off")
 GRADES = (("sure", 3.0), ("likely", 1.0), ("weak", 0.5))
-SPARE = 1.5          # of the score: what a silence may lack and still belong to a common one
+SPARE = 1.5          # of the score: what a silence may lack and still belong to a common one, or bear a witness out
 COMMON = 0.5         # of their time: what two silences share that are told as one
 STEP = 600           # tenths: the mesh of time in which witnesses are chosen and chances told
 PATIENCE = 240       # steps: a silence that isn't seen by then isn't seen
@@ -137,13 +145,13 @@ class Log:
 class Usual:
     """The silences of a channel after one kind of row: how many, and how many of them saw how much of each witness."""
 
-    __slots__ = ("count", "seen", "in_order", "top", "faults", "tests", "teams", "needs")
+    __slots__ = ("count", "seen", "in_order", "top", "faults", "tests", "chosen", "needs")
 
     def __init__(self, size, count, days):
         self.count, self.seen, self.in_order = count, [{} for _ in range(size)], {}
         self.top = max(TOP, min(round(TOP * days), count // 3), count // SHARE)
         self.faults = max(1, min(round(FAULTS * days), FAULTS * count // ENOUGH))
-        self.tests, self.teams, self.needs = 0.0, [], {}
+        self.tests, self.chosen, self.needs = 0.0, [], {}
 
     def add(self, seen):
         for amounts, amount in zip(self.seen, seen):
@@ -264,7 +272,7 @@ class Watch:
         self.columns = [array.array("l", (bisect.bisect_left(moments, tenth) for tenth in self.mesh))
                         for moments in self.moments]
         self.channels, self.tracks, self.answers, self.learned, self.silences, self.open = [], [], [], {}, [], []
-        self.dark = {witness: self.flashes[:] for witness, (kind, _) in enumerate(self.witnesses) if kind in TEAMS[1]}
+        self.dark = {witness: self.flashes[:] for witness, (kind, _) in enumerate(self.witnesses) if kind not in INPUTS}
         present = {channel_of(key >> 16, key & 65535) for key in set(log.keys)} - {None}
         self.add(sorted(present) + list(groups))
 
@@ -300,7 +308,7 @@ class Watch:
             kinds[self.kind(which)] = kinds.get(self.kind(which), 0) + 1
         for which, mark in new:
             usual = self.learned[which, mark]
-            usual.tests = math.log10(len(kinds) * kinds[self.kind(which)] * len(TEAMS))
+            usual.tests = math.log10(len(kinds) * kinds[self.kind(which)])
             if any(usual.seen):
                 self.choose(which, usual)
 
@@ -379,24 +387,28 @@ class Watch:
         return len(self.moments[witness]) / len(self.tracks[which].rows)
 
     def choose(self, which, usual):
-        """The two teams of witnesses for silences of a channel, and what each has to see for a likely one."""
-        track = self.tracks[which]
+        """The witnesses for silences of a channel, and what each has to see for a likely one.
+
+        They are other detectors and inputs; where most detectors are of the channel itself, the controller.
+        """
+        track, channel = self.tracks[which], self.channels[which]
         starts = [(start, track.span(self.mesh[start], self.mesh[start]))
                   for start in range(0, len(self.mesh), max(30, len(self.mesh) // 100))]
         wanted = math.log(self.days) - math.log(10) * (dict(GRADES)["likely"] + usual.tests)
-        others = [witness for witness in range(len(self.witnesses)) if self.is_other(witness, self.channels[which])]
+        others = [witness for witness in range(len(self.witnesses)) if self.is_other(witness, channel)]
+        kinds = INPUTS if ("detectors", None) in (self.witnesses[witness] for witness in others) else CONTROLLER
+        others = [witness for witness in others if self.witnesses[witness][0] in kinds]
         usual.needs = {witness: usual.need(witness, wanted) for witness in others}
         waits = {witness: [math.log(self.wait(which, witness, usual.needs[witness], *start)) for start in starts]
                  for witness in others}
-        usual.teams = [self.team(kinds, waits) for kinds in TEAMS]
+        usual.chosen = self.soonest(waits)
 
-    def team(self, kinds, waits):
-        """The witness of these kinds that sees a silence soonest, in the geometric mean, and those that bear it out."""
-        rest = [witness for witness in waits if self.witnesses[witness][0] in kinds]
+    def soonest(self, waits):
+        """The witness that sees a silence soonest, in the geometric mean, and those that bear it out soonest."""
         chosen, first = [], [(math.log(PATIENCE),) * 2] * len(next(iter(waits.values()), ()))
-        while len(chosen) < min(WITNESSES, len(rest)):
+        while len(chosen) < min(WITNESSES, len(waits)):
             sums = [(sum(min(two[1], max(two[0], wait)) for two, wait in zip(first, waits[witness])),
-                     sum(waits[witness]), witness) for witness in rest if witness not in chosen]
+                     sum(waits[witness]), witness) for witness in waits if witness not in chosen]
             chosen.append(min(sums)[2])
             first = [tuple(sorted((*two, wait))[:2]) for two, wait in zip(first, waits[chosen[-1]])]
         return chosen
@@ -469,20 +481,17 @@ class Watch:
     def score(self, which, mark, span, until, counted):
         """The score of a silence up to a tenth, and the witness that counts; counted where it is one of the usual.
 
-        It is that of a team's highest, as far as the second bears it out. What other detectors see and what comes
-        unanswered counts together: it comes unanswered whatever they see.
+        It is that of the witness that saw most, as far as a second bears it out, and what answers add.
         """
         usual = self.learned.get((which, mark))
         if usual is None:
             return -math.inf, None
-        unanswered = self.unanswered(which, span[0], until)
-        found = [(self.score_of(usual, math.log(usual.count + 1)) + unanswered, None)]
-        for team, more in zip(usual.teams, (unanswered, 0)):
-            ranked = sorted(((self.score_of(usual, self.expected(which, usual, witness, span, until, counted)), witness)
-                             for witness in team), reverse=True)
-            if len(ranked) > 1:
-                found.append((min(ranked[0][0], ranked[1][0] + SPARE) + more, ranked[0][1]))
-        return max(found, key=lambda each: each[0])
+        score, counts = self.score_of(usual, math.log(usual.count + 1)), None
+        ranked = sorted(((self.score_of(usual, self.expected(which, usual, witness, span, until, counted)), witness)
+                         for witness in usual.chosen), reverse=True)
+        if len(ranked) > 1:
+            score, counts = min(ranked[0][0], ranked[1][0] + SPARE), ranked[0][1]
+        return score + self.unanswered(which, span[0], until), counts
 
     def score_of(self, usual, expected):
         return (math.log(self.days) - expected) / math.log(10) - usual.tests
@@ -570,7 +579,7 @@ class Watch:
         for mark in self.marks(silence):
             usual = self.learned.get((which, mark))
             lines = []
-            for witness in (witness for team in (usual.teams if usual else ()) for witness in team):
+            for witness in (usual.chosen if usual else ()):
                 amount, seen = self.amount(which, witness, span), self.seen(witness, silence.begin, silence.end)
                 edge, reached, _, _ = usual.tail(witness, amount if counted else None)
                 if edge == 0:

@@ -12,8 +12,9 @@ than the next, since they may be faults themselves, and the silence that is judg
 nothing: at night, and where the whole log is lost, the witnesses stand still too.
 
 The witnesses of a channel are three of the other detectors and inputs; where most detectors are of the channel itself,
-of what the controller did. That counts which saw most, as far as a second bears it out, so that no fault of one
-detector accuses another. What is itself silent for a cause of its own tells nothing.
+of what the controller did. The second best of them counts, so that no fault of one detector accuses another; or the
+one that sees a silence soonest by the whole log, as far as a second bears it out. What is itself silent for a cause of
+its own tells nothing.
 
 Some calls come only as the channel goes on: the log has no more silences in which one came unanswered than may be
 faults. So where the rows of a detector are lost and its calls aren't, each adds to the score the logarithm of how often
@@ -30,6 +31,7 @@ minutes of other hours, or far more often within half a second of going off.
 import array
 import bisect
 import heapq
+import itertools
 import math
 import statistics
 
@@ -50,7 +52,7 @@ CERTAINTY = 40       # silences: that a tail is geometric is no surer than so ma
 INPUTS = ("detector", "detectors", "ped_detector", "ped_detectors")
 CONTROLLER = ("call", "ped_call", "ped_calls", "green", "greens", "walk")
 WITNESSES = 3        # of a channel: where one of three is faulty, there is still one and a second
-ANSWERS = ("call", "ped_call", "ped_calls", "force_off")
+CALLS = ("call", "ped_call", "ped_calls")
 GRADES = (("sure", 3.0), ("likely", 1.0), ("weak", 0.5))
 SPARE = 1.5          # of the score: what a silence may lack and still belong to a common one, or bear a witness out
 COMMON = 0.5         # of their time: what two silences share that are told as one
@@ -414,32 +416,43 @@ class Watch:
         return chosen
 
     def all_answers(self, which):
-        """The calls and force-offs that answer a channel, with what each adds to a score that comes without its row.
+        """The calls that answer a channel, or the force-offs, with what each adds to a score that comes unanswered.
 
-        Nearly all of them come as the channel goes on, or as the coordination has a row: without it they come in no
-        more silences than may be faults, whatever others see meanwhile.
+        A call is answered where the channel goes on within half a second before it, a force-off where the coordination
+        has had a row since the one before. All but so few are as may be faults.
         """
-        track, found = self.tracks[which], {}
+        track, coordination = self.tracks[which], self.channels[which][0] == "coordination"
         goes_on = [tenth for tenth, mark in zip(track.tenths, track.marks) if mark not in (None, END, "off")]
-        most = max(1, round(FAULTS * self.days))
+        most, found = max(1, round(FAULTS * self.days)), {}
         for witness, (kind, _) in enumerate(self.witnesses):
             moments = self.moments[witness]
-            if kind in ANSWERS and len(moments) >= ENOUGH:
-                alone = set()
-                for tenth in moments:
-                    row = bisect.bisect_right(goes_on, tenth)
-                    if row == 0 or goes_on[row - 1] < tenth - BOUNCE:
-                        alone.add(row)
-                        if len(alone) > most:
-                            break
-                else:
-                    found[witness] = math.log10((len(moments) + 1) / (len(alone) + 1))
+            if kind in (("force_off",) if coordination else CALLS) and len(moments) >= ENOUGH:
+                since = itertools.chain(moments[:1], moments) if coordination else (at - BOUNCE for at in moments)
+                alone = self.alone(goes_on, zip(since, moments), most)
+                if alone <= most:
+                    found[witness] = math.log10((len(moments) + 1) / (alone + 1))
         return found
 
+    @staticmethod
+    def alone(goes_on, moments, most):
+        """In how many silences there is a moment without a row since; it is counted up to one more than most."""
+        found = set()
+        for since, tenth in moments:
+            row = bisect.bisect_right(goes_on, tenth)
+            if row == 0 or goes_on[row - 1] < since:
+                found.add(row)
+                if len(found) > most:
+                    break
+        return len(found)
+
     def unanswered(self, which, begin, until):
-        """What the answers add that come in a silence: the most that one of them does."""
-        return max((worth * self.seen(witness, begin + BOUNCE, until) for witness, worth in self.answers[which].items()),
-                   default=0)
+        """What the answers add that come in a silence: the most that one of them does.
+
+        The first force-off has had a row since the one before.
+        """
+        first = self.channels[which][0] == "coordination"
+        return max((worth * max(0, self.seen(witness, begin + BOUNCE, until) - first)
+                    for witness, worth in self.answers[which].items()), default=0)
 
     def is_other(self, witness, channel):
         """Whether a witness isn't of the channel itself, nor the sum over inputs that are mostly its own."""
@@ -478,10 +491,11 @@ class Watch:
                                               for mark in self.marks(silence)),
                                              key=lambda each: each[0], default=(-math.inf, None))
 
-    def score(self, which, mark, span, until, counted):
+    def score(self, which, mark, span, until, counted, answers=True):
         """The score of a silence up to a tenth, and the witness that counts; counted where it is one of the usual.
 
-        It is that of the witness that saw most, as far as a second bears it out, and what answers add.
+        It is the second best of its witnesses, or the best where that is the one chosen first, as far as the second
+        bears it out, and what answers add.
         """
         usual = self.learned.get((which, mark))
         if usual is None:
@@ -490,8 +504,10 @@ class Watch:
         ranked = sorted(((self.score_of(usual, self.expected(which, usual, witness, span, until, counted)), witness)
                          for witness in usual.chosen), reverse=True)
         if len(ranked) > 1:
-            score, counts = min(ranked[0][0], ranked[1][0] + SPARE), ranked[0][1]
-        return score + self.unanswered(which, span[0], until), counts
+            (best, witness), (score, counts) = ranked[:2]
+            if witness == usual.chosen[0]:
+                score, counts = min(best, score + SPARE), witness
+        return score + (self.unanswered(which, span[0], until) if answers else 0), counts
 
     def score_of(self, usual, expected):
         return (math.log(self.days) - expected) / math.log(10) - usual.tests
@@ -536,13 +552,13 @@ class Watch:
         if (which, silence.mark) not in self.learned:
             return None
         span = self.tracks[which].span(silence.begin, silence.end)
-        return silence.begin + STEP * self.seen_after(which, silence.mark, span)
+        return silence.begin + STEP * self.seen_after(which, silence.mark, span, True)
 
-    def seen_after(self, which, mark, span):
-        """The minutes from the begin of a silence on until it is likely: a score only grows."""
-        likely = dict(GRADES)["likely"]
-        return bisect.bisect_left(range(PATIENCE), likely, LEAST // STEP,
-                                  key=lambda minutes: self.score(which, mark, span, span[0] + minutes * STEP, False)[0])
+    def seen_after(self, which, mark, span, answers):
+        """The minutes from the begin of a silence on until it is likely, with what answers it or not: a score only grows."""
+        def score(minutes):
+            return self.score(which, mark, span, span[0] + minutes * STEP, False, answers)[0]
+        return bisect.bisect_left(range(PATIENCE), dict(GRADES)["likely"], LEAST // STEP, key=score)
 
     def learned_channels(self):
         return {self.channels[which] for which, _ in self.learned}
@@ -554,14 +570,14 @@ class Watch:
     def chances(self):
         """By channel and mark, for each hour of the day the minutes that a silence from then on has to last, or None.
 
-        The middle one of four beginnings in each hour of the log at that time of day.
+        The middle one of four beginnings in each hour of the log at that time of day, if no call comes unanswered.
         """
         times = {}
         for tenth in self.mesh[::15]:
             times.setdefault(tenth // logs.HOUR % 24, []).append(tenth)
         for which, mark in sorted(self.learned, key=lambda each: (each[0], str(each[1]))):
             span = self.tracks[which].span
-            waits = [[self.seen_after(which, mark, span(tenth, tenth)) for tenth in times.get(time, ())]
+            waits = [[self.seen_after(which, mark, span(tenth, tenth), False) for tenth in times.get(time, ())]
                      for time in range(24)]
             yield self.channels[which], mark, [statistics.median_high(each) if each else None for each in waits]
 

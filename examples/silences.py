@@ -354,7 +354,7 @@ class Watch:
         for mark, spans in counted.items():
             if len(spans) >= ENOUGH:
                 self.learned[which, mark] = self.usual(which, spans)
-            elif channel[0] == "coordination" and len(together) >= ENOUGH:
+            elif channel[0] == "coordination" and len(together) >= ENOUGH and self.answers[which]:
                 self.learned[which, mark] = Usual(len(self.witnesses), len(together), self.days)
 
     def usual(self, which, spans):
@@ -575,7 +575,7 @@ class Watch:
         times = {}
         for tenth in self.mesh[::15]:
             times.setdefault(tenth // logs.HOUR % 24, []).append(tenth)
-        for which, mark in sorted(self.learned, key=lambda each: (each[0], str(each[1]))):
+        for which, mark in sorted(pair for pair, usual in self.learned.items() if usual.chosen):
             span = self.tracks[which].span
             waits = [[self.seen_after(which, mark, span(tenth, tenth), False) for tenth in times.get(time, ())]
                      for time in range(24)]

@@ -156,9 +156,9 @@ class Usual:
         self.tests, self.chosen, self.needs = 0.0, [], {}
 
     def add(self, seen):
-        for amounts, amount in zip(self.seen, seen):
+        for witness, amount in seen:
             if amount:
-                amounts[amount] = amounts.get(amount, 0) + 1
+                self.seen[witness][amount] = self.seen[witness].get(amount, 0) + 1
 
     def tail(self, witness, without=None):
         """Where the tail begins, how many are in it, how it falls with each event, and from how many that is learned.
@@ -211,7 +211,7 @@ class Usual:
 
 
 class Silence:
-    """A silence: its channel, the row that it follows and the one that ends it, its score and the witness that counts."""
+    """A silence: its channel, the rows that it follows and that end it, its score and the witness that counts."""
 
     __slots__ = ("watch", "channel", "mark", "begin", "end", "next", "score", "witness")
 
@@ -249,7 +249,7 @@ class Track:
         return max(0, bisect.bisect_left(self.rows, end) - bisect.bisect_left(self.rows, begin))
 
     def span(self, begin, end):
-        """A silence: from, to, how far before and after it is looked for what is usual, and the channel's rows there."""
+        """A silence: from, to, how far around it is looked for what is usual, and the rows of the channel there."""
         rows, width = self.rows, WIDTH
         last, first = bisect.bisect_right(rows, begin), bisect.bisect_left(rows, end)
         while True:
@@ -360,11 +360,12 @@ class Watch:
     def usual(self, which, spans):
         """What is usual in such silences. The longest for their time of day are measured, more than the tail holds."""
         usual, lengths = Usual(len(self.witnesses), len(spans), self.days), []
+        others = self.others(self.channels[which])
         for each in spans:
             begin, end, width, rows = span = self.tracks[which].span(*each)
             lengths.append((rows * (end - begin) / width, span))
         for _, span in heapq.nlargest(MEASURED * usual.top, lengths):
-            usual.add([self.amount(which, witness, span) for witness in range(len(self.witnesses))])
+            usual.add((witness, self.amount(which, witness, span)) for witness in others)
         return usual
 
     def amount(self, which, witness, span, until=None):
@@ -389,17 +390,11 @@ class Watch:
         return len(self.moments[witness]) / len(self.tracks[which].rows)
 
     def choose(self, which, usual):
-        """The witnesses for silences of a channel, and what each has to see for a likely one.
-
-        They are other detectors and inputs; where most detectors are of the channel itself, the controller.
-        """
-        track, channel = self.tracks[which], self.channels[which]
-        starts = [(start, track.span(self.mesh[start], self.mesh[start]))
+        """The witnesses for silences of a channel, and what each has to see for a likely one."""
+        starts = [(start, self.tracks[which].span(self.mesh[start], self.mesh[start]))
                   for start in range(0, len(self.mesh), max(30, len(self.mesh) // 100))]
         wanted = math.log(self.days) - math.log(10) * (dict(GRADES)["likely"] + usual.tests)
-        others = [witness for witness in range(len(self.witnesses)) if self.is_other(witness, channel)]
-        kinds = INPUTS if ("detectors", None) in (self.witnesses[witness] for witness in others) else CONTROLLER
-        others = [witness for witness in others if self.witnesses[witness][0] in kinds]
+        others = self.others(self.channels[which])
         usual.needs = {witness: usual.need(witness, wanted) for witness in others}
         waits = {witness: [math.log(self.wait(which, witness, usual.needs[witness], *start)) for start in starts]
                  for witness in others}
@@ -453,6 +448,12 @@ class Watch:
         first = self.channels[which][0] == "coordination"
         return max((worth * max(0, self.seen(witness, begin + BOUNCE, until) - first)
                     for witness, worth in self.answers[which].items()), default=0)
+
+    def others(self, channel):
+        """The witnesses that can tell of a channel: other detectors and inputs; the controller, where most are its own."""
+        found = [witness for witness in range(len(self.witnesses)) if self.is_other(witness, channel)]
+        kinds = INPUTS if ("detectors", None) in (self.witnesses[witness] for witness in found) else CONTROLLER
+        return [witness for witness in found if self.witnesses[witness][0] in kinds]
 
     def is_other(self, witness, channel):
         """Whether a witness isn't of the channel itself, nor the sum over inputs that are mostly its own."""
@@ -555,7 +556,7 @@ class Watch:
         return silence.begin + STEP * self.seen_after(which, silence.mark, span, True)
 
     def seen_after(self, which, mark, span, answers):
-        """The minutes from the begin of a silence on until it is likely, with what answers it or not: a score only grows."""
+        """The minutes from the begin of a silence on until it is likely, with answers or without: a score only grows."""
         def score(minutes):
             return self.score(which, mark, span, span[0] + minutes * STEP, False, answers)[0]
         return bisect.bisect_left(range(PATIENCE), dict(GRADES)["likely"], LEAST // STEP, key=score)
@@ -674,7 +675,7 @@ def too_many(log, counts, tests, least):
         return
     usual.faults, usual.top = faulty, 3 * faulty
     for count in fullest(counts).values():
-        usual.add([count])
+        usual.add([(0, count)])
     for begin, count in counts.items():
         expected = usual.expected(0, count)
         score = math.log10(log.days()) - expected / math.log(10) - tests

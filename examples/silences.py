@@ -3,9 +3,9 @@
 A channel is a detector, a pedestrian input, the coordination, or several detectors or inputs taken as one. Its
 silences run from one of its rows to the next. Each is measured by what the rest of the signal did meanwhile, its
 witnesses: actuations of another detector or of all, or calls, greens and walks of a phase. By how many rows the channel
-had for each of theirs from an hour before the silence to an hour after it, what they saw is taken at the usual pace:
+had for each of theirs from two hours before the silence to two hours after, what they saw is taken at the usual pace:
 as much as it would be if that share were always the mean one. So silences of the busiest hour and of the early morning
-compare. The log itself says how much is usual in a silence of the channel. Of those that see the most, the twenty
+compare. The log itself says how much is usual in a silence of the channel. Of those that see the most, the forty
 largest or one in fifty, the chance falls with each further event by a constant factor (a geometric tail); the factor is
 estimated from them and held for as uncertain as so few make it. The three largest of a day count only as no smaller
 than the next, since they may be faults themselves, and the silence that is judged is left out. Clock time counts for
@@ -40,13 +40,13 @@ import logs
 DAY = 24 * logs.HOUR
 LEAST = 3000         # tenths: a shorter silence isn't judged; queues stand on a loop for minutes
 PAUSE = 1200         # tenths: where the whole log is silent for longer than a cycle, no silence goes on over it
-WIDTH = logs.HOUR    # what is usual at a time is what is so from an hour before to an hour after
+WIDTH = 2 * logs.HOUR    # what is usual at a time is what is so from two hours before to two hours after
 FEW = 20             # rows: with fewer in that time it is looked for in twice as long
 END = "end"          # where a stretch of the log ends
 MEASURED = 3         # times as many silences as the tail holds are measured
 MOST = 20            # natural logarithm: so much more than usual is never seen
 ENOUGH = 60          # silences: with fewer, a tail of twenty would be more than a third of all
-TOP, SHARE = 20, 50  # silences in the tail: twenty a day, or one in fifty
+TOP, SHARE = 40, 50  # silences in the tail: forty a day, as far as a third of all goes, or one in fifty
 FAULTS = 3           # silences a day: so many of a channel may be faults
 CERTAINTY = 40       # silences: that a tail is geometric is no surer than so many make it, however many there are
 INPUTS = ("detector", "detectors", "ped_detector", "ped_detectors")
@@ -151,7 +151,7 @@ class Usual:
 
     def __init__(self, size, count, days):
         self.count, self.seen, self.in_order = count, [{} for _ in range(size)], {}
-        self.top = max(TOP, min(round(TOP * days), count // 3), count // SHARE)
+        self.top = max(ENOUGH // 3, min(max(TOP, round(TOP * days)), count // 3), count // SHARE)
         self.faults = max(1, min(round(FAULTS * days), FAULTS * count // ENOUGH))
         self.tests, self.chosen, self.needs = 0.0, [], {}
 

@@ -233,8 +233,11 @@ class Track:
         self.tenths, self.marks, self.rows = array.array("q"), [], array.array("q")
 
     def add(self, tenth, mark):
+        """The next row. An on and an off with the same stamp, whichever is written first, follow as they alternate."""
         self.tenths.append(tenth)
         self.marks.append(mark)
+        if mark in ("on", "off") and self.tenths[-2:-1] == self.tenths[-1:] and self.marks[-3:-2] == self.marks[-2:-1]:
+            self.marks[-2:] = self.marks[:-3:-1]
         if mark not in (None, END):
             self.rows.append(tenth)
 
@@ -780,7 +783,7 @@ def known_groups(silences, groups):
 def bundles(watch, silences):
     """Silences of single channels, those at the same time as one of all their channels together.
 
-    Since these are put together after they were seen, such a one is likelier by the number of possible partners.
+    Since these are put together after they were seen, such a one is likelier by the number of ways to do so.
     """
     alone, several, rest = [], [], silences
     while rest:
@@ -797,8 +800,8 @@ def bundles(watch, silences):
         if common:
             longest = max(common, key=lambda silence: silence.end - silence.begin)
             watch.judge(longest)
-            partners = sum(channel[0] == longest.channel[0] for channel in watch.channels)
-            longest.score = max(longest.score - math.log10(partners), same[0].score)
+            ways = math.comb(len(watch.log.numbers(longest.channel[0])), len(longest.channel[1]))
+            longest.score = max(longest.score - math.log10(ways), same[0].score)
             found.append(longest)
         else:
             found += same

@@ -43,6 +43,7 @@ PAUSE = 1200         # tenths: where the whole log is silent for longer than a c
 WIDTH = 2 * logs.HOUR    # what is usual at a time is what is so from two hours before to two hours after
 FEW = 20             # rows: with fewer in that time it is looked for in twice as long
 END = "end"          # where a stretch of the log ends
+BOTH = "on and off"  # with one stamp
 MEASURED = 3         # times as many silences as the tail holds are measured
 MOST = 20            # natural logarithm: so much more than usual is never seen
 ENOUGH = 60          # silences: with fewer, a tail of twenty would be more than a third of all
@@ -233,13 +234,14 @@ class Track:
         self.tenths, self.marks, self.rows = array.array("q"), [], array.array("q")
 
     def add(self, tenth, mark):
-        """The next row. An on and an off with the same stamp, whichever is written first, follow as they alternate."""
-        self.tenths.append(tenth)
-        self.marks.append(mark)
-        if mark in ("on", "off") and self.tenths[-2:-1] == self.tenths[-1:] and self.marks[-3:-2] == self.marks[-2:-1]:
-            self.marks[-2:] = self.marks[:-3:-1]
+        """The next row. Of an on and an off with one stamp, as where rows are stamped in batches, the state isn't known."""
         if mark not in (None, END):
             self.rows.append(tenth)
+        if self.tenths and self.tenths[-1] == tenth and {self.marks[-1], mark} == {"on", "off"}:
+            self.marks[-1] = BOTH
+        else:
+            self.tenths.append(tenth)
+            self.marks.append(mark)
 
     def silences(self):
         """Each silence: the mark of the row before it, from, to, the mark of the row that ends it or END."""
@@ -521,12 +523,14 @@ class Watch:
         return usual.expected(witness, amount, amount if counted else None)
 
     def marks(self, silence):
-        """The rows that a silence may follow."""
-        lacks_row = len(silence.channel[1]) == 1 and silence.mark in ("on", "off") and silence.mark == silence.next
-        if silence.mark is not None and not lacks_row:
+        """The rows that a silence may follow: of a detector or input any of those that are learned, where its own isn't."""
+        which, single = self.channels.index(silence.channel), len(silence.channel[1]) == 1
+        lacks_row = single and silence.mark in ("on", "off") and silence.mark == silence.next
+        if silence.channel[0] == "coordination":
+            return [silence.mark] if silence.mark else sorted(set(self.tracks[which].marks) - {None, END})
+        if (which, silence.mark) in self.learned and not lacks_row:
             return [silence.mark]
-        which = self.channels.index(silence.channel)
-        return sorted({mark for mark in self.tracks[which].marks if mark not in (None, END)}, key=str)
+        return [mark for mark in ("on", "off", BOTH) if (which, mark) in self.learned]
 
     def flashing(self, silence):
         """The tenths of a silence over which the signal flashes."""
@@ -817,7 +821,7 @@ def finding_of(silence):
     kind, numbers = silence.channel
     word, other = "silent", {"on": "off", "off": "on"}
     if kind == "detector" and len(numbers) == 1:
-        before = silence.mark or other.get(silence.next)
-        if before and silence.next in (None, other[before]):
+        before = silence.mark if silence.mark in other else other.get(silence.next)
+        if before and silence.next in (None, BOTH, other[before]):
             word = "stuck " + before
     return Finding(word, kind, numbers, silence.begin, silence.end, silence.score, silence)

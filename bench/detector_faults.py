@@ -28,11 +28,12 @@ class Fault:
         """Whether so long a silence of its channel, from its begin on, comes by chance at most so often a day.
 
         By the channel's own rows alone, as if they came independently of one another, at the rate from an hour before
-        the fault to an hour after it in the log without it. The coordination and a detector that stays on show at once.
+        the fault to an hour after it in the log without it. A detector that stays on shows at once.
         """
-        if self.kind in ("coordination", "stuck-on"):
+        if self.kind == "stuck-on":
             return True
-        comes = [tenth for tenth, key in zip(log.tenths, log.keys) if key >> 16 in (82, 90) and self.concerns(key)]
+        comes = [tenth for tenth, key in zip(log.tenths, log.keys)
+                 if key >> 16 in (82, 90, *silences.COORDINATION) and self.concerns(key)]
         low, high = self.begin - logs.HOUR, self.end + logs.HOUR
         expected = sum(low <= tenth < high for tenth in comes) * length / (high - low)
         return len(comes) * math.exp(-expected) <= a_day

@@ -523,14 +523,18 @@ class Watch:
         return usual.expected(witness, amount, amount if counted else None)
 
     def marks(self, silence):
-        """The rows that a silence may follow: of a detector or input any of those that are learned, where its own isn't."""
-        which, single = self.channels.index(silence.channel), len(silence.channel[1]) == 1
+        """The rows that a silence may follow; for a row that is too rare to be learned stands one of both, where these are.
+
+        Where rows are stamped in batches most are of both.
+        """
+        which = self.channels.index(silence.channel)
+        both, single = (which, BOTH) in self.learned, len(silence.channel[1]) == 1
         lacks_row = single and silence.mark in ("on", "off") and silence.mark == silence.next
-        if silence.channel[0] == "coordination":
-            return [silence.mark] if silence.mark else sorted(set(self.tracks[which].marks) - {None, END})
-        if (which, silence.mark) in self.learned and not lacks_row:
-            return [silence.mark]
-        return [mark for mark in ("on", "off", BOTH) if (which, mark) in self.learned]
+        if silence.mark is None or lacks_row or silence.mark == BOTH and not both:
+            marks = sorted(set(self.tracks[which].marks) - {None, END, BOTH})
+        else:
+            marks = [silence.mark]
+        return [BOTH if both and (which, mark) not in self.learned else mark for mark in marks]
 
     def flashing(self, silence):
         """The tenths of a silence over which the signal flashes."""

@@ -162,7 +162,7 @@ def late(log):
 
 
 def detectors(run, put, get):
-    """The day as it is and with faults, written late, with flash, and with a coordination that stays away after a flash;
+    """The day as it is, in batches and with faults, with flash, and with a coordination that stays away after a flash;
     what is explained, what is left out, and a log too small to learn from."""
     log = made_day()
     put("config.toml", CONFIG)

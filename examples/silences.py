@@ -234,7 +234,7 @@ class Track:
         self.tenths, self.marks, self.rows = array.array("q"), [], array.array("q")
 
     def add(self, tenth, mark):
-        """The next row. Of an on and an off with one stamp, as where rows are stamped in batches, the state isn't known."""
+        """The next row. Of an on and an off with one stamp, as in batches, the state isn't known."""
         if mark not in (None, END):
             self.rows.append(tenth)
         if self.tenths and self.tenths[-1] == tenth and {self.marks[-1], mark} == {"on", "off"}:
@@ -455,7 +455,7 @@ class Watch:
                     for witness, worth in self.answers[which].items()), default=0)
 
     def others(self, channel):
-        """The witnesses that can tell of a channel: other detectors and inputs; the controller, where most are its own."""
+        """Which witnesses can tell of a channel: other detectors and inputs; where most are its own, the controller."""
         found = [witness for witness in range(len(self.witnesses)) if self.is_other(witness, channel)]
         kinds = INPUTS if ("detectors", None) in (self.witnesses[witness] for witness in found) else CONTROLLER
         return [witness for witness in found if self.witnesses[witness][0] in kinds]
@@ -523,9 +523,9 @@ class Watch:
         return usual.expected(witness, amount, amount if counted else None)
 
     def marks(self, silence):
-        """The rows that a silence may follow; for a row that is too rare to be learned stands one of both, where these are.
+        """The rows that a silence may follow.
 
-        Where rows are stamped in batches most are of both.
+        For one that is too rare to be learned stands one of both, where these are learned, as in batches.
         """
         which = self.channels.index(silence.channel)
         both, single = (which, BOTH) in self.learned, len(silence.channel[1]) == 1
@@ -567,7 +567,7 @@ class Watch:
         return silence.begin + STEP * self.seen_after(which, silence.mark, span, True)
 
     def seen_after(self, which, mark, span, answers):
-        """The minutes from the begin of a silence on until it is likely, with answers or without: a score only grows."""
+        """The minutes from a silence's begin until it is likely, with answers or without: a score only grows."""
         def score(minutes):
             return self.score(which, mark, span, span[0] + minutes * STEP, False, answers)[0]
         return bisect.bisect_left(range(PATIENCE), dict(GRADES)["likely"], LEAST // STEP, key=score)

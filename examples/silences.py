@@ -573,7 +573,8 @@ class Watch:
         return bisect.bisect_left(range(PATIENCE), dict(GRADES)["likely"], LEAST // STEP, key=score)
 
     def learned_channels(self):
-        return {self.channels[which] for which, _ in self.learned}
+        return {self.channels[which] for (which, _), usual in self.learned.items()
+                if len(usual.chosen) > 1 or self.answers[which]}
 
     def rows_of(self, channel):
         """How many rows a channel has."""

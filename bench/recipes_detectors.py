@@ -150,12 +150,24 @@ def flashed(log, begin, end):
     return found
 
 
+def late(log):
+    """The log with the stamps of batches of five seconds, the rows of each by their codes."""
+    move, _ = loggers.LOGGERS["batches of 5 s"]
+    found = silences.Log()
+    found.hours = set(log.hours)
+    for tenth, key in sorted((move(tenth, DAY), key) for tenth, key in zip(log.tenths, log.keys)):
+        found.tenths.append(tenth)
+        found.keys.append(key)
+    return found
+
+
 def detectors(run, put, get):
-    """The day as it is and with faults, with flash, and with a coordination that stays away after a flash; what is
-    explained, what is left out, and a log too small to learn from."""
+    """The day as it is, in batches and with faults, with flash, and with a coordination that stays away after a flash;
+    what is explained, what is left out, and a log too small to learn from."""
     log = made_day()
     put("config.toml", CONFIG)
     out = "as it is: " + run("detectors", "--config", "config.toml", *write(log, put))
+    out += "in batches: " + run("detectors", "--config", "config.toml", *write(late(log), put))
     hour = flashed(log, at("10:00:00"), at("11:00:00"))
     out += "an hour of flash: " + run("detectors", "--config", "config.toml", *write(hour, put))
     short = flashed(log, at("10:00:00"), at("10:10:00"))

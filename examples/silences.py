@@ -2,25 +2,36 @@
 
 A channel is a detector, a pedestrian input, the coordination, or several detectors or inputs taken as one. Its
 silences run from one of its rows to the next. Each is measured by what the rest of the signal did meanwhile, its
-witnesses: actuations of another detector or of all, calls, greens and walks of a phase. The log itself says how many
-are usual in such a silence. Of those silences that see the most, the twenty largest or one in fifty, the chance falls
-with each further event by a constant factor (a geometric tail); the factor is estimated from them and held for as
-uncertain as so few make it. The three largest of a day count only as no smaller than the next, since they may be
-faults themselves, and the silence that is judged is left out. Quiet hours, free operation and coordination are learned apart.
-So clock time counts for nothing: at night, and where the whole log is lost, the witnesses stand still too.
+witnesses: actuations of another detector or of all, or calls, greens and walks of a phase. By how many rows the channel
+had for each of theirs from two hours before the silence to two hours after, what they saw is taken at the usual pace:
+as much as it would be if that share were always the mean one. So silences of the busiest hour and of the early morning
+compare. The log itself says how much is usual in a silence of the channel. Of those that see the most, the forty
+largest or one in fifty, the chance falls with each further event by a constant factor (a geometric tail); the factor is
+estimated from them and held for as uncertain as so few make it. The three largest of a day count only as no smaller
+than the next, since they may be faults themselves, and the silence that is judged is left out. Clock time counts for
+nothing: at night, and where the whole log is lost, the witnesses stand still too.
 
-There are two teams of witnesses, what other detectors saw and what the controller did: where a loop is dead its calls
-are missing too, where only its rows are lost they aren't. The witness that counts is the second best of a team, so
-that no fault of one detector accuses another.
+The witnesses of a channel are three of the other detectors and inputs; where most detectors are of the channel itself,
+of what the controller did. The second best of them counts, so that no fault of one detector accuses another; or the
+one that sees a silence soonest by the whole log, as far as a second bears it out. What is itself silent for a cause of
+its own tells nothing.
+
+Some calls come only as the channel goes on: the log has no more silences in which one came unanswered than may be
+faults. So where the rows of a detector are lost and its calls aren't, each adds to the score the logarithm of how often
+such a call came answered, whatever other detectors see. So does each force-off for the coordination.
 
 The score of a silence is the decimal logarithm of the days that this signal would have to run until chance alone made
-such a one on any of its channels: 1 is ten days, 3 a thousand.
+such a one on any of its channels: 1 is ten days, 3 a thousand. What chance may do is shared out alike among the kinds
+of channels, one detector, several, one input, several, the coordination, and then among those of a kind: all inputs
+together fail no more rarely than a detector, and are one channel beside many.
 
 A detector chatters where in a minute, or in ten as a share of all, it goes on far more often than in the fullest
 minutes of other hours, or far more often within half a second of going off.
 """
 import array
 import bisect
+import heapq
+import itertools
 import math
 import statistics
 
@@ -29,25 +40,29 @@ import logs
 DAY = 24 * logs.HOUR
 LEAST = 3000         # tenths: a shorter silence isn't judged; queues stand on a loop for minutes
 PAUSE = 1200         # tenths: where the whole log is silent for longer than a cycle, no silence goes on over it
-QUIET = 0.5          # of the mean: hours with fewer rows are quiet ones
+WIDTH = 2 * logs.HOUR    # what is usual at a time is what is so from two hours before to two hours after
+FEW = 20             # rows: with fewer in that time it is looked for in twice as long
+END = "end"          # where a stretch of the log ends
+BOTH = "on and off"  # with one stamp
+MEASURED = 3         # times as many silences as the tail holds are measured
+MOST = 20            # natural logarithm: so much more than usual is never seen
 ENOUGH = 60          # silences: with fewer, a tail of twenty would be more than a third of all
-TOP, SHARE = 20, 50  # silences in the tail: twenty a day, or one in fifty
+TOP, SHARE = 40, 50  # silences in the tail: forty a day, as far as a third of all goes, or one in fifty
 FAULTS = 3           # silences a day: so many of a channel may be faults
 CERTAINTY = 40       # silences: that a tail is geometric is no surer than so many make it, however many there are
-TEAMS = (("detector", "detectors", "ped_detector", "ped_detectors"),
-         ("call", "ped_call", "ped_calls", "green", "greens", "walk"))
-WITNESSES = 3        # of a team: where one of three is faulty, there is still a second
-ANSWERS = (43, 45)   # codes of calls
-ANSWERED = 0.75      # of such calls come within half a second as the channel goes on: faults may take a quarter
+INPUTS = ("detector", "detectors", "ped_detector", "ped_detectors")
+CONTROLLER = ("call", "ped_call", "ped_calls", "green", "greens", "walk")
+WITNESSES = 3        # of a channel: where one of three is faulty, there is still one and a second
+CALLS = ("call", "ped_call", "ped_calls")
 GRADES = (("sure", 3.0), ("likely", 1.0), ("weak", 0.5))
-SPARE = 1.5          # of the score: what a silence may lack and still belong to a common one
+SPARE = 1.5          # of the score: what a silence may lack and still belong to a common one, or bear a witness out
 COMMON = 0.5         # of their time: what two silences share that are told as one
 STEP = 600           # tenths: the mesh of time in which witnesses are chosen and chances told
 PATIENCE = 240       # steps: a silence that isn't seen by then isn't seen
 
 COORDINATION = (131, 132, 150, 151, 152)
 FLASH, NO_FLASH = 173, 2
-CLOCKS = {82: "detector", 90: "ped_detector", 43: "call", 45: "ped_call", 1: "green", 21: "walk"}
+CLOCKS = {82: "detector", 90: "ped_detector", 43: "call", 45: "ped_call", 1: "green", 21: "walk", 6: "force_off"}
 TOTALS = {82: "detectors", 90: "ped_detectors", 45: "ped_calls", 1: "greens"}
 SWITCHES = {81: "detector", 82: "detector", 89: "ped_detector", 90: "ped_detector"}
 STATES = {81: "off", 82: "on", 89: "off", 90: "on"}
@@ -133,35 +148,18 @@ class Log:
 class Usual:
     """The silences of a channel after one kind of row: how many, and how many of them saw how much of each witness."""
 
-    __slots__ = ("count", "seen", "in_order", "mixed", "top", "faults", "teams", "needs", "answers")
+    __slots__ = ("count", "seen", "in_order", "top", "faults", "tests", "chosen", "needs")
 
-    def __init__(self, size):
-        self.count, self.seen, self.in_order, self.mixed = 0, [{} for _ in range(size)], {}, False
-        self.top, self.faults = TOP, 0
-        self.teams, self.needs, self.answers = [], {}, set()
-
-    @classmethod
-    def joint(cls, several, size):
-        """What several parts of a log tell together."""
-        made = cls(size)
-        made.mixed = True
-        for usual in several:
-            made.count += usual.count
-            for amounts, more in zip(made.seen, usual.seen):
-                for amount, times in more.items():
-                    amounts[amount] = amounts.get(amount, 0) + times
-        return made
+    def __init__(self, size, count, days):
+        self.count, self.seen, self.in_order = count, [{} for _ in range(size)], {}
+        self.top = max(ENOUGH // 3, min(max(TOP, round(TOP * days)), count // 3), count // SHARE)
+        self.faults = max(1, min(round(FAULTS * days), FAULTS * count // ENOUGH))
+        self.tests, self.chosen, self.needs = 0.0, [], {}
 
     def add(self, seen):
-        self.count += 1
-        for amounts, amount in zip(self.seen, seen):
+        for witness, amount in seen:
             if amount:
-                amounts[amount] = amounts.get(amount, 0) + 1
-
-    def settle(self, days):
-        """How many silences are in the tail, and how many of them may be faults: so many a day, as far as it goes."""
-        self.top = max(TOP, min(round(TOP * days), self.count // 3), self.count // SHARE)
-        self.faults = max(1, min(round(FAULTS * days), FAULTS * self.count // ENOUGH))
+                self.seen[witness][amount] = self.seen[witness].get(amount, 0) + 1
 
     def tail(self, witness, without=None):
         """Where the tail begins, how many are in it, how it falls with each event, and from how many that is learned.
@@ -214,182 +212,253 @@ class Usual:
 
 
 class Silence:
-    """A silence: its channel, the row that it follows and the one that ends it, what each witness saw, its score."""
+    """A silence: its channel, the rows that it follows and that end it, its score and the witness that counts."""
 
-    __slots__ = ("watch", "channel", "mark", "begin", "end", "next", "seen", "score", "witness")
+    __slots__ = ("watch", "channel", "mark", "begin", "end", "next", "score", "witness")
 
-    def __init__(self, watch, channel, mark, begin, end, following, seen):
+    def __init__(self, watch, channel, mark, begin, end, following):
         self.watch, self.channel, self.mark, self.begin, self.end = watch, channel, mark, begin, end
-        self.next, self.seen, self.score, self.witness = following, seen, -math.inf, None
+        self.next, self.score, self.witness = following, -math.inf, None
+
+
+class Track:
+    """The rows of a channel in order, each with its mark.
+
+    A stretch of the log begins with the mark None and ends with END; None is also the mark of a row that tells nothing.
+    rows are the tenths of the others.
+    """
+
+    __slots__ = ("tenths", "marks", "rows")
+
+    def __init__(self):
+        self.tenths, self.marks, self.rows = array.array("q"), [], array.array("q")
+
+    def add(self, tenth, mark):
+        """The next row. Of an on and an off with one stamp, as in batches, the state isn't known."""
+        if mark not in (None, END):
+            self.rows.append(tenth)
+        if self.tenths and self.tenths[-1] == tenth and {self.marks[-1], mark} == {"on", "off"}:
+            self.marks[-1] = BOTH
+        else:
+            self.tenths.append(tenth)
+            self.marks.append(mark)
+
+    def silences(self):
+        """Each silence: the mark of the row before it, from, to, the mark of the row that ends it or END."""
+        for mark, begin, following, end in zip(self.marks, self.tenths, self.marks[1:], self.tenths[1:]):
+            if mark != END and following is not None:
+                yield mark, begin, end, following
+
+    def count(self, begin, end):
+        """The rows of the channel between two tenths."""
+        return max(0, bisect.bisect_left(self.rows, end) - bisect.bisect_left(self.rows, begin))
+
+    def span(self, begin, end):
+        """A silence: from, to, how far around it is looked for what is usual, and the rows of the channel there."""
+        rows, width = self.rows, WIDTH
+        last, first = bisect.bisect_right(rows, begin), bisect.bisect_left(rows, end)
+        while True:
+            count = last - bisect.bisect_left(rows, begin - width) + bisect.bisect_left(rows, end + width) - first
+            if count >= FEW or width >= DAY:
+                return begin, end, width, max(1, count)
+            width *= 2
 
 
 class Watch:
-    """The channels of a log with their silences, learned in one walk over its rows.
+    """The channels of a log with their silences, and what is learned of them.
 
-    groups are channels of several numbers, as ("detector", (1, 2, 3, 4)); without singles there are no others. hush
-    says which rows tell nothing, those of a chattering detector: {detector: [(from, to), ..]}.
+    groups are channels of several numbers, as ("detector", (1, 2, 3, 4)). hush says which rows tell nothing, those of a
+    chattering detector: {detector: [(from, to), ..]}.
     """
 
-    def __init__(self, log, groups=(), hush=None, singles=True):
+    def __init__(self, log, groups=(), hush=None):
         self.log, self.hush = log, hush or {}
-        self.days = log.days()
-        present = sorted({(key >> 16, key & 65535) for key in set(log.keys)})
-        self.witnesses = [(CLOCKS[code], number) for code, number in present if code in CLOCKS]
-        self.witnesses += sorted({(TOTALS[code], None) for code, _ in present if code in TOTALS})
-        self.channels = sorted({channel_of(code, number) for code, number in present} - {None}) if singles else []
-        self.channels += groups
-        place = {witness: place for place, witness in enumerate(self.witnesses)}
-        self.plan = {code << 16 | number: self.deeds(code, number, place) for code, number in present}
-        self.quiet, self.changes, self.flashes = quiet_hours(log), changes_of_coordination(log), log.flashes()
-        self.usual, self.silences, self.open = {}, [], []
-        self.mesh, self.columns = array.array("q"), [array.array("l") for _ in self.witnesses]
-        self.walk()
-        self.answers = self.all_answers()
-        self.learned = self.enough()
-        self.tests = math.log10(max(1, len(self.learned) * len(TEAMS)))
-        self.choose()
-
-    def deeds(self, code, number, place):
-        """What a row does: the channels that it is a row of, each with its mark, and the witnesses that it adds to."""
-        channels, single = [], channel_of(code, number)
-        for which, channel in enumerate(self.channels):
-            if channel == single:
-                channels.append((which, STATES.get(code, (code, number))))
-            elif STATES.get(code) == "on" and SWITCHES[code] == channel[0] and number in channel[1]:
-                channels.append((which, "on"))
-        added = [place[witness] for witness in ((CLOCKS.get(code), number), (TOTALS.get(code), None))
-                 if witness in place]
-        return channels, added
-
-    def part(self, tenth):
-        """The part of the log that a tenth is in: its quiet hours, the others free or coordinated."""
-        if tenth // logs.HOUR * logs.HOUR % DAY in self.quiet:
-            return "quiet"
-        last = bisect.bisect_right(self.changes, (tenth, True)) - 1
-        return "coordinated" if last >= 0 and self.changes[last][1] else "free"
+        self.days, self.spans, self.flashes = log.days(), log.stretches(), log.flashes()
+        self.witnesses, self.moments = self.all_witnesses()
+        self.mesh = array.array("q", (tenth for begin, end in self.spans for tenth in range(begin, end, STEP)))
+        self.columns = [array.array("l", (bisect.bisect_left(moments, tenth) for tenth in self.mesh))
+                        for moments in self.moments]
+        self.channels, self.tracks, self.answers, self.learned, self.silences, self.open = [], [], [], {}, [], []
+        self.dark = {witness: self.flashes[:] for witness, (kind, _) in enumerate(self.witnesses) if kind not in INPUTS}
+        present = {channel_of(key >> 16, key & 65535) for key in set(log.keys)} - {None}
+        self.add(sorted(present) + list(groups))
 
     def hushed(self, key, tenth):
         return SWITCHES.get(key >> 16) == "detector" and any(
             begin <= tenth < end for begin, end in self.hush.get(key & 65535, ()))
 
-    def walk(self):
-        """Goes over the rows and counts; where hours are missing each channel begins anew."""
-        tenths, keys, counts = self.log.tenths, self.log.keys, [0] * len(self.witnesses)
-        for begin, end in self.log.stretches():
-            last, now = [(None, begin, counts[:])] * len(self.channels), begin
+    def all_witnesses(self):
+        """The witnesses, and the tenths at which each saw something."""
+        plan, found = {}, {}
+        for key in set(self.log.keys):
+            code, number = key >> 16, key & 65535
+            named = ((CLOCKS.get(code), number), (TOTALS.get(code), None))
+            plan[key] = [found.setdefault(witness, array.array("q")) for witness in named if witness[0]]
+        for tenth, key in zip(self.log.tenths, self.log.keys):
+            if plan[key] and not (self.hush and self.hushed(key, tenth)):
+                for moments in plan[key]:
+                    moments.append(tenth)
+        witnesses = sorted(found, key=lambda witness: (witness[1] is None, witness[0], witness[1]))
+        return witnesses, [found[witness] for witness in witnesses]
+
+    def add(self, channels):
+        """Takes in channels: their rows, their silences, what is usual for them, and the witnesses that count."""
+        first = len(self.channels)
+        self.channels += channels
+        self.tracks += self.read(channels)
+        for which in range(first, len(self.channels)):
+            self.answers.append(self.all_answers(which))
+            self.learn(which)
+        new = [pair for pair in self.learned if pair[0] >= first]
+        kinds = {}
+        for which, _ in self.learned:
+            kinds[self.kind(which)] = kinds.get(self.kind(which), 0) + 1
+        for which, mark in new:
+            usual = self.learned[which, mark]
+            usual.tests = math.log10(len(kinds) * kinds[self.kind(which)])
+            if any(usual.seen):
+                self.choose(which, usual)
+
+    def kind(self, which):
+        kind, numbers = self.channels[which]
+        return kind, len(numbers) > 1
+
+    def read(self, channels):
+        """The tracks of channels."""
+        tracks = [Track() for _ in channels]
+        plan = {key: [(track, mark) for track, channel in zip(tracks, channels)
+                      for mark in [mark_in(channel, key >> 16, key & 65535)] if mark]
+                for key in set(self.log.keys)}
+        tenths, keys = self.log.tenths, self.log.keys
+        for begin, end in self.spans:
+            for track in tracks:
+                track.add(begin, None)
             for row in range(bisect.bisect_left(tenths, begin), bisect.bisect_left(tenths, end)):
-                channels, added = self.plan[keys[row]]
-                if not channels and not added:
-                    continue
-                tenth = tenths[row]
-                while now <= tenth:
-                    self.note(now, counts)
-                    now += STEP
-                if self.hush and self.hushed(keys[row], tenth):
-                    for which, _ in channels:
-                        last[which] = None, tenth, counts[:]
-                    continue
-                for which, mark in channels:
-                    self.close(which, *last[which], tenth, mark, counts)
-                for witness in added:
-                    counts[witness] += 1
-                if channels:
-                    here = counts[:]
-                    for which, mark in channels:
-                        last[which] = mark, tenth, here
-            while now < end:
-                self.note(now, counts)
-                now += STEP
-            for which, (mark, since, before) in enumerate(last):
-                if end - since >= LEAST:
-                    seen = [now - then for now, then in zip(counts, before)]
-                    self.open.append(Silence(self, self.channels[which], mark, since, end, None, seen))
+                for track, mark in plan[keys[row]]:
+                    hushed = self.hush and self.hushed(keys[row], tenths[row])
+                    track.add(tenths[row], None if hushed else mark)
+            for track in tracks:
+                track.add(end, END)
+        return tracks
 
-    def note(self, tenth, counts):
-        self.mesh.append(tenth)
-        for column, count in zip(self.columns, counts):
-            column.append(count)
+    def learn(self, which):
+        """Keeps the long silences of a channel, and learns those after each kind of row that is there often enough.
 
-    def close(self, which, mark, since, before, tenth, following, counts):
-        """A row ends the silence of its channel: it is counted, and kept where it is long."""
-        if mark is None and tenth - since < LEAST:
-            return
-        seen = [now - then for now, then in zip(counts, before)]
-        if mark is not None:
-            key = which, mark, self.part(since)
-            if key not in self.usual:
-                self.usual[key] = Usual(len(counts))
-            self.usual[key].add(seen)
-        if tenth - since >= LEAST:
-            kept = self.open if mark is None else self.silences
-            kept.append(Silence(self, self.channels[which], mark, since, tenth, following, seen))
-
-    def enough(self):
-        """What is learned by channel, mark and part of the log; by day, where one part has too little, of both."""
-        found = {}
-        for (which, mark, part), usual in self.usual.items():
-            if usual.count < ENOUGH and part != "quiet":
-                usual = Usual.joint([self.usual[which, mark, other] for other in ("free", "coordinated")
-                                     if (which, mark, other) in self.usual], len(self.witnesses))
-            if usual.count >= ENOUGH:
-                usual.settle(self.days)
-                found[which, mark, part] = usual
-        return found
-
-    def choose(self):
-        """For each channel, mark and part the two teams of witnesses, and what each has to see for a likely silence."""
-        starts = {}
-        for start in range(0, len(self.mesh), 15):
-            starts.setdefault(self.part(self.mesh[start]), []).append(start)
-        starts = {part: some[::len(some) // 100 + 1] for part, some in starts.items()}
-        wanted = math.log(self.days) - math.log(10) * (dict(GRADES)["likely"] + self.tests)
-        for (which, _, part), usual in self.learned.items():
-            others = [witness for witness in range(len(self.witnesses)) if self.is_other(witness, self.channels[which])]
-            usual.needs = {witness: usual.need(witness, wanted) for witness in others}
-            waits = {witness: [math.log(self.wait(witness, usual.needs[witness], start))
-                               for start in starts.get(part, [0])] for witness in others}
-            answers = {witness for channel, witness in self.answers if channel == which}
-            teams = [self.team(kinds, waits, usual.mixed, answers) for kinds in TEAMS]
-            usual.teams, usual.answers = [team for team in teams if team], answers
-
-    def team(self, kinds, waits, mixed, answers):
-        """The witnesses of these kinds of which the second sees a silence soonest, in the geometric mean.
-
-        The soonest answer is one of them. Greens and calls come as the signal runs, free or coordinated; where both
-        are mixed, answers alone are asked.
+        Of the coordination, which is silent for hours after a rare row, answers alone are asked after such a one.
         """
-        rest = [witness for witness in waits if self.witnesses[witness][0] in kinds]
-        if mixed and kinds == TEAMS[1]:
-            rest = [witness for witness in rest if witness in answers]
-        chosen = sorted(answers.intersection(rest), key=lambda witness: (sum(waits[witness]), witness))[:1]
-        first = [(math.log(PATIENCE),) * 2] * len(next(iter(waits.values()), ()))
-        for witness in chosen:
-            first = [(wait, two[1]) for two, wait in zip(first, waits[witness])]
-        while len(chosen) < min(WITNESSES, len(rest)):
+        channel, track = self.channels[which], self.tracks[which]
+        counted = {mark: [] for mark in track.marks if mark not in (None, END)}
+        for mark, begin, end, following in track.silences():
+            known = mark is not None and following != END
+            if known:
+                counted[mark].append((begin, end))
+            if end - begin >= LEAST:
+                kept = self.silences if known else self.open
+                kept.append(Silence(self, channel, mark, begin, end, None if following == END else following))
+        together = [span for spans in counted.values() for span in spans]
+        for mark, spans in counted.items():
+            if len(spans) >= ENOUGH:
+                self.learned[which, mark] = self.usual(which, spans)
+            elif channel[0] == "coordination" and len(together) >= ENOUGH and self.answers[which]:
+                self.learned[which, mark] = Usual(len(self.witnesses), len(together), self.days)
+
+    def usual(self, which, spans):
+        """What is usual in such silences. The longest for their time of day are measured, more than the tail holds."""
+        usual, lengths = Usual(len(self.witnesses), len(spans), self.days), []
+        others = self.others(self.channels[which])
+        for each in spans:
+            begin, end, width, rows = span = self.tracks[which].span(*each)
+            lengths.append((rows * (end - begin) / width, span))
+        for _, span in heapq.nlargest(MEASURED * usual.top, lengths):
+            usual.add((witness, self.amount(which, witness, span)) for witness in others)
+        return usual
+
+    def amount(self, which, witness, span, until=None):
+        """What a witness saw in a silence, or in the part of it before a tenth, at the pace of the whole log.
+
+        That is, as much as it would be if the two always kept the pace that they have in the mean.
+        """
+        begin, end, width, rows = span
+        moments = self.moments[witness]
+        first = bisect.bisect_right(moments, begin)
+        seen = bisect.bisect_left(moments, end if until is None else until) - first
+        if seen <= 0:
+            return 0
+        others = first - bisect.bisect_left(moments, begin - width) + (
+            bisect.bisect_left(moments, end + width) - bisect.bisect_left(moments, end))
+        rows -= sum(self.tracks[which].count(max(begin - width, dark), min(end + width, light))
+                    for dark, light in self.dark.get(witness, ()))
+        return round(self.pace(which, witness) * max(0, rows) * math.log1p(seen / max(1, others)))
+
+    def pace(self, which, witness):
+        """How often a witness sees something for each row of a channel."""
+        return len(self.moments[witness]) / len(self.tracks[which].rows)
+
+    def choose(self, which, usual):
+        """The witnesses for silences of a channel, and what each has to see for a likely one."""
+        starts = [(start, self.tracks[which].span(self.mesh[start], self.mesh[start]))
+                  for start in range(0, len(self.mesh), max(30, len(self.mesh) // 100))]
+        wanted = math.log(self.days) - math.log(10) * (dict(GRADES)["likely"] + usual.tests)
+        others = self.others(self.channels[which])
+        usual.needs = {witness: usual.need(witness, wanted) for witness in others}
+        waits = {witness: [math.log(self.wait(which, witness, usual.needs[witness], *start)) for start in starts]
+                 for witness in others}
+        usual.chosen = self.soonest(waits)
+
+    def soonest(self, waits):
+        """The witness that sees a silence soonest, in the geometric mean, and those that bear it out soonest."""
+        chosen, first = [], [(math.log(PATIENCE),) * 2] * len(next(iter(waits.values()), ()))
+        while len(chosen) < min(WITNESSES, len(waits)):
             sums = [(sum(min(two[1], max(two[0], wait)) for two, wait in zip(first, waits[witness])),
-                     sum(waits[witness]), witness) for witness in rest if witness not in chosen]
+                     sum(waits[witness]), witness) for witness in waits if witness not in chosen]
             chosen.append(min(sums)[2])
             first = [tuple(sorted((*two, wait))[:2]) for two, wait in zip(first, waits[chosen[-1]])]
-        return chosen if len(chosen) > 1 or set(chosen) & answers else []
+        return chosen
 
-    def all_answers(self):
-        """The pairs of a channel and a witness where most calls come as the channel goes on: they are its answer."""
-        found, moments, ons = set(), {}, {}
-        for tenth, key in zip(self.log.tenths, self.log.keys):
-            code, number = key >> 16, key & 65535
-            if code in ANSWERS:
-                for witness in self.plan[key][1]:
-                    moments.setdefault(witness, []).append(tenth)
-            elif STATES.get(code) == "on":
-                for which, _ in self.plan[key][0]:
-                    ons.setdefault(which, []).append(tenth)
-        for which, goes_on in ons.items():
-            for witness, calls in moments.items():
-                at_once = sum(bisect.bisect_left(goes_on, tenth - BOUNCE) < bisect.bisect_right(goes_on, tenth)
-                              for tenth in calls)
-                if len(calls) >= ENOUGH and at_once >= ANSWERED * len(calls):
-                    found.add((which, witness))
+    def all_answers(self, which):
+        """The calls that answer a channel, or the force-offs, with what each adds to a score that comes unanswered.
+
+        A call is answered where the channel goes on within half a second before it, a force-off where the coordination
+        has had a row since the one before. All but so few are as may be faults.
+        """
+        track, coordination = self.tracks[which], self.channels[which][0] == "coordination"
+        goes_on = [tenth for tenth, mark in zip(track.tenths, track.marks) if mark not in (None, END, "off")]
+        most, found = max(1, round(FAULTS * self.days)), {}
+        for witness, (kind, _) in enumerate(self.witnesses):
+            moments = self.moments[witness]
+            if kind in (("force_off",) if coordination else CALLS) and len(moments) >= ENOUGH:
+                since = itertools.chain(moments[:1], moments) if coordination else (at - BOUNCE for at in moments)
+                alone = self.alone(goes_on, zip(since, moments), most)
+                if alone <= most:
+                    found[witness] = math.log10((len(moments) + 1) / (alone + 1))
         return found
+
+    @staticmethod
+    def alone(goes_on, moments, most):
+        """In how many silences there is a moment without a row since; it is counted up to one more than most."""
+        found = set()
+        for since, tenth in moments:
+            row = bisect.bisect_right(goes_on, tenth)
+            if row == 0 or goes_on[row - 1] < since:
+                found.add(row)
+                if len(found) > most:
+                    break
+        return len(found)
+
+    def unanswered(self, which, begin, until):
+        """What the answers add that come in a silence: the most that one of them does.
+
+        The first force-off has had a row since the one before.
+        """
+        first = self.channels[which][0] == "coordination"
+        return max((worth * max(0, self.seen(witness, begin + BOUNCE, until) - first)
+                    for witness, worth in self.answers[which].items()), default=0)
+
+    def others(self, channel):
+        """Which witnesses can tell of a channel: other detectors and inputs; where most are its own, the controller."""
+        found = [witness for witness in range(len(self.witnesses)) if self.is_other(witness, channel)]
+        kinds = INPUTS if ("detectors", None) in (self.witnesses[witness] for witness in found) else CONTROLLER
+        return [witness for witness in found if self.witnesses[witness][0] in kinds]
 
     def is_other(self, witness, channel):
         """Whether a witness isn't of the channel itself, nor the sum over inputs that are mostly its own."""
@@ -399,11 +468,18 @@ class Watch:
         own = kind == channel[0] + "s"
         return not own or 2 * len(channel[1]) < sum(one == channel[0] for one, _ in self.witnesses)
 
-    def wait(self, witness, need, start):
-        """The steps of the mesh from one on until a witness has seen as much as it needs."""
-        column = self.columns[witness]
+    def wait(self, which, witness, need, start, span):
+        """The steps of the mesh from one on until a witness has seen as much as it needs.
+
+        span is the silence outside which it is looked for what is usual: from, to, how far around, the rows there.
+        """
+        begin, end, width, rows = span
+        moments, column = self.moments[witness], self.columns[witness]
+        others = (bisect.bisect_left(moments, end + width) - bisect.bisect_left(moments, end)
+                  + bisect.bisect_left(moments, begin) - bisect.bisect_left(moments, begin - width))
+        more = min(need / (self.pace(which, witness) * rows), MOST)
         stop = min(len(column), start + PATIENCE)
-        seen = bisect.bisect_left(column, column[start] + need, start, stop)
+        seen = bisect.bisect_left(column, column[start] + math.expm1(more) * max(1, others), start, stop)
         return PATIENCE if seen == stop else max(1, seen - start)
 
     def judge(self, silence):
@@ -414,35 +490,55 @@ class Watch:
         """
         if silence.channel[0] == "coordination" and self.flashing(silence) * 2 > silence.end - silence.begin:
             return
-        which, part = self.channels.index(silence.channel), self.part(silence.begin)
-        lacks_row = len(silence.channel[1]) == 1 and silence.mark in ("on", "off") and silence.mark == silence.next
-        marks = [silence.mark] if silence.mark is not None and not lacks_row else [
-            mark for channel, mark, when in self.usual if (channel, when) == (which, part)]
-        found = []
-        for mark in marks:
-            usual = self.learned.get((which, mark, part))
-            scores = ([(-self.score(usual, witness, silence), witness) for witness in team]
-                      for team in (usual.teams if usual else ()))
-            found.append(min((self.second(team, usual) for team in scores), key=lambda each: each[0],
-                             default=(math.inf, None)))
-        score, silence.witness = max(found, key=lambda each: each[0], default=(math.inf, None))
-        silence.score = -score
+        which = self.channels.index(silence.channel)
+        span = self.tracks[which].span(silence.begin, silence.end)
+        counted = silence.mark is not None and silence.next is not None
+        silence.score, silence.witness = min((self.score(which, mark, span, silence.end, counted)
+                                              for mark in self.marks(silence)),
+                                             key=lambda each: each[0], default=(-math.inf, None))
+
+    def score(self, which, mark, span, until, counted, answers=True):
+        """The score of a silence up to a tenth, and the witness that counts; counted where it is one of the usual.
+
+        It is the second best of its witnesses, or the best where that is the one chosen first, as far as the second
+        bears it out, and what answers add.
+        """
+        usual = self.learned.get((which, mark))
+        if usual is None:
+            return -math.inf, None
+        score, counts = self.score_of(usual, math.log(usual.count + 1)), None
+        ranked = sorted(((self.score_of(usual, self.expected(which, usual, witness, span, until, counted)), witness)
+                         for witness in usual.chosen), reverse=True)
+        if len(ranked) > 1:
+            (best, witness), (score, counts) = ranked[:2]
+            if witness == usual.chosen[0]:
+                score, counts = min(best, score + SPARE), witness
+        return score + (self.unanswered(which, span[0], until) if answers else 0), counts
+
+    def score_of(self, usual, expected):
+        return (math.log(self.days) - expected) / math.log(10) - usual.tests
+
+    def expected(self, which, usual, witness, span, until, counted):
+        amount = self.amount(which, witness, span, until)
+        return usual.expected(witness, amount, amount if counted else None)
+
+    def marks(self, silence):
+        """The rows that a silence may follow.
+
+        For one that is too rare to be learned stands one of both, where these are learned, as in batches.
+        """
+        which = self.channels.index(silence.channel)
+        both, single = (which, BOTH) in self.learned, len(silence.channel[1]) == 1
+        lacks_row = single and silence.mark in ("on", "off") and silence.mark == silence.next
+        if silence.mark is None or lacks_row or silence.mark == BOTH and not both:
+            marks = sorted(set(self.tracks[which].marks) - {None, END, BOTH})
+        else:
+            marks = [silence.mark]
+        return [BOTH if both and (which, mark) not in self.learned else mark for mark in marks]
 
     def flashing(self, silence):
         """The tenths of a silence over which the signal flashes."""
         return sum(max(0, min(end, silence.end) - max(begin, silence.begin)) for begin, end in self.flashes)
-
-    @staticmethod
-    def second(each, usual):
-        """Of a team (number, witness) with the second least number; an answer needs no second."""
-        alone = [one for one in each if one[1] in usual.answers]
-        return min(sorted(each)[1:2] + alone, key=lambda one: one[0])
-
-    def score(self, usual, witness, silence):
-        amount = silence.seen[witness]
-        counted = silence.mark is not None and silence.next is not None
-        expected = usual.expected(witness, amount, amount if counted else None)
-        return math.log10(self.days) - expected / math.log(10) - self.tests
 
     def judged(self, least):
         """The silences whose score is at least so much, the highest first."""
@@ -451,68 +547,80 @@ class Watch:
         return sorted((silence for silence in self.silences + self.open if silence.score >= least),
                       key=lambda silence: (-silence.score, silence.begin, silence.channel))
 
-    def seen_at(self, silence):
-        """The tenth at which a silence had lasted long enough to be likely, or None."""
-        usual = self.learned.get((self.channels.index(silence.channel), silence.mark, self.part(silence.begin)))
-        start = bisect.bisect_left(self.mesh, silence.begin)
-        if usual is None or not usual.teams or start == len(self.mesh):
-            return None
-        return max(silence.begin + LEAST, self.mesh[start] + self.found_after(usual, start) * STEP)
+    def distrust(self, silences):
+        """Where a detector or input is silent for a cause of its own, it tells nothing as a witness of others."""
+        for silence in silences:
+            kind, numbers = silence.channel
+            concerned = {(kind, number) for number in numbers}
+            if 2 * len(numbers) >= len(self.log.numbers(kind)):
+                concerned.add((kind + "s", None))
+            for witness, named in enumerate(self.witnesses):
+                if named in concerned:
+                    self.dark.setdefault(witness, []).append((silence.begin, silence.end))
 
-    def found_after(self, usual, start):
-        """The steps from one of the mesh on until a silence that begins there is likely."""
-        waits = ([(self.wait(witness, usual.needs[witness], start), witness) for witness in team]
-                 for team in usual.teams)
-        return min((self.second(team, usual)[0] for team in waits), default=PATIENCE)
+    def seen_at(self, silence):
+        """The tenth at which a silence had lasted long enough to be likely, to a minute, or None."""
+        which = self.channels.index(silence.channel)
+        if (which, silence.mark) not in self.learned:
+            return None
+        span = self.tracks[which].span(silence.begin, silence.end)
+        return silence.begin + STEP * self.seen_after(which, silence.mark, span, True)
+
+    def seen_after(self, which, mark, span, answers):
+        """The minutes from a silence's begin until it is likely, with answers or without: a score only grows."""
+        def score(minutes):
+            return self.score(which, mark, span, span[0] + minutes * STEP, False, answers)[0]
+        return bisect.bisect_left(range(PATIENCE), dict(GRADES)["likely"], LEAST // STEP, key=score)
 
     def learned_channels(self):
-        return {self.channels[which] for (which, _, _), usual in self.learned.items() if usual.teams}
+        return {self.channels[which] for (which, _), usual in self.learned.items()
+                if len(usual.chosen) > 1 or self.answers[which]}
 
     def rows_of(self, channel):
         """How many rows a channel has."""
-        return sum(channel_of(key >> 16, key & 65535) == channel for key in self.log.keys)
+        return len(self.tracks[self.channels.index(channel)].rows)
 
     def chances(self):
         """By channel and mark, for each hour of the day the minutes that a silence from then on has to last, or None.
 
-        The middle one of four beginnings in each hour of the log at that time of day.
+        The middle one of four beginnings in each hour of the log at that time of day, if no call comes unanswered.
         """
         times = {}
-        for start in range(0, len(self.mesh), 15):
-            times.setdefault(self.mesh[start] // logs.HOUR % 24, []).append(start)
-        for which, mark in sorted({each[:2] for each in self.learned}, key=lambda each: (each[0], str(each[1]))):
-            minutes = []
-            for time in range(24):
-                learned = [(self.learned.get((which, mark, self.part(self.mesh[start]))), start)
-                           for start in times.get(time, ())]
-                waits = [self.found_after(usual, start) for usual, start in learned if usual and usual.teams]
-                shortest = LEAST // STEP
-                minutes.append(max(shortest, statistics.median_high(waits)) if waits else None)
-            yield self.channels[which], mark, minutes
+        for tenth in self.mesh[::15]:
+            times.setdefault(tenth // logs.HOUR % 24, []).append(tenth)
+        for which, mark in sorted(pair for pair, usual in self.learned.items() if usual.chosen):
+            span = self.tracks[which].span
+            waits = [[self.seen_after(which, mark, span(tenth, tenth), False) for tenth in times.get(time, ())]
+                     for time in range(24)]
+            yield self.channels[which], mark, [statistics.median_high(each) if each else None for each in waits]
 
     def evidence(self, silence):
-        """By mark that it may follow: the part of the log, the silences there, and a line for each witness, or None.
+        """By mark that it may follow: the silences after it, a line for each witness, and one for each answer, or None.
 
-        A line: witness, what it saw; so much was seen, or more, by so many others; the need; how many are expected.
+        A witness: its name, what it saw, and that at the pace of the whole log; so much was seen, or more, by so many
+        others; the need; how many are expected. An answer: its name, how many came, and what each adds to the score.
         """
-        which, part = self.channels.index(silence.channel), self.part(silence.begin)
-        for mark in sorted({mark for channel, mark, when in self.usual if (channel, when) == (which, part)}, key=str):
-            if silence.mark not in (None, mark):
-                continue
-            usual = self.learned.get((which, mark, part))
-            if usual is None:
-                yield mark, part, self.usual[which, mark, part].count, None
-                continue
+        which = self.channels.index(silence.channel)
+        span = self.tracks[which].span(silence.begin, silence.end)
+        counted = silence.mark is not None and silence.next is not None
+        answers = [(self.witnesses[witness], self.seen(witness, silence.begin + BOUNCE, silence.end), worth)
+                   for witness, worth in self.answers[which].items()]
+        for mark in self.marks(silence):
+            usual = self.learned.get((which, mark))
             lines = []
-            for witness in (witness for team in usual.teams for witness in team):
-                amount = silence.seen[witness]
-                without = amount if silence.mark is not None and silence.next is not None else None
-                edge, reached, _, _ = usual.tail(witness, without)
+            for witness in (usual.chosen if usual else ()):
+                amount, seen = self.amount(which, witness, span), self.seen(witness, silence.begin, silence.end)
+                edge, reached, _, _ = usual.tail(witness, amount if counted else None)
                 if edge == 0:
-                    edge, reached = 1, sum(usual.seen[witness].values()) - bool(without)
-                expected = math.exp(usual.expected(witness, amount, without))
-                lines.append((self.witnesses[witness], amount, edge, reached, usual.needs[witness], expected))
-            yield mark, "free or coordinated" if usual.mixed else part, usual.count, lines
+                    edge, reached = 1, sum(usual.seen[witness].values()) - (counted and amount > 0)
+                expected = math.exp(self.expected(which, usual, witness, span, None, counted))
+                lines.append((self.witnesses[witness], seen, amount, edge, reached, usual.needs[witness], expected))
+            yield mark, usual and usual.count, lines, answers
+
+    def seen(self, witness, begin, end):
+        """What a witness saw between two tenths."""
+        moments = self.moments[witness]
+        return max(0, bisect.bisect_left(moments, end) - bisect.bisect_right(moments, begin))
 
 
 def channel_of(code, number):
@@ -522,32 +630,12 @@ def channel_of(code, number):
     return (SWITCHES[code], (number,)) if code in SWITCHES else None
 
 
-def quiet_hours(log):
-    """The times of day at which the hours have less than a share of the mean rows.
-
-    Of each the median of seven hours around is taken, so that no outage of three makes an hour quiet.
-    """
-    rows, hours = {}, {}
-    for hour in log.hours:
-        hours[hour % DAY] = hours.get(hour % DAY, 0) + 1
-    for tenth in log.tenths:
-        time = tenth // logs.HOUR * logs.HOUR % DAY
-        rows[time] = rows.get(time, 0) + 1
-    each = {time: rows.get(time, 0) / number for time, number in hours.items()}
-    mean = len(log.tenths) / max(1, len(log.hours))
-    around = {time: [(time + away * logs.HOUR) % DAY for away in range(-3, 4)] for time in each}
-    return {time for time in each
-            if statistics.median(each[other] for other in around[time] if other in each) < QUIET * mean}
-
-
-def changes_of_coordination(log):
-    """The tenths at which the coordination (code 150; 0 is free) begins or ends: (tenth, whether it begins)."""
-    found, on = [], False
-    for tenth, key in zip(log.tenths, log.keys):
-        if key >> 16 == 150 and bool(key & 65535) != on:
-            on = not on
-            found.append((tenth, on))
-    return found
+def mark_in(channel, code, number):
+    """What a row says in a channel, or None; of several numbers together those alone count that go on."""
+    kind, numbers = channel
+    if channel_of(code, number) == channel:
+        return STATES.get(code, (code, number))
+    return "on" if STATES.get(code) == "on" and SWITCHES[code] == kind and number in numbers else None
 
 
 class Chatter:
@@ -594,12 +682,12 @@ def fullest(counts):
 
 def too_many(log, counts, tests, least):
     """The windows with a count beyond what the fullest of each hour let expect, with their scores."""
-    usual, faulty = Usual(1), FAULTY_HOURS * math.ceil(log.days())
+    usual, faulty = Usual(1, len(log.hours), log.days()), FAULTY_HOURS * math.ceil(log.days())
     if len(log.hours) < 2 * faulty:
         return
-    usual.count, usual.faults, usual.top = len(log.hours), faulty, 3 * faulty
+    usual.faults, usual.top = faulty, 3 * faulty
     for count in fullest(counts).values():
-        usual.seen[0][count] = usual.seen[0].get(count, 0) + 1
+        usual.add([(0, count)])
     for begin, count in counts.items():
         expected = usual.expected(0, count)
         score = math.log10(log.days()) - expected / math.log(10) - tests
@@ -671,9 +759,10 @@ def find(log, cards=()):
     groups += [(kind, log.numbers(kind)) for kind in ("detector", "ped_detector")]
     groups = [group for group in dict.fromkeys(groups) if len(group[1]) > 1]
     watch = Watch(log, groups, hush)
+    watch.distrust(watch.judged(dict(GRADES)["sure"]))
     silences = watch.judged(least - SPARE)
     told, rest = known_groups(silences, groups)
-    told += bundles(log, rest, hush)
+    told += bundles(watch, rest)
     found += [finding_of(silence) for silence in told if silence.score >= least]
     return sorted(found, key=lambda each: (each.begin, each.end, each.numbers)), watch
 
@@ -700,10 +789,10 @@ def known_groups(silences, groups):
     return told, rest
 
 
-def bundles(log, silences, hush):
+def bundles(watch, silences):
     """Silences of single channels, those at the same time as one of all their channels together.
 
-    Since these are put together after they were seen, such a one is likelier by the number of possible partners.
+    Since these are put together after they were seen, such a one is likelier by the number of ways to do so.
     """
     alone, several, rest = [], [], silences
     while rest:
@@ -712,7 +801,7 @@ def bundles(log, silences, hush):
         rest = [other for other in rest if other not in same]
         (several if len(same) > 1 else alone).append(same)
     channels = {(same[0].channel[0], numbers_of(same)) for same in several}
-    watch = Watch(log, sorted(channels), hush, singles=False) if channels else None
+    watch.add(sorted(channels - set(watch.channels)))
     found = [same[0] for same in alone]
     for same in several:
         common = [silence for silence in watch.silences + watch.open
@@ -720,8 +809,8 @@ def bundles(log, silences, hush):
         if common:
             longest = max(common, key=lambda silence: silence.end - silence.begin)
             watch.judge(longest)
-            partners = sum(channel[0] == longest.channel[0] for channel in same[0].watch.channels)
-            longest.score = max(longest.score - math.log10(partners), same[0].score)
+            ways = math.comb(len(watch.log.numbers(longest.channel[0])), len(longest.channel[1]))
+            longest.score = max(longest.score - math.log10(ways), same[0].score)
             found.append(longest)
         else:
             found += same
@@ -737,7 +826,7 @@ def finding_of(silence):
     kind, numbers = silence.channel
     word, other = "silent", {"on": "off", "off": "on"}
     if kind == "detector" and len(numbers) == 1:
-        before = silence.mark or other.get(silence.next)
-        if before and silence.next in (None, other[before]):
+        before = silence.mark if silence.mark in other else other.get(silence.next)
+        if before and silence.next in (None, BOTH, other[before]):
             word = "stuck " + before
     return Finding(word, kind, numbers, silence.begin, silence.end, silence.score, silence)

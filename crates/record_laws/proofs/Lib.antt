@@ -1,2 +1,3 @@
 pub mod Trims
 pub mod Records
+pub mod Files

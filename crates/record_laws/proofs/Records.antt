@@ -85,6 +85,14 @@ module _ (number : ℕ) (same : Bool) (stamp : Option ℤ) (hour : ℤ → Optio
 
 -- ---- four fields
 
+differs : (a b : List ℕ) → a ≢ b → bytes_eq a b ≡ false
+differs a b other = go (bytes_eq a b) refl
+  where
+    go : (t : Bool) → bytes_eq a b ≡ t → t ≡ false
+    go true e = absurd (other ((bytes_eq-Decides a b).0 e))
+    go false e = refl
+
+
 four_same : {A : Type 0} (f : List ℕ → List ℕ → List ℕ → List ℕ → A) (a b c d w x y z : List ℕ) → (a ∷ b ∷ c ∷ d ∷ []) ≡ (w ∷ x ∷ y ∷ z ∷ []) → f a b c d ≡ f w x y z
 four_same f a b c d w x y z e = cc
 
@@ -189,7 +197,7 @@ module _ (w : Wanted) (headers rows number : ℕ) (fields : List (List ℕ)) (co
   gives room row h =
       let a = h.at_is in
       judged room w.signal a.stamp h.code h.param a.four
-          ∙ chain_row number _ _ _ _ _ (pos row.at) row same_signal a.stamp_is (in_place w.hour row.at a.hour) h.code_is h.param_is
+          ∙ chain_row number (bytes_eq w.signal w.signal) (stamp_in w.window a.stamp) (at_in_hour w.hour) (number_of 1 9 255 h.code) (number_of 1 9 65535 h.param) (pos row.at) row same_signal a.stamp_is (in_place w.hour row.at a.hour) h.code_is h.param_is
 
   -- a tenth of the hour has a place
   place : (z : ℤ) → IsOfHour w.hour z → (at : ℕ) × (at_in_hour w.hour z ≡ Some at)
@@ -203,25 +211,18 @@ module _ (w : Wanted) (headers rows number : ℕ) (fields : List (List ℕ)) (co
   fails room (Fields n) h =
       let size : (length fields == 4) ≡ false = grind (arith, nat_tests, h.1) in
       rw (room_test room, size) (ap (λ (x : ℕ). Err (Fields x)) (sym h.0))
-  fails room (WrongSignal n) (at, signal, stamp, code, param, four, other) =
-      judged room signal stamp code param four ∙ chain_signal number _ _ _ _ _ (differs signal other) ∙ ap (λ (x : ℕ). Err (WrongSignal x)) (sym at)
-    where
-      differs : (signal : List ℕ) → signal ≢ w.signal → bytes_eq signal w.signal ≡ false
-      differs signal other = go (bytes_eq signal w.signal) refl
-        where
-          go : (b : Bool) → bytes_eq signal w.signal ≡ b → b ≡ false
-          go true e = absurd (other ((bytes_eq-Decides signal w.signal).0 e))
-          go false e = refl
-  fails room (Stamp n) (at, stamp, code, param, four, none) =
-      judged room w.signal stamp code param four ∙ chain_stamp number _ _ _ _ _ same_signal none ∙ ap (λ (x : ℕ). Err (Stamp x)) (sym at)
-  fails room (OutsideHour n) (at, stamp, code, param, z, four, is, out) =
-      judged room w.signal stamp code param four ∙ chain_hour number _ _ _ _ _ z same_signal is (out_of_place w.hour z out) ∙ ap (λ (x : ℕ). Err (OutsideHour x)) (sym at)
-  fails room (Code n) (at, code, param, z, is, none) =
+  fails room (WrongSignal n) (at, (signal, stamp, code, param, four, other)) =
+      judged room signal stamp code param four ∙ chain_signal number (bytes_eq signal w.signal) (stamp_in w.window stamp) (at_in_hour w.hour) (number_of 1 9 255 code) (number_of 1 9 65535 param) (differs signal w.signal other) ∙ ap (λ (x : ℕ). Err (WrongSignal x)) (sym at)
+  fails room (Stamp n) (at, (stamp, code, param, four, none)) =
+      judged room w.signal stamp code param four ∙ chain_stamp number (bytes_eq w.signal w.signal) (stamp_in w.window stamp) (at_in_hour w.hour) (number_of 1 9 255 code) (number_of 1 9 65535 param) same_signal none ∙ ap (λ (x : ℕ). Err (Stamp x)) (sym at)
+  fails room (OutsideHour n) (at, (stamp, code, param, z, four, is, out)) =
+      judged room w.signal stamp code param four ∙ chain_hour number (bytes_eq w.signal w.signal) (stamp_in w.window stamp) (at_in_hour w.hour) (number_of 1 9 255 code) (number_of 1 9 65535 param) z same_signal is (out_of_place w.hour z out) ∙ ap (λ (x : ℕ). Err (OutsideHour x)) (sym at)
+  fails room (Code n) (at, (code, param, z, is, none)) =
       let p = place z is.hour in
-      judged room w.signal is.stamp code param is.four ∙ chain_code number _ _ _ _ _ z p.0 same_signal is.stamp_is p.1 none ∙ ap (λ (x : ℕ). Err (Code x)) (sym at)
-  fails room (Param n) (at, code, param, z, value, is, some, none) =
+      judged room w.signal is.stamp code param is.four ∙ chain_code number (bytes_eq w.signal w.signal) (stamp_in w.window is.stamp) (at_in_hour w.hour) (number_of 1 9 255 code) (number_of 1 9 65535 param) z p.0 same_signal is.stamp_is p.1 none ∙ ap (λ (x : ℕ). Err (Code x)) (sym at)
+  fails room (Param n) (at, (code, param, z, value, is, some, none)) =
       let p = place z is.hour in
-      judged room w.signal is.stamp code param is.four ∙ chain_param number _ _ _ _ _ z p.0 value same_signal is.stamp_is p.1 some none ∙ ap (λ (x : ℕ). Err (Param x)) (sym at)
+      judged room w.signal is.stamp code param is.four ∙ chain_param number (bytes_eq w.signal w.signal) (stamp_in w.window is.stamp) (at_in_hour w.hour) (number_of 1 9 255 code) (number_of 1 9 65535 param) z p.0 value same_signal is.stamp_is p.1 some none ∙ ap (λ (x : ℕ). Err (Param x)) (sym at)
   fails room TooManyRows h = absurd h
   fails room Memory h = absurd h
 

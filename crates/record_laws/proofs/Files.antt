@@ -1,5 +1,5 @@
 -- What the records of a log file say.
-use Rattle.std.proofs.Common.{inl, inr, ◌≡◌, ◌≢◌, ◌⊎◌, ℕ, suc, ◌+◌, ◌≤◌, Bool, true, false, List, [], ◌∷◌, ◌++◌, map, length, All, Result, Ok, Err, refl, sym, ap, subst, ◌∙◌, arith, append-nil, append_assoc, length-append, if◌then◌else◌}
+use Rattle.std.proofs.Common.{inl, inr, ◌≡◌, ◌≢◌, ℕ, suc, ◌+◌, ◌≤◌, Bool, true, false, List, [], ◌∷◌, ◌++◌, map, length, All, Result, Ok, Err, refl, sym, ap, subst, ◌∙◌, arith, append-nil, append_assoc, length-append}
 use Rattle.std.specs.Prelude.{◌==◌, ◌||◌, zip, codes}
 use Rattle.std.specs.Char.{to_ascii_lowercase}
 use Rattle.std.specs.Str.{bytes_eq}
@@ -8,7 +8,7 @@ use Rattle.std.proofs.lemmas.List.Elements.{All-cons, All-head, All-nil, All-tai
 use Rattle.std.proofs.lemmas.Slice.Eq.{bytes_eq-Decides}
 use Rattle.csv.specs.Reading.{default_config, records, strip_bom}
 use Rattle.csv.specs.Records.{field_at}
-use Rattle.sig_base.proofs.Common.{and_last, clash, or_cases}
+use Rattle.sig_base.proofs.Common.{clash, or_cases}
 use Rattle.sig_base.specs.declared.values.Row.{Row}
 use Rattle.row_reader.specs.declared.row_error.RowError.{RowError}
 use Rattle.row_reader.specs.Rows.{Wanted, is_header, on_row, record_row, rows_after}
@@ -158,10 +158,10 @@ unfolding rows_after
 told_after w headers acc number [] plain counted few = record { rows = []; is = sym (append-nil acc); few = omega arith; each = each_none w }
 told_after w headers acc number (r ∷ rs) plain counted few =
     let rest = λ (row : Row) (room : length acc ≢ 400000).
-        let l : length (acc ++ row ∷ []) ≡ length acc + 1 = length-append acc (row ∷ []) in
-        told_after w headers (acc ++ row ∷ []) (number + 1) rs (later_plain (number + 1) rs (omega arith)) (omega arith) (omega arith) in
+    let l : length (acc ++ row ∷ []) ≡ length acc + 1 = length-append acc (row ∷ []) in
+    told_after w headers (acc ++ row ∷ []) (number + 1) rs (later_plain (number + 1) rs (omega arith)) (omega arith) (omega arith) in
     let told = one_step w headers acc r rs number counted few (record_row w headers number r) (λ row. rows_after w headers (acc ++ row ∷ []) (number + 1) rs) rest
-        (record_told w headers (length acc) number r counted) in
+    (record_told w headers (length acc) number r counted) in
     rw (plain r rs refl) told
 
 -- a record that is no header, and those after it
@@ -182,8 +182,8 @@ given_after w headers acc number (r ∷ rs) (row ∷ rows) plain counted few h =
     let room : length acc ≢ 400000 = λ e. omega arith in
     let one = record_is w headers (length acc) number r counted (Ok row) (room, each_first w r row rs rows h) in
     after_one w headers acc number r rs (Ok row) (plain r rs refl) one
-        ∙ given_after w headers (acc ++ row ∷ []) (number + 1) rs rows (later_plain (number + 1) rs (omega arith)) (omega arith) (omega arith) (each_rest w r row rs rows h)
-        ∙ ap (λ (x : List Row). Ok x) (append_assoc acc (row ∷ []) rows)
+    ∙ given_after w headers (acc ++ row ∷ []) (number + 1) rs rows (later_plain (number + 1) rs (omega arith)) (omega arith) (omega arith) (each_rest w r row rs rows h)
+    ∙ ap (λ (x : List Row). Ok x) (append_assoc acc (row ∷ []) rows)
 
 refused_after : (w : Wanted) (headers : ℕ) (acc : List Row) (number : ℕ) (before : List (List (List ℕ))) (fields : List (List ℕ)) (after : List (List (List ℕ))) (rows : List Row) (error : RowError)
     → BeginsPlain number (before ++ fields ∷ after) → number ≡ headers + length acc + 1 → length acc + length rows ≤ 400000 → AreEach w before rows
@@ -203,7 +203,7 @@ refused_after w headers acc number (r ∷ rs) fields after (row ∷ rows) error 
     let room : length acc ≢ 400000 = λ e. omega arith in
     let one = record_is w headers (length acc) number r counted (Ok row) (room, each_first w r row rs rows h) in
     after_one w headers acc number r rest (Ok row) (plain r rest refl) one
-        ∙ refused_after w headers (acc ++ row ∷ []) (number + 1) rs fields after rows error (later_plain (number + 1) rest (omega arith)) (omega arith) (omega arith) (each_rest w r row rs rows h) count at (omega arith) n refused
+    ∙ refused_after w headers (acc ++ row ∷ []) (number + 1) rs fields after rows error (later_plain (number + 1) rest (omega arith)) (omega arith) (omega arith) (each_rest w r row rs rows h) count at (omega arith) n refused
 
 -- ---- the file
 
@@ -270,6 +270,9 @@ module _ (w : Wanted) where
         refused = moved o.count o.number (length o.rows) (length o.before + 1) o.fields error (omega arith) (omega arith) o.refused;
       }
 
+  first_same : (a b : List (List ℕ)) (more others : List (List (List ℕ))) → (a ∷ more) ≡ (b ∷ others) → a ≡ b
+  first_same a b more others is = cc
+
   file_told : (recs : List (List (List ℕ))) → FileOutcome w recs (rows_after w 0 [] 1 recs)
   unfolding rows_after
   file_told [] = from_whole [] (rows_after w 0 [] 1 []) (λ first others e. absurd (cc)) (told_after w 0 [] 1 [] (λ fields more e. absurd (cc)) refl (omega arith))
@@ -281,9 +284,6 @@ module _ (w : Wanted) where
           let plain : BeginsPlain 1 (r ∷ rs) = λ fields more is. subst (λ (y : List (List ℕ)). is_header 1 y ≡ false) (first_same r fields rs more is) e in
           let none : NoHeader (r ∷ rs) = λ first others is header. clash (is_header 1 first) (header_test first header) (plain first others is) in
           from_whole (r ∷ rs) (rows_after w 0 [] 1 (r ∷ rs)) none (told_after w 0 [] 1 (r ∷ rs) plain refl (omega arith))
-        where
-          first_same : (a b : List (List ℕ)) (as bs : List (List (List ℕ))) → (a ∷ as) ≡ (b ∷ bs) → a ≡ b
-          first_same a b as bs is = cc
 
   behind_header : (r : List (List ℕ)) (rs : List (List (List ℕ))) → IsHeader r → rows_after w 0 [] 1 (r ∷ rs) ≡ rows_after w 1 [] 2 rs
   unfolding rows_after
@@ -304,7 +304,7 @@ module _ (w : Wanted) where
       elim g.behind [
         | inl (header, parts, is) ↦
             ap (λ (y : List (List (List ℕ))). rows_after w 0 [] 1 y) parts ∙ behind_header header g.body is
-                ∙ given_after w 1 [] 2 g.body rows (later_plain 2 g.body (omega arith)) refl (omega arith) e
+            ∙ given_after w 1 [] 2 g.body rows (later_plain 2 g.body (omega arith)) refl (omega arith) e
         | inr (same, none) ↦
             given_after w 0 [] 1 recs rows (plain_of recs none) refl (rw same (omega arith)) (subst (λ (y : List (List (List ℕ))). AreEach w y rows) (sym same) e)
       ]
@@ -320,12 +320,12 @@ module _ (w : Wanted) where
             let all : recs ≡ header ∷ (good.body ++ g.fields ∷ g.after) = g.parts ∙ ap (λ (y : List (List (List ℕ))). y ++ g.fields ∷ g.after) parts in
             let l : length g.before ≡ suc (length good.body) = ap length parts in
             ap (λ (y : List (List (List ℕ))). rows_after w 0 [] 1 y) all ∙ behind_header header (good.body ++ g.fields ∷ g.after) is
-                ∙ refused_after w 1 [] 2 good.body g.fields g.after g.rows error (later_plain 2 (good.body ++ g.fields ∷ g.after) (omega arith)) refl (omega arith) e (length g.rows) (length g.before + 1) (omega arith) (omega arith) g.refused
+            ∙ refused_after w 1 [] 2 good.body g.fields g.after g.rows error (later_plain 2 (good.body ++ g.fields ∷ g.after) (omega arith)) refl (omega arith) e (length g.rows) (length g.before + 1) (omega arith) (omega arith) g.refused
         | inr (same, none) ↦
             let l : length g.before ≡ length good.body = ap length same in
             ap (λ (y : List (List (List ℕ))). rows_after w 0 [] 1 y) g.parts
-                ∙ refused_after w 0 [] 1 g.before g.fields g.after g.rows error (plain_of (g.before ++ g.fields ∷ g.after) (plain_before g.before g.fields g.after none g.no_header)) refl (omega arith)
-                    (subst (λ (y : List (List (List ℕ))). AreEach w y g.rows) (sym same) e) (length g.rows) (length g.before + 1) (omega arith) (omega arith) g.refused
+            ∙ refused_after w 0 [] 1 g.before g.fields g.after g.rows error (plain_of (g.before ++ g.fields ∷ g.after) (plain_before g.before g.fields g.after none g.no_header)) refl (omega arith)
+            (subst (λ (y : List (List (List ℕ))). AreEach w y g.rows) (sym same) e) (length g.rows) (length g.before + 1) (omega arith) (omega arith) g.refused
       ]
 
 pub files_give : FilesGiveRows

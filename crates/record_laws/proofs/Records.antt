@@ -1,5 +1,5 @@
 -- What one record of a log file says.
-use Rattle.std.proofs.Common.{inl, inr, ◌≡◌, ◌≢◌, ◌⊎◌, ℕ, suc, ◌+◌, ◌*◌, ◌<◌, ◌≤◌, Bool, true, false, List, [], ◌∷◌, map, length, Option, Some, None, Result, Ok, Err, refl, sym, ap, subst, ◌∙◌, arith, if◌then◌else◌}
+use Rattle.std.proofs.Common.{inl, inr, ◌≡◌, ◌≢◌, ℕ, ◌+◌, ◌*◌, ◌<◌, ◌≤◌, Bool, true, false, List, [], ◌∷◌, length, Option, Some, None, Result, Ok, Err, refl, sym, ap, subst, ◌∙◌, arith, if◌then◌else◌}
 use Rattle.std.specs.Prelude.{◌==◌, ◌&&◌, nat_le, nat_lt, ℤ, pos, negsuc}
 use Rattle.std.specs.Str.{bytes_eq}
 use Rattle.std.proofs.lemmas.Bool.{eqb-true, le-leb, leb-true, ltb-true, ltb-false}
@@ -91,7 +91,6 @@ differs a b other = go (bytes_eq a b) refl
     go : (t : Bool) → bytes_eq a b ≡ t → t ≡ false
     go true e = absurd (other ((bytes_eq-Decides a b).0 e))
     go false e = refl
-
 
 four_same : {A : Type 0} (f : List ℕ → List ℕ → List ℕ → List ℕ → A) (a b c d w x y z : List ℕ) → (a ∷ b ∷ c ∷ d ∷ []) ≡ (w ∷ x ∷ y ∷ z ∷ []) → f a b c d ≡ f w x y z
 four_same f a b c d w x y z e = cc
@@ -197,7 +196,7 @@ module _ (w : Wanted) (headers rows number : ℕ) (fields : List (List ℕ)) (co
   gives room row h =
       let a = h.at_is in
       judged room w.signal a.stamp h.code h.param a.four
-          ∙ chain_row number (bytes_eq w.signal w.signal) (stamp_in w.window a.stamp) (at_in_hour w.hour) (number_of 1 9 255 h.code) (number_of 1 9 65535 h.param) (pos row.at) row same_signal a.stamp_is (in_place w.hour row.at a.hour) h.code_is h.param_is
+      ∙ chain_row number (bytes_eq w.signal w.signal) (stamp_in w.window a.stamp) (at_in_hour w.hour) (number_of 1 9 255 h.code) (number_of 1 9 65535 h.param) (pos row.at) row same_signal a.stamp_is (in_place w.hour row.at a.hour) h.code_is h.param_is
 
   -- a tenth of the hour has a place
   place : (z : ℤ) → IsOfHour w.hour z → (at : ℕ) × (at_in_hour w.hour z ≡ Some at)

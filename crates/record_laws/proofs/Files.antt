@@ -1,5 +1,5 @@
 -- What the records of a log file say.
-use Rattle.std.proofs.Common.{inl, inr, ◌≡◌, ◌≢◌, ℕ, suc, ◌+◌, ◌≤◌, Bool, true, false, List, [], ◌∷◌, ◌++◌, map, length, All, Result, Ok, Err, refl, sym, ap, subst, ◌∙◌, arith, append-nil, append_assoc, length-append}
+use Rattle.std.proofs.Common.{inl, inr, ◌≡◌, ◌≢◌, ◌⊎◌, ℕ, suc, ◌+◌, ◌≤◌, Bool, true, false, List, [], ◌∷◌, ◌++◌, map, length, All, Result, Ok, Err, refl, sym, ap, subst, ◌∙◌, arith, append-nil, append_assoc, length-append}
 use Rattle.std.specs.Prelude.{◌==◌, ◌||◌, zip, codes}
 use Rattle.std.specs.Char.{to_ascii_lowercase}
 use Rattle.std.specs.Str.{bytes_eq}
@@ -11,10 +11,10 @@ use Rattle.csv.specs.Records.{field_at}
 use Rattle.sig_base.proofs.Common.{clash, or_cases}
 use Rattle.sig_base.specs.declared.values.Row.{Row}
 use Rattle.row_reader.specs.declared.row_error.RowError.{RowError}
-use Rattle.row_reader.specs.Rows.{Wanted, is_header, on_row, record_row, rows_after}
+use Rattle.row_reader.specs.Rows.{Wanted, is_header, is_word, on_row, record_row, rows_after}
 use Rattle.row_reader.specs.Trim.{trimmed}
 use Rattle.record_laws.specs.Records.{GivesRow, IsRefused}
-use Rattle.record_laws.specs.Files.{AreRefused, FilesAreRefused, FilesGiveRows, GiveRows, IsHeader, IsHeaderWord}
+use Rattle.record_laws.specs.Files.{AreRefused, FilesAreRefused, FilesGiveRows, GiveRows, IsHeader}
 use Rattle.record_laws.proofs.Records.{Outcome, record_is, record_told}
 
 -- ---- the header
@@ -32,19 +32,25 @@ header_is [] e = absurd (cc)
 header_is (f ∷ fs) e =
     let lower : List ℕ = map to_ascii_lowercase (trimmed f) in
     elim (or_cases (bytes_eq lower (codes "signalid")) (bytes_eq lower (codes "locationidentifier")) e) [
-      | inl q ↦ (f, fs, refl, inl ((bytes_eq-Decides lower (codes "signalid")).0 q))
-      | inr q ↦ (f, fs, refl, inr ((bytes_eq-Decides lower (codes "locationidentifier")).0 q))
+      | inl q ↦ (trimmed f, map trimmed fs, refl, inl ((bytes_eq-Decides lower (codes "signalid")).0 q))
+      | inr q ↦ (trimmed f, map trimmed fs, refl, inr ((bytes_eq-Decides lower (codes "locationidentifier")).0 q))
     ]
 
-word_is : (f : List ℕ) (fs : List (List ℕ)) → IsHeaderWord (trimmed f) → is_header 1 (f ∷ fs) ≡ true
-unfolding field_at
-word_is f fs (inl q) = rw (word_test (map to_ascii_lowercase (trimmed f)) (codes "signalid") q) refl
-word_is f fs (inr q) =
-    let lower : List ℕ = map to_ascii_lowercase (trimmed f) in
+word_is : (text : List ℕ) → (map to_ascii_lowercase text ≡ codes "signalid") ⊎ (map to_ascii_lowercase text ≡ codes "locationidentifier") → (is_word (codes "signalid") text || is_word (codes "locationidentifier") text) ≡ true
+word_is text (inl q) = rw (word_test (map to_ascii_lowercase text) (codes "signalid") q) refl
+word_is text (inr q) =
+    let lower : List ℕ = map to_ascii_lowercase text in
     or_second (bytes_eq lower (codes "signalid")) (bytes_eq lower (codes "locationidentifier")) (word_test lower (codes "locationidentifier") q)
 
+same_first : (a b : List ℕ) (more others : List (List ℕ)) → (a ∷ more) ≡ (b ∷ others) → a ≡ b
+same_first a b more others e = cc
+
 header_test : (fields : List (List ℕ)) → IsHeader fields → is_header 1 fields ≡ true
-header_test fields (first, others, e, word) = ap (λ (x : List (List ℕ)). is_header 1 x) e ∙ word_is first others word
+unfolding field_at
+header_test [] (first, others, e, word) = absurd (cc)
+header_test (f ∷ fs) (first, others, e, word) =
+    let same : trimmed f ≡ first = same_first (trimmed f) first (map trimmed fs) others e in
+    subst (λ (x : List ℕ). (is_word (codes "signalid") x || is_word (codes "locationidentifier") x) ≡ true) (sym same) (word_is first word)
 
 no_header_test : (fields : List (List ℕ)) → (¬ IsHeader fields) → is_header 1 fields ≡ false
 no_header_test fields none = go (is_header 1 fields) refl

@@ -53,16 +53,25 @@ out_of_place hour z out = go (at_in_hour hour z) (placed hour z)
 
 -- ---- the tests one after the other
 
--- the row of these four values, or the first of them that there isn't
+-- the row of a tenth, a code and a parameter, or the refusal where the parameter is none
+abbrev param_on : ℕ → Option ℕ → ℕ → ℕ → Result Row RowError
+param_on number param at code = on_some param (Param number) (λ param. Ok (record { at = at; code = code; param = param }))
+
+-- the same, where the code may be none
+abbrev code_on : ℕ → Option ℕ → Option ℕ → ℕ → Result Row RowError
+code_on number code param at = on_some code (Code number) (λ code. param_on number param at code)
+
+-- the same, where the tenth may lie outside the hour
+abbrev hour_on : ℕ → Option ℕ → Option ℕ → Option ℕ → Result Row RowError
+hour_on number at code param = on_some at (OutsideHour number) (λ at. code_on number code param at)
+
+-- the same, where the stamp may be none
+abbrev stamp_on : ℕ → Option ℤ → (ℤ → Option ℕ) → Option ℕ → Option ℕ → Result Row RowError
+stamp_on number stamp hour code param = on_some stamp (Stamp number) (λ tenth. hour_on number (hour tenth) code param)
+
+-- the same, where the signal may be another one
 abbrev chain : ℕ → Bool → Option ℤ → (ℤ → Option ℕ) → Option ℕ → Option ℕ → Result Row RowError
-chain number same stamp hour code param =
-    if same then
-    on_some stamp (Stamp number) (λ tenth.
-    on_some (hour tenth) (OutsideHour number) (λ at.
-    on_some code (Code number) (λ code.
-    on_some param (Param number) (λ param.
-    Ok (record { at = at; code = code; param = param })))))
-    else Err (WrongSignal number)
+chain number same stamp hour code param = if same then stamp_on number stamp hour code param else Err (WrongSignal number)
 
 module _ (number : ℕ) (same : Bool) (stamp : Option ℤ) (hour : ℤ → Option ℕ) (code param : Option ℕ) where
   chain_signal : same ≡ false → chain number same stamp hour code param ≡ Err (WrongSignal number)
@@ -124,24 +133,23 @@ IsTold w number fields (Err error) = Fails w number fields error
 
 module _ (w : Wanted) (number : ℕ) (fields : List (List ℕ)) (code param : List ℕ) where
   told_param : (at value : ℕ) (o : Option ℕ) → IsAt w fields (pos at) code param → number_of 1 9 255 code ≡ Some value → number_of 1 9 65535 param ≡ o
-      → IsTold w number fields (on_some o (Param number) (λ param. Ok (record { at = at; code = value; param = param })))
+      → IsTold w number fields (param_on number o at value)
   told_param at value None is c e = (refl, (code, param, pos at, value, is, c, e))
   told_param at value (Some x) is c e = record { code = code; param = param; at_is = is; code_is = c; param_is = e }
 
-  told_code : (at : ℕ) (o : Option ℕ) → IsAt w fields (pos at) code param → number_of 1 9 255 code ≡ o
-      → IsTold w number fields (on_some o (Code number) (λ code. on_some (number_of 1 9 65535 param) (Param number) (λ param. Ok (record { at = at; code = code; param = param }))))
+  told_code : (at : ℕ) (o : Option ℕ) → IsAt w fields (pos at) code param → number_of 1 9 255 code ≡ o → IsTold w number fields (code_on number o (number_of 1 9 65535 param) at)
   told_code at None is e = (refl, (code, param, pos at, is, e))
   told_code at (Some value) is e = told_param at value (number_of 1 9 65535 param) is e refl
 
   told_hour : (stamp : List ℕ) (z : ℤ) (o : Option ℕ) → AreFields fields w.signal stamp code param → stamp_in w.window stamp ≡ Some z → IsPlaced w.hour z o
-      → IsTold w number fields (on_some o (OutsideHour number) (λ at. on_some (number_of 1 9 255 code) (Code number) (λ code. on_some (number_of 1 9 65535 param) (Param number) (λ param. Ok (record { at = at; code = code; param = param })))))
+      → IsTold w number fields (hour_on number o (number_of 1 9 255 code) (number_of 1 9 65535 param))
   told_hour stamp z None four e out = (refl, (stamp, code, param, z, four, e, out))
   told_hour stamp z (Some at) four e is =
       let here : IsAt w fields z code param = record { stamp = stamp; four = four; stamp_is = e; hour = is.1 } in
       told_code at (number_of 1 9 255 code) (subst (λ (y : ℤ). IsAt w fields y code param) is.0 here) refl
 
   told_stamp : (stamp : List ℕ) (o : Option ℤ) → AreFields fields w.signal stamp code param → stamp_in w.window stamp ≡ o
-      → IsTold w number fields (on_some o (Stamp number) (λ tenth. on_some (at_in_hour w.hour tenth) (OutsideHour number) (λ at. on_some (number_of 1 9 255 code) (Code number) (λ code. on_some (number_of 1 9 65535 param) (Param number) (λ param. Ok (record { at = at; code = code; param = param }))))))
+      → IsTold w number fields (stamp_on number o (at_in_hour w.hour) (number_of 1 9 255 code) (number_of 1 9 65535 param))
   told_stamp stamp None four e = (refl, (stamp, code, param, four, e))
   told_stamp stamp (Some z) four e = told_hour stamp z (at_in_hour w.hour z) four e (placed w.hour z)
 

@@ -2,7 +2,7 @@
 use Rattle.std.specs.Prelude.{◌≡◌, ◌≢◌, ◌↔◌, ℕ, List, ◌++◌, replicate, codes}
 use Rattle.row_reader.specs.Trim.{trimmed}
 
--- the text is the field after so many spaces (0x20) and before so many, or none, where the field itself neither begins nor ends with one
+-- the text is the field after some spaces (0x20) or none and before some or none, and the field itself neither begins nor ends with one
 pub record IsTrimmed (text field : List ℕ) : Type 0 where
   pub before : ℕ
   pub after : ℕ

@@ -8,13 +8,11 @@ use Rattle.row_reader.specs.Rows.{Wanted, good_rows}
 use Rattle.row_reader.specs.Trim.{trimmed}
 use Rattle.record_laws.specs.Records.{GivesRow, IsRefused}
 
--- the text is `signalid` or `locationidentifier`, in any ASCII case
-abbrev pub IsHeaderWord : List ℕ → Type 0
-IsHeaderWord text = (map to_ascii_lowercase text ≡ codes "signalid") ⊎ (map to_ascii_lowercase text ≡ codes "locationidentifier")
-
--- the first field of the record is such a word, without the spaces at its ends
+-- the first field of the record, without the spaces at its ends, is `signalid` or `locationidentifier` in any ASCII case
 abbrev pub IsHeader : List (List ℕ) → Type 0
-IsHeader fields = (first : List ℕ) × (others : List (List ℕ)) × (fields ≡ first ∷ others) × IsHeaderWord (trimmed first)
+IsHeader fields =
+    (first : List ℕ) × (others : List (List ℕ)) × (map trimmed fields ≡ first ∷ others)
+    × ((map to_ascii_lowercase first ≡ codes "signalid") ⊎ (map to_ascii_lowercase first ≡ codes "locationidentifier"))
 
 -- these are the records behind the header where the first record is one, and else all of them
 abbrev pub IsBody : List (List (List ℕ)) → List (List (List ℕ)) → Type 0

@@ -31,7 +31,7 @@ pub record GivesRow (w : Wanted) (fields : List (List ℕ)) (row : Row) : Type 0
   pub code_is : number_of 1 9 255 code ≡ Some row.code
   pub param_is : number_of 1 9 65535 param ≡ Some row.param
 
--- the record of this number passes each test before this one, and fails it
+-- the record of this number passes each test before that of the error, and fails that one; they are, in order, four fields, the signal, a stamp, the hour, a code and a parameter
 abbrev pub Fails : Wanted → ℕ → List (List ℕ) → RowError → Type 0
 Fails w number fields (Fields n) = (n ≡ number) × (length fields ≢ 4)
 Fails w number fields (WrongSignal n) = (n ≡ number) × ((signal stamp code param : List ℕ) × AreFields fields signal stamp code param × (signal ≢ w.signal))

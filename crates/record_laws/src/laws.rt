@@ -11,16 +11,26 @@ pub fn fields_are_trimmed()
 
 /// Law: a record with so many rows before it gives a row exactly where these aren't 400,000 and it
 /// has four fields that say the row: the wanted signal, a stamp in the hour, a code and a
-/// parameter. Else it is refused exactly for the first of these that it lacks.
+/// parameter.
 pub fn records_give_rows()
     ensures row { RecordsGiveRows }
+{}
+
+/// Law: a record is refused exactly where 400,000 rows are before it, or else for the first of
+/// these that it hasn't: four fields, the wanted signal, a stamp, one in the hour, a code, a
+/// parameter. The error has the record's number.
+pub fn records_are_refused()
     ensures refusal { RecordsAreRefused }
 {}
 
 /// Law: a file gives rows exactly where the records behind its header, or all of them where it has
-/// none, are at most 400,000 and each gives the row of its place. And it gives an error exactly
-/// where the records before some record give rows and that one is refused with the error.
+/// none, are at most 400,000 and each gives the row of its place.
 pub fn records_are_rows()
     ensures rows { FilesGiveRows }
+{}
+
+/// Law: a file is refused exactly where the records before some record give rows and that one is
+/// refused, and with its error.
+pub fn first_refusal_decides()
     ensures refused { FilesAreRefused }
 {}

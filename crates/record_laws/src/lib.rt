@@ -6,4 +6,7 @@
 
 mod laws;
 
-pub use laws::{fields_are_trimmed, records_are_rows, records_give_rows};
+pub use laws::{
+    fields_are_trimmed, first_refusal_decides, records_are_refused, records_are_rows,
+    records_give_rows,
+};

@@ -1,5 +1,5 @@
-use Rattle.record_laws.proofs.Files.{files_give, files_refused}
+use Rattle.record_laws.proofs.Files.{files_give}
 use Rattle.record_laws.proofs.laws.records_are_rows.Goals as goal
 
 pub returns : goal.returns
-returns f = record { rows = files_give; refused = files_refused }
+returns f = record { rows = files_give }

@@ -42,7 +42,7 @@ word_is text (inr q) =
     let lower : List ℕ = map to_ascii_lowercase text in
     or_second (bytes_eq lower (codes "signalid")) (bytes_eq lower (codes "locationidentifier")) (word_test lower (codes "locationidentifier") q)
 
-same_first : (a b : List ℕ) (more others : List (List ℕ)) → (a ∷ more) ≡ (b ∷ others) → a ≡ b
+same_first : {A : Type 0} (a b : A) (more others : List A) → (a ∷ more) ≡ (b ∷ others) → a ≡ b
 same_first a b more others e = cc
 
 header_test : (fields : List (List ℕ)) → IsHeader fields → is_header 1 fields ≡ true
@@ -191,15 +191,16 @@ given_after w headers acc number (r ∷ rs) (row ∷ rows) plain counted few h =
     ∙ given_after w headers (acc ++ row ∷ []) (number + 1) rs rows (later_plain (number + 1) rs (omega arith)) (omega arith) (omega arith) (each_rest w r row rs rows h)
     ∙ ap (λ (x : List Row). Ok x) (append_assoc acc (row ∷ []) rows)
 
+moved : (w : Wanted) (count number count2 number2 : ℕ) (fields : List (List ℕ)) (error : RowError) → count ≡ count2 → number ≡ number2 → IsRefused w count number fields error → IsRefused w count2 number2 fields error
+moved w count number count2 number2 fields error c n h = subst (λ (x : ℕ). IsRefused w count2 x fields error) n (subst (λ (x : ℕ). IsRefused w x number fields error) c h)
+
 refused_after : (w : Wanted) (headers : ℕ) (acc : List Row) (number : ℕ) (before : List (List (List ℕ))) (fields : List (List ℕ)) (after : List (List (List ℕ))) (rows : List Row) (error : RowError)
     → BeginsPlain number (before ++ fields ∷ after) → number ≡ headers + length acc + 1 → length acc + length rows ≤ 400000 → AreEach w before rows
     → (count at : ℕ) → count ≡ length acc + length rows → at ≡ headers + count + 1 → IsRefused w count at fields error
     → rows_after w headers acc number (before ++ fields ∷ after) ≡ Err error
 unfolding rows_after
 refused_after w headers acc number [] fields after [] error plain counted few h count at c n refused =
-    let same_count : count ≡ length acc = omega arith in
-    let same_number : at ≡ number = omega arith in
-    let here : IsRefused w (length acc) number fields error = subst (λ (x : ℕ). IsRefused w (length acc) x fields error) same_number (subst (λ (x : ℕ). IsRefused w x at fields error) same_count refused) in
+    let here : IsRefused w (length acc) number fields error = moved w count at (length acc) number fields error (omega arith) (omega arith) refused in
     after_one w headers acc number fields after (Err error) (plain fields after refl) (record_is w headers (length acc) number fields counted (Err error) here)
 refused_after w headers acc number [] fields after (row ∷ rows) error plain counted few h count at c n refused = let e = h.count in absurd (omega arith)
 refused_after w headers acc number (r ∷ rs) fields after [] error plain counted few h count at c n refused = let e = h.count in absurd (omega arith)
@@ -222,9 +223,6 @@ abbrev NoHeader : List (List (List ℕ)) → Type 0
 NoHeader recs = (first : List (List ℕ)) (others : List (List (List ℕ))) → recs ≡ first ∷ others → ¬ IsHeader first
 
 module _ (w : Wanted) where
-  moved : (count number count2 number2 : ℕ) (fields : List (List ℕ)) (error : RowError) → count ≡ count2 → number ≡ number2 → IsRefused w count number fields error → IsRefused w count2 number2 fields error
-  moved count number count2 number2 fields error c n h = subst (λ (x : ℕ). IsRefused w count2 x fields error) n (subst (λ (x : ℕ). IsRefused w x number fields error) c h)
-
   from_header : (r : List (List ℕ)) (rs : List (List (List ℕ))) (x : Result (List Row) RowError) → IsHeader r → After w 1 [] rs x → FileOutcome w (r ∷ rs) x
   from_header r rs (Ok out) is o =
       let e = o.each in
@@ -244,7 +242,7 @@ module _ (w : Wanted) where
         parts = ap (λ (y : List (List (List ℕ))). r ∷ y) o.parts;
         good = record { body = o.before; behind = inl (r, refl, is); few = omega arith; count = e.count; each = e.each };
         no_header = λ none. cc;
-        refused = moved o.count o.number (length o.rows) (length (r ∷ o.before) + 1) o.fields error (omega arith) (omega arith) o.refused;
+        refused = moved w o.count o.number (length o.rows) (length (r ∷ o.before) + 1) o.fields error (omega arith) (omega arith) o.refused;
       }
 
   from_whole : (rs : List (List (List ℕ))) (x : Result (List Row) RowError) → NoHeader rs → After w 0 [] rs x → FileOutcome w rs x
@@ -273,11 +271,8 @@ module _ (w : Wanted) where
           each = e.each;
         };
         no_header = λ is. none o.fields o.after (o.parts ∙ ap (λ (y : List (List (List ℕ))). y ++ rest) is);
-        refused = moved o.count o.number (length o.rows) (length o.before + 1) o.fields error (omega arith) (omega arith) o.refused;
+        refused = moved w o.count o.number (length o.rows) (length o.before + 1) o.fields error (omega arith) (omega arith) o.refused;
       }
-
-  first_same : (a b : List (List ℕ)) (more others : List (List (List ℕ))) → (a ∷ more) ≡ (b ∷ others) → a ≡ b
-  first_same a b more others is = cc
 
   file_told : (recs : List (List (List ℕ))) → FileOutcome w recs (rows_after w 0 [] 1 recs)
   unfolding rows_after
@@ -287,7 +282,7 @@ module _ (w : Wanted) where
       go : (b : Bool) → is_header 1 r ≡ b → FileOutcome w (r ∷ rs) (rows_after w 0 [] 1 (r ∷ rs))
       go true e = rw e (from_header r rs (rows_after w 1 [] 2 rs) (header_is r e) (told_after w 1 [] 2 rs (later_plain 2 rs (omega arith)) refl (omega arith)))
       go false e =
-          let plain : BeginsPlain 1 (r ∷ rs) = λ fields more is. subst (λ (y : List (List ℕ)). is_header 1 y ≡ false) (first_same r fields rs more is) e in
+          let plain : BeginsPlain 1 (r ∷ rs) = λ fields more is. subst (λ (y : List (List ℕ)). is_header 1 y ≡ false) (same_first r fields rs more is) e in
           let none : NoHeader (r ∷ rs) = λ first others is header. clash (is_header 1 first) (header_test first header) (plain first others is) in
           from_whole (r ∷ rs) (rows_after w 0 [] 1 (r ∷ rs)) none (told_after w 0 [] 1 (r ∷ rs) plain refl (omega arith))
 

@@ -43,6 +43,6 @@ pub record AreRefused (w : Wanted) (records : List (List (List ℕ))) (error : R
 abbrev pub FilesGiveRows : Type 0
 FilesGiveRows = (w : Wanted) (bytes : List ℕ) (rows : List Row) → (good_rows w bytes ≡ Ok rows) ↔ GiveRows w (records default_config (strip_bom bytes)) rows
 
--- and an error exactly where a record is the first to be refused, and with it
+-- a file gives an error exactly where some record is the first to be refused, and with it
 abbrev pub FilesAreRefused : Type 0
 FilesAreRefused = (w : Wanted) (bytes : List ℕ) (error : RowError) → (good_rows w bytes ≡ Err error) ↔ AreRefused w (records default_config (strip_bom bytes)) error

@@ -49,6 +49,6 @@ IsRefused w rows number fields error = ((rows ≡ 400000) × (error ≡ TooManyR
 abbrev pub RecordsGiveRows : Type 0
 RecordsGiveRows = (w : Wanted) (headers rows : ℕ) (fields : List (List ℕ)) (row : Row) → (record_row w headers (headers + rows + 1) fields ≡ Ok row) ↔ ((rows ≢ 400000) × GivesRow w fields row)
 
--- and an error exactly where it is refused with it
+-- a record gives an error exactly where it is refused with it; before it are so many headers and so many rows
 abbrev pub RecordsAreRefused : Type 0
 RecordsAreRefused = (w : Wanted) (headers rows : ℕ) (fields : List (List ℕ)) (error : RowError) → (record_row w headers (headers + rows + 1) fields ≡ Err error) ↔ IsRefused w rows (headers + rows + 1) fields error

@@ -79,6 +79,11 @@ row_reader.Stamp.time_of stamp_laws times_are_read times
 row_reader.Stamp.stamp_of stamp_laws stamps_are_read stamps
 row_reader.Stamp.stamp_in stamp_laws stamps_are_read windows
 row_reader.Stamp.hour_stamp_of stamp_laws hours_are_read hours
+row_reader.Trim.trimmed record_laws fields_are_trimmed fields
+row_reader.Rows.record_row record_laws records_give_rows row
+row_reader.Rows.record_row record_laws records_are_refused refusal
+row_reader.Rows.good_rows record_laws records_are_rows rows
+row_reader.Rows.good_rows record_laws first_refusal_decides refused
 row_reader.Order.in_row_order row_reader put_in_order order rise permutation tenths
 sig_base.Stamp.stamp_at sig_base Window::stamp value shows
 session.Edits.step_of edit_laws edits_make_stores made

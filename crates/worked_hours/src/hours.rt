@@ -145,6 +145,26 @@ fn line(rule: u16, at: u32, row: u32, verdict: Verdict) -> AuditLine {
     }
 }
 
+// The counts of a rule that is undecided nowhere.
+fn count(kept: u64, broken: u64) -> RuleCount {
+    RuleCount {
+        kept,
+        broken,
+        ..NO_COUNT
+    }
+}
+
+// A cycle of the one phase; green and yellow begin so long after its begin.
+fn cycle(from: u32, to: u32, green: u32, yellow: u32) -> Cycle {
+    Cycle {
+        phase: 2,
+        from,
+        to,
+        green,
+        yellow,
+    }
+}
+
 // An arrival of the one approach.
 fn point(offset: u32) -> Point {
     Point {
@@ -169,17 +189,7 @@ fn point(offset: u32) -> Point {
 fn services_of_the_first_hour(rt: HostRuntime) -> Result<(), Fail> {
     let wanted = Wanted {
         held: [1, 14, 35_990],
-        rules: &[
-            RuleCount {
-                kept: 2,
-                broken: 1,
-                ..NO_COUNT
-            },
-            RuleCount {
-                kept: 3,
-                ..NO_COUNT
-            },
-        ],
+        rules: &[count(2, 1), count(3, 0)],
         phases: &[PhaseSum {
             services: 3,
             least: Some(224),
@@ -210,22 +220,7 @@ fn services_of_the_first_hour(rt: HostRuntime) -> Result<(), Fail> {
             line(2, 1129, 12, Verdict::Kept),
         ],
         window: Some((1100, 1129)),
-        cycles: &[
-            Cycle {
-                phase: 2,
-                from: 335,
-                to: 735,
-                green: 145,
-                yellow: 365,
-            },
-            Cycle {
-                phase: 2,
-                from: 735,
-                to: 1129,
-                green: 170,
-                yellow: 365,
-            },
-        ],
+        cycles: &[cycle(335, 735, 145, 365), cycle(735, 1129, 170, 365)],
         points: &[point(580), point(820), point(36_010)],
     };
     assert_eq!(rt; right(rt.alloc(), SERVICES, Which::First, &wanted)?, ALL);
@@ -237,10 +232,7 @@ fn services_of_the_first_hour(rt: HostRuntime) -> Result<(), Fail> {
 // green from 36,100 up to 36,300. No row of this hour is of the detector, and no line is broken.
 #[test]
 fn services_of_the_second_hour(rt: HostRuntime) -> Result<(), Fail> {
-    let kept = RuleCount {
-        kept: 1,
-        ..NO_COUNT
-    };
+    let kept = count(1, 0);
     let wanted = Wanted {
         held: [1, 3, 36_000],
         rules: &[kept, kept],
@@ -267,13 +259,7 @@ fn services_of_the_second_hour(rt: HostRuntime) -> Result<(), Fail> {
             line(2, 36_335, 2, Verdict::Kept),
         ],
         window: None,
-        cycles: &[Cycle {
-            phase: 2,
-            from: 1129,
-            to: 36_335,
-            green: 34_971,
-            yellow: 35_171,
-        }],
+        cycles: &[cycle(1129, 36_335, 34_971, 35_171)],
         points: &[],
     };
     assert_eq!(rt; right(rt.alloc(), SERVICES, Which::Second, &wanted)?, ALL);
@@ -304,16 +290,7 @@ fn one_row<'a>(
 // is needed.
 #[test]
 fn the_second_hour_tells_of_the_first(rt: HostRuntime) -> Result<(), Fail> {
-    let rules = [
-        RuleCount {
-            kept: 1,
-            ..NO_COUNT
-        },
-        RuleCount {
-            broken: 1,
-            ..NO_COUNT
-        },
-    ];
+    let rules = [count(1, 0), count(0, 1)];
     let lines = [
         line(1, 100, 0, Verdict::Kept),
         line(2, 100, 0, Verdict::Broken),
@@ -327,10 +304,7 @@ fn the_second_hour_tells_of_the_first(rt: HostRuntime) -> Result<(), Fail> {
 #[test]
 fn without_the_second_hour_it_is_open(rt: HostRuntime) -> Result<(), Fail> {
     let rules = [
-        RuleCount {
-            kept: 1,
-            ..NO_COUNT
-        },
+        count(1, 0),
         RuleCount {
             undecided: 1,
             ..NO_COUNT

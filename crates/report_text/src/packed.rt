@@ -21,7 +21,7 @@ fn put_row_refusal<K: Sink>(line: Option<u32>, number: u32, sink: &mut K) -> Res
 
 /// Writes the line of a script line whose packed hour was refused, or of the file that was to be
 /// packed where there is no line number. Bytes without the mark of a packed hour are no packed
-/// hour, and they and out of memory have no line.
+/// hour, and they and a lack of memory have no line.
 pub fn put_packed_refusal<K: Sink>(
     line: Option<u32>,
     error: PackError,

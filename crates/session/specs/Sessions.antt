@@ -21,7 +21,7 @@ pub record Kept : Type 0 where
   pub config : Settings
   pub store : Store
 
--- an edit that these refusals don't meet may fail out of memory
+-- an edit that these refusals don't meet may fail since memory ran out
 abbrev pub MayWantMemory : Result Store EditError → Type 0
 MayWantMemory (Ok _) = Unit {0}
 MayWantMemory (Err TooManyBlanks) = Unit {0}

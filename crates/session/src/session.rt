@@ -372,7 +372,7 @@ impl<L> Session<L> {
 
     /// Makes the edit, or refuses it, with the session as before. The first refusal in the order of
     /// the variants of `EditError` is answered; those before `TooManyBlanks` take no memory and
-    /// never give way to out of memory. `Contradiction` names the row at which the log would
+    /// never give way to memory that ran out. `Contradiction` names the row at which the log would
     /// contradict itself; a withdrawal and a blanking never do. `Applied` has the hours whose
     /// numbers and verdicts the edit can change. They begin at the last hour point before the hours
     /// that it touches from which the log can be completed from the same states as before, or at the

@@ -7,7 +7,7 @@ use sig_base::NoMemory;
 use std::alloc::Global;
 use std::marker::Model;
 
-/// The files of a demonstration. No fetch of them fails but out of memory.
+/// The files of a demonstration. No fetch of them fails unless memory runs out.
 #[derive(Drop)]
 pub struct DemoShelf {
     demo: Demo,

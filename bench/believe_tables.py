@@ -167,7 +167,7 @@ A clause is a proposition, and a proposition is a type in `Type 0`. A name of ty
 |---|---|
 | `f x y`, `f (g x)` | f of x and y, f of g of x |
 | `a ≡ b`, `a ≢ b` | a and b are equal; they differ |
-| `P × Q`, `P ⊎ Q`, `P → Q`, `P ↔ Q`, `P → ⊥` | and, or, implies, exactly where, not |
+| `P × Q`, `P ⊎ Q`, `P → Q`, `P ↔ Q`, `P → ⊥` or `¬ P` | and, or, implies, exactly where, not |
 | `(x : A) → P`, `(x : A) × P` | for all x of A, for some x of A |
 | `⊤`, `Unit {0}`; `⊥` | true; false |
 | `f [] = ..`, `f (x ∷ xs) = ..` | a definition by cases: the first one that fits holds, and `_` fits all |

@@ -8,9 +8,9 @@ use Rattle.hour_sweep.specs.Rows.{known_rows}
 use Rattle.hour_sweep.specs.Hours.{AreOrdered, point}
 use Rattle.service_cut.specs.declared.items.OpenCycle.{OpenCycle}
 use Rattle.ring_config.specs.Settings.{Settings}
-use Rattle.cycle_arrivals.specs.declared.open.Open.{Open}
-use Rattle.cycle_arrivals.specs.Arrivals.{is_on, ons_of}
-use Rattle.cycle_arrivals.proofs.Own.{filter_less}
+use Rattle.arrival_measures.specs.declared.open.Open.{Open}
+use Rattle.arrival_measures.specs.Arrivals.{is_on, ons_of}
+use Rattle.arrival_measures.proofs.Own.{filter_less}
 use Rattle.arrival_measures.specs.Crossing.{has_detector, open_since}
 use Rattle.arrival_measures.specs.Faults.{arrivals_from}
 use Rattle.arrival_measures.specs.Travel.{arrivals_at, from_tenth, told}

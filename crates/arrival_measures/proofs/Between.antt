@@ -10,12 +10,12 @@ use Rattle.hour_sweep.specs.Rows.{known_rows}
 use Rattle.hour_sweep.specs.Hours.{AreOrdered}
 use Rattle.hour_sweep.proofs.Orders.{ordered_from}
 use Rattle.service_cut.proofs.YellowEnds.{from_first}
-use Rattle.cycle_arrivals.specs.declared.open.Open.{Open}
-use Rattle.cycle_arrivals.specs.Arrivals.{rows_within}
-use Rattle.cycle_arrivals.specs.Opens.{open_at}
-use Rattle.cycle_arrivals.proofs.Within.{filter_same, within_none}
+use Rattle.arrival_measures.specs.declared.open.Open.{Open}
+use Rattle.arrival_measures.specs.Arrivals.{rows_within}
+use Rattle.arrival_measures.specs.Opens.{open_at}
+use Rattle.arrival_measures.proofs.Within.{filter_same, within_none}
 use Rattle.arrival_measures.specs.Steps.{IsUnderWay}
-use Rattle.cycle_arrivals.proofs.Own.{filter_filter}
+use Rattle.arrival_measures.proofs.Own.{filter_filter}
 use Rattle.arrival_measures.proofs.Filters.{and_same}
 use Rattle.arrival_measures.proofs.Opens.{from_is, open_same}
 

@@ -9,8 +9,8 @@ use Rattle.std.proofs.lemmas.List.Elements.{filter_more}
 use Rattle.sig_base.specs.declared.values.Row.{Row}
 use Rattle.sig_base.proofs.Common.{clash}
 use Rattle.board.specs.Logs.{no_row}
-use Rattle.cycle_arrivals.specs.Arrivals.{is_on}
-use Rattle.cycle_arrivals.specs.Own.{turns_green, is_own, own_rows}
+use Rattle.arrival_measures.specs.Arrivals.{is_on}
+use Rattle.arrival_measures.specs.Own.{turns_green, is_own, own_rows}
 use Rattle.arrival_measures.specs.declared.chains.Chain.{Chain}
 use Rattle.arrival_measures.specs.declared.chains.Chain.TheVariants.{Green, On}
 use Rattle.arrival_measures.specs.Chains.{AreChains, IsNext, IsOnlyIn, cell_of, is_in, number_of}

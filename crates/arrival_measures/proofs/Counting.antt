@@ -11,9 +11,9 @@ use Rattle.reach.specs.Tests.{Meets}
 use Rattle.reach.specs.declared.seen.Test.{Test}
 use Rattle.reach.specs.declared.seen.AgeBound.TheVariants.{Any}
 use Rattle.reach.specs.declared.seen.Seen.{Seen}
-use Rattle.hour_sums.specs.Numbers.{capped, one_if}
+use Rattle.hour_sweep.specs.Sums.{capped, one_if}
 use Rattle.board.specs.Logs.{no_row}
-use Rattle.hour_sums.proofs.Common.{capped_zero}
+use Rattle.hour_sweep.proofs.SumCommon.{capped_zero}
 use Rattle.arrival_measures.specs.declared.judged.Judged.{Judged}
 use Rattle.arrival_measures.specs.Judged.{AllPass, NonePass, CountOf}
 use Rattle.arrival_measures.specs.Steps.{IsMaskOf, Says, AreJudgedRows, judged_unseen, judged_with, no_judged}

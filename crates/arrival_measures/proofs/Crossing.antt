@@ -25,8 +25,8 @@ use Rattle.service_cut.proofs.Rooms.{has_room}
 use Rattle.service_cut.proofs.YellowEnds.{from_first}
 use Rattle.service_cut.proofs.Fitting.{row_late, earlier_low, end_all}
 use Rattle.ring_config.specs.Settings.{Settings}
-use Rattle.cycle_arrivals.specs.declared.open.Open.{Open}
-use Rattle.cycle_arrivals.specs.Opens.{open_at}
+use Rattle.arrival_measures.specs.declared.open.Open.{Open}
+use Rattle.arrival_measures.specs.Opens.{open_at}
 use Rattle.arrival_measures.specs.Crossing.{open_since, open_with}
 use Rattle.ring_config.specs.declared.items.Approach.{Approach}
 use Rattle.arrival_measures.specs.Travel.{told}

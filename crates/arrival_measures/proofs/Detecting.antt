@@ -15,7 +15,7 @@ use Rattle.hour_sweep.proofs.Laws.{hour_tracked}
 use Rattle.hour_sweep.proofs.Orders.{rise_ordered}
 use Rattle.hour_sweep.proofs.Places.{AllLast, last-push, last_with_all}
 use Rattle.ring_config.specs.Settings.{Settings}
-use Rattle.cycle_arrivals.proofs.Counts.{and_true}
+use Rattle.arrival_measures.proofs.Counts.{and_true}
 use Rattle.arrival_measures.specs.declared.faults.Flag.{Flag}
 use Rattle.arrival_measures.specs.declared.faults.Detection.{Detection}
 use Rattle.arrival_measures.specs.declared.faults.Detections.{Detections}

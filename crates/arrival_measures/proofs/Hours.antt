@@ -6,7 +6,7 @@ use Rattle.std.proofs.lemmas.Bool.{cases_Bool, cases_lt, leb-true, le-ltb, lt-lt
 use Rattle.std.proofs.lemmas.List.Elements.{All-nil, All-cons, All-filter, All-head, All-tail, filter_passes}
 use Rattle.sig_base.specs.declared.values.Row.{Row}
 use Rattle.gap_map.specs.declared.stretch.Stretch.{Stretch}
-use Rattle.hour_sums.specs.Numbers.{capped}
+use Rattle.hour_sweep.specs.Sums.{capped}
 use Rattle.hour_sweep.specs.Rows.{known_rows}
 use Rattle.hour_sweep.specs.Hours.{AreOrdered, IsHour, point}
 use Rattle.hour_sweep.proofs.Orders.{below_end, ordered-append, rise_ordered}
@@ -14,11 +14,11 @@ use Rattle.reach.specs.Runs.{State}
 use Rattle.service_cut.specs.Cut.{CutLists, IsCut}
 use Rattle.board.specs.Logs.{HourLog}
 use Rattle.service_cut.proofs.YellowEnds.{from_first}
-use Rattle.hour_sums.proofs.Common.{capped_none}
+use Rattle.hour_sweep.proofs.SumCommon.{capped_none}
 use Rattle.ring_config.specs.Settings.{Settings, spec_place}
 use Rattle.ring_config.specs.declared.items.Approach.{Approach}
-use Rattle.cycle_arrivals.specs.Arrivals.{is_on, ons_of}
-use Rattle.cycle_arrivals.proofs.Own.{filter_filter}
+use Rattle.arrival_measures.specs.Arrivals.{is_on, ons_of}
+use Rattle.arrival_measures.proofs.Own.{filter_filter}
 use Rattle.arrival_measures.specs.declared.carry.Crossing.{Crossing}
 use Rattle.arrival_measures.specs.declared.faults.Flag.{Flag}
 use Rattle.arrival_measures.specs.declared.judged.Judged.{Judged}

@@ -20,3 +20,9 @@ pub mod OneSum
 pub mod Fitting
 pub mod Picking
 pub mod Carried
+pub mod Within
+pub mod Counts
+pub mod Tenths
+pub mod Over
+pub mod Own
+pub mod Parts

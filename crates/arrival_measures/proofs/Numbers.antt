@@ -5,11 +5,11 @@ use Rattle.std.proofs.lemmas.List.{append-nil}
 use Rattle.std.proofs.lemmas.List.Elements.{filter_more}
 use Rattle.std.proofs.lemmas.List.Sums.{sum-map, sum_by-append, sum_by-cons}
 use Rattle.sig_base.specs.declared.values.Row.{Row}
-use Rattle.hour_sums.specs.Numbers.{capped, own}
+use Rattle.hour_sweep.specs.Sums.{capped, own}
 use Rattle.service_cut.specs.declared.items.Cycle.{Cycle}
-use Rattle.cycle_arrivals.specs.declared.open.Open.{Open}
-use Rattle.cycle_arrivals.specs.Green.{arrivals_in, green_arrivals_in, green_tenths_in}
-use Rattle.cycle_arrivals.specs.Opens.{open_at}
+use Rattle.arrival_measures.specs.declared.open.Open.{Open}
+use Rattle.arrival_measures.specs.Green.{arrivals_in, green_arrivals_in, green_tenths_in}
+use Rattle.arrival_measures.specs.Opens.{open_at}
 use Rattle.arrival_measures.specs.declared.cycles.CycleSum.{CycleSum}
 use Rattle.arrival_measures.specs.Cycles.{CycleNumbers, numbers_of, cycle_tenths}
 use Rattle.arrival_measures.specs.Steps.{numbers_in, sum_with}

@@ -2,13 +2,13 @@
 use Rattle.std.proofs.Common.{◌≡◌, ℕ, ◌+◌, ◌-◌, ◌<◌, ◌≤◌, false, ◌&&◌, List, length, refl, ap, sym, ◌∙◌, arith}
 use Rattle.std.specs.Prelude.{count_by}
 use Rattle.sig_base.specs.declared.values.Row.{Row}
-use Rattle.cycle_arrivals.specs.Arrivals.{is_on, ons_of, rows_within}
-use Rattle.cycle_arrivals.specs.Green.{greens, shows_green, arrivals_in, green_arrivals_in, green_tenths_in}
-use Rattle.cycle_arrivals.specs.Opens.{open_at}
-use Rattle.cycle_arrivals.proofs.Within.{within_below}
-use Rattle.cycle_arrivals.proofs.Counts.{count_same}
-use Rattle.cycle_arrivals.proofs.Tenths.{tenths_same}
-use Rattle.cycle_arrivals.proofs.Parts.{within_part}
+use Rattle.arrival_measures.specs.Arrivals.{is_on, ons_of, rows_within}
+use Rattle.arrival_measures.specs.Green.{greens, shows_green, arrivals_in, green_arrivals_in, green_tenths_in}
+use Rattle.arrival_measures.specs.Opens.{open_at}
+use Rattle.arrival_measures.proofs.Within.{within_below}
+use Rattle.arrival_measures.proofs.Counts.{count_same}
+use Rattle.arrival_measures.proofs.Tenths.{tenths_same}
+use Rattle.arrival_measures.proofs.Parts.{within_part}
 
 pub from_is : (p d a t : ℕ) (rows : List Row) → (open_at p d a t rows).from ≡ a
 unfolding open_at

@@ -8,7 +8,7 @@ use Rattle.std.specs.Ordering.{nat_cmp, is_lt}
 use Rattle.std.proofs.lemmas.List.Elements.{filter_agree}
 use Rattle.sig_base.proofs.Common.{tie_is}
 use Rattle.arrival_measures.proofs.Between.{not_before}
-use Rattle.cycle_arrivals.proofs.Own.{filter_filter, filter_less}
+use Rattle.arrival_measures.proofs.Own.{filter_filter, filter_less}
 use Rattle.arrival_measures.specs.declared.points.Point.{Point}
 use Rattle.arrival_measures.specs.Points.{IsByTenth, at_tenth, by_tenth}
 

@@ -6,7 +6,7 @@ use Rattle.sig_base.specs.declared.values.Row.{Row}
 use Rattle.event_codes.specs.declared.channels.Kind.TheVariants.{Detector}
 use Rattle.hour_sweep.specs.Numbers.{numbered}
 use Rattle.service_cut.proofs.Rooms.{cycle_at_start}
-use Rattle.hour_sums.proofs.Common.{capped_zero}
+use Rattle.hour_sweep.proofs.SumCommon.{capped_zero}
 use Rattle.ring_config.specs.Settings.{Settings, is_tracked_as}
 use Rattle.ring_config.specs.declared.items.Approach.{Approach}
 use Rattle.arrival_measures.specs.declared.carry.Crossing.{Crossing}

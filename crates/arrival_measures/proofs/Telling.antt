@@ -9,12 +9,12 @@ use Rattle.sig_base.specs.declared.values.Row.{Row}
 use Rattle.hour_sweep.specs.Rows.{known_rows}
 use Rattle.hour_sweep.specs.Hours.{AreOrdered}
 use Rattle.hour_sweep.proofs.Orders.{ordered-append, ordered_from}
-use Rattle.cycle_arrivals.specs.declared.open.Open.{Open}
-use Rattle.cycle_arrivals.specs.Arrivals.{is_on, ons_of, rows_within}
-use Rattle.cycle_arrivals.specs.Own.{turns_green}
-use Rattle.cycle_arrivals.specs.Opens.{open_at}
-use Rattle.cycle_arrivals.proofs.Own.{filter_less, filter_swap}
-use Rattle.cycle_arrivals.proofs.Parts.{open_by_parts}
+use Rattle.arrival_measures.specs.declared.open.Open.{Open}
+use Rattle.arrival_measures.specs.Arrivals.{is_on, ons_of, rows_within}
+use Rattle.arrival_measures.specs.Own.{turns_green}
+use Rattle.arrival_measures.specs.Opens.{open_at}
+use Rattle.arrival_measures.proofs.Own.{filter_less, filter_swap}
+use Rattle.arrival_measures.proofs.Parts.{open_by_parts}
 use Rattle.service_cut.specs.declared.items.Cycle.{Cycle}
 use Rattle.arrival_measures.specs.Travel.{arrivals_at, from_tenth, told}
 use Rattle.arrival_measures.specs.Steps.{AreUnderWay, GiveSame, IsCycleOf, IsUnderWay, merged}

@@ -8,8 +8,8 @@ use Rattle.std.proofs.lemmas.List.Elements.{All-nil, All-cons, All-head, All-tai
 use Rattle.sig_base.specs.declared.values.Row.{Row}
 use Rattle.hour_sweep.specs.Hours.{AreOrdered}
 use Rattle.hour_sweep.proofs.Orders.{ordered_from}
-use Rattle.cycle_arrivals.specs.Arrivals.{is_on, ons_of}
-use Rattle.cycle_arrivals.specs.Own.{turns_green}
+use Rattle.arrival_measures.specs.Arrivals.{is_on, ons_of}
+use Rattle.arrival_measures.specs.Own.{turns_green}
 use Rattle.arrival_measures.specs.Faults.{arrivals_from, is_arrival, passing_from}
 use Rattle.arrival_measures.specs.Travel.{arrivals_at, from_tenth, shifted}
 use Rattle.arrival_measures.specs.Steps.{moved, row_on}

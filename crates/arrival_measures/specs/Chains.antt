@@ -2,8 +2,8 @@
 use Rattle.std.specs.Prelude.{◌≡◌, ℕ, ◌+◌, ◌<◌, ◌≤◌, Bool, true, false, List, length, slice_index_or}
 use Rattle.sig_base.specs.declared.values.Row.{Row}
 use Rattle.board.specs.Logs.{no_row}
-use Rattle.cycle_arrivals.specs.Arrivals.{is_on}
-use Rattle.cycle_arrivals.specs.Own.{turns_green}
+use Rattle.arrival_measures.specs.Arrivals.{is_on}
+use Rattle.arrival_measures.specs.Own.{turns_green}
 use Rattle.arrival_measures.specs.declared.chains.Chain.{Chain}
 use Rattle.arrival_measures.specs.declared.chains.Chain.TheVariants.{Green, On}
 

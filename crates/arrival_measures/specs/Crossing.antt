@@ -9,8 +9,8 @@ use Rattle.service_cut.specs.Cycles.{cycle_begun_of}
 use Rattle.service_cut.specs.Parts.{open_cycle_of}
 use Rattle.ring_config.specs.Settings.{Settings, is_tracked_as}
 use Rattle.ring_config.specs.declared.items.Approach.{Approach}
-use Rattle.cycle_arrivals.specs.declared.open.Open.{Open}
-use Rattle.cycle_arrivals.specs.Opens.{open_at}
+use Rattle.arrival_measures.specs.declared.open.Open.{Open}
+use Rattle.arrival_measures.specs.Opens.{open_at}
 use Rattle.arrival_measures.specs.declared.carry.Crossing.{Crossing}
 use Rattle.arrival_measures.specs.declared.faults.Flag.{Flag}
 use Rattle.arrival_measures.specs.Faults.{faulty}

@@ -1,9 +1,9 @@
 -- Arrivals and green in whole cycles.
 use Rattle.std.specs.Prelude.{ℕ, ◌-◌, List, map, sum}
 use Rattle.sig_base.specs.declared.values.Row.{Row}
-use Rattle.hour_sums.specs.Numbers.{capped}
+use Rattle.hour_sweep.specs.Sums.{capped}
 use Rattle.service_cut.specs.declared.items.Cycle.{Cycle}
-use Rattle.cycle_arrivals.specs.Green.{arrivals_in, green_arrivals_in, green_tenths_in}
+use Rattle.arrival_measures.specs.Green.{arrivals_in, green_arrivals_in, green_tenths_in}
 
 -- how many tenths a cycle lasts
 abbrev pub cycle_tenths : Cycle → ℕ

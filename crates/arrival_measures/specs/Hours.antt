@@ -1,7 +1,7 @@
 -- The numbers of one hour.
 use Rattle.std.specs.Prelude.{ℕ, ◌≡◌, ◌+◌, ◌<◌, ◌≤◌, false, ◌==◌, ◌&&◌, ◌||◌, not, nat_le, nat_lt, ◌++◌, Bool, List, Option, Some, None, filter, length, map, slice_index_or}
 use Rattle.sig_base.specs.declared.values.Row.{Row}
-use Rattle.hour_sums.specs.Numbers.{capped, own}
+use Rattle.hour_sweep.specs.Sums.{capped, own}
 use Rattle.hour_sweep.specs.Hours.{point}
 use Rattle.service_cut.specs.declared.items.Cycle.{Cycle}
 use Rattle.service_cut.specs.Cut.{cycles_from}
@@ -9,7 +9,7 @@ use Rattle.reach.specs.Runs.{State}
 use Rattle.ring_config.specs.Settings.{Settings}
 use Rattle.ring_config.specs.declared.items.Approach.{Approach}
 use Rattle.arrival_measures.specs.declared.sums.ArrivalSum.{ArrivalSum}
-use Rattle.cycle_arrivals.specs.Arrivals.{ons_of}
+use Rattle.arrival_measures.specs.Arrivals.{ons_of}
 use Rattle.arrival_measures.specs.Faults.{arrivals_from, faults_from}
 use Rattle.arrival_measures.specs.Travel.{arrivals_at, told}
 use Rattle.arrival_measures.specs.Judged.{AreJudged, is_green, is_red}

@@ -10,3 +10,8 @@ pub mod Steps
 pub mod Chains
 pub mod Passing
 pub mod Results
+pub mod Arrivals
+pub mod Green
+pub mod Own
+pub mod Opens
+pub mod InTenths

@@ -11,7 +11,7 @@ use Rattle.gap_map.specs.declared.stretch.Stretch.{Stretch}
 use Rattle.gap_map.specs.Stretches.{known_at}
 use Rattle.board.specs.Logs.{HourLog, no_row}
 use Rattle.board.specs.Verdicts.{MayPass}
-use Rattle.hour_sums.specs.Numbers.{capped, one_if}
+use Rattle.hour_sweep.specs.Sums.{capped, one_if}
 use Rattle.hour_sweep.specs.Rows.{known_rows}
 use Rattle.hour_sweep.specs.Hours.{AreOrdered, IsHour, point}
 use Rattle.hour_sweep.specs.Passes.{front, back}
@@ -20,9 +20,9 @@ use Rattle.service_cut.specs.declared.items.OpenCycle.{OpenCycle}
 use Rattle.service_cut.specs.Cut.{CutLists, IsCut}
 use Rattle.ring_config.specs.Settings.{Settings, is_tracked_as, spec_place}
 use Rattle.ring_config.specs.declared.items.Approach.{Approach}
-use Rattle.cycle_arrivals.specs.declared.open.Open.{Open}
-use Rattle.cycle_arrivals.specs.Arrivals.{ons_of}
-use Rattle.cycle_arrivals.specs.Opens.{open_at}
+use Rattle.arrival_measures.specs.declared.open.Open.{Open}
+use Rattle.arrival_measures.specs.Arrivals.{ons_of}
+use Rattle.arrival_measures.specs.Opens.{open_at}
 use Rattle.arrival_measures.specs.declared.carry.Crossing.{Crossing}
 use Rattle.arrival_measures.specs.declared.faults.Flag.{Flag}
 use Rattle.arrival_measures.specs.declared.faults.Detection.{Detection}

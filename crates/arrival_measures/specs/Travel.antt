@@ -1,8 +1,8 @@
 -- Arrivals at the stop bar: those at a detector ahead of it, a travel time later.
 use Rattle.std.specs.Prelude.{ℕ, ◌+◌, nat_le, Bool, List, [], map, filter, ◌++◌}
 use Rattle.sig_base.specs.declared.values.Row.{Row}
-use Rattle.cycle_arrivals.specs.Arrivals.{ons_of}
-use Rattle.cycle_arrivals.specs.Own.{turns_green}
+use Rattle.arrival_measures.specs.Arrivals.{ons_of}
+use Rattle.arrival_measures.specs.Own.{turns_green}
 use Rattle.arrival_measures.specs.Faults.{arrivals_from}
 
 -- an arrival as a row at its arrival tenth, v tenths after the detector's row

@@ -7,8 +7,8 @@ ghost use Rattle.arrival_measures.specs.Crossing.{IsCarry};
 ghost use Rattle.arrival_measures.specs.Steps.{no_crossing, no_flag, no_flags};
 
 use crate::faults::Flag;
+use crate::open::Open;
 use crate::same::{same_crossings, same_flags};
-use cycle_arrivals::Open;
 use event_codes::{Channel, Kind};
 use ring_config::Config;
 use sig_base::NoMemory;

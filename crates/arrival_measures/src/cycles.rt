@@ -1,14 +1,14 @@
 // The numbers of whole cycles, and the cycles that cross the next point.
 ghost use Rattle.std.specs.Prelude.{◌≡◌, ◌==◌, find, ◌+◌, ◌++◌, ℕ, Bool, List};
 ghost use Rattle.sig_base.specs.declared.values.Row.{Row};
-ghost use Rattle.hour_sums.specs.Numbers.{own};
+ghost use Rattle.hour_sweep.specs.Sums.{own};
 ghost use Rattle.hour_sweep.specs.Rows.{known_rows};
 ghost use Rattle.arrival_measures.specs.Cycles.{numbers_of};
 ghost use Rattle.arrival_measures.specs.Steps.{AreUnderWay, GiveSame, IsOpenAfter, no_cycle, numbers_in, sum_with};
 
+use crate::open::Open;
 use crate::under_way::cycle_given;
-use cycle_arrivals::Open;
-use hour_sums::total;
+use hour_sweep::total;
 use service_cut::{Cuts, Cycle, OpenCycle};
 use sig_base::Row;
 

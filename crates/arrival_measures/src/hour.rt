@@ -1,6 +1,6 @@
 // The numbers of an hour.
 ghost use Rattle.std.specs.Prelude.{◌≡◌, ◌+◌, ◌<◌, ℕ, length, option_copied, slice_index_or, IfOk, IfSome, OnOk, OnErr, []};
-ghost use Rattle.hour_sums.specs.Numbers.{capped, merged};
+ghost use Rattle.hour_sweep.specs.Sums.{capped, merged};
 ghost use Rattle.hour_sweep.specs.Hours.{point};
 ghost use Rattle.ring_config.specs.Settings.{Settings};
 ghost use Rattle.arrival_measures.specs.Hours.{added, cycle_part, is_last};
@@ -18,7 +18,7 @@ use crate::sources::Sources;
 use crate::sums::ArrivalSum;
 use board::HourView;
 use gap_map::{Stretch, first_of};
-use hour_sums::add_each;
+use hour_sweep::add_each;
 use ring_config::{Approach, Config};
 use service_cut::Cuts;
 use sig_base::{NoMemory, Row};

@@ -2,7 +2,7 @@
 ghost use Rattle.std.specs.Prelude.{◌≡◌, ◌≤◌, ◌<◌, ◌+◌, ◌&&◌, nat_lt, ℕ, Bool, true, false, List, All, length};
 ghost use Rattle.sig_base.specs.declared.values.Row.{Row};
 ghost use Rattle.gap_map.specs.Stretches.{AreStretches, known_at};
-ghost use Rattle.hour_sums.specs.Numbers.{capped, one_if};
+ghost use Rattle.hour_sweep.specs.Sums.{capped, one_if};
 ghost use Rattle.board.specs.Logs.{HourLog};
 ghost use Rattle.board.specs.Places.{IsViewOf};
 ghost use Rattle.board.specs.Verdicts.{MayPass};
@@ -12,7 +12,7 @@ ghost use Rattle.arrival_measures.specs.Steps.{AreJudgedRows, IsMaskOf, JudgesRo
 use board::HourView;
 use colour_machine::Mask;
 use gap_map::Stretch;
-use hour_sums::total;
+use hour_sweep::total;
 use reach::{AgeBound, Seen, Test};
 use sig_base::Row;
 

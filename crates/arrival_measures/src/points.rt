@@ -1,7 +1,7 @@
 // The points of diagrams.
 ghost use Rattle.std.specs.Prelude.{◌≡◌, ◌++◌, ◌∷◌, ◌==◌, ◌&&◌, ◌<◌, ◌-◌, [], List, All, flat_map, map, IfOk, OnOk, OnErr};
 ghost use Rattle.sig_base.specs.declared.values.Row.{Row};
-ghost use Rattle.cycle_arrivals.specs.Arrivals.{is_on};
+ghost use Rattle.arrival_measures.specs.Arrivals.{is_on};
 ghost use Rattle.arrival_measures.specs.declared.points.Point.{Point};
 ghost use Rattle.arrival_measures.specs.Points.{IsByTenth, by_tenth, diagram_of, is_on_at, points_at};
 

@@ -3,7 +3,7 @@ ghost use Rattle.std.specs.Prelude.{◌≡◌, ◌↔◌, IsTrue};
 
 use crate::carry::Crossing;
 use crate::faults::Flag;
-use cycle_arrivals::Open;
+use crate::open::Open;
 
 fn same_place(a: Option<Open>, b: Option<Open>) -> bool
     ensures { IsTrue result ↔ (a ≡ b) }

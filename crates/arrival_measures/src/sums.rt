@@ -2,7 +2,7 @@
 ghost use Rattle.std.specs.Prelude.{◌≡◌};
 ghost use Rattle.arrival_measures.specs.Hours.{added};
 
-use hour_sums::{Sum, total};
+use hour_sweep::{Sum, total};
 
 /// The numbers of one approach. Those up to `cycle_tenths` are 0 where it has no advance detector,
 /// the others where it has no stop bar detector. Counts and sums stand still at the last value of a

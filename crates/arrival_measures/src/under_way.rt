@@ -4,11 +4,11 @@ ghost use Rattle.sig_base.specs.declared.values.Row.{Row};
 ghost use Rattle.gap_map.specs.Stretches.{AreStretches};
 ghost use Rattle.hour_sweep.specs.Rows.{known_rows};
 ghost use Rattle.hour_sweep.specs.Hours.{AreOrdered};
-ghost use Rattle.cycle_arrivals.specs.Arrivals.{rows_within};
-ghost use Rattle.cycle_arrivals.specs.Opens.{open_at};
+ghost use Rattle.arrival_measures.specs.Arrivals.{rows_within};
+ghost use Rattle.arrival_measures.specs.Opens.{open_at};
 ghost use Rattle.arrival_measures.specs.Steps.{IsUnderWay};
 
-use cycle_arrivals::Open;
+use crate::open::Open;
 use gap_map::Stretch;
 use sig_base::Row;
 

@@ -31,7 +31,7 @@ use Rattle.rule_audit.specs.declared.lines.Place.TheVariants.{BeforeRow, EndOfTe
 use Rattle.rule_audit.specs.Judged.{Closes, IsIntervalVerdict, KeepsInterval, Leaves}
 use Rattle.rule_audit.specs.Obligations.{Obligation, obligation}
 use Rattle.rule_audit.specs.Pass.{FitsItem, FitsRule}
-use Rattle.channel_window.specs.declared.keep.Keep.TheVariants as keeps
+use Rattle.decisive.specs.declared.channel_keep.Keep.TheVariants as keeps
 use Rattle.decisive.specs.declared.judge.Start.{Start}
 use Rattle.decisive.specs.Parts.{AllNone, NoneIs, no_part, parts_of, term_part}
 use Rattle.decisive.specs.Breaks.{FitsPart, FitsParts}

@@ -14,7 +14,7 @@ use Rattle.board.specs.Places.{IsPlace, since, upto}
 use Rattle.board.proofs.Bridge.{cut_rows}
 use Rattle.board.proofs.Cutting.{since_in, upto_in, upto_known, since_known}
 use Rattle.signal_log.specs.Log.{HasHistory, Log, track_at, window_end}
-use Rattle.channel_window.specs.Moves.{KeepsBy, NoneKeeps}
+use Rattle.decisive.specs.Moves.{KeepsBy, NoneKeeps}
 use Rattle.board.proofs.Common.{renumbered}
 use Rattle.decisive.specs.declared.judge.Start.{Start}
 use Rattle.decisive.specs.declared.judge.Start.TheVariants.{Free, Kept}

@@ -7,7 +7,7 @@ use Rattle.reach.specs.Runs.{Fills, State, state}
 use Rattle.board.specs.History.{Event, Track, events_at}
 use Rattle.board.proofs.Alike.{Alike, agreeing_alike}
 use Rattle.signal_log.proofs.Runs.{alike_later}
-use Rattle.channel_window.specs.Moves.{IsFreeAt}
+use Rattle.decisive.specs.Moves.{IsFreeAt}
 use Rattle.decisive.proofs.Alone.{agree_fills, fills_agree}
 
 -- a start more than an hour before the window is as good as one an hour before it

@@ -21,3 +21,4 @@ pub mod Tried
 pub mod Growing
 pub mod Nearest
 pub mod Handed
+pub mod Nowhere

@@ -35,9 +35,9 @@ use Rattle.signal_log.proofs.Joined.{after_events, end_of_one, events_after, one
 use Rattle.signal_log.proofs.Lawful.{meet_same}
 use Rattle.signal_log.proofs.Runs.{agreeing_known, alike_later, from_place, from_same, since_place, to_place, upto_here, upto_other, upto_place, upto_same}
 use Rattle.rule_audit.specs.Judged.{Closes, IsIntervalVerdict, KeepsInterval, Leaves}
-use Rattle.channel_window.specs.declared.keep.Keep.{Keep}
-use Rattle.channel_window.specs.declared.keep.Keep.TheVariants as keeps
-use Rattle.channel_window.specs.Moves.{KeepsBy, NoneKeeps, NoneKeepsFrom}
+use Rattle.decisive.specs.declared.channel_keep.Keep.{Keep}
+use Rattle.decisive.specs.declared.channel_keep.Keep.TheVariants as keeps
+use Rattle.decisive.specs.Moves.{KeepsBy, NoneKeeps, NoneKeepsFrom}
 use Rattle.decisive.specs.Window.{only}
 use Rattle.decisive.specs.Laws.{NoTermHolds, TellsOf}
 use Rattle.decisive.specs.Parts.{AllNone, IsKeepWithin, NoneIs, no_part, term_part}

@@ -18,7 +18,7 @@ use Rattle.board.specs.Places.{IsPlace, since, upto}
 use Rattle.board.proofs.Cutting.{since_in, upto_in, upto_known}
 use Rattle.board.proofs.Ordering.{own_order}
 use Rattle.board.proofs.Tracks.{spec_lettered}
-use Rattle.channel_window.specs.Moves.{KeepsBy, NoneKeeps}
+use Rattle.decisive.specs.Moves.{KeepsBy, NoneKeeps}
 use Rattle.board.proofs.Common.{renumbered}
 use Rattle.decisive.specs.declared.judge.Start.{Start}
 use Rattle.decisive.specs.declared.judge.Start.TheVariants.{Free, Kept}

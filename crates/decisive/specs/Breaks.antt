@@ -4,7 +4,7 @@ use Rattle.sig_base.specs.declared.values.Row.{Row}
 use Rattle.gap_map.specs.declared.stretch.Stretch.{Stretch}
 use Rattle.channel_tables.specs.declared.spec.Spec.{Spec}
 use Rattle.channel_path.specs.declared.moves.Move.{Move}
-use Rattle.channel_window.specs.Moves.{FitsKeep, KeepsBy, NoneKeeps, NoneKeepsFrom}
+use Rattle.decisive.specs.Moves.{FitsKeep, KeepsBy, NoneKeeps, NoneKeepsFrom}
 use Rattle.board.specs.Channels.{AreSpecs, track}
 use Rattle.board.specs.History.{Track}
 use Rattle.board.specs.Logs.{no_spec}

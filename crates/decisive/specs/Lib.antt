@@ -7,3 +7,4 @@ pub mod Searches
 pub mod Lines
 pub mod Cuts
 pub mod Tries
+pub mod Moves

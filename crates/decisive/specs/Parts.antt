@@ -1,9 +1,9 @@
 -- An obligation channel by channel: it is broken where no state of any of its channels is what it is to be.
 use Rattle.std.specs.Prelude.{ℕ, ◌<◌, pos, List, [], ◌∷◌, length, map, slice_index_or}
 use Rattle.reach.specs.Runs.{State}
-use Rattle.channel_window.specs.declared.keep.Keep.{Keep}
-use Rattle.channel_window.specs.declared.keep.Keep.TheVariants as keeps
-use Rattle.channel_window.specs.Moves.{KeepsBy}
+use Rattle.decisive.specs.declared.channel_keep.Keep.{Keep}
+use Rattle.decisive.specs.declared.channel_keep.Keep.TheVariants as keeps
+use Rattle.decisive.specs.Moves.{KeepsBy}
 use Rattle.board.specs.declared.clause.Term.{Term}
 use Rattle.signal_log.specs.Laws.{IsWithinHour}
 use Rattle.signal_log.specs.Log.{Log}

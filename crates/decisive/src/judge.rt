@@ -6,12 +6,12 @@ ghost use Rattle.decisive.specs.Breaks.{Breaks, FitsPart, FitsStart, track_of};
 ghost use Rattle.decisive.specs.Cuts.{IsCutAfter, IsCutBefore};
 ghost use Rattle.decisive.specs.Tries.{Begins, Ends, IsToldAt, PartBegins, PartEnds};
 
+use crate::channel_judge::{is_broken_after, is_broken_from};
 use crate::cuts::{about_place, moves_from, moves_to};
 use crate::parts::Part;
 use board::{Course, Pasts};
 use channel_path::Move;
 use channel_tables::{Spec, machine_of};
-use channel_window::{is_broken_after, is_broken_from};
 use gap_map::Stretch;
 use sig_base::{NoMemory, Row};
 use std::alloc::Global;

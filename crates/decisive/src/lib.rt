@@ -21,6 +21,9 @@
 //! Tenths are tenths of a second from the window's start.
 #![tactic(auto)]
 
+mod channel_judge;
+mod channel_keep;
+mod channel_laws;
 mod cuts;
 mod hours;
 mod judge;
@@ -31,6 +34,9 @@ mod search;
 mod window;
 mod within;
 
+pub use channel_judge::{is_broken_after, is_broken_from, moves_to_end};
+pub use channel_keep::Keep;
+pub use channel_laws::end_decides;
 pub use hours::HourMoves;
 pub use laws::{channel_alone, clause_by_terms, more_is_known, window_is_one};
 pub use window::{decisive_window, window_in};

@@ -3,8 +3,8 @@ ghost use Rattle.std.specs.Prelude.{◌≡◌, IfOk, map};
 ghost use Rattle.board.specs.declared.clause.Term.{Term};
 ghost use Rattle.decisive.specs.Parts.{parts_of, term_part};
 
+use crate::channel_keep::Keep;
 use board::Term;
-use channel_window::Keep;
 use rule_audit::Rule;
 use sig_base::NoMemory;
 use std::alloc::Global;

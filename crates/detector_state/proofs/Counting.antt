@@ -4,11 +4,11 @@ use Rattle.std.specs.Prelude.{min, max}
 use Rattle.std.specs.List.Sorted.{IsPartitionedBy}
 use Rattle.std.proofs.lemmas.Bool.{cases_eq, leb-true, le-leb}
 use Rattle.std.proofs.lemmas.List.{drop_more}
-use Rattle.state_tenths.specs.States.{IsCount}
-use Rattle.state_tenths.specs.Ranges.{Counts}
-use Rattle.state_tenths.proofs.Counting.{counts_all, counts_none, counts_empty, counts_join, counts_most}
+use Rattle.detector_state.specs.States.{IsCount}
+use Rattle.detector_state.specs.Ranges.{Counts}
+use Rattle.detector_state.proofs.StateCounting.{counts_all, counts_none, counts_empty, counts_join, counts_most}
 use Rattle.signal_log.specs.Log.{Log}
-use Rattle.free_channels.specs.Tells.{IsColourReached}
+use Rattle.detector_state.specs.Tells.{IsColourReached}
 use Rattle.detector_state.specs.declared.part.Part.{Part}
 use Rattle.detector_state.specs.declared.asked.Asked.{Asked}
 use Rattle.detector_state.specs.declared.asked.Asked.TheVariants.{Only, May}

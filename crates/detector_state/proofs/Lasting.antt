@@ -2,10 +2,10 @@
 use Rattle.std.proofs.Common.{◌≡◌, sym, ◌∙◌, ◌↔◌, inl, inr, ℕ, ◌+◌, ◌<◌, ◌≤◌, Bool, true, false, IsTrue, arith}
 use Rattle.std.specs.Prelude.{min}
 use Rattle.std.proofs.lemmas.Bool.{cases_lt}
-use Rattle.state_tenths.specs.Ranges.{Counts}
-use Rattle.state_tenths.proofs.Counting.{counts_empty, counts_join, counts_most}
+use Rattle.detector_state.specs.Ranges.{Counts}
+use Rattle.detector_state.proofs.StateCounting.{counts_empty, counts_join, counts_most}
 use Rattle.signal_log.specs.Log.{Log}
-use Rattle.free_channels.specs.Tells.{IsColourReached, IsSure}
+use Rattle.detector_state.specs.Tells.{IsColourReached, IsSure}
 use Rattle.detector_state.specs.declared.tenths.OnTenths.{OnTenths}
 use Rattle.detector_state.specs.Hours.{AreTenths}
 

@@ -23,7 +23,7 @@ use Rattle.board.proofs.Within.{hour_rows}
 use Rattle.board.proofs.Plain.{agreeing_early}
 use Rattle.signal_log.specs.Log.{Log, track_at}
 use Rattle.signal_log.specs.States.{IsReached}
-use Rattle.free_channels.specs.Free.{IsMixed}
+use Rattle.detector_state.specs.Free.{IsMixed}
 use Rattle.detector_state.specs.declared.part.Part.{Part}
 use Rattle.detector_state.specs.Switches.{IsChannelOf, IsSwitch, switch_track}
 use Rattle.detector_state.specs.Masks.{HasStates, after_letter, after_letters, after_tenth, after_tenths}

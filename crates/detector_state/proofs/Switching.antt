@@ -12,9 +12,9 @@ use Rattle.channel_tables.specs.Table.{table_rules}
 use Rattle.channel_tables.specs.Tables.{table_of}
 use Rattle.board.specs.Logs.{no_spec}
 use Rattle.colour_machine.specs.Rules.{Rules}
-use Rattle.free_channels.specs.Free.{IsMixed, IsOrdered, Order}
-use Rattle.free_channels.specs.Tables.{fault_order, switch_order}
-use Rattle.free_channels.proofs.Tables.{fault_parts, switch_fits}
+use Rattle.detector_state.specs.Free.{IsMixed, IsOrdered, Order}
+use Rattle.detector_state.specs.Tables.{fault_order, switch_order}
+use Rattle.detector_state.proofs.Tables.{fault_parts, switch_fits}
 use Rattle.detector_state.specs.Switches.{IsSwitch, SwitchesAreOrdered, switch_spec}
 
 kind_fits : (kind : Kind) (floors : List ℕ) → IsSwitch kind → ((c : ℕ) → slice_index floors c ≡ 0) → IsMixed (table_rules (table_of kind) floors)

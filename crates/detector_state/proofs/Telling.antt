@@ -11,9 +11,9 @@ use Rattle.board.proofs.Tracks.{Lettered}
 use Rattle.board.proofs.Plain.{agreeing_early}
 use Rattle.signal_log.proofs.Hour.{Reached}
 use Rattle.signal_log.proofs.Runs.{agreeing_colour}
-use Rattle.free_channels.specs.Free.{IsFree, IsMixed}
-use Rattle.free_channels.proofs.Free.{run_is, step_goes}
-use Rattle.free_channels.proofs.Filling.{fill, fill-agrees, fill-length, fill_small, letters_small}
+use Rattle.detector_state.specs.Free.{IsFree, IsMixed}
+use Rattle.detector_state.proofs.Free.{run_is, step_goes}
+use Rattle.detector_state.proofs.Filling.{fill, fill-agrees, fill-length, fill_small, letters_small}
 use Rattle.detector_state.specs.Masks.{all_below}
 use Rattle.detector_state.proofs.Masks.{after, after_is, has_all_below}
 

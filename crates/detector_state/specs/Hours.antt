@@ -15,11 +15,11 @@ use Rattle.channel_tables.specs.declared.spec.Spec.{Spec}
 use Rattle.event_codes.specs.declared.channels.Channel.{Channel}
 use Rattle.sig_base.specs.HourRows.{AreRowsOf}
 use Rattle.hour_store.specs.Store.{Store}
-use Rattle.state_tenths.specs.Ranges.{Counts}
+use Rattle.detector_state.specs.Ranges.{Counts}
 use Rattle.signal_log.specs.Points.{ArePastsAt, HasHour, rows_or_none}
 use Rattle.signal_log.specs.Log.{Log, log_of}
 use Rattle.signal_log.specs.States.{IsReached}
-use Rattle.free_channels.specs.Tells.{IsColourReached, IsSure}
+use Rattle.detector_state.specs.Tells.{IsColourReached, IsSure}
 use Rattle.detector_state.specs.declared.part.Part.{Part}
 use Rattle.detector_state.specs.declared.tenths.OnTenths.{OnTenths}
 use Rattle.detector_state.specs.Switches.{IsChannelOf, switch_track}

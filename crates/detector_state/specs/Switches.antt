@@ -11,7 +11,7 @@ use Rattle.board.specs.History.{Track}
 use Rattle.board.specs.Channels.{track}
 use Rattle.board.specs.Logs.{no_spec}
 use Rattle.signal_log.specs.Log.{Log, track_at}
-use Rattle.free_channels.specs.Free.{IsOrdered, Order}
+use Rattle.detector_state.specs.Free.{IsOrdered, Order}
 
 -- the channels of this kind take every row in every colour
 abbrev pub IsSwitch : Kind → Type 0

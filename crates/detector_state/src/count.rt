@@ -1,6 +1,6 @@
 // How many tenths of a range a channel has a colour, at least and at most.
 ghost use Rattle.std.specs.Prelude.{ℕ, ◌≤◌};
-ghost use Rattle.state_tenths.specs.Ranges.{Counts};
+ghost use Rattle.detector_state.specs.Ranges.{Counts};
 ghost use Rattle.signal_log.specs.Log.{Log};
 ghost use Rattle.detector_state.specs.Hours.{IsAskable, LiesIn, Meets, TellsEach};
 ghost use Rattle.detector_state.specs.Hours.{IsGreatestOn, IsLeastOn, IsSureFault};

@@ -12,13 +12,22 @@
 mod asked;
 mod colours;
 mod count;
+mod free_laws;
 mod hour;
 mod laws;
 mod part;
+mod state_asked;
+mod state_count;
 mod tenths;
 
 pub use count::{greatest_on, least_on, sure_fault};
+pub use free_laws::{
+    colours_stay, colours_tell, extremes, look_back, look_back_among_rows, numbers_are_one,
+    numbers_bound, numbers_reached, numbers_stay, stores_tell, tables_are_ordered,
+};
 pub use hour::switched;
 pub use laws::{hours_fit, switches_are_ordered};
 pub use part::Switched;
+pub use state_asked::Asked;
+pub use state_count::tenths_of;
 pub use tenths::OnTenths;

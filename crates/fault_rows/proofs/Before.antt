@@ -26,8 +26,8 @@ use Rattle.signal_log.proofs.Runs.{to_place, upto_here, upto_other, upto_place}
 use Rattle.signal_log.proofs.Stored.{known_each, known_in_window}
 use Rattle.ring_config.specs.Settings.{Settings, spec_place}
 use Rattle.ring_config.specs.Sound.{IsSound}
-use Rattle.free_channels.specs.Free.{IsMixed}
-use Rattle.free_channels.proofs.Among.{look_back_among_rows}
+use Rattle.detector_state.specs.Free.{IsMixed}
+use Rattle.detector_state.proofs.Among.{look_back_among_rows}
 use Rattle.detector_state.specs.Switches.{IsSwitch}
 use Rattle.detector_state.proofs.Switching.{spec_fits}
 use Rattle.stop_bar.specs.Own.{detector}

@@ -10,7 +10,7 @@ use Rattle.event_codes.specs.declared.channels.Kind.TheVariants.{Phase, Ped, Ove
 use Rattle.event_codes.specs.Channels.{Line, channel_by, channel_in_table, channel_lines, number_of, numbered_channel}
 use Rattle.channel_tables.specs.Letters.{letter_in_table}
 use Rattle.board.specs.Channels.{is_channel}
-use Rattle.free_channels.proofs.Tables.{below_eight}
+use Rattle.detector_state.proofs.Tables.{below_eight}
 use Rattle.stop_bar.specs.Own.{detector}
 use Rattle.arrival_measures.specs.Faults.{begins_fault, is_of, is_own}
 

@@ -9,7 +9,7 @@ use Rattle.colour_machine.specs.Rules.{IsMachine, Rules}
 use Rattle.channel_tables.specs.Table.{table_rules}
 use Rattle.channel_tables.specs.Tables.{table_of}
 use Rattle.channel_tables.specs.DetectorTable.{detector_table}
-use Rattle.free_channels.proofs.Tables.{below_eight, below_three}
+use Rattle.detector_state.proofs.Tables.{below_eight, below_three}
 use Rattle.detector_state.specs.Masks.{all_below, image_below}
 use Rattle.detector_state.proofs.Masks.{has_all_below, image_is}
 

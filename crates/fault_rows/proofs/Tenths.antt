@@ -18,11 +18,11 @@ use Rattle.signal_log.proofs.Stored.{rows_join}
 use Rattle.hour_sweep.specs.Rows.{last, last_with, since}
 use Rattle.hour_sweep.proofs.Known.{live_here}
 use Rattle.hour_sweep.proofs.Places.{last-push, last_with_all}
-use Rattle.free_channels.specs.Free.{IsMixed}
+use Rattle.detector_state.specs.Free.{IsMixed}
 use Rattle.detector_state.specs.Masks.{all_below, image_below}
 use Rattle.detector_state.proofs.Masks.{after, has_all_below}
 use Rattle.detector_state.proofs.Telling.{IsReachedBy, after_one, some_reached, tenth}
-use Rattle.cycle_arrivals.proofs.Counts.{and_true}
+use Rattle.arrival_measures.proofs.Counts.{and_true}
 use Rattle.arrival_measures.specs.Faults.{begins_fault, faulty, faulty_since, is_of}
 use Rattle.arrival_measures.proofs.Detecting.{lost_since, same_since}
 use Rattle.fault_rows.proofs.Masks.{IsDetector, IsTold, told_all, told_letter}

@@ -10,7 +10,7 @@ use Rattle.signal_log.specs.States.{IsReached, MayBeAfter}
 use Rattle.ring_config.specs.Settings.{Settings, spec_place}
 use Rattle.ring_config.specs.Sound.{IsSound}
 use Rattle.stop_bar.specs.Own.{detector}
-use Rattle.cycle_arrivals.specs.Arrivals.{is_on}
+use Rattle.arrival_measures.specs.Arrivals.{is_on}
 use Rattle.arrival_measures.specs.Faults.{faulty, is_arrival, is_fault_row}
 
 -- the colour Fault of a detector

@@ -12,7 +12,7 @@ use Rattle.board.specs.History.{Track}
 use Rattle.board.specs.Logs.{no_spec}
 use Rattle.board.specs.Moves.{RowsIn}
 use Rattle.board.proofs.Cases.{one_spec}
-use Rattle.hour_ways.specs.Fillings.{AreUnknown}
+use Rattle.strand_search.specs.Fillings.{AreUnknown}
 use Rattle.signal_log.specs.Log.{HasHistory, IsBeforeWindow, log_of}
 use Rattle.signal_log.specs.States.{IsReached, MayBeAfter}
 use Rattle.signal_log.proofs.Joined.{after_events, end_of_one, events_after, history_runs, one_end}

@@ -7,3 +7,7 @@ pub mod Tables
 pub mod Laws
 pub mod Counted
 pub mod Common
+pub mod Adding
+pub mod SumPlaces
+pub mod Merging
+pub mod SumCommon

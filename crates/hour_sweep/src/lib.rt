@@ -5,8 +5,12 @@
 //! a row of the log then reaches the part of its parameter alone, however many there are.
 #![tactic(auto)]
 
+mod each;
+mod sums;
 mod track;
 mod watch;
 
+pub use each::{Sum, add_each};
+pub use sums::{greatest_of, least_of, total};
 pub use track::{Track, Tracked, track_hour};
 pub use watch::{Watch, sweep};

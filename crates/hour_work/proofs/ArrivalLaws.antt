@@ -12,7 +12,7 @@ use Rattle.hour_sweep.specs.Rows.{known_rows}
 use Rattle.hour_sweep.specs.Hours.{point}
 use Rattle.ring_config.specs.Settings.{Settings, spec_place}
 use Rattle.ring_config.specs.declared.items.Approach.{Approach}
-use Rattle.cycle_arrivals.specs.Arrivals.{is_on, ons_of}
+use Rattle.arrival_measures.specs.Arrivals.{is_on, ons_of}
 use Rattle.arrival_measures.specs.declared.sums.ArrivalSum.{ArrivalSum}
 use Rattle.arrival_measures.specs.Judged.{AllPass, AreJudged, CountOf, NonePass, OnlySomePass, is_green, is_red, phase_channel}
 use Rattle.arrival_measures.specs.Faults.{arrivals_from, is_arrival, passing_from}

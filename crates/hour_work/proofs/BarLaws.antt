@@ -16,7 +16,7 @@ use Rattle.service_cut.specs.declared.items.Served.{Served}
 use Rattle.service_cut.specs.Cut.{CutLists, IsCut as IsCutOf, closing_at, served_from}
 use Rattle.service_cut.proofs.Closings.{closing_later}
 use Rattle.detector_state.specs.declared.part.Part.{Part}
-use Rattle.split_windows.proofs.Fitting.{known_all}
+use Rattle.stop_bar.proofs.Fitting.{known_all}
 use Rattle.stop_bar.specs.Crossing.{Crossing as AtBar}
 use Rattle.stop_bar.specs.All.{AreAtBars, AreTold, IsCutHour, IsHourHeld}
 use Rattle.split_measures.specs.declared.failures.SplitSum.{SplitSum}

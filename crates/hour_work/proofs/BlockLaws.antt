@@ -7,9 +7,9 @@ use Rattle.std.proofs.lemmas.List.Elements.{All-drop, All-take}
 use Rattle.std.proofs.Math.Seq.{take-add}
 use Rattle.std.proofs.lemmas.List.Sums.{fold-append, sum_by-append}
 use Rattle.std.proofs.Math.Seq.{get_or-append_seam}
-use Rattle.hour_sums.specs.Numbers.{capped, merged}
-use Rattle.hour_sums.proofs.Adding.{capped_assoc, capped_none, greater_assoc, lesser_assoc}
-use Rattle.hour_sums.proofs.Merging.{merged_assoc, sum_nil}
+use Rattle.hour_sweep.specs.Sums.{capped, merged}
+use Rattle.hour_sweep.proofs.Adding.{capped_assoc, capped_none, greater_assoc, lesser_assoc}
+use Rattle.hour_sweep.proofs.Merging.{merged_assoc, sum_nil}
 use Rattle.split_measures.specs.declared.sums.PhaseSum.{PhaseSum}
 use Rattle.split_measures.specs.declared.failures.SplitSum.{SplitSum}
 use Rattle.split_measures.specs.Phases.{added}

@@ -8,11 +8,11 @@ use Rattle.sig_base.specs.declared.values.Row.{Row}
 use Rattle.sig_base.proofs.Common.{and_false}
 use Rattle.reach.specs.Runs.{Run, State, Step, Steps}
 use Rattle.hour_sweep.specs.Hours.{AreOrdered}
-use Rattle.cycle_arrivals.specs.Arrivals.{rows_within}
+use Rattle.arrival_measures.specs.Arrivals.{rows_within}
 use Rattle.board.specs.History.{Agree, Event, History, Track, events_at, letters, put, start_of}
 use Rattle.board.proofs.Bridge.{agree_join, run_join, event_here}
 use Rattle.signal_log.specs.Log.{AgreesWith, Log, track_at, window_end}
-use Rattle.cycle_arrivals.proofs.Within.{within_empty}
+use Rattle.arrival_measures.proofs.Within.{within_empty}
 
 -- ---- the rows of some tenths
 

@@ -6,7 +6,7 @@ use Rattle.gap_map.specs.declared.stretch.Stretch.{Stretch}
 use Rattle.gap_map.specs.Stretches.{AreStretches, IsCut}
 use Rattle.gap_map.proofs.Cutting.{ends_within}
 use Rattle.hour_work.specs.Numbers.{count_from, count_in_hour}
-use Rattle.hour_sums.specs.Numbers.{one_if}
+use Rattle.hour_sweep.specs.Sums.{one_if}
 use Rattle.hour_work.specs.Known.{known_len}
 
 -- two tests that agree on the tenths count the same

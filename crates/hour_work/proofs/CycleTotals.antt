@@ -8,18 +8,18 @@ use Rattle.std.proofs.lemmas.List.Elements.{filter-append}
 use Rattle.std.proofs.lemmas.List.Sums.{sum_by-cons}
 use Rattle.sig_base.specs.declared.values.Row.{Row}
 use Rattle.sig_base.proofs.Each.{Each}
-use Rattle.hour_sums.specs.Numbers.{capped, merged, own}
-use Rattle.hour_sums.proofs.Adding.{sum-add}
+use Rattle.hour_sweep.specs.Sums.{capped, merged, own}
+use Rattle.hour_sweep.proofs.Adding.{sum-add}
 use Rattle.hour_sweep.specs.Hours.{AreOrdered}
 use Rattle.ring_config.specs.Settings.{Settings}
 use Rattle.ring_config.specs.declared.items.Approach.{Approach}
 use Rattle.service_cut.specs.declared.items.Cycle.{Cycle}
 use Rattle.service_cut.specs.Cut.{cycle_is_in, cycles_from}
 use Rattle.service_cut.proofs.HourLists.{cycles_add, cycles_count}
-use Rattle.hour_sums.proofs.Common.{capped_none}
-use Rattle.cycle_arrivals.specs.Arrivals.{is_on, ons_of, rows_within}
-use Rattle.cycle_arrivals.specs.Own.{turns_green}
-use Rattle.cycle_arrivals.specs.Green.{arrivals_in, green_arrivals_in, green_tenths_in, greens, shows_green, tenths_with}
+use Rattle.hour_sweep.proofs.SumCommon.{capped_none}
+use Rattle.arrival_measures.specs.Arrivals.{is_on, ons_of, rows_within}
+use Rattle.arrival_measures.specs.Own.{turns_green}
+use Rattle.arrival_measures.specs.Green.{arrivals_in, green_arrivals_in, green_tenths_in, greens, shows_green, tenths_with}
 use Rattle.arrival_measures.specs.declared.sums.ArrivalSum.{ArrivalSum}
 use Rattle.arrival_measures.specs.Cycles.{CycleNumbers, cycle_tenths, numbers_of}
 use Rattle.arrival_measures.specs.Travel.{arrivals_at, told}

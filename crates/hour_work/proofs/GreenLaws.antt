@@ -30,8 +30,8 @@ use Rattle.service_cut.specs.Cycles.{cycle_at}
 use Rattle.service_cut.specs.Whole.{AllKnown, IsCycle}
 use Rattle.service_cut.proofs.WholeCycles.{cycle_is_whole, front_ordered}
 use Rattle.service_cut.proofs.Fitting.{row_late}
-use Rattle.cycle_arrivals.specs.Arrivals.{rows_within}
-use Rattle.cycle_arrivals.specs.Green.{green_after, greens, shows_green}
+use Rattle.arrival_measures.specs.Arrivals.{rows_within}
+use Rattle.arrival_measures.specs.Green.{green_after, greens, shows_green}
 use Rattle.arrival_measures.specs.Judged.{is_green, phase_channel}
 use Rattle.arrival_measures.proofs.Telling.{within-append}
 use Rattle.hour_work.specs.Rows.{earlier_rows, own_rows}

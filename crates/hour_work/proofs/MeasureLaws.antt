@@ -21,9 +21,9 @@ use Rattle.service_cut.specs.Parts.{IsCarry as IsCutCarry}
 use Rattle.service_cut.specs.declared.parts.Part.{Part}
 use Rattle.ring_config.specs.Settings.{Settings}
 use Rattle.arrival_measures.specs.Crossing.{CarryParts, IsCarry as AreOpen}
-use Rattle.state_tenths.specs.declared.asked.Asked.{Asked}
-use Rattle.state_tenths.specs.declared.asked.Asked.TheVariants.{Colour, NoneOf}
-use Rattle.state_tenths.specs.States.{AllHave, Meets}
+use Rattle.detector_state.specs.declared.state_asked.Asked.{Asked}
+use Rattle.detector_state.specs.declared.state_asked.Asked.TheVariants.{Colour, NoneOf}
+use Rattle.detector_state.specs.States.{AllHave, Meets}
 use Rattle.hour_work.specs.Rows.{earlier_rows, own_rows}
 use Rattle.signal_log.specs.Rows.{hour_rows}
 

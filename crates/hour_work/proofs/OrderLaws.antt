@@ -32,7 +32,7 @@ use Rattle.service_cut.proofs.Fitting.{begin_only, offset_in, yellow_only, row_l
 use Rattle.service_cut.proofs.WholeCycles.{cycle_is_whole, front_ordered, if_true}
 use Rattle.service_cut.proofs.YellowEnds.{from_first}
 use Rattle.service_cut.proofs.WholeServices.{kept_none}
-use Rattle.cycle_arrivals.specs.Arrivals.{rows_within}
+use Rattle.arrival_measures.specs.Arrivals.{rows_within}
 use Rattle.arrival_measures.specs.declared.points.Diagram.{Diagram}
 use Rattle.arrival_measures.specs.Judged.{phase_channel}
 use Rattle.arrival_measures.specs.Points.{diagram_of, diagrams_of, points_from}

@@ -21,7 +21,7 @@ use Rattle.reach.specs.Runs.{State, Step}
 use Rattle.board.specs.Channels.{letter_in, track}
 use Rattle.board.proofs.Tracks.{letter_here, spec_letter}
 use Rattle.service_cut.specs.Signs.{code_sign, is_end, is_yellow, sign}
-use Rattle.cycle_arrivals.specs.Green.{green_after, greens}
+use Rattle.arrival_measures.specs.Green.{green_after, greens}
 use Rattle.arrival_measures.specs.Judged.{is_green, phase_channel}
 use Rattle.hour_work.proofs.ColourLaws.{Tells, told}
 

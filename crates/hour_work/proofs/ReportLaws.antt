@@ -6,7 +6,7 @@ use Rattle.ring_config.specs.Settings.{Settings}
 use Rattle.rule_audit.specs.Rules.{rules_for}
 use Rattle.hour_work.specs.declared.counts.RuleCount.{RuleCount}
 use Rattle.std.specs.List.{fold}
-use Rattle.hour_sums.specs.Numbers.{merged}
+use Rattle.hour_sweep.specs.Sums.{merged}
 use Rattle.hour_work.specs.Numbers.{Numbers, count_sum, total_of}
 use Rattle.hour_work.specs.Counts.{count_of_rule, counts_of}
 use Rattle.hour_work.specs.Reports.{IsHourPart}

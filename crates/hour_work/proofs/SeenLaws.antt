@@ -23,8 +23,8 @@ use Rattle.signal_log.specs.Opened.{HasPlace, IsOpened, Opened}
 use Rattle.signal_log.specs.Points.{rows_or_none}
 use Rattle.signal_log.proofs.Stored.{cut_known, known_cut, known_hour}
 use Rattle.signal_log.proofs.Viewed.{hours_tell}
-use Rattle.state_tenths.specs.declared.asked.Asked.{Asked}
-use Rattle.state_tenths.specs.States.{MeetsAt}
+use Rattle.detector_state.specs.declared.state_asked.Asked.{Asked}
+use Rattle.detector_state.specs.States.{MeetsAt}
 use Rattle.service_cut.specs.Cut.{CutLists, IsCut as IsCutOf, services_from, cycles_from}
 use Rattle.service_cut.specs.Parts.{IsCarry as IsCutCarry}
 use Rattle.split_measures.specs.declared.sums.PhaseSum.{PhaseSum}

@@ -19,7 +19,7 @@ use Rattle.rule_audit.specs.Obligations.{Obligation, end_obligations, is_due, is
 use Rattle.rule_audit.specs.Lines.{AreLinesOf, line_of, lines_of}
 use Rattle.hour_work.specs.declared.counts.RuleCount.{RuleCount}
 use Rattle.hour_work.specs.Numbers.{FitsCount}
-use Rattle.hour_sums.specs.Numbers.{one_if}
+use Rattle.hour_sweep.specs.Sums.{one_if}
 use Rattle.arrival_measures.proofs.Counting.{one_low}
 use Rattle.hour_work.specs.Counts.{count_of_rule, counted, counts_of, is_broken, is_kept, is_undecided}
 

@@ -3,7 +3,7 @@ use Rattle.std.proofs.Common.{◌≡◌, ◌∙◌, ℕ, zero, suc, ◌+◌, ◌
 use Rattle.std.proofs.lemmas.List.{length-append, take_all, take_more}
 use Rattle.sig_base.specs.declared.values.Row.{Row}
 use Rattle.hour_store.specs.Store.{IsStore, Store, is_known, known_rows}
-use Rattle.hour_sums.specs.Numbers.{by_number, merged}
+use Rattle.hour_sweep.specs.Sums.{by_number, merged}
 use Rattle.hour_sweep.specs.Hours.{point}
 use Rattle.ring_config.specs.Settings.{Settings}
 use Rattle.service_cut.specs.declared.items.Service.{Service}

@@ -5,8 +5,8 @@ use Rattle.board.specs.Logs.{first_tenth}
 use Rattle.ring_config.specs.Settings.{Settings, spec_place}
 use Rattle.signal_log.specs.Log.{log_of, HasHistory}
 use Rattle.signal_log.specs.States.{MayBeAtEndOf}
-use Rattle.state_tenths.specs.declared.asked.Asked.{Asked}
-use Rattle.state_tenths.specs.States.{Meets}
+use Rattle.detector_state.specs.declared.state_asked.Asked.{Asked}
+use Rattle.detector_state.specs.States.{Meets}
 use Rattle.service_cut.specs.declared.items.Service.{Service}
 use Rattle.service_cut.specs.declared.items.Cycle.{Cycle}
 use Rattle.service_cut.specs.Cut.{services_from, cycles_from}
@@ -21,7 +21,7 @@ use Rattle.arrival_measures.specs.Hours.{AreAllJudged, HaveCycles}
 use Rattle.hour_work.specs.Rows.{earlier_rows, own_rows}
 use Rattle.board.specs.Channels.{AreSpecs}
 use Rattle.arrival_measures.specs.Judged.{phase_channel}
-use Rattle.cycle_arrivals.specs.Green.{shows_green}
+use Rattle.arrival_measures.specs.Green.{shows_green}
 
 -- the whole services whose last row is in the hour
 abbrev pub services_in : Settings → Store → ℕ → List Service

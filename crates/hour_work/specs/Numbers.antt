@@ -1,7 +1,7 @@
 -- What is counted of one hour, and the sums over hours.
 use Rattle.std.specs.Prelude.{◌≡◌, ◌≤◌, ◌<◌, ◌⊎◌, ◌+◌, ◌*◌, ◌++◌, ℕ, zero, suc, Bool, List, [], length, take, drop, map, slice_index_or, sum_by, All}
 use Rattle.std.specs.List.{fold}
-use Rattle.hour_sums.specs.Numbers.{merged, one_if}
+use Rattle.hour_sweep.specs.Sums.{merged, one_if}
 use Rattle.split_measures.specs.declared.sums.PhaseSum.{PhaseSum}
 use Rattle.split_measures.specs.declared.failures.SplitSum.{SplitSum}
 use Rattle.split_measures.specs.Phases.{added}

@@ -17,7 +17,7 @@ use Rattle.service_cut.specs.Cut.{CutLists, IsCut as IsCutOf}
 use Rattle.rule_audit.specs.declared.lines.AuditLine.{AuditLine}
 use Rattle.rule_audit.specs.Rules.{rules_for}
 use Rattle.hour_work.specs.Numbers.{Numbers, count_in_hour}
-use Rattle.hour_sums.specs.Numbers.{one_if}
+use Rattle.hour_sweep.specs.Sums.{one_if}
 use Rattle.hour_work.specs.Counts.{counts_of}
 use Rattle.hour_work.specs.Points.{Carried, IsCarryAt, IsFutureFor}
 use Rattle.hour_work.specs.Verdicts.{AreAuditLines}

@@ -1,6 +1,6 @@
 // The numbers of one hour, or of several together.
 ghost use Rattle.std.specs.Prelude.{◌≡◌, ◌↔◌, ◌≤◌, ◌+◌, ℕ, [], All, IsTrue, OnOk};
-ghost use Rattle.hour_sums.specs.Numbers.{merged};
+ghost use Rattle.hour_sweep.specs.Sums.{merged};
 ghost use Rattle.hour_work.specs.Numbers.{FitHours, FitsCount, IsTotal, count_sum, numbers_sum};
 ghost use Rattle.hour_work.specs.Counts.{HasKeptAlone};
 

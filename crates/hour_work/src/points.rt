@@ -2,7 +2,7 @@
 ghost use Rattle.std.specs.Prelude.{◌≡◌, ◌<◌, true, is_some, option_copied, IfOk, IfSome};
 ghost use Rattle.sig_base.specs.HourRows.{AreRowsOf};
 ghost use Rattle.hour_store.specs.Store.{Store, is_known};
-ghost use Rattle.hour_sums.specs.Numbers.{own};
+ghost use Rattle.hour_sweep.specs.Sums.{own};
 ghost use Rattle.signal_log.specs.Opened.{HasPlace};
 ghost use Rattle.signal_log.specs.Points.{HasHour};
 ghost use Rattle.arrival_measures.specs.Points.{points_from};

@@ -14,18 +14,18 @@ use Rattle.channel_tables.specs.declared.spec.Spec.{Spec}
 use Rattle.reach.specs.Runs.{State}
 use Rattle.board.specs.Logs.{end_tenth, first_tenth, no_spec}
 use Rattle.hour_store.specs.Store.{Store, is_known}
-use Rattle.hour_sums.specs.Numbers.{capped, one_if}
+use Rattle.hour_sweep.specs.Sums.{capped, one_if}
 use Rattle.hour_sweep.specs.Numbers.{given, outs_from}
 use Rattle.service_cut.specs.declared.items.Service.{Service}
 use Rattle.service_cut.specs.Cut.{services_from}
 use Rattle.service_cut.specs.Services.{service_at}
-use Rattle.hour_sums.proofs.Adding.{capped_small}
+use Rattle.hour_sweep.proofs.Adding.{capped_small}
 use Rattle.ring_config.specs.Settings.{Settings, is_same_channel, spec_place}
 use Rattle.ring_config.specs.declared.items.Approach.{Approach}
 use Rattle.signal_log.specs.Log.{HasHistory, log_of}
-use Rattle.split_windows.specs.Windows.{left}
+use Rattle.stop_bar.specs.Windows.{left}
 use Rattle.ring_config.proofs.SpecLaws.{length_filter}
-use Rattle.split_windows.specs.Going.{of_phase}
+use Rattle.stop_bar.specs.Going.{of_phase}
 use Rattle.stop_bar.specs.Bars.{ending, services_upto, without_end}
 use Rattle.stop_bar.specs.Lists.{Each}
 use Rattle.stop_bar.proofs.Common.{each_long}
@@ -34,7 +34,7 @@ use Rattle.split_measures.specs.declared.verdict.SplitVerdict.TheVariants.{Fail,
 use Rattle.split_measures.specs.Failures.{is_verdict, split_sum_of}
 use Rattle.split_measures.specs.Hours.{open_in, opens_of}
 use Rattle.split_measures.specs.Verdicts.{IsVerdict}
-use Rattle.cycle_arrivals.specs.Arrivals.{is_on, ons_of}
+use Rattle.arrival_measures.specs.Arrivals.{is_on, ons_of}
 use Rattle.arrival_measures.specs.declared.sums.ArrivalSum.{ArrivalSum}
 use Rattle.arrival_measures.specs.Faults.{arrivals_from, is_arrival, passing_from}
 use Rattle.arrival_measures.specs.Judged.{AllPass, CountOf, NonePass, OnlySomePass, is_green, phase_channel}

@@ -8,8 +8,8 @@ use Rattle.std.proofs.lemmas.List.Elements.{All-weaker, filter-append, filter_pa
 use Rattle.sig_base.specs.declared.values.Row.{Row}
 use Rattle.reach.specs.Runs.{State}
 use Rattle.hour_store.specs.Store.{IsStore, Store, held_at, is_known}
-use Rattle.hour_sums.specs.Numbers.{capped}
-use Rattle.hour_sums.proofs.Adding.{length-add, capped_small}
+use Rattle.hour_sweep.specs.Sums.{capped}
+use Rattle.hour_sweep.proofs.Adding.{length-add, capped_small}
 use Rattle.hour_sweep.specs.Hours.{AreOrdered, point}
 use Rattle.hour_sweep.proofs.Orders.{ordered-append}
 use Rattle.service_cut.proofs.YellowEnds.{from_first}
@@ -17,8 +17,8 @@ use Rattle.ring_config.specs.Settings.{Settings}
 use Rattle.ring_config.specs.declared.items.Approach.{Approach}
 use Rattle.ring_config.proofs.SpecLaws.{length_filter}
 use Rattle.stop_bar.specs.Lists.{Each}
-use Rattle.cycle_arrivals.specs.Arrivals.{is_on, ons_of}
-use Rattle.cycle_arrivals.proofs.Counts.{and_true}
+use Rattle.arrival_measures.specs.Arrivals.{is_on, ons_of}
+use Rattle.arrival_measures.proofs.Counts.{and_true}
 use Rattle.arrival_measures.specs.declared.sums.ArrivalSum.{ArrivalSum}
 use Rattle.arrival_measures.specs.Faults.{arrivals_from, faults_from, is_arrival, is_fault_row, passing_from}
 use Rattle.arrival_measures.specs.Judged.{AllPass, AreJudged, CountOf, NonePass, OnlySomePass, is_green, is_red}

@@ -8,16 +8,16 @@ use Rattle.sig_base.specs.Numbers.{has_phase}
 use Rattle.sig_base.proofs.Each.{Each}
 use Rattle.board.specs.Channels.{AreSpecs}
 use Rattle.hour_store.specs.Store.{IsStore, Store, is_known}
-use Rattle.hour_sums.specs.Numbers.{one_if}
+use Rattle.hour_sweep.specs.Sums.{one_if}
 use Rattle.hour_sweep.specs.Hours.{AreOrdered, point}
 use Rattle.hour_sweep.proofs.Orders.{ordered-append}
 use Rattle.signal_log.specs.Log.{HasHistory, log_of}
 use Rattle.ring_config.specs.Settings.{Settings, spec_place}
-use Rattle.state_tenths.specs.States.{IsCount}
+use Rattle.detector_state.specs.States.{IsCount}
 use Rattle.service_cut.specs.declared.items.Cycle.{Cycle}
 use Rattle.service_cut.proofs.Fitting.{cycles_fit}
-use Rattle.cycle_arrivals.specs.Arrivals.{is_on, rows_within}
-use Rattle.cycle_arrivals.specs.Green.{shows_green, tenths_with}
+use Rattle.arrival_measures.specs.Arrivals.{is_on, rows_within}
+use Rattle.arrival_measures.specs.Green.{shows_green, tenths_with}
 use Rattle.arrival_measures.specs.Judged.{CountOf, phase_channel}
 use Rattle.hour_work.specs.Rows.{earlier_rows, own_rows}
 use Rattle.hour_work.specs.Measures.{cycles_in}

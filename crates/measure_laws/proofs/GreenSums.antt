@@ -16,14 +16,14 @@ use Rattle.stop_bar.specs.Lists.{Each}
 use Rattle.service_cut.specs.declared.items.Cycle.{Cycle}
 use Rattle.service_cut.specs.Cut.{cycle_is_in, cycles_from}
 use Rattle.service_cut.proofs.HourLists.{cycles_add, cycles_count}
-use Rattle.cycle_arrivals.specs.Arrivals.{ons_of, rows_within}
-use Rattle.cycle_arrivals.specs.Green.{green_arrivals_in, green_tenths_in, greens, shows_green}
+use Rattle.arrival_measures.specs.Arrivals.{ons_of, rows_within}
+use Rattle.arrival_measures.specs.Green.{green_arrivals_in, green_tenths_in, greens, shows_green}
 use Rattle.arrival_measures.specs.declared.sums.ArrivalSum.{ArrivalSum}
 use Rattle.arrival_measures.specs.Cycles.{CycleNumbers, numbers_of}
 use Rattle.arrival_measures.specs.Judged.{CountOf, phase_channel}
 use Rattle.arrival_measures.specs.Hours.{HasArrivals, HaveCycles, cycle_numbers, cycle_part, cycles_of, no_sum}
 use Rattle.arrival_measures.specs.Travel.{told}
-use Rattle.state_tenths.specs.Ranges.{Counts}
+use Rattle.detector_state.specs.Ranges.{Counts}
 use Rattle.arrival_measures.proofs.Telling.{within-append}
 use Rattle.hour_work.specs.Rows.{earlier_rows, own_rows}
 use Rattle.hour_work.specs.Measures.{MayBeIn, cycles_in, over_hours}

@@ -16,10 +16,10 @@ use Rattle.rule_audit.specs.Rules.{rules_for}
 use Rattle.service_cut.specs.declared.items.Cycle.{Cycle}
 use Rattle.service_cut.specs.declared.items.Service.{Service}
 use Rattle.service_cut.specs.Cut.{cycles_from, services_from}
-use Rattle.state_tenths.specs.declared.asked.Asked.{Asked}
-use Rattle.state_tenths.specs.declared.asked.Asked.TheVariants.{Colour, NoneOf}
-use Rattle.state_tenths.specs.Ranges.{Counts}
-use Rattle.state_tenths.specs.States.{IsCount}
+use Rattle.detector_state.specs.declared.state_asked.Asked.{Asked}
+use Rattle.detector_state.specs.declared.state_asked.Asked.TheVariants.{Colour, NoneOf}
+use Rattle.detector_state.specs.Ranges.{Counts}
+use Rattle.detector_state.specs.States.{IsCount}
 use Rattle.stop_bar.specs.declared.bars.StopBar.{StopBar}
 use Rattle.stop_bar.specs.All.{bar_with}
 use Rattle.stop_bar.specs.Bars.{ending, services_upto}

@@ -24,11 +24,11 @@ use Rattle.service_cut.specs.Parts.{open_cycle_of}
 use Rattle.service_cut.specs.Whole.{IsYellowEnd}
 use Rattle.service_cut.proofs.WholeCycles.{EndIs, end_is}
 use Rattle.service_cut.proofs.YellowEnds.{yellow_is}
-use Rattle.cycle_arrivals.specs.Arrivals.{rows_within}
-use Rattle.cycle_arrivals.specs.Green.{greens, shows_green}
-use Rattle.cycle_arrivals.specs.Own.{turns_green}
-use Rattle.cycle_arrivals.proofs.Own.{filter_less, filter_swap}
-use Rattle.cycle_arrivals.proofs.Parts.{greens_turns}
+use Rattle.arrival_measures.specs.Arrivals.{rows_within}
+use Rattle.arrival_measures.specs.Green.{greens, shows_green}
+use Rattle.arrival_measures.specs.Own.{turns_green}
+use Rattle.arrival_measures.proofs.Own.{filter_less, filter_swap}
+use Rattle.arrival_measures.proofs.Parts.{greens_turns}
 use Rattle.arrival_measures.specs.Judged.{is_green, phase_channel}
 use Rattle.arrival_measures.specs.Travel.{arrivals_at, told}
 use Rattle.arrival_measures.proofs.Travels.{at_on, no_turns}

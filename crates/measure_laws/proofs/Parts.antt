@@ -6,7 +6,7 @@ use Rattle.std.proofs.lemmas.List.{append-nil}
 use Rattle.std.proofs.lemmas.List.Sums.{sum_by-cons}
 use Rattle.sig_base.specs.HourRows.{Shown}
 use Rattle.hour_store.specs.Store.{IsStore, Store, count_in, held_at, is_known}
-use Rattle.hour_sums.specs.Numbers.{merged}
+use Rattle.hour_sweep.specs.Sums.{merged}
 use Rattle.hour_sweep.specs.Hours.{point}
 use Rattle.ring_config.specs.Settings.{Settings}
 use Rattle.rule_audit.specs.declared.lines.AuditLine.{AuditLine}

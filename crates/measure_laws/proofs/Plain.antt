@@ -13,7 +13,7 @@ use Rattle.sig_base.specs.Numbers.{has_number, has_phase}
 use Rattle.board.specs.Logs.{end_tenth, first_tenth}
 use Rattle.signal_log.specs.Log.{Log, log_of, window_end}
 use Rattle.hour_store.specs.Store.{IsStore, Store, count_in, is_known, known_rows}
-use Rattle.hour_sums.specs.Numbers.{by_number, capped, one_if, own}
+use Rattle.hour_sweep.specs.Sums.{by_number, capped, one_if, own}
 use Rattle.hour_sweep.specs.Hours.{AreOrdered, point}
 use Rattle.hour_sweep.specs.Numbers.{given, outs_from}
 use Rattle.hour_sweep.proofs.Orders.{below_end}
@@ -30,8 +30,8 @@ use Rattle.service_cut.specs.Cut.{cycle_is_in, cycles_from, service_is_in, servi
 use Rattle.service_cut.specs.Cycles.{cycle_at}
 use Rattle.service_cut.specs.Services.{service_at}
 use Rattle.service_cut.proofs.HourLists.{cycles_count, services_count}
-use Rattle.hour_sums.proofs.Adding.{capped_small}
-use Rattle.split_windows.specs.Windows.{due, left}
+use Rattle.hour_sweep.proofs.Adding.{capped_small}
+use Rattle.stop_bar.specs.Windows.{due, left}
 use Rattle.ring_config.proofs.SpecLaws.{length_filter}
 use Rattle.stop_bar.proofs.Common.{each_long}
 use Rattle.split_measures.specs.declared.failures.SplitSum.{SplitSum}
@@ -53,11 +53,11 @@ use Rattle.other_measures.specs.Preempts.{call_of, delay_of, event_at, is_dwell,
 use Rattle.other_measures.specs.States.{EachOf}
 use Rattle.other_measures.specs.Sums.{delay_in, dwell_in, is_entry_event, is_late_entry, is_late_exit, is_not_begun, is_partial, ped_sum_of, preempt_sum_of, ran}
 use Rattle.other_measures.proofs.Stores.{each_as}
-use Rattle.cycle_arrivals.specs.Arrivals.{is_on, ons_of, rows_within}
-use Rattle.cycle_arrivals.specs.Green.{arrivals_in, green_arrivals_in, green_tenths_in, shows_green}
-use Rattle.cycle_arrivals.specs.Own.{turns_green}
-use Rattle.cycle_arrivals.proofs.Counts.{and_true}
-use Rattle.cycle_arrivals.proofs.Tenths.{tenths_within}
+use Rattle.arrival_measures.specs.Arrivals.{is_on, ons_of, rows_within}
+use Rattle.arrival_measures.specs.Green.{arrivals_in, green_arrivals_in, green_tenths_in, shows_green}
+use Rattle.arrival_measures.specs.Own.{turns_green}
+use Rattle.arrival_measures.proofs.Counts.{and_true}
+use Rattle.arrival_measures.proofs.Tenths.{tenths_within}
 use Rattle.arrival_measures.specs.declared.sums.ArrivalSum.{ArrivalSum}
 use Rattle.arrival_measures.specs.Cycles.{CycleNumbers, cycle_tenths, numbers_of}
 use Rattle.arrival_measures.specs.Faults.{arrivals_from, faults_from, is_arrival, is_fault_row}

@@ -4,7 +4,7 @@ use Rattle.std.specs.Prelude.{◌==◌}
 use Rattle.std.specs.List.{range_with_len}
 use Rattle.std.proofs.lemmas.List.Sums.{sum_by-append}
 use Rattle.hour_store.specs.Store.{Store}
-use Rattle.hour_sums.specs.Numbers.{merged}
+use Rattle.hour_sweep.specs.Sums.{merged}
 use Rattle.ring_config.specs.Settings.{Settings}
 use Rattle.signal_log.specs.Log.{HasHistory, log_of}
 use Rattle.rule_audit.specs.declared.lines.AuditLine.{AuditLine}

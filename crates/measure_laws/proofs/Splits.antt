@@ -16,8 +16,8 @@ use Rattle.service_cut.specs.Cut.{services_from}
 use Rattle.signal_log.specs.Log.{log_of, window_end}
 use Rattle.ring_config.specs.Settings.{Settings}
 use Rattle.ring_config.specs.declared.items.Approach.{Approach}
-use Rattle.split_windows.specs.Windows.{due, left}
-use Rattle.split_windows.specs.Going.{of_phase}
+use Rattle.stop_bar.specs.Windows.{due, left}
+use Rattle.stop_bar.specs.Going.{of_phase}
 use Rattle.stop_bar.specs.declared.bars.StopBar.{StopBar}
 use Rattle.stop_bar.specs.All.{IsPlaceOf, bar_with}
 use Rattle.stop_bar.specs.Bars.{ending, services_upto, without_ends}

@@ -1,15 +1,15 @@
 -- Tenths in states, over all hours.
 use Rattle.std.proofs.Common.{◌≡◌, ◌∙◌, refl, sym, subst, ℕ, zero, suc, ◌+◌, ◌<◌, ◌≤◌, Some, get_or, arith}
 use Rattle.event_codes.specs.declared.channels.Channel.{Channel}
-use Rattle.hour_sums.specs.Numbers.{capped}
+use Rattle.hour_sweep.specs.Sums.{capped}
 use Rattle.hour_sweep.specs.Hours.{point}
 use Rattle.ring_config.specs.Settings.{Settings}
 use Rattle.sig_base.specs.Numbers.{has_number}
-use Rattle.hour_sums.proofs.Adding.{capped_small}
-use Rattle.state_tenths.specs.declared.asked.Asked.{Asked}
-use Rattle.state_tenths.specs.declared.asked.Asked.TheVariants.{Colour, NoneOf}
-use Rattle.state_tenths.specs.Ranges.{Counts}
-use Rattle.state_tenths.proofs.Counting.{counts_empty, counts_join, counts_most}
+use Rattle.hour_sweep.proofs.Adding.{capped_small}
+use Rattle.detector_state.specs.declared.state_asked.Asked.{Asked}
+use Rattle.detector_state.specs.declared.state_asked.Asked.TheVariants.{Colour, NoneOf}
+use Rattle.detector_state.specs.Ranges.{Counts}
+use Rattle.detector_state.proofs.StateCounting.{counts_empty, counts_join, counts_most}
 use Rattle.other_measures.specs.declared.sums.CoordSum.{CoordSum}
 use Rattle.other_measures.specs.declared.sums.PedSum.{PedSum}
 use Rattle.other_measures.specs.declared.sums.PreemptSum.{PreemptSum}

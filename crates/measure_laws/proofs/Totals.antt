@@ -7,7 +7,7 @@ use Rattle.std.proofs.lemmas.List.Elements.{All-head, All-tail}
 use Rattle.sig_base.specs.HourRows.{Shown}
 use Rattle.sig_base.specs.declared.values.Row.{Row}
 use Rattle.hour_store.specs.Store.{IsStore, Store, is_known, known_rows, rows_of}
-use Rattle.hour_sums.specs.Numbers.{merged}
+use Rattle.hour_sweep.specs.Sums.{merged}
 use Rattle.ring_config.specs.declared.items.Approach.{Approach}
 use Rattle.ring_config.proofs.SpecLaws.{length_filter}
 use Rattle.stop_bar.specs.Lists.{Each}

@@ -8,15 +8,15 @@ use Rattle.hour_store.specs.Store.{IsStore, Store, is_known, known_rows}
 use Rattle.signal_log.specs.Log.{HasHistory, log_of}
 use Rattle.ring_config.specs.Settings.{Settings, spec_place}
 use Rattle.ring_config.specs.declared.items.Approach.{Approach}
-use Rattle.hour_sums.specs.Numbers.{capped}
+use Rattle.hour_sweep.specs.Sums.{capped}
 use Rattle.stop_bar.specs.Lists.{Each}
-use Rattle.state_tenths.specs.Ranges.{Counts}
+use Rattle.detector_state.specs.Ranges.{Counts}
 use Rattle.service_cut.specs.declared.items.Cycle.{Cycle}
 use Rattle.service_cut.specs.declared.items.OpenCycle.{OpenCycle}
 use Rattle.service_cut.specs.Cycles.{cycle_begun_of}
 use Rattle.service_cut.specs.Parts.{open_cycle_of}
-use Rattle.cycle_arrivals.specs.Arrivals.{ons_of, rows_within}
-use Rattle.cycle_arrivals.specs.Green.{green_arrivals_in, green_tenths_in, shows_green}
+use Rattle.arrival_measures.specs.Arrivals.{ons_of, rows_within}
+use Rattle.arrival_measures.specs.Green.{green_arrivals_in, green_tenths_in, shows_green}
 use Rattle.arrival_measures.specs.Judged.{AllPass, CountOf, is_green, phase_channel}
 use Rattle.arrival_measures.specs.Travel.{told}
 use Rattle.arrival_measures.specs.Cycles.{CycleNumbers, cycle_tenths}

@@ -12,11 +12,11 @@ use Rattle.service_cut.specs.declared.items.Cycle.{Cycle}
 use Rattle.service_cut.specs.declared.items.Service.{Service}
 use Rattle.service_cut.specs.declared.items.Termination.TheVariants.{ForceOff, GapOut, MaxOut, Unlogged}
 use Rattle.service_cut.specs.Cut.{cycles_from, services_from}
-use Rattle.hour_sums.specs.Numbers.{greatest, least}
+use Rattle.hour_sweep.specs.Sums.{greatest, least}
 use Rattle.hour_sweep.specs.Hours.{point}
 use Rattle.rule_audit.specs.declared.lines.AuditLine.{AuditLine}
 use Rattle.rule_audit.specs.Rules.{rules_for}
-use Rattle.split_windows.specs.Windows.{left}
+use Rattle.stop_bar.specs.Windows.{left}
 use Rattle.stop_bar.specs.declared.bars.StopBar.{StopBar}
 use Rattle.stop_bar.specs.All.{IsPlaceOf, bar_with}
 use Rattle.stop_bar.specs.Bars.{ending, services_upto}
@@ -34,8 +34,8 @@ use Rattle.other_measures.specs.declared.sums.PreemptSum.{PreemptSum}
 use Rattle.other_measures.specs.Hours.{delays_from, events_from, no_coordination}
 use Rattle.other_measures.specs.States.{EachOf}
 use Rattle.other_measures.specs.Sums.{delays_of, events_of, is_entry_event, is_late_entry, is_late_exit, is_not_begun, is_partial, preempt_delays, preempt_dwells, waits}
-use Rattle.cycle_arrivals.specs.Arrivals.{ons_of}
-use Rattle.cycle_arrivals.specs.Green.{arrivals_in, green_arrivals_in, green_tenths_in}
+use Rattle.arrival_measures.specs.Arrivals.{ons_of}
+use Rattle.arrival_measures.specs.Green.{arrivals_in, green_arrivals_in, green_tenths_in}
 use Rattle.arrival_measures.specs.declared.sums.ArrivalSum.{ArrivalSum}
 use Rattle.arrival_measures.specs.Cycles.{CycleNumbers, cycle_tenths}
 use Rattle.arrival_measures.specs.Faults.{arrivals_from, faults_from}

@@ -5,9 +5,9 @@ use Rattle.board.specs.Logs.{first_tenth}
 use Rattle.hour_store.specs.Store.{IsStore, Store}
 use Rattle.ring_config.specs.Settings.{Settings, spec_place}
 use Rattle.sig_base.specs.Numbers.{has_number}
-use Rattle.state_tenths.specs.declared.asked.Asked.{Asked}
-use Rattle.state_tenths.specs.declared.asked.Asked.TheVariants.{Colour, NoneOf}
-use Rattle.state_tenths.specs.Ranges.{Counts}
+use Rattle.detector_state.specs.declared.state_asked.Asked.{Asked}
+use Rattle.detector_state.specs.declared.state_asked.Asked.TheVariants.{Colour, NoneOf}
+use Rattle.detector_state.specs.Ranges.{Counts}
 use Rattle.other_measures.specs.declared.sums.CoordSum.{CoordSum}
 use Rattle.other_measures.specs.declared.sums.PedSum.{PedSum}
 use Rattle.other_measures.specs.declared.sums.PreemptSum.{PreemptSum}

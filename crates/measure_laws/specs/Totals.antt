@@ -5,7 +5,7 @@ use Rattle.hour_store.specs.Store.{IsStore, Store, is_known, known_rows}
 use Rattle.signal_log.specs.Log.{HasHistory, Log, log_of, window_end}
 use Rattle.ring_config.specs.Settings.{Settings}
 use Rattle.ring_config.specs.declared.items.Approach.{Approach}
-use Rattle.split_windows.specs.Windows.{due, left}
+use Rattle.stop_bar.specs.Windows.{due, left}
 use Rattle.stop_bar.specs.declared.bars.StopBar.{StopBar}
 use Rattle.stop_bar.specs.All.{IsPlaceOf, bar_with}
 use Rattle.stop_bar.specs.Bars.{services_upto}
@@ -15,7 +15,7 @@ use Rattle.split_measures.specs.declared.verdict.SplitVerdict.{SplitVerdict}
 use Rattle.split_measures.specs.Failures.{split_sum_of}
 use Rattle.split_measures.specs.Hours.{opens_of}
 use Rattle.split_measures.specs.Verdicts.{IsVerdict}
-use Rattle.cycle_arrivals.specs.Arrivals.{ons_of}
+use Rattle.arrival_measures.specs.Arrivals.{ons_of}
 use Rattle.arrival_measures.specs.declared.sums.ArrivalSum.{ArrivalSum}
 use Rattle.arrival_measures.specs.Faults.{faults_from}
 use Rattle.arrival_measures.specs.Travel.{arrivals_at}

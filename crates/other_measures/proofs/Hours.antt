@@ -5,7 +5,7 @@ use Rattle.sig_base.specs.declared.values.Row.{Row}
 use Rattle.sig_base.specs.Numbers.{has_number}
 use Rattle.gap_map.specs.declared.stretch.Stretch.{Stretch}
 use Rattle.gap_map.specs.Stretches.{FollowOn}
-use Rattle.hour_sums.specs.Numbers.{AreSums}
+use Rattle.hour_sweep.specs.Sums.{AreSums}
 use Rattle.hour_sweep.specs.Rows.{known_rows}
 use Rattle.hour_sweep.specs.Hours.{AreOrdered, IsHour, point}
 use Rattle.hour_sweep.specs.Passes.{swept}
@@ -15,7 +15,7 @@ use Rattle.hour_sweep.proofs.Laws.{hour_tracked}
 use Rattle.hour_sweep.proofs.Counted.{outs_from-append}
 use Rattle.board.specs.Logs.{HourLog, first_tenth, end_tenth}
 use Rattle.hour_sweep.proofs.Common.{next_point}
-use Rattle.hour_sums.proofs.Common.{capped_zero}
+use Rattle.hour_sweep.proofs.SumCommon.{capped_zero}
 use Rattle.ring_config.specs.Settings.{Settings}
 use Rattle.other_measures.specs.declared.peds.Delay.{Delay}
 use Rattle.other_measures.specs.declared.peds.PedPart.{PedPart}

@@ -1,9 +1,9 @@
 -- Numbers of one list after another.
 use Rattle.std.proofs.Common.{◌≡◌, ℕ, ◌+◌, List, ◌++◌, refl, ap, sym, ◌∙◌, arith}
 use Rattle.std.proofs.lemmas.List.Elements.{filter_map-append}
-use Rattle.hour_sums.specs.Numbers.{capped}
-use Rattle.hour_sums.proofs.Adding.{length-add, sum-add, count-add, greatest-append}
-use Rattle.hour_sums.proofs.Places.{own-append}
+use Rattle.hour_sweep.specs.Sums.{capped}
+use Rattle.hour_sweep.proofs.Adding.{length-add, sum-add, count-add, greatest-append}
+use Rattle.hour_sweep.proofs.SumPlaces.{own-append}
 use Rattle.other_measures.specs.declared.peds.Delay.{Delay}
 use Rattle.other_measures.specs.declared.preempts.PreemptEvent.{PreemptEvent}
 use Rattle.other_measures.specs.Sums.{ran, is_not_begun, is_partial, waits, ped_sum_of, ped_added, delay_in, dwell_in, is_entry_event, is_late_entry, is_late_exit, preempt_delays, preempt_dwells, preempt_sum_of, preempt_added, delays_of, events_of}

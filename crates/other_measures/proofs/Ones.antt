@@ -1,8 +1,8 @@
 -- The numbers of one delay, of one entry and of one exit.
 use Rattle.std.proofs.Common.{◌≡◌, ℕ, ◌^◌, ◌<◌, [], ◌∷◌, Option, Some, None, sum, refl, ap, arith}
-use Rattle.hour_sums.specs.Numbers.{capped}
-use Rattle.hour_sums.proofs.Adding.{capped_small}
-use Rattle.hour_sums.proofs.Common.{capped_none, capped_one}
+use Rattle.hour_sweep.specs.Sums.{capped}
+use Rattle.hour_sweep.proofs.Adding.{capped_small}
+use Rattle.hour_sweep.proofs.SumCommon.{capped_none, capped_one}
 use Rattle.other_measures.specs.declared.peds.Delay.{Delay}
 use Rattle.other_measures.specs.declared.preempts.PreemptEvent.{PreemptEvent}
 use Rattle.other_measures.specs.declared.sums.PedSum.{PedSum}

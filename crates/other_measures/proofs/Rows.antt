@@ -5,7 +5,7 @@ use Rattle.std.proofs.lemmas.List.Sums.{sum_by-cons}
 use Rattle.std.proofs.lemmas.List.Elements.{All-nil}
 use Rattle.sig_base.specs.declared.values.Row.{Row}
 use Rattle.gap_map.specs.declared.stretch.Stretch.{Stretch}
-use Rattle.hour_sums.specs.Numbers.{capped}
+use Rattle.hour_sweep.specs.Sums.{capped}
 use Rattle.hour_sweep.specs.Rows.{known_rows}
 use Rattle.hour_sweep.specs.Hours.{IsHour, point}
 use Rattle.hour_sweep.specs.Passes.{swept, AreLaws}

@@ -6,9 +6,9 @@ use Rattle.std.proofs.lemmas.List.{get_or-set_same, get_or-set_other}
 use Rattle.event_codes.specs.declared.channels.Channel.{Channel}
 use Rattle.board.specs.Logs.{HourLog, first_tenth}
 use Rattle.ring_config.specs.Settings.{Settings, is_tracked}
-use Rattle.state_tenths.specs.declared.asked.Asked.{Asked}
-use Rattle.state_tenths.specs.declared.asked.Asked.TheVariants.{Colour}
-use Rattle.state_tenths.specs.States.{IsCount, MeetsAt}
+use Rattle.detector_state.specs.declared.state_asked.Asked.{Asked}
+use Rattle.detector_state.specs.declared.state_asked.Asked.TheVariants.{Colour}
+use Rattle.detector_state.specs.States.{IsCount, MeetsAt}
 use Rattle.other_measures.specs.declared.states.Seen.{Seen}
 use Rattle.other_measures.specs.States.{HasTenths, IsWhatIsSeen, MetBy, coordination}
 

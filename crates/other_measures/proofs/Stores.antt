@@ -4,14 +4,14 @@ use Rattle.std.proofs.lemmas.List.{same_from_push, ext_get_or, length-append}
 use Rattle.sig_base.specs.declared.values.Row.{Row}
 use Rattle.sig_base.specs.Numbers.{has_number}
 use Rattle.event_codes.specs.declared.channels.Channel.{Channel}
-use Rattle.hour_sums.specs.Numbers.{capped, merged}
-use Rattle.hour_sums.proofs.Adding.{count-add}
+use Rattle.hour_sweep.specs.Sums.{capped, merged}
+use Rattle.hour_sweep.proofs.Adding.{count-add}
 use Rattle.hour_sweep.specs.Hours.{AreOrdered}
-use Rattle.hour_sums.proofs.Common.{capped_none}
+use Rattle.hour_sweep.proofs.SumCommon.{capped_none}
 use Rattle.ring_config.specs.Settings.{Settings, spec_place}
-use Rattle.state_tenths.specs.declared.asked.Asked.{Asked}
-use Rattle.state_tenths.specs.declared.asked.Asked.TheVariants.{Colour, NoneOf}
-use Rattle.state_tenths.specs.States.{IsCount}
+use Rattle.detector_state.specs.declared.state_asked.Asked.{Asked}
+use Rattle.detector_state.specs.declared.state_asked.Asked.TheVariants.{Colour, NoneOf}
+use Rattle.detector_state.specs.States.{IsCount}
 use Rattle.other_measures.specs.declared.peds.Delay.{Delay}
 use Rattle.other_measures.specs.declared.preempts.PreemptEvent.{PreemptEvent}
 use Rattle.other_measures.specs.declared.sums.PedSum.{PedSum}

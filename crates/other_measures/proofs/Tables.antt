@@ -1,9 +1,9 @@
 -- Tables by number.
 use Rattle.std.proofs.Common.{◌≡◌, inl, inr, ℕ, suc, ◌+◌, ◌<◌, Bool, true, false, List, [], ◌∷◌, ◌++◌, length, get_or, set, take, ap, sym, subst, ◌∙◌, add-one}
 use Rattle.std.proofs.lemmas.List.{get_or_default}
-use Rattle.hour_sums.specs.Numbers.{AreSums}
+use Rattle.hour_sweep.specs.Sums.{AreSums}
 use Rattle.sig_base.specs.Numbers.{has_number}
-use Rattle.hour_sums.proofs.Places.{sums_more}
+use Rattle.hour_sweep.proofs.SumPlaces.{sums_more}
 use Rattle.other_measures.specs.declared.peds.Delay.{Delay}
 use Rattle.other_measures.specs.declared.preempts.PreemptEvent.{PreemptEvent}
 use Rattle.other_measures.specs.declared.sums.PedSum.{PedSum}

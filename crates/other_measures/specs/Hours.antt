@@ -2,10 +2,10 @@
 use Rattle.std.specs.Prelude.{ℕ, ◌≡◌, ◌+◌, ◌==◌, Bool, true, false, if◌then◌else◌, List, [], ◌∷◌, count_by}
 use Rattle.sig_base.specs.declared.values.Row.{Row}
 use Rattle.sig_base.specs.Numbers.{has_number}
-use Rattle.hour_sums.specs.Numbers.{capped, merged}
+use Rattle.hour_sweep.specs.Sums.{capped, merged}
 use Rattle.hour_sweep.specs.Numbers.{outs_from}
 use Rattle.ring_config.specs.Settings.{Settings}
-use Rattle.state_tenths.specs.declared.asked.Asked.{Asked}
+use Rattle.detector_state.specs.declared.state_asked.Asked.{Asked}
 use Rattle.other_measures.specs.declared.peds.Delay.{Delay}
 use Rattle.other_measures.specs.declared.preempts.PreemptEvent.{PreemptEvent}
 use Rattle.other_measures.specs.declared.sums.PedSum.{PedSum}

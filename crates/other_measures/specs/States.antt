@@ -7,9 +7,9 @@ use Rattle.gap_map.specs.declared.stretch.Stretch.{Stretch}
 use Rattle.board.specs.Logs.{HourLog, first_tenth}
 use Rattle.board.specs.Places.{IsViewOf}
 use Rattle.ring_config.specs.Settings.{Settings, spec_place}
-use Rattle.state_tenths.specs.declared.asked.Asked.{Asked}
-use Rattle.state_tenths.specs.declared.asked.Asked.TheVariants.{Colour, NoneOf}
-use Rattle.state_tenths.specs.States.{IsCount, MeetsAt}
+use Rattle.detector_state.specs.declared.state_asked.Asked.{Asked}
+use Rattle.detector_state.specs.declared.state_asked.Asked.TheVariants.{Colour, NoneOf}
+use Rattle.detector_state.specs.States.{IsCount, MeetsAt}
 use Rattle.other_measures.specs.declared.states.Seen.{Seen}
 use Rattle.other_measures.specs.declared.sums.PedSum.{PedSum}
 use Rattle.other_measures.specs.declared.sums.PreemptSum.{PreemptSum}

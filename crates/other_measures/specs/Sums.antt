@@ -1,6 +1,6 @@
 -- The numbers of pedestrian signals and of preempts, as counts and sums over delays and events.
 use Rattle.std.specs.Prelude.{ℕ, ◌+◌, Bool, true, false, List, [], ◌∷◌, Option, Some, None, length, sum, count_by, filter_map, slice_index_or}
-use Rattle.hour_sums.specs.Numbers.{capped, greater, greatest, own}
+use Rattle.hour_sweep.specs.Sums.{capped, greater, greatest, own}
 use Rattle.other_measures.specs.declared.last_rows.Lapse.{Lapse}
 use Rattle.other_measures.specs.declared.last_rows.Lapse.TheVariants.{Ran, NotBegun, Partial}
 use Rattle.other_measures.specs.declared.peds.Delay.{Delay}

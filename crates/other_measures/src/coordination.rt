@@ -5,8 +5,7 @@ ghost use Rattle.hour_sweep.specs.Hours.{IsHour};
 ghost use Rattle.other_measures.specs.Hours.{code_after, rows_with};
 
 use gap_map::Stretch;
-use hour_sums::total;
-use hour_sweep::{Watch, sweep};
+use hour_sweep::{Watch, sweep, total};
 use sig_base::{NoMemory, Row};
 
 /// How many rows of this code there were.

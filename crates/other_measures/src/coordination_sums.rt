@@ -4,18 +4,18 @@ ghost use Rattle.sig_base.specs.declared.values.Row.{Row};
 ghost use Rattle.hour_sweep.specs.Rows.{known_rows};
 ghost use Rattle.hour_sweep.specs.Hours.{IsHour};
 ghost use Rattle.board.specs.Logs.{HourLog};
-ghost use Rattle.state_tenths.specs.declared.asked.Asked.TheVariants.{Colour};
+ghost use Rattle.detector_state.specs.declared.state_asked.Asked.TheVariants.{Colour};
 ghost use Rattle.other_measures.specs.Hours.{HasRows, no_coordination};
 ghost use Rattle.other_measures.specs.States.{HasCoordination, HasTenths, IsWhatIsSeen, MetBy, coordination};
 
 use crate::coordination::rows_of;
 use crate::states::{Seen, tenths};
 use crate::sums::CoordSum;
+use detector_state::Asked;
 use event_codes::{Channel, Kind};
 use gap_map::Stretch;
 use ring_config::Config;
 use sig_base::{NoMemory, Row};
-use state_tenths::Asked;
 
 const COORDINATION: Channel = Channel {
     kind: Kind::Coordination,

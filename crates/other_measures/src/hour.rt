@@ -9,7 +9,7 @@ ghost use Rattle.ring_config.specs.Settings.{Settings};
 ghost use Rattle.other_measures.specs.Crossing.{IsCarry};
 ghost use Rattle.other_measures.specs.Hours.{AreNumbers, AreStates, HasDelays, HasEvents, delays_from, events_from, no_numbers, others_added, with_detector, with_states};
 ghost use Rattle.other_measures.specs.States.{EachOf, HasDetector, HasStates, IsSeen, IsWhatIsSeen, MetBy};
-ghost use Rattle.state_tenths.specs.States.{MeetsAt};
+ghost use Rattle.detector_state.specs.States.{MeetsAt};
 
 use crate::carry::OtherCarry;
 use crate::coordination_sums::{coordination_of, coordination_unseen, no_coordination};
@@ -20,13 +20,12 @@ use crate::preempts::PreemptEvent;
 use crate::states::{Seen, tenths};
 use crate::sums::{CoordSum, PedSum, PreemptSum};
 use board::HourView;
+use detector_state::Asked;
 use event_codes::{Channel, Kind};
 use gap_map::{Stretch, first_of};
-use hour_sums::{Sum, add_each};
-use hour_sweep::track_hour;
+use hour_sweep::{Sum, add_each, track_hour};
 use ring_config::Config;
 use sig_base::{NoMemory, Row, has_number};
-use state_tenths::Asked;
 use std::alloc::Global;
 use std::marker::Model;
 

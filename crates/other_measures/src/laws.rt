@@ -3,7 +3,7 @@
 ghost use Rattle.std.specs.Prelude.{◌≡◌, ◌++◌, ℕ, Bool, List, []};
 ghost use Rattle.sig_base.specs.declared.values.Row.{Row};
 ghost use Rattle.hour_sweep.specs.Hours.{AreOrdered};
-ghost use Rattle.hour_sums.specs.Numbers.{capped};
+ghost use Rattle.hour_sweep.specs.Sums.{capped};
 ghost use Rattle.ring_config.specs.Settings.{Settings};
 ghost use Rattle.other_measures.specs.declared.peds.Delay.{Delay};
 ghost use Rattle.other_measures.specs.declared.preempts.PreemptEvent.{PreemptEvent};

@@ -1,12 +1,12 @@
 // The numbers of pedestrian signals, from their delays.
 ghost use Rattle.std.specs.Prelude.{◌≡◌, [], ◌∷◌, length, slice_set, slice_index_or, None, Some};
-ghost use Rattle.hour_sums.specs.Numbers.{AreSums, capped};
+ghost use Rattle.hour_sweep.specs.Sums.{AreSums, capped};
 ghost use Rattle.other_measures.specs.Sums.{no_ped_sum, ped_added, ped_sum_of};
 
 use crate::last_rows::Lapse;
 use crate::peds::Delay;
 use crate::sums::PedSum;
-use hour_sums::Sum;
+use hour_sweep::Sum;
 
 pub(crate) fn nothing() -> PedSum
     ensures zero { result ≡ no_ped_sum }

@@ -1,12 +1,12 @@
 // The numbers of preempts, from their entries and exits.
 ghost use Rattle.std.specs.Prelude.{◌≡◌, [], ◌∷◌, length, slice_set, slice_index_or};
-ghost use Rattle.hour_sums.specs.Numbers.{AreSums};
+ghost use Rattle.hour_sweep.specs.Sums.{AreSums};
 ghost use Rattle.other_measures.specs.Sums.{entry_sum, exit_sum, no_preempt_sum, preempt_added, preempt_sum_of};
 
 use crate::last_rows::Lapse;
 use crate::preempts::{Event, PreemptEvent};
 use crate::sums::PreemptSum;
-use hour_sums::Sum;
+use hour_sweep::Sum;
 
 pub(crate) fn nothing() -> PreemptSum
     ensures zero { result ≡ no_preempt_sum }

@@ -2,13 +2,13 @@
 ghost use Rattle.std.specs.Prelude.{◌≡◌, ◌<◌, ℕ, true, length, Option, option_copied, IfSome};
 ghost use Rattle.board.specs.Logs.{HourLog};
 ghost use Rattle.ring_config.specs.Settings.{Settings, is_tracked};
-ghost use Rattle.state_tenths.specs.States.{IsAsked, IsCount};
+ghost use Rattle.detector_state.specs.States.{IsAsked, IsCount};
 ghost use Rattle.other_measures.specs.States.{HasTenths, IsWhatIsSeen, MetBy};
 
 use board::HourView;
+use detector_state::{Asked, tenths_of};
 use event_codes::Channel;
 use ring_config::Config;
-use state_tenths::{Asked, tenths_of};
 
 /// What is seen of an hour.
 #[derive(Drop)]

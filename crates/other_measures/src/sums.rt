@@ -1,9 +1,9 @@
 // The numbers of a pedestrian signal, of a preempt and of the coordination.
 ghost use Rattle.std.specs.Prelude.{◌≡◌, slice_index_or, ◌<◌, ℕ};
-ghost use Rattle.hour_sums.specs.Numbers.{capped};
+ghost use Rattle.hour_sweep.specs.Sums.{capped};
 ghost use Rattle.other_measures.specs.Sums.{coord_added, ped_added, preempt_added};
 
-use hour_sums::{Sum, greatest_of, total};
+use hour_sweep::{Sum, greatest_of, total};
 
 /// The numbers of one pedestrian signal. Counts and sums stand still at the last value of a u64.
 #[derive(Clone, Copy, Debug, PartialEq, Eq)]

@@ -2,8 +2,8 @@
 use Rattle.std.proofs.Common.{◌≡◌, ◌∙◌, ℕ, suc, ◌+◌, List, [], ◌++◌, map, length, sym, ap, arith}
 use Rattle.hour_store.specs.Store.{Store, is_known, known_rows}
 use Rattle.ring_config.specs.Settings.{Settings}
-use Rattle.hour_sums.specs.Numbers.{own}
-use Rattle.hour_sums.proofs.Places.{own-append}
+use Rattle.hour_sweep.specs.Sums.{own}
+use Rattle.hour_sweep.proofs.SumPlaces.{own-append}
 use Rattle.service_cut.specs.declared.items.Cycle.{Cycle}
 use Rattle.service_cut.specs.Cut.{cycles_from}
 use Rattle.arrival_measures.specs.declared.points.Point.{Point}

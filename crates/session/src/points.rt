@@ -1,6 +1,6 @@
 // The diagrams of a phase.
 ghost use Rattle.std.specs.Prelude.{◌≡◌, ◌+◌, ◌++◌, ◌<◌, length, IfOk, OnOk};
-ghost use Rattle.hour_sums.specs.Numbers.{own};
+ghost use Rattle.hour_sweep.specs.Sums.{own};
 ghost use Rattle.hour_store.specs.Store.{is_known, known_rows};
 ghost use Rattle.signal_log.specs.Log.{HasHistory, log_of};
 ghost use Rattle.arrival_measures.specs.Points.{diagrams_of, points_from};

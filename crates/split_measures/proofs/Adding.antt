@@ -4,8 +4,8 @@ use Rattle.std.proofs.lemmas.List.{append-nil, map-append}
 use Rattle.service_cut.specs.declared.items.Service.{Service}
 use Rattle.service_cut.specs.declared.items.Cycle.{Cycle}
 use Rattle.service_cut.specs.declared.items.Termination.TheVariants.{GapOut, MaxOut, ForceOff, Unlogged}
-use Rattle.hour_sums.proofs.Adding.{length-add, sum-add, count-add, least-append, greatest-append}
-use Rattle.hour_sums.proofs.Places.{own-append}
+use Rattle.hour_sweep.proofs.Adding.{length-add, sum-add, count-add, least-append, greatest-append}
+use Rattle.hour_sweep.proofs.SumPlaces.{own-append}
 use Rattle.split_measures.specs.Phases.{is_end, split, cycle_length, phase_sum_of, added, phase_sum, services_of, cycles_of}
 
 pub sums-append : (ss later : List Service) (cs more : List Cycle) → phase_sum_of (ss ++ later) (cs ++ more) ≡ added (phase_sum_of ss cs) (phase_sum_of later more)

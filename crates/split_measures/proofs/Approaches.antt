@@ -16,9 +16,9 @@ use Rattle.ring_config.specs.Settings.{Settings, detectors, some_number, spec_pl
 use Rattle.ring_config.specs.Sound.{IsSound}
 use Rattle.ring_config.specs.declared.items.Approach.{Approach}
 use Rattle.detector_state.specs.Switches.{IsChannelOf}
-use Rattle.split_windows.specs.declared.items.Windows.{Windows}
-use Rattle.split_windows.specs.Going.{AreInOrder}
-use Rattle.split_windows.specs.Windows.{left, services_of}
+use Rattle.stop_bar.specs.declared.windows.Windows.{Windows}
+use Rattle.stop_bar.specs.Going.{AreInOrder}
+use Rattle.stop_bar.specs.Windows.{left, services_of}
 use Rattle.stop_bar.specs.declared.bars.StopBar.{StopBar}
 use Rattle.stop_bar.specs.Bars.{AreOver, IsAtBar, ending, services_upto}
 use Rattle.stop_bar.specs.Crossing.{Crossing}

@@ -2,13 +2,13 @@
 use Rattle.std.proofs.Common.{◌≡◌, refl, ap, sym, ◌∙◌, ℕ, ◌+◌, ◌<◌, List, [], ◌∷◌, ◌++◌, length, take, get_or}
 use Rattle.std.proofs.lemmas.List.{take_more}
 use Rattle.sig_base.specs.declared.values.Frac.{Frac}
-use Rattle.hour_sums.proofs.Adding.{count-add}
-use Rattle.split_windows.specs.declared.items.Windows.{Windows}
+use Rattle.hour_sweep.proofs.Adding.{count-add}
+use Rattle.stop_bar.specs.declared.windows.Windows.{Windows}
 use Rattle.split_measures.specs.declared.failures.SplitSum.{SplitSum}
 use Rattle.split_measures.specs.declared.verdict.SplitVerdict.{SplitVerdict}
 use Rattle.split_measures.specs.declared.verdict.SplitVerdict.TheVariants.{Fail, Pass, Undecided, Open, Fault}
 use Rattle.split_measures.specs.Failures.{both_sums, is_verdict, split_sum_of}
-use Rattle.hour_sums.specs.Numbers.{one_if}
+use Rattle.hour_sweep.specs.Sums.{one_if}
 use Rattle.split_measures.specs.Verdicts.{verdict_by, verdicts_by}
 use Rattle.split_measures.proofs.Ones.{count_one}
 

@@ -6,13 +6,13 @@ use Rattle.sig_base.specs.declared.values.Frac.{Frac}
 use Rattle.board.specs.Channels.{AreSpecs}
 use Rattle.board.specs.History.{History}
 use Rattle.signal_log.specs.Log.{AgreesWith, HasHistory, Log, track_at, window_end}
-use Rattle.state_tenths.specs.Ranges.{Counts}
+use Rattle.detector_state.specs.Ranges.{Counts}
 use Rattle.service_cut.specs.declared.items.Service.{Service}
-use Rattle.free_channels.specs.Free.{IsOrdered, Order}
-use Rattle.free_channels.specs.Tells.{HasColour, IsColourReached, IsGreatest, IsLeast, IsSure}
-use Rattle.free_channels.proofs.Colours.{colours_tell, one_colour}
-use Rattle.free_channels.proofs.Counting.{counts_le, counts_some}
-use Rattle.free_channels.proofs.Spread.{extremes, some_end}
+use Rattle.detector_state.specs.Free.{IsOrdered, Order}
+use Rattle.detector_state.specs.Tells.{HasColour, IsColourReached, IsGreatest, IsLeast, IsSure}
+use Rattle.detector_state.proofs.Colours.{colours_tell, one_colour}
+use Rattle.detector_state.proofs.FreeCounting.{counts_le, counts_some}
+use Rattle.detector_state.proofs.Spread.{extremes, some_end}
 use Rattle.detector_state.proofs.Switching.{switches_are_ordered}
 use Rattle.split_measures.specs.Verdicts.{AreNumbers, FailsIn, HasFault, IsInLog, IsVerdict, NumbersTell, are_enough, verdict_of}
 

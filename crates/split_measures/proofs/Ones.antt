@@ -4,8 +4,8 @@ use Rattle.std.specs.Prelude.{count_by}
 use Rattle.service_cut.specs.declared.items.Service.{Service}
 use Rattle.service_cut.specs.declared.items.Cycle.{Cycle}
 use Rattle.service_cut.specs.declared.items.Termination.TheVariants.{GapOut, MaxOut, ForceOff, Unlogged}
-use Rattle.hour_sums.specs.Numbers.{capped}
-use Rattle.hour_sums.proofs.Common.{capped_none, capped_one}
+use Rattle.hour_sweep.specs.Sums.{capped}
+use Rattle.hour_sweep.proofs.SumCommon.{capped_none, capped_one}
 use Rattle.split_measures.specs.Phases.{is_end, ends_by, split, cycle_length, phase_sum_of}
 
 sum_one : (n : ℕ) → n < 2 ^ 32 → capped (sum (n ∷ [])) ≡ n

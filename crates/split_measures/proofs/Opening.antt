@@ -2,11 +2,11 @@
 use Rattle.std.proofs.Common.{◌≡◌, refl, ap, ℕ, suc, ◌+◌, ◌^◌, ◌<◌, false, cond, List, [], ◌∷◌, ◌++◌, length, sym, arith}
 use Rattle.std.specs.Prelude.{count_by}
 use Rattle.std.proofs.lemmas.List.Sums.{sum_by-cons}
-use Rattle.hour_sums.specs.Numbers.{one_if}
+use Rattle.hour_sweep.specs.Sums.{one_if}
 use Rattle.service_cut.specs.declared.items.Service.{Service}
-use Rattle.hour_sums.proofs.Adding.{capped_small}
-use Rattle.split_windows.specs.declared.items.Windows.{Windows}
-use Rattle.split_windows.specs.Windows.{services_of}
+use Rattle.hour_sweep.proofs.Adding.{capped_small}
+use Rattle.stop_bar.specs.declared.windows.Windows.{Windows}
+use Rattle.stop_bar.specs.Windows.{services_of}
 use Rattle.split_measures.specs.declared.failures.SplitSum.{SplitSum}
 use Rattle.split_measures.specs.declared.verdict.SplitVerdict.{SplitVerdict}
 use Rattle.split_measures.specs.declared.verdict.SplitVerdict.TheVariants.{Fail, Pass, Undecided, Open, Fault}

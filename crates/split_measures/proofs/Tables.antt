@@ -3,8 +3,8 @@ use Rattle.std.proofs.Common.{◌≡◌, ℕ, zero, suc, ◌+◌, ◌<◌, Bool,
 use Rattle.std.proofs.lemmas.List.{get_or_default}
 use Rattle.service_cut.specs.declared.items.Service.{Service}
 use Rattle.service_cut.specs.declared.items.Cycle.{Cycle}
-use Rattle.hour_sums.specs.Numbers.{AreSums, by_number}
-use Rattle.hour_sums.proofs.Places.{sums_more}
+use Rattle.hour_sweep.specs.Sums.{AreSums, by_number}
+use Rattle.hour_sweep.proofs.SumPlaces.{sums_more}
 use Rattle.split_measures.specs.declared.sums.PhaseSum.{PhaseSum}
 use Rattle.sig_base.specs.declared.values.PhaseItem.{PhaseItem}
 use Rattle.sig_base.specs.Numbers.{has_phase}

@@ -5,13 +5,13 @@ use Rattle.sig_base.specs.declared.values.Frac.{Frac}
 use Rattle.event_codes.specs.declared.channels.Channel.{Channel}
 use Rattle.board.specs.Channels.{AreSpecs}
 use Rattle.signal_log.specs.Log.{HasHistory, Log, track_at, window_end}
-use Rattle.free_channels.specs.Free.{IsFree}
-use Rattle.free_channels.specs.Tells.{AllHave, IsSure}
-use Rattle.free_channels.proofs.Colours.{colours_tell}
+use Rattle.detector_state.specs.Free.{IsFree}
+use Rattle.detector_state.specs.Tells.{AllHave, IsSure}
+use Rattle.detector_state.proofs.Colours.{colours_tell}
 use Rattle.detector_state.specs.Switches.{IsChannelOf, IsSwitch}
 use Rattle.detector_state.proofs.Switching.{switches_are_ordered}
-use Rattle.split_windows.specs.declared.items.Windows.{Windows}
-use Rattle.split_windows.specs.Windows.{AreEnded, IsEnded}
+use Rattle.stop_bar.specs.declared.windows.Windows.{Windows}
+use Rattle.stop_bar.specs.Windows.{AreEnded, IsEnded}
 use Rattle.split_measures.specs.Verdicts.{AreInLog, AreVerdicts, HasFault, IsInLog, IsVerdict, VerdictsTell, verdict_by, verdicts_by}
 use Rattle.split_measures.proofs.Numbers.{numbers_tell}
 

@@ -1,6 +1,6 @@
 -- How many services have which verdict.
 use Rattle.std.specs.Prelude.{ℕ, ◌+◌, Bool, true, false, List, count_by}
-use Rattle.hour_sums.specs.Numbers.{capped}
+use Rattle.hour_sweep.specs.Sums.{capped}
 use Rattle.split_measures.specs.declared.failures.SplitSum.{SplitSum}
 use Rattle.split_measures.specs.declared.verdict.SplitVerdict.{SplitVerdict}
 use Rattle.split_measures.specs.declared.verdict.SplitVerdict.TheVariants.{Fail, Pass, Undecided, Open, Fault}

@@ -4,7 +4,7 @@ use Rattle.sig_base.specs.declared.values.Row.{Row}
 use Rattle.board.specs.Channels.{AreSpecs}
 use Rattle.board.specs.Logs.{end_tenth, first_tenth}
 use Rattle.signal_log.specs.Log.{HasHistory, Log}
-use Rattle.hour_sums.specs.Numbers.{merged}
+use Rattle.hour_sweep.specs.Sums.{merged}
 use Rattle.hour_sweep.specs.Hours.{AreOrdered}
 use Rattle.hour_sweep.specs.Rows.{known_rows}
 use Rattle.service_cut.specs.declared.items.Service.{Service}
@@ -13,8 +13,8 @@ use Rattle.ring_config.specs.Settings.{Settings}
 use Rattle.ring_config.specs.Sound.{IsSound}
 use Rattle.ring_config.specs.declared.items.Approach.{Approach}
 use Rattle.detector_state.specs.declared.part.Part.{Part}
-use Rattle.split_windows.specs.declared.items.Windows.{Windows}
-use Rattle.split_windows.specs.Windows.{left, services_of}
+use Rattle.stop_bar.specs.declared.windows.Windows.{Windows}
+use Rattle.stop_bar.specs.Windows.{left, services_of}
 use Rattle.stop_bar.specs.declared.bars.StopBar.{StopBar}
 use Rattle.stop_bar.specs.Bars.{ending, services_upto}
 use Rattle.stop_bar.specs.Crossing.{Crossing}

@@ -6,7 +6,7 @@ use Rattle.service_cut.specs.declared.items.Service.{Service}
 use Rattle.service_cut.specs.declared.items.Cycle.{Cycle}
 use Rattle.service_cut.specs.declared.items.Termination.{Termination}
 use Rattle.service_cut.specs.declared.items.Termination.TheVariants.{GapOut, MaxOut, ForceOff, Unlogged}
-use Rattle.hour_sums.specs.Numbers.{capped, lesser, greater, least, greatest, own, by_number}
+use Rattle.hour_sweep.specs.Sums.{capped, lesser, greater, least, greatest, own, by_number}
 use Rattle.split_measures.specs.declared.sums.PhaseSum.{PhaseSum}
 
 -- both greens ended for the same reason

@@ -5,12 +5,12 @@ use Rattle.event_codes.specs.declared.channels.Channel.{Channel}
 use Rattle.board.specs.Channels.{AreSpecs}
 use Rattle.board.specs.History.{History}
 use Rattle.signal_log.specs.Log.{AgreesWith, HasHistory, Log, window_end}
-use Rattle.state_tenths.specs.Ranges.{Counts}
-use Rattle.free_channels.specs.Tells.{AllHave, HasColour, IsColourReached, IsSure}
+use Rattle.detector_state.specs.Ranges.{Counts}
+use Rattle.detector_state.specs.Tells.{AllHave, HasColour, IsColourReached, IsSure}
 use Rattle.detector_state.specs.Switches.{IsChannelOf, IsSwitch}
 use Rattle.service_cut.specs.declared.items.Service.{Service}
-use Rattle.split_windows.specs.declared.items.Windows.{Windows}
-use Rattle.split_windows.specs.Windows.{AreEnded}
+use Rattle.stop_bar.specs.declared.windows.Windows.{Windows}
+use Rattle.stop_bar.specs.Windows.{AreEnded}
 use Rattle.split_measures.specs.declared.verdict.SplitVerdict.{SplitVerdict}
 use Rattle.split_measures.specs.declared.verdict.SplitVerdict.TheVariants.{Fail, Pass, Undecided, Open, Fault}
 

@@ -4,7 +4,7 @@ ghost use Rattle.sig_base.specs.declared.values.Row.{Row};
 ghost use Rattle.signal_log.specs.Log.{Log};
 ghost use Rattle.service_cut.specs.declared.items.Service.{Service};
 ghost use Rattle.ring_config.specs.declared.items.Approach.{Approach};
-ghost use Rattle.split_windows.specs.declared.items.Windows.{Windows};
+ghost use Rattle.stop_bar.specs.declared.windows.Windows.{Windows};
 ghost use Rattle.stop_bar.specs.Crossing.{Crossing};
 ghost use Rattle.stop_bar.specs.All.{AreAllOver, AreAtBars, bars_of};
 ghost use Rattle.split_measures.specs.Failures.{split_sum_of};
@@ -12,12 +12,11 @@ ghost use Rattle.split_measures.specs.Hours.{AreSplitSums, IsBarSum, IsLogUpto, 
 ghost use Rattle.split_measures.specs.Verdicts.{verdicts_by};
 
 use crate::failures::{SplitSum, no_verdict, verdict_sum};
-use hour_sums::Sum;
+use hour_sweep::Sum;
 use ring_config::{Approach, Config};
 use sig_base::{Frac, Hour, NoMemory};
-use split_windows::Windows;
 use std::alloc::Global;
-use stop_bar::{AtBar, Ended};
+use stop_bar::{AtBar, Ended, Windows};
 
 // So many services that are open.
 fn opens(count: usize) -> SplitSum

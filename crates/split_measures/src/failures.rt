@@ -1,13 +1,13 @@
 // How many services have which verdict.
 ghost use Rattle.std.specs.Prelude.{◌≡◌, ◌<◌, ◌^◌, [], ◌∷◌};
 ghost use Rattle.split_measures.specs.Failures.{both_sums, is_verdict, split_sum_of};
-ghost use Rattle.hour_sums.specs.Numbers.{one_if};
+ghost use Rattle.hour_sweep.specs.Sums.{one_if};
 ghost use Rattle.split_measures.specs.Verdicts.{verdicts_by};
 
 use crate::verdict::{SplitVerdict, windows_verdict};
-use hour_sums::{Sum, total};
+use hour_sweep::{Sum, total};
 use sig_base::Frac;
-use split_windows::Windows;
+use stop_bar::Windows;
 
 /// How many services of an approach's phase have which verdict at its stop bar's detector. The
 /// numbers stand still at the last value of a u64.
@@ -37,7 +37,7 @@ impl Sum for SplitSum {
 }
 
 // The numbers of no verdict.
-#[tactic(auto, unfolding(crate::specs::Failures::split_sum_of, hour_sums::specs::Numbers::capped))]
+#[tactic(auto, unfolding(crate::specs::Failures::split_sum_of, hour_sweep::specs::Sums::capped))]
 pub(crate) fn no_verdict() -> SplitSum
     ensures { result ≡ split_sum_of [] }
 {

@@ -1,7 +1,7 @@
 // The numbers of an hour.
 ghost use Rattle.std.specs.Prelude.{◌≡◌, ◌<◌, [], IfOk, OnErr, OnOk, length, slice_set, slice_index_or};
 ghost use Rattle.sig_base.specs.Numbers.{has_phase};
-ghost use Rattle.hour_sums.specs.Numbers.{AreSums, by_number};
+ghost use Rattle.hour_sweep.specs.Sums.{AreSums, by_number};
 ghost use Rattle.split_measures.specs.Hours.{AreHourSums, CrossesNext, no_splits, splits_added};
 ghost use Rattle.split_measures.specs.Phases.{added, phase_sum_of, phase_sums, services_of, zero_sum};
 
@@ -10,7 +10,7 @@ use crate::carry::SplitCarry;
 use crate::failures::SplitSum;
 use crate::sums::{PhaseSum, nothing, of_cycle, of_service};
 use detector_state::Switched;
-use hour_sums::{Sum, add_each};
+use hour_sweep::{Sum, add_each};
 use ring_config::Config;
 use service_cut::{Cuts, Cycle, Service};
 use sig_base::{Hour, NoMemory, PhaseItem, has_phase};

@@ -2,7 +2,7 @@
 ghost use Rattle.std.specs.Prelude.{◌≡◌, [], ◌∷◌, None};
 ghost use Rattle.split_measures.specs.Phases.{added, ends_by, phase_sum_of};
 
-use hour_sums::{Sum, greatest_of, least_of, total};
+use hour_sweep::{Sum, greatest_of, least_of, total};
 use service_cut::{Cycle, Service, Termination};
 
 /// What the whole services and the whole cycles of one phase give. Numbers of services and cycles
@@ -28,7 +28,7 @@ pub struct PhaseSum {
 }
 
 /// The numbers of no services and no cycles.
-#[tactic(auto, unfolding(crate::specs::Phases::phase_sum_of, hour_sums::specs::Numbers::capped))]
+#[tactic(auto, unfolding(crate::specs::Phases::phase_sum_of, hour_sweep::specs::Sums::capped))]
 pub(crate) fn nothing() -> PhaseSum
     ensures { result ≡ phase_sum_of [] [] }
 {

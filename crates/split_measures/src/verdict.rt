@@ -3,7 +3,7 @@ ghost use Rattle.std.specs.Prelude.{◌≡◌, ◌<◌, ◌^◌};
 ghost use Rattle.split_measures.specs.Verdicts.{are_enough, verdict_by, verdict_of};
 
 use sig_base::Frac;
-use split_windows::Windows;
+use stop_bar::Windows;
 
 /// Whether a service is a split failure at its stop bar's detector: over all histories that agree
 /// with the log.

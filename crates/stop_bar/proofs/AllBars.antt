@@ -10,7 +10,7 @@ use Rattle.service_cut.specs.Cut.{CutLists}
 use Rattle.ring_config.specs.Settings.{Settings}
 use Rattle.detector_state.specs.declared.part.Part.{Part}
 use Rattle.detector_state.specs.Hours.{IsSwitched}
-use Rattle.split_windows.specs.declared.items.Windows.{Windows}
+use Rattle.stop_bar.specs.declared.windows.Windows.{Windows}
 use Rattle.stop_bar.specs.declared.bars.StopBar.{StopBar}
 use Rattle.stop_bar.specs.Crossing.{Crossing}
 use Rattle.stop_bar.specs.Bars.{AreOver, IsAtBar, IsBarHour}

@@ -17,12 +17,12 @@ use Rattle.service_cut.specs.Parts.{open_service_of}
 use Rattle.service_cut.specs.Services.{service_begun_of}
 use Rattle.detector_state.specs.declared.part.Part.{Part}
 use Rattle.detector_state.specs.declared.tenths.OnTenths.{OnTenths}
-use Rattle.split_windows.specs.declared.items.OpenGreen.{OpenGreen}
-use Rattle.split_windows.specs.declared.items.Windows.{Windows}
-use Rattle.split_windows.specs.Going.{AreInOrder, CanGoOn, IsGreenAt, of_phase, tenth_or}
-use Rattle.split_windows.specs.Windows.{AreEnded, AreFit, ArePending, AreServicesOf, AreWindows, IsEnded, IsOpen, due, left, services_of}
-use Rattle.split_windows.proofs.Fitting.{opens_fit, services_fit, services_in_order}
-use Rattle.split_windows.proofs.Staying.{pending_are_one, tenths_are_one, head_same, tail_same}
+use Rattle.stop_bar.specs.declared.windows.OpenGreen.{OpenGreen}
+use Rattle.stop_bar.specs.declared.windows.Windows.{Windows}
+use Rattle.stop_bar.specs.Going.{AreInOrder, CanGoOn, IsGreenAt, of_phase, tenth_or}
+use Rattle.stop_bar.specs.Windows.{AreEnded, AreFit, ArePending, AreServicesOf, AreWindows, IsEnded, IsOpen, due, left, services_of}
+use Rattle.stop_bar.proofs.Fitting.{opens_fit, services_fit, services_in_order}
+use Rattle.stop_bar.proofs.Staying.{pending_are_one, tenths_are_one, head_same, tail_same}
 use Rattle.stop_bar.specs.Crossing.{Crossing}
 use Rattle.stop_bar.specs.Bars.{AreListedOnce, AreOver, CrossesOnce, IsAtBar, IsHourOf, open_with, services_upto, without_ends}
 use Rattle.stop_bar.proofs.Listing.{ending_both, left_later, waiting_end}

@@ -6,3 +6,7 @@ pub mod AllBars
 pub mod ToldAt
 pub mod Owning
 pub mod Common
+pub mod Going
+pub mod Fitting
+pub mod Waiting
+pub mod Staying

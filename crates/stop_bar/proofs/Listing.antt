@@ -14,9 +14,9 @@ use Rattle.service_cut.specs.declared.items.Service.{Service}
 use Rattle.service_cut.specs.Cut.{services_from}
 use Rattle.service_cut.specs.Services.{service_at}
 use Rattle.service_cut.proofs.HourLists.{services_add, service_tenth}
-use Rattle.split_windows.specs.declared.items.Windows.{Windows}
-use Rattle.split_windows.specs.Going.{of_phase}
-use Rattle.split_windows.specs.Windows.{EndIn, due, left, services_of}
+use Rattle.stop_bar.specs.declared.windows.Windows.{Windows}
+use Rattle.stop_bar.specs.Going.{of_phase}
+use Rattle.stop_bar.specs.Windows.{EndIn, due, left, services_of}
 use Rattle.stop_bar.specs.Bars.{ending, services_upto, without_end, without_ends}
 
 -- ---- what a row ends has the row's tenth

@@ -14,7 +14,7 @@ use Rattle.service_cut.specs.declared.services.ServiceBegun.{ServiceBegun}
 use Rattle.service_cut.specs.Parts.{open_service, open_service_of, part_of, parts_of, room}
 use Rattle.service_cut.specs.Services.{service_begun_of}
 use Rattle.service_cut.proofs.Rooms.{has_room}
-use Rattle.split_windows.specs.Going.{tenth_or}
+use Rattle.stop_bar.specs.Going.{tenth_or}
 use Rattle.stop_bar.specs.Bars.{open_with}
 
 abbrev HasNot : ℕ → Option OpenService → Type 0

@@ -19,8 +19,8 @@ use Rattle.ring_config.specs.Settings.{Settings, spec_place}
 use Rattle.ring_config.specs.declared.items.Approach.{Approach}
 use Rattle.detector_state.specs.declared.part.Part.{Part}
 use Rattle.detector_state.specs.Hours.{IsSwitched}
-use Rattle.split_windows.specs.declared.items.Windows.{Windows}
-use Rattle.split_windows.specs.Going.{AreRowsAbout}
+use Rattle.stop_bar.specs.declared.windows.Windows.{Windows}
+use Rattle.stop_bar.specs.Going.{AreRowsAbout}
 use Rattle.stop_bar.specs.declared.bars.StopBar.{StopBar}
 use Rattle.stop_bar.specs.Crossing.{Crossing}
 use Rattle.stop_bar.specs.Bars.{AreOver, IsAtBar}

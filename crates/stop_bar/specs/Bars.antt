@@ -14,11 +14,11 @@ use Rattle.service_cut.specs.Cut.{CutLists, IsCut, services_from}
 use Rattle.service_cut.specs.Services.{service_begun_of}
 use Rattle.detector_state.specs.declared.part.Part.{Part}
 use Rattle.detector_state.specs.Hours.{IsSwitched}
-use Rattle.split_windows.specs.declared.items.Windows.{Windows}
-use Rattle.split_windows.specs.Going.{AreRowsAbout, IsGreenAt, of_phase}
-use Rattle.split_windows.specs.Windows.{AreEnded, ArePending, IsOpen, left, services_of}
+use Rattle.stop_bar.specs.declared.windows.Windows.{Windows}
+use Rattle.stop_bar.specs.Going.{AreRowsAbout, IsGreenAt, of_phase}
+use Rattle.stop_bar.specs.Windows.{AreEnded, ArePending, IsOpen, left, services_of}
 use Rattle.stop_bar.specs.Crossing.{Crossing}
-use Rattle.split_windows.specs.declared.items.OpenGreen.{OpenGreen}
+use Rattle.stop_bar.specs.declared.windows.OpenGreen.{OpenGreen}
 
 -- a service without its termination, which is no more under way once its end of yellow has come
 abbrev pub without_end : Service → Service

@@ -3,3 +3,6 @@ pub mod Bars
 pub mod Lists
 pub mod All
 pub mod Own
+pub mod Windows
+pub mod Going
+pub mod Staying

@@ -9,11 +9,11 @@ ghost use Rattle.stop_bar.specs.All.{AreAtBars, AreBarHours};
 use crate::at_bar::AtBar;
 use crate::bars::{StopBar, stop_bars};
 use crate::hour::{OverBar, bar_hour};
+use crate::windows::Windows;
 use detector_state::Switched;
 use ring_config::Config;
 use service_cut::Cuts;
 use sig_base::{Hour, NoMemory};
-use split_windows::Windows;
 use std::alloc::Global;
 use std::marker::Model;
 
@@ -41,7 +41,7 @@ pub struct Ended {
 
 impl Model for Ended {
     ghost use Rattle.std.specs.Prelude.{List};
-    ghost use Rattle.split_windows.specs.declared.items.Windows.{Windows};
+    ghost use Rattle.stop_bar.specs.declared.windows.Windows.{Windows};
 
     ghost Value = { List Windows };
 

@@ -5,8 +5,8 @@ ghost use Rattle.signal_log.specs.Log.{Log};
 ghost use Rattle.stop_bar.specs.Bars.{IsAtBar};
 
 use crate::same::{same_green, same_pending};
+use crate::windows::{OpenGreen, Windows};
 use sig_base::NoMemory;
-use split_windows::{OpenGreen, Windows};
 use std::alloc::Global;
 use std::marker::Model;
 

@@ -1,13 +1,14 @@
 // One stop bar over one hour.
 ghost use Rattle.std.specs.Prelude.{ℕ, ◌≡◌, ◌<◌, ◌+◌, ◌++◌, ◌==◌, IfOk, find, unwrap_or};
-ghost use Rattle.split_windows.specs.Going.{of_phase};
+ghost use Rattle.stop_bar.specs.Going.{of_phase};
 ghost use Rattle.stop_bar.specs.Bars.{IsBarHour, IsOpenNext, open_with, without_end, without_ends};
 
 use crate::at_bar::AtBar;
+use crate::window_hour::{open_after, windows_hour};
+use crate::windows::{OpenGreen, Windows};
 use detector_state::Switched;
 use service_cut::{Cuts, OpenService, Service, Termination};
 use sig_base::{Hour, NoMemory};
-use split_windows::{OpenGreen, Windows, open_after, windows_hour};
 use std::alloc::Global;
 
 /// What an hour gives at a stop bar.

@@ -14,6 +14,9 @@ mod hour;
 mod laws;
 mod own;
 mod same;
+mod window_hour;
+mod window_laws;
+mod windows;
 
 pub use all::{AtBars, Ended, bars_hour};
 pub use at_bar::AtBar;
@@ -21,3 +24,8 @@ pub use bars::{StopBar, stop_bars};
 pub use detectors::detectors_hour;
 pub use hour::{OverBar, bar_hour};
 pub use laws::{what_crosses_is_one, windows_are_listed_once};
+pub use window_hour::{Over, open_after, windows_hour};
+pub use window_laws::{
+    opens_fit, pending_are_one, services_fit, services_go_on, tenths_are_one, tenths_stay,
+};
+pub use windows::{OpenGreen, Windows};

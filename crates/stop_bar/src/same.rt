@@ -1,7 +1,7 @@
 // Whether equally much crosses two points.
 ghost use Rattle.std.specs.Prelude.{◌≡◌, ◌↔◌, IsTrue};
 
-use split_windows::{OpenGreen, Windows};
+use crate::windows::{OpenGreen, Windows};
 
 /// Whether both greens are equal, where there is one.
 pub(crate) fn same_green(a: Option<OpenGreen>, b: Option<OpenGreen>) -> bool

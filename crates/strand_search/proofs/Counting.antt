@@ -13,9 +13,9 @@ use Rattle.board.specs.Places.{since, upto}
 use Rattle.board.proofs.Bridge.{cut_rows, known_here, late_end}
 use Rattle.gap_ways.specs.declared.states.Fill.{Fill}
 use Rattle.channel_ways.specs.Moves.{Filled}
-use Rattle.hour_ways.specs.Fillings.{AreFillRows}
-use Rattle.hour_ways.proofs.Agreeing.{filled_letters, filled_split, no_rows, rows_split, fillings_agree}
-use Rattle.hour_ways.proofs.Filling.{way_rows}
+use Rattle.strand_search.specs.Fillings.{AreFillRows}
+use Rattle.strand_search.proofs.Agreeing.{filled_letters, filled_split, no_rows, rows_split, fillings_agree}
+use Rattle.strand_search.proofs.Filling.{way_rows}
 use Rattle.strand_search.specs.Events.{AreFew, NoneKnown, count_within}
 
 -- ---- the rows of two lists

@@ -21,7 +21,7 @@ use Rattle.board.specs.Channels.{letter_in}
 use Rattle.board.specs.History.{Track}
 use Rattle.board.proofs.Tracks.{letter_here}
 use Rattle.gap_ways.specs.declared.states.Fill.{Fill}
-use Rattle.hour_ways.specs.Fillings.{AreFillRows}
+use Rattle.strand_search.specs.Fillings.{AreFillRows}
 use Rattle.strand_search.specs.Events.{AddsLetters, AreLettersOf}
 use Rattle.strand_search.proofs.Pieces.{fill_rows_join}
 

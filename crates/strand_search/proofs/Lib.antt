@@ -11,3 +11,6 @@ pub mod Placed
 pub mod Coming
 pub mod Stepping
 pub mod Whole
+pub mod Listing
+pub mod Filling
+pub mod Agreeing

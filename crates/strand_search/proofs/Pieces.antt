@@ -17,8 +17,8 @@ use Rattle.gap_ways.specs.declared.states.Fill.{Fill}
 use Rattle.gap_ways.specs.declared.states.Entered.{Entered}
 use Rattle.gap_ways.specs.Ways.{state_of}
 use Rattle.channel_ways.specs.Moves.{AddedMoves, Filled}
-use Rattle.hour_ways.specs.Fillings.{AreFillRows, AreUnknown}
-use Rattle.hour_ways.proofs.Agreeing.{fillings_agree, join_early, join_late, unknown_join}
+use Rattle.strand_search.specs.Fillings.{AreFillRows, AreUnknown}
+use Rattle.strand_search.proofs.Agreeing.{fillings_agree, join_early, join_late, unknown_join}
 use Rattle.strand_search.specs.Events.{AddsLetters, AreLetters}
 use Rattle.strand_search.specs.Parts.{IsPart}
 use Rattle.strand_search.specs.Pieces.{AddsBack, AddsPiece, Piece, mixed}

@@ -24,8 +24,8 @@ use Rattle.signal_log.proofs.Runs.{alike_later, from_here, from_other, place_joi
 use Rattle.signal_log.proofs.Stored.{hour_events, rows_join}
 use Rattle.gap_ways.specs.Choices.{Answers}
 use Rattle.gap_ways.specs.Ways.{state_of}
-use Rattle.hour_ways.specs.Fillings.{AreUnknown}
-use Rattle.hour_ways.proofs.Agreeing.{join_early, join_late, unknown_join}
+use Rattle.strand_search.specs.Fillings.{AreUnknown}
+use Rattle.strand_search.proofs.Agreeing.{join_early, join_late, unknown_join}
 use Rattle.board.proofs.Within.{rise_rows}
 use Rattle.board.proofs.Plain.{agreeing_early}
 use Rattle.strand_search.specs.declared.crossing.Crossing.{Crossing}

@@ -5,7 +5,7 @@ use Rattle.colour_machine.specs.Rules.{Rules}
 use Rattle.board.specs.History.{Track}
 use Rattle.board.specs.Logs.{first_tenth, end_tenth}
 use Rattle.gap_ways.specs.declared.states.Fill.{Fill}
-use Rattle.hour_ways.specs.Fillings.{AreFillRows}
+use Rattle.strand_search.specs.Fillings.{AreFillRows}
 
 -- each row is a letter of the channel
 abbrev pub AreLetters : Track → List Row → Type 0

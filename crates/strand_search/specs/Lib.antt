@@ -4,3 +4,4 @@ pub mod Parts
 pub mod Points
 pub mod Runs
 pub mod Crossings
+pub mod Fillings

@@ -5,7 +5,7 @@ use Rattle.reach.specs.Runs.{State}
 use Rattle.board.specs.History.{Agreeing, Event, Track, events_at}
 use Rattle.board.specs.Moves.{RowsIn}
 use Rattle.channel_ways.specs.Moves.{Alike}
-use Rattle.hour_ways.specs.Fillings.{AreUnknown}
+use Rattle.strand_search.specs.Fillings.{AreUnknown}
 use Rattle.strand_search.specs.Events.{AreFew, AreLetters}
 
 -- what stands at a tenth: what is given where it is known, else these rows

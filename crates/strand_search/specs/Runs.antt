@@ -16,7 +16,7 @@ use Rattle.signal_log.specs.Log.{IsBeforeWindow, log_of}
 use Rattle.signal_log.specs.Points.{rows_or_none}
 use Rattle.signal_log.specs.States.{MayBeAfter, MayBeAtEndOf}
 use Rattle.gap_ways.specs.Choices.{Answers}
-use Rattle.hour_ways.specs.Fillings.{AreUnknown, events_of}
+use Rattle.strand_search.specs.Fillings.{AreUnknown, events_of}
 use Rattle.strand_search.specs.declared.search.Asked.{Asked}
 use Rattle.strand_search.specs.declared.search.Found.{Found}
 use Rattle.strand_search.specs.Events.{AreFew, AreLetters}

@@ -17,6 +17,7 @@ mod back;
 mod crossing;
 mod cut;
 mod events;
+mod laws;
 mod onward;
 mod over;
 mod part;
@@ -24,4 +25,5 @@ mod points;
 mod search;
 mod ways;
 
+pub use laws::fillings_agree;
 pub use search::{Asked, Found, find_run};

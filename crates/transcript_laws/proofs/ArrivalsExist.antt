@@ -4,13 +4,13 @@ use Rattle.std.specs.Prelude.{filter, map, not}
 use Rattle.sig_base.specs.declared.values.Row.{Row}
 use Rattle.sig_base.specs.Numbers.{has_phase}
 use Rattle.reach.specs.Runs.{State}
-use Rattle.hour_sums.specs.Numbers.{capped}
+use Rattle.hour_sweep.specs.Sums.{capped}
 use Rattle.ring_config.specs.Settings.{Settings}
 use Rattle.ring_config.specs.Sound.{IsSound}
 use Rattle.ring_config.specs.declared.items.Approach.{Approach}
 use Rattle.stop_bar.specs.Lists.{Each}
 use Rattle.stop_bar.proofs.Common.{each_long}
-use Rattle.cycle_arrivals.specs.Arrivals.{ons_of}
+use Rattle.arrival_measures.specs.Arrivals.{ons_of}
 use Rattle.arrival_measures.specs.declared.sums.ArrivalSum.{ArrivalSum}
 use Rattle.arrival_measures.specs.Faults.{arrivals_from, faults_from}
 use Rattle.arrival_measures.specs.Judged.{AllPass, AreJudged, NonePass, OnlySomePass, is_green, is_red, phase_channel}

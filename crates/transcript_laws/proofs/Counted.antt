@@ -4,8 +4,8 @@ use Rattle.std.proofs.lemmas.Bool.{cases_Bool}
 use Rattle.event_codes.specs.declared.channels.Channel.{Channel}
 use Rattle.ring_config.specs.Settings.{Settings, is_tracked, spec_place}
 use Rattle.ring_config.specs.Sound.{IsSound}
-use Rattle.state_tenths.specs.Ranges.{Counts}
-use Rattle.state_tenths.specs.States.{IsCount}
+use Rattle.detector_state.specs.Ranges.{Counts}
+use Rattle.detector_state.specs.States.{IsCount}
 use Rattle.stop_bar.specs.Lists.{Each}
 use Rattle.split_measures.proofs.Approaches.{some_there}
 use Rattle.other_measures.specs.States.{EachOf}

@@ -3,7 +3,7 @@ use Rattle.std.proofs.Common.{◌≡◌, ℕ, ◌<◌, ◌++◌, List, length, r
 use Rattle.std.specs.Prelude.{is_some}
 use Rattle.board.specs.Logs.{first_tenth}
 use Rattle.hour_store.specs.Store.{IsStore, Store, count_in, held_at, is_known}
-use Rattle.hour_sums.specs.Numbers.{one_if}
+use Rattle.hour_sweep.specs.Sums.{one_if}
 use Rattle.ring_config.specs.Settings.{Settings}
 use Rattle.ring_config.specs.Sound.{IsSound}
 use Rattle.signal_log.specs.Log.{HasHistory, log_of}

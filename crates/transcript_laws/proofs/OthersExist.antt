@@ -6,8 +6,8 @@ use Rattle.sig_base.specs.Numbers.{has_number}
 use Rattle.event_codes.specs.declared.channels.Channel.{Channel}
 use Rattle.ring_config.specs.Settings.{Settings, is_tracked}
 use Rattle.ring_config.specs.Sound.{IsSound}
-use Rattle.state_tenths.specs.declared.asked.Asked.{Asked}
-use Rattle.state_tenths.specs.declared.asked.Asked.TheVariants.{Colour, NoneOf}
+use Rattle.detector_state.specs.declared.state_asked.Asked.{Asked}
+use Rattle.detector_state.specs.declared.state_asked.Asked.TheVariants.{Colour, NoneOf}
 use Rattle.other_measures.specs.declared.sums.PedSum.{PedSum}
 use Rattle.other_measures.specs.declared.sums.PreemptSum.{PreemptSum}
 use Rattle.other_measures.specs.declared.sums.CoordSum.{CoordSum}

@@ -10,15 +10,15 @@ use Rattle.board.specs.Logs.{end_tenth, first_tenth, no_spec}
 use Rattle.hour_store.specs.Store.{IsStore, Store, is_known}
 use Rattle.hour_sweep.specs.Hours.{AreOrdered, point}
 use Rattle.signal_log.specs.Log.{HasHistory, Log, log_of, window_end}
-use Rattle.free_channels.specs.Tells.{IsColourReached, IsSure}
+use Rattle.detector_state.specs.Tells.{IsColourReached, IsSure}
 use Rattle.ring_config.specs.Settings.{Settings}
 use Rattle.ring_config.specs.Sound.{IsSound}
 use Rattle.ring_config.specs.declared.items.Approach.{Approach}
 use Rattle.rule_audit.proofs.Tracked.{channels_are}
 use Rattle.detector_state.specs.Switches.{IsChannelOf, IsSwitch}
 use Rattle.service_cut.specs.declared.items.Service.{Service}
-use Rattle.split_windows.specs.Going.{AreInOrder}
-use Rattle.split_windows.proofs.Fitting.{known_all}
+use Rattle.stop_bar.specs.Going.{AreInOrder}
+use Rattle.stop_bar.proofs.Fitting.{known_all}
 use Rattle.stop_bar.specs.declared.bars.StopBar.{StopBar}
 use Rattle.stop_bar.specs.Bars.{ending, services_upto}
 use Rattle.stop_bar.proofs.Hours.{upto_in_order}

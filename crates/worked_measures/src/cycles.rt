@@ -1,6 +1,6 @@
 ghost use Rattle.std.specs.Prelude.{◌≡◌};
 
-use cycle_arrivals::Open;
+use arrival_measures::Open;
 use sig_base::Row;
 use std::test::Fail;
 

@@ -4,8 +4,8 @@ use crate::given::{WHOLE, at_detector, told};
 use detector_state::OnTenths;
 use gap_map::Stretch;
 use service_cut::{Service, Termination};
-use split_windows::{OpenGreen, Windows, open_after, windows_hour};
 use std::test::Fail;
+use stop_bar::{OpenGreen, Windows, open_after, windows_hour};
 
 // Its green and its red window are over in the first hour, before the detector is known.
 const EARLY: Service = Service {

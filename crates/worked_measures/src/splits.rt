@@ -7,9 +7,9 @@ use split_measures::{
     PhaseSum, SplitCarry, SplitSum, SplitSums, SplitVerdict, split_verdict, splits_hour,
     verdict_sum,
 };
-use split_windows::windows_hour;
 use std::alloc::Global;
 use std::test::Fail;
+use stop_bar::windows_hour;
 
 const TEXT: &[u8] =
     b"signal = \"7\"\nstart = \"2024-03-04T06\"\nhours = 2\n[[phase]]\nnumber = 4\nring = 1\nside = 2\n[[phase]]\nnumber = 2\nring = 1\nside = 1\n";

@@ -2,12 +2,12 @@ use Rattle.std.proofs.Common.{◌≡◌, ◌∙◌, ◌+◌, ◌-◌, ◌^◌, �
 use Rattle.std.specs.Prelude.{min}
 use Rattle.std.specs.List.{filter}
 use Rattle.sig_base.specs.declared.values.Row.{Row}
-use Rattle.hour_sums.specs.Numbers.{own as own_of_phase}
+use Rattle.hour_sweep.specs.Sums.{own as own_of_phase}
 use Rattle.hour_sweep.specs.Rows.{known_rows}
 use Rattle.hour_sweep.specs.Hours.{AreOrdered, point}
 use Rattle.service_cut.specs.declared.items.Cycle.{Cycle}
-use Rattle.cycle_arrivals.specs.Arrivals.{is_on}
-use Rattle.cycle_arrivals.specs.Own.{turns_green}
+use Rattle.arrival_measures.specs.Arrivals.{is_on}
+use Rattle.arrival_measures.specs.Own.{turns_green}
 use Rattle.arrival_measures.specs.declared.carry.Crossing.{Crossing}
 use Rattle.arrival_measures.specs.Crossing.{open_since, open_with, pending_with}
 use Rattle.arrival_measures.specs.Cycles.{numbers_of}

@@ -1,6 +1,6 @@
 use Rattle.std.proofs.Common.{◌∙◌, ap, sym, take, get_or}
 use Rattle.std.proofs.lemmas.List.{take_all}
-use Rattle.hour_sums.specs.Numbers.{own}
+use Rattle.hour_sweep.specs.Sums.{own}
 use Rattle.service_cut.specs.declared.items.Cycle.{Cycle}
 use Rattle.arrival_measures.specs.Cycles.{numbers_of}
 use Rattle.arrival_measures.specs.Steps.{numbers_in}

@@ -1,6 +1,6 @@
 use Rattle.std.proofs.Common.{◌≡◌, ◌++◌, ℕ, Bool, List, take}
 use Rattle.sig_base.specs.declared.values.Row.{Row}
-use Rattle.hour_sums.specs.Numbers.{own}
+use Rattle.hour_sweep.specs.Sums.{own}
 use Rattle.hour_sweep.specs.Rows.{known_rows}
 use Rattle.arrival_measures.specs.Cycles.{numbers_of}
 use Rattle.arrival_measures.specs.Steps.{AreUnderWay, GiveSame, numbers_in}

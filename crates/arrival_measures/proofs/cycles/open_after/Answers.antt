@@ -2,7 +2,7 @@ use Rattle.std.proofs.Common.{◌≡◌, ◌∙◌, ◌++◌, ℕ, Option, Some,
 use Rattle.std.specs.Prelude.{IfSome}
 use Rattle.hour_sweep.specs.Rows.{known_rows}
 use Rattle.service_cut.specs.declared.items.OpenCycle.{OpenCycle}
-use Rattle.cycle_arrivals.specs.Opens.{open_at}
+use Rattle.arrival_measures.specs.Opens.{open_at}
 use Rattle.arrival_measures.specs.Crossing.{open_since}
 use Rattle.arrival_measures.specs.Steps.{IsUnderWay}
 use Rattle.arrival_measures.proofs.Crossing.{cycle_with}

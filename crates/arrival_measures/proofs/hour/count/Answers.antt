@@ -1,5 +1,5 @@
 use Rattle.std.proofs.Common.{arith}
-use Rattle.hour_sums.specs.Numbers.{capped}
+use Rattle.hour_sweep.specs.Sums.{capped}
 use Rattle.arrival_measures.proofs.hour.count.Goals as goal
 
 pub returns : goal.returns

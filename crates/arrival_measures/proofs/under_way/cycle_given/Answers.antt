@@ -1,5 +1,5 @@
 use Rattle.std.proofs.Common.{Option, subst}
-use Rattle.cycle_arrivals.specs.declared.open.Open.{Open}
+use Rattle.arrival_measures.specs.declared.open.Open.{Open}
 use Rattle.arrival_measures.specs.Steps.{IsUnderWay}
 use Rattle.arrival_measures.proofs.Between.{given_before, given_within, not_begun}
 use Rattle.arrival_measures.proofs.under_way.cycle_given.Goals as goal

@@ -1,7 +1,7 @@
 use Rattle.std.proofs.Common.{◌∙◌, ◌++◌, List, ap, subst, sym}
 use Rattle.sig_base.specs.declared.values.Row.{Row}
 use Rattle.hour_sweep.specs.Hours.{AreOrdered}
-use Rattle.cycle_arrivals.specs.Opens.{open_at}
+use Rattle.arrival_measures.specs.Opens.{open_at}
 use Rattle.arrival_measures.proofs.Between.{within_ordered}
 use Rattle.arrival_measures.proofs.under_way.follow.Goals as goal
 

@@ -1,7 +1,7 @@
 use Rattle.std.proofs.Common.{arith, refl, ◌≡◌, ◌+◌, ◌-◌, ◌≤◌}
 use Rattle.board.specs.Moves.{count_before}
 use Rattle.board.specs.Places.{since, upto}
-use Rattle.channel_window.proofs.Nowhere.{same_answer}
+use Rattle.decisive.proofs.Nowhere.{same_answer}
 use Rattle.decisive.specs.declared.judge.Start.TheVariants.{Free}
 use Rattle.decisive.specs.Breaks.{track_of}
 use Rattle.decisive.specs.Candidates.{rows_from}

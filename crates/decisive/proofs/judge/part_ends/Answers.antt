@@ -1,6 +1,6 @@
 use Rattle.std.proofs.Common.{arith, ◌≡◌, ◌+◌}
 use Rattle.board.specs.Places.{upto}
-use Rattle.channel_window.proofs.Nowhere.{same_answer}
+use Rattle.decisive.proofs.Nowhere.{same_answer}
 use Rattle.decisive.specs.Breaks.{track_of}
 use Rattle.decisive.specs.Laws.{rows_to}
 use Rattle.decisive.proofs.Placing.{place_upto}

@@ -1,7 +1,7 @@
 use Rattle.std.proofs.Common.{subst, pos, ◌↔◌, List, IsTrue, IfOk}
 use Rattle.colour_machine.specs.Rules.{Rules}
 use Rattle.span_set.specs.declared.set.Span.{Span}
-use Rattle.channel_window.specs.Moves.{KeepsBy, NoneKeeps, NoneKeepsFrom}
+use Rattle.decisive.specs.Moves.{KeepsBy, NoneKeeps, NoneKeepsFrom}
 use Rattle.decisive.specs.Breaks.{track_of}
 use Rattle.decisive.proofs.judge.walk_breaks.Goals as goal
 

@@ -1,6 +1,6 @@
 use Rattle.std.proofs.Common.{ℕ, ◌<◌, ◌≤◌, ◌↔◌, IsTrue, nat_lt}
 use Rattle.std.proofs.lemmas.Bool.{lt-ltb, ltb-true}
-use Rattle.free_channels.specs.Tells.{IsSure}
+use Rattle.detector_state.specs.Tells.{IsSure}
 use Rattle.detector_state.proofs.Counting.{counts_found}
 use Rattle.detector_state.proofs.count.fault_among.Goals as goal
 

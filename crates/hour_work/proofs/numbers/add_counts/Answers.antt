@@ -1,8 +1,8 @@
 use Rattle.std.proofs.Common.{◌≡◌, ◌∙◌, ℕ, ◌+◌, ◌<◌, ◌≤◌, suc, List, [], ◌∷◌, ◌++◌, ap, arith, get_or, length, set, subst, sym, take}
 use Rattle.hour_work.specs.declared.counts.RuleCount.{RuleCount}
 use Rattle.hour_work.specs.Numbers.{FitsCount, count_sum}
-use Rattle.hour_sums.specs.Numbers.{merged}
-use Rattle.hour_sums.proofs.Merging.{length-past, length-within, step_past, step_within, sum_nil, within_same}
+use Rattle.hour_sweep.specs.Sums.{merged}
+use Rattle.hour_sweep.proofs.Merging.{length-past, length-within, step_past, step_within, sum_nil, within_same}
 use Rattle.hour_work.proofs.numbers.add_counts.Goals as goal
 use Rattle.hour_work.proofs.numbers.add_counts.Goals.{then-i-len, else-i-len+in_ok-push}
 

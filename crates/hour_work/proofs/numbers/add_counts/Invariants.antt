@@ -1,5 +1,5 @@
 use Rattle.std.proofs.Common.{◌≡◌, take}
-use Rattle.hour_sums.specs.Numbers.{merged}
+use Rattle.hour_sweep.specs.Sums.{merged}
 use Rattle.hour_work.specs.Numbers.{count_sum}
 use Rattle.hour_work.proofs.numbers.add_counts.Given as goal
 

@@ -2,7 +2,7 @@ use Rattle.std.proofs.Common.{◌≡◌, ◌∙◌, List, ap, subst, sym}
 use Rattle.std.proofs.lemmas.Result.{IfOk-weaker}
 use Rattle.sig_base.specs.declared.values.Row.{Row}
 use Rattle.hour_store.specs.Store.{Store, is_known}
-use Rattle.hour_sums.specs.Numbers.{own}
+use Rattle.hour_sweep.specs.Sums.{own}
 use Rattle.signal_log.specs.Points.{HasHour}
 use Rattle.service_cut.specs.declared.items.Cycle.{Cycle}
 use Rattle.service_cut.specs.Cut.{cycles_from}

@@ -1,7 +1,7 @@
 use Rattle.std.proofs.Common.{◌≡◌, ◌<◌, ℕ, Option, length, get_or}
 use Rattle.std.specs.Prelude.{option_copied}
 use Rattle.board.specs.Logs.{HourLog}
-use Rattle.state_tenths.specs.declared.asked.Asked.TheVariants.{Colour}
+use Rattle.detector_state.specs.declared.state_asked.Asked.TheVariants.{Colour}
 use Rattle.other_measures.specs.States.{HasTenths, IsWhatIsSeen, MetBy, coordination}
 use Rattle.other_measures.proofs.coordination_sums.state_tenths.Given as goal
 

@@ -1,5 +1,5 @@
 use Rattle.std.proofs.Common.{length, take}
-use Rattle.hour_sums.specs.Numbers.{AreSums}
+use Rattle.hour_sweep.specs.Sums.{AreSums}
 use Rattle.other_measures.specs.Sums.{ped_sum_of}
 use Rattle.other_measures.proofs.ped_sums.add_delays.Given as goal
 

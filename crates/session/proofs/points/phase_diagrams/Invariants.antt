@@ -1,5 +1,5 @@
 use Rattle.std.proofs.Common.{◌≡◌}
-use Rattle.hour_sums.specs.Numbers.{own}
+use Rattle.hour_sweep.specs.Sums.{own}
 use Rattle.hour_store.specs.Store.{is_known}
 use Rattle.arrival_measures.specs.Points.{points_from}
 use Rattle.hour_work.specs.Rows.{earlier_rows, own_rows}

@@ -1,6 +1,6 @@
 use Rattle.std.proofs.Common.{◌≤◌, ◌+◌, ◌∙◌, List, ap, sym, arith, length}
 use Rattle.std.proofs.lemmas.Bool.{le-leb}
-use Rattle.split_windows.specs.declared.items.Windows.{Windows}
+use Rattle.stop_bar.specs.declared.windows.Windows.{Windows}
 use Rattle.stop_bar.specs.Crossing.{Crossing}
 use Rattle.stop_bar.proofs.Places.{held}
 use Rattle.split_measures.proofs.Opening.{each_service}

@@ -1,5 +1,5 @@
 use Rattle.std.proofs.Common.{◌∙◌, ap, arith, List, take_all}
-use Rattle.split_windows.specs.declared.items.Windows.{Windows}
+use Rattle.stop_bar.specs.declared.windows.Windows.{Windows}
 use Rattle.split_measures.specs.Failures.{split_sum_of}
 use Rattle.split_measures.specs.Verdicts.{verdicts_by}
 use Rattle.split_measures.proofs.Failing.{verdict_more}

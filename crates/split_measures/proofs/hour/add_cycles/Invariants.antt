@@ -1,5 +1,5 @@
 use Rattle.std.proofs.Common.{length, take}
-use Rattle.hour_sums.specs.Numbers.{AreSums}
+use Rattle.hour_sweep.specs.Sums.{AreSums}
 use Rattle.split_measures.specs.Phases.{phase_sum_of, services_of}
 use Rattle.split_measures.proofs.hour.add_cycles.Given as goal
 

@@ -1,6 +1,6 @@
 use Rattle.std.proofs.Common.{◌≡◌, get_or}
 use Rattle.sig_base.specs.Numbers.{has_phase}
-use Rattle.hour_sums.specs.Numbers.{by_number}
+use Rattle.hour_sweep.specs.Sums.{by_number}
 use Rattle.split_measures.specs.Phases.{zero_sum}
 use Rattle.split_measures.proofs.hour.of_phases.Given as goal
 

@@ -1,6 +1,6 @@
 use Rattle.std.proofs.Common.{ap, subst, sym, ◌∙◌, List}
 use Rattle.service_cut.specs.declared.items.Service.{Service}
-use Rattle.split_windows.specs.Going.{of_phase}
+use Rattle.stop_bar.specs.Going.{of_phase}
 use Rattle.stop_bar.specs.Crossing.{Crossing}
 use Rattle.stop_bar.specs.Bars.{IsAtBar, without_ends}
 use Rattle.stop_bar.proofs.Hours.{over_is}

@@ -1,0 +1,16 @@
+-- The rows on which a cycle depends: those of its phase and of its detector.
+use Rattle.std.specs.Prelude.{ℕ, Bool, ◌||◌, List, filter}
+use Rattle.sig_base.specs.declared.values.Row.{Row}
+use Rattle.arrival_measures.specs.Arrivals.{is_on}
+use Rattle.arrival_measures.specs.Green.{begins_green, ends_green}
+
+-- the row begins or ends green of phase p
+abbrev pub turns_green : ℕ → Row → Bool
+turns_green p x = begins_green p x || ends_green p x
+
+-- it does so, or detector d goes on
+abbrev pub is_own : ℕ → ℕ → Row → Bool
+is_own p d x = turns_green p x || is_on d x
+
+abbrev pub own_rows : ℕ → ℕ → List Row → List Row
+own_rows p d rows = filter (is_own p d) rows

@@ -1,5 +1,0 @@
-use Rattle.cycle_arrivals.proofs.Over.{open_nil}
-use Rattle.cycle_arrivals.proofs.open.Open.begin.Goals as goal
-
-pub returns : goal.returns
-returns c = λ p d rows. open_nil p d c.args.from rows

@@ -1,5 +1,0 @@
-pub mod Arrivals
-pub mod Green
-pub mod Own
-pub mod Opens
-pub mod InTenths

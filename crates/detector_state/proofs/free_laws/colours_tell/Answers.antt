@@ -1,0 +1,5 @@
+use Rattle.detector_state.proofs.Colours.{colours_tell}
+use Rattle.detector_state.proofs.free_laws.colours_tell.Goals as goal
+
+pub returns : goal.returns
+returns c = colours_tell

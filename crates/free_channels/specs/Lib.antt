@@ -1,4 +1,0 @@
-pub mod Free
-pub mod Tables
-pub mod Tells
-pub mod Bounds

@@ -1,4 +1,0 @@
-pub mod Going
-pub mod Fitting
-pub mod Waiting
-pub mod Staying

@@ -1,6 +1,0 @@
-use Rattle.std.proofs.Common.{take}
-use Rattle.split_windows.proofs.Waiting.{AreTaken}
-use Rattle.split_windows.proofs.hour.place_all.Given as goal
-
-abbrev pub invariant-loop-service : goal.invariant-loop-service
-invariant-loop-service l = AreTaken l.hour.first l.hour.end l.begun l.switched l.services (take l.service-index l.services) l.initial.ended.items l.ended.items l.waiting.items

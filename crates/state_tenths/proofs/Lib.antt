@@ -1,4 +1,0 @@
-pub mod Counting
-pub mod Still
-pub mod Cutting
-pub mod Asking

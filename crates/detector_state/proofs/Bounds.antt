@@ -8,7 +8,7 @@ use Rattle.detector_state.specs.States.{IsCount}
 use Rattle.detector_state.specs.Ranges.{Counts}
 use Rattle.detector_state.specs.Tells.{HasColour, IsColourReached, IsSure, TellSameUpto}
 use Rattle.detector_state.specs.Bounds.{NumbersAreOne, NumbersBound, NumbersReached, NumbersStay, StoresTell}
-use Rattle.detector_state.proofs.Colours.{colours_stay, colours_tell, one_colour}
+use Rattle.detector_state.proofs.FreeColours.{colours_stay, colours_tell, one_colour}
 use Rattle.detector_state.proofs.Spread.{extremes, some_end}
 use Rattle.detector_state.proofs.FreeCounting.{counts_le, counts_some}
 

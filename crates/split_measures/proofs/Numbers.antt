@@ -10,7 +10,7 @@ use Rattle.detector_state.specs.Ranges.{Counts}
 use Rattle.service_cut.specs.declared.items.Service.{Service}
 use Rattle.detector_state.specs.Free.{IsOrdered, Order}
 use Rattle.detector_state.specs.Tells.{HasColour, IsColourReached, IsGreatest, IsLeast, IsSure}
-use Rattle.detector_state.proofs.Colours.{colours_tell, one_colour}
+use Rattle.detector_state.proofs.FreeColours.{colours_tell, one_colour}
 use Rattle.detector_state.proofs.FreeCounting.{counts_le, counts_some}
 use Rattle.detector_state.proofs.Spread.{extremes, some_end}
 use Rattle.detector_state.proofs.Switching.{switches_are_ordered}

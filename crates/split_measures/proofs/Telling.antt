@@ -7,7 +7,7 @@ use Rattle.board.specs.Channels.{AreSpecs}
 use Rattle.signal_log.specs.Log.{HasHistory, Log, track_at, window_end}
 use Rattle.detector_state.specs.Free.{IsFree}
 use Rattle.detector_state.specs.Tells.{AllHave, IsSure}
-use Rattle.detector_state.proofs.Colours.{colours_tell}
+use Rattle.detector_state.proofs.FreeColours.{colours_tell}
 use Rattle.detector_state.specs.Switches.{IsChannelOf, IsSwitch}
 use Rattle.detector_state.proofs.Switching.{switches_are_ordered}
 use Rattle.stop_bar.specs.declared.windows.Windows.{Windows}

@@ -4,7 +4,7 @@ use Rattle.signal_log.specs.Log.{Log}
 use Rattle.service_cut.specs.declared.items.Service.{Service}
 use Rattle.detector_state.specs.Tells.{IsSure, TellSameUpto}
 use Rattle.detector_state.proofs.Bounds.{numbers_are_one, numbers_stay, sooner}
-use Rattle.detector_state.proofs.Colours.{colours_stay}
+use Rattle.detector_state.proofs.FreeColours.{colours_stay}
 use Rattle.detector_state.specs.declared.tenths.OnTenths.{OnTenths}
 use Rattle.detector_state.specs.Hours.{AreTenths}
 use Rattle.stop_bar.specs.declared.windows.Windows.{Windows}

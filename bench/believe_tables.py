@@ -7,17 +7,17 @@ SUBJECTS = [
     ("Codes and machines", "event_codes colour_machine channel_tables"),
     ("Store and edits", "hour_store session.Ranges session.Edits"),
     ("Histories and agreement", "reach.Runs board.Channels board.History signal_log.Log signal_log.Rows signal_log.States"
-     " signal_log.Points free_channels"),
+     " signal_log.Points detector_state.Free detector_state.Bounds detector_state.Tables detector_state.Tells"),
     ("Rules and verdicts", "reach.Tests board.Verdicts rule_audit hour_work.Verdicts hour_work.Counts"),
     ("Decisive windows", "decisive session.Windows"),
-    ("Measures", "hour_sums hour_sweep.Numbers service_cut.Signs service_cut.Services service_cut.Cycles service_cut.Cut"
-     " state_tenths detector_state split_windows stop_bar.Crossing stop_bar.Lists stop_bar.Bars"
+    ("Measures", "hour_sweep.Sums hour_sweep.Numbers service_cut.Signs service_cut.Services service_cut.Cycles service_cut.Cut"
+     " detector_state.States detector_state.Ranges detector_state stop_bar.Going stop_bar.Windows stop_bar.Crossing stop_bar.Lists stop_bar.Bars"
      " stop_bar.All split_measures other_measures.LastRows other_measures.Peds"
-     " other_measures.Preempts other_measures.Sums other_measures.States other_measures.Hours cycle_arrivals.Arrivals"
-     " cycle_arrivals.Own cycle_arrivals.Green arrival_measures.Faults arrival_measures.Travel arrival_measures.Cycles"
+     " other_measures.Preempts other_measures.Sums other_measures.States other_measures.Hours arrival_measures.Arrivals"
+     " arrival_measures.Own arrival_measures.Green arrival_measures.Faults arrival_measures.Travel arrival_measures.Cycles"
      " arrival_measures.Judged arrival_measures.Hours arrival_measures.Points offset_search hour_work.Rows hour_work.Measures"
      " hour_work.Numbers measure_laws"),
-    ("What moves", "board.Hours service_cut.Parts cycle_arrivals.Opens arrival_measures.Crossing"
+    ("What moves", "board.Hours service_cut.Parts arrival_measures.Opens arrival_measures.Crossing"
      " hour_work.Points hour_work.Moved session.Moved"),
     ("Files", "row_reader hour_pack sigaudit.HourFile"),
     ("Configuration", "ring_config"),
@@ -58,15 +58,15 @@ Who wants to know of one request alone needs only what its case of [`IsAnswer`](
 EQUATES = """
 service_cut.Services.service_at service_cut services_are_whole -
 service_cut.Cycles.cycle_at service_cut cycles_are_whole -
-cycle_arrivals.Green.shows_green hour_work cycles_show_green green not_green
-cycle_arrivals.Green.green_arrivals_in measure_laws green_is_of_all_histories cycles
-cycle_arrivals.Green.green_tenths_in measure_laws green_is_of_all_histories cycles
+arrival_measures.Green.shows_green hour_work cycles_show_green green not_green
+arrival_measures.Green.green_arrivals_in measure_laws green_is_of_all_histories cycles
+arrival_measures.Green.green_tenths_in measure_laws green_is_of_all_histories cycles
 arrival_measures.Faults.faulty fault_rows faulty_is_sure -
 arrival_measures.Faults.faulty fault_rows faulty_by_states -
 arrival_measures.Faults.is_fault_row fault_rows fault_rows_are_sure -
 arrival_measures.Faults.is_arrival fault_rows fault_rows_are_sure -
-free_channels.Tells.IsSure free_channels colours_tell -
-free_channels.Tells.IsColourReached free_channels colours_tell -
+detector_state.Tells.IsSure detector_state colours_tell -
+detector_state.Tells.IsColourReached detector_state colours_tell -
 hour_pack.Reading.reading hour_pack reading_is_exact -
 ring_config.Settings.config_of config_laws configurations_are_accepted files
 ring_config.Settings.config_at config_laws configurations_are_accepted documents
@@ -111,12 +111,12 @@ other_measures.Hours.events_from hour_work hours_make_up_the_log events
 arrival_measures.Points.points_from hour_work hours_make_up_the_log points
 arrival_measures.Points.diagrams_of arrival_measures diagrams_fit -
 split_measures.Verdicts.IsVerdict split_measures numbers_tell -
-detector_state.Hours.AreTenths split_windows tenths_are_one -
-state_tenths.Ranges.Counts free_channels numbers_bound -
-state_tenths.Ranges.Counts free_channels numbers_reached -
+detector_state.Hours.AreTenths stop_bar tenths_are_one -
+detector_state.Ranges.Counts detector_state numbers_bound -
+detector_state.Ranges.Counts detector_state numbers_reached -
 stop_bar.Bars.IsAtBar stop_bar what_crosses_is_one -
 stop_bar.Bars.ending stop_bar windows_are_listed_once -
-split_windows.Windows.ArePending split_windows pending_are_one -
+stop_bar.Windows.ArePending stop_bar pending_are_one -
 hour_work.Verdicts.AreAuditLines hour_work reports_are_one lines
 hour_work.Moved.IsSameCarry hour_work points_are_one carries same_carry
 hour_work.Moved.IsSameFuture hour_work points_are_one futures same_future
@@ -156,7 +156,7 @@ HEADLINE = """
 6. An edit that isn't refused so is [accepted where some history agrees](sigaudit.Script.IsMade) with the new store, and answered by [the hours that move](session.Moved.Moves); else it is refused by [the row at which the store contradicts itself](signal_log.Log.IsContradiction), and nothing has changed.
 7. [An audit](sigaudit.Audit.IsAudited) judges [what is to be judged](hour_work.Verdicts.obligations_in) by [the rules](rule_audit.Rules.rules_for) over all histories that agree with the store: [a duration](rule_audit.Judged.IsIntervalVerdict), and [what channels show together](board.Verdicts.IsVerdict), is kept where it holds in all of them, broken where it holds in none, and else undecided; where the interval ends in none it is idle, and has no line.
 8. Each broken line has [the stretch of the log that decides it](decisive.Window.IsDecisive).
-9. Measures are [the numbers of a part of the log](measure_laws.Plain.IsPart), of [an hour](measure_laws.Plain.IsHourOf) or of [the whole window](measure_laws.Plain.IsWindowOf), in the same words: [of services and cycles](measure_laws.Plain.IsPlainPhase) by the known rows, and [split failures](split_measures.Verdicts.IsVerdict), [arrivals](arrival_measures.Judged.AreJudged) and [tenths in a state](state_tenths.States.Meets) over all histories.
+9. Measures are [the numbers of a part of the log](measure_laws.Plain.IsPart), of [an hour](measure_laws.Plain.IsHourOf) or of [the whole window](measure_laws.Plain.IsWindowOf), in the same words: [of services and cycles](measure_laws.Plain.IsPlainPhase) by the known rows, and [split failures](split_measures.Verdicts.IsVerdict), [arrivals](arrival_measures.Judged.AreJudged) and [tenths in a state](detector_state.States.Meets) over all histories.
 10. Each end of a run but `Memory` has [a condition under which alone it comes](sigaudit.Run.HasCause), whatever shelf and sink reveal; `Memory` may come at any time, and a run that answered it at once would meet all clauses. Words that ask for fillings are answered by [one right answer of several](sigaudit.Run.IsPairsRun). Edits open [each hour that moves](sigaudit.Counting.OpensAnswer), and none but these and those on the way to a contradiction, each at most three times as often.
 """
 

@@ -10,6 +10,10 @@
 //! For diagrams the view of the hour says which rows are arrivals; for the numbers the detector's own
 //! rows do.
 //!
+//! What a cycle gives is an `Open`: the vehicles that come in it, those of them that come while the
+//! phase is green, and how long it is green. It is added to range by range, in whichever hours the
+//! cycle lies.
+//!
 //! An approach goes over its own rows alone: one pass puts the rows of an hour into chains, from
 //! each row of a phase or of a detector to the next one.
 #![tactic(auto)]

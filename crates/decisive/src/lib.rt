@@ -16,6 +16,9 @@
 //! - `judge`: whether it is broken over some tenths alone, by the moves of these channels.
 //! - `rows`, `search`: the candidates among the rows, and the nearest that will do.
 //! - `hours`, `within`: an hour's moves; hour by hour, on from the line's own hour and back from it.
+//! - `channel_keep`, `channel_judge`: what the state of one channel at a place between its moves is to
+//!   be, and how few of the moves still leave it no such state; `channel_laws`: what holds of all
+//!   moves.
 //! - `window`: the calls. `laws`: what holds of every log.
 //!
 //! Tenths are tenths of a second from the window's start.

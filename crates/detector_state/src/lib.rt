@@ -1,12 +1,19 @@
-//! Which colours a detector, a pedestrian detector or a preempt input may have at the end of each
-//! tenth of an hour, and at how many tenths it was on, at least and at most.
+//! Which colours a channel has at the end of each tenth of an hour, and for how long.
 //!
-//! An hour is cut into ranges, each with the set of the colours that are possible at the ends of
-//! its tenths. `least_on` counts the tenths at which it can't be else than on, `greatest_on` those
-//! at which it may be on; `sure_fault` asks for a tenth at which a detector can't be else than in a
-//! fault. `OnTenths` adds these up over ranges that cross hours. All of it says what is reached by
-//! the tenths so far, so it stays true whatever is known of later ones; that one history of the
-//! window has all least numbers at once, and one all greatest, are laws of `free_channels`.
+//! - `state_count`: how many known tenths there are at whose end a channel has a colour in all
+//!   histories that agree with the log, and at whose end no colour is certain. What holds at the end
+//!   of a tenth changes only at a row of the channel and at a gap, so whole ranges between two of
+//!   these are counted at once.
+//! - `free_laws`: a detector, a pedestrian detector and a preempt input take every row in every
+//!   colour. So the states of such a channel at a tenth follow from what came before, whatever comes
+//!   after. Its colours have an order that no row turns round, so that one agreeing history has it on
+//!   at the fewest tenths of all ranges at once, and one at the most.
+//! - `hour`, `count`: an hour of such a channel is cut into ranges, each with the set of the colours
+//!   that are possible at the ends of its tenths. `least_on` counts the tenths at which it can't be
+//!   else than on, `greatest_on` those at which it may be on; `sure_fault` asks for a tenth at which a
+//!   detector can't be else than in a fault.
+//! - `tenths`: `OnTenths` adds these up over ranges that cross hours. All of it says what is reached by
+//!   the tenths so far, so it stays true whatever is known of later ones.
 #![tactic(auto)]
 
 mod asked;

@@ -3,6 +3,9 @@
 //! A measure says what a row and a gap make of what it keeps (`Watch`). One that keeps a part for
 //! each of some numbers, as phases or pedestrian signals have, says it for one part (`Track`), and
 //! a row of the log then reaches the part of its parameter alone, however many there are.
+//!
+//! Measures are numbers that are added over rows, over hours and over the whole log: `sums` and `each`
+//! have counts and sums that stand still at the last value of a u64, the least and the greatest.
 #![tactic(auto)]
 
 mod each;

@@ -1,4 +1,4 @@
-// Numbers that are added.
+// Counts and sums that stand still at the last value of a u64, the least and the greatest.
 ghost use Rattle.std.specs.Prelude.{◌≡◌, ◌+◌};
 ghost use Rattle.hour_sweep.specs.Sums.{capped, lesser, greater};
 

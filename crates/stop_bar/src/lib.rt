@@ -1,9 +1,15 @@
-//! One stop bar over one hour: the windows of its phase's services that end in the hour, with how
-//! often its detector was on in them, and what crosses the point after it.
+//! One stop bar over one hour: how often its detector was on in the two windows by which a service of
+//! its phase is a split failure, in the green, and in the 50 tenths from the end of its yellow on.
 //!
-//! `split_windows` counts for services that it is given; here they are those that `service_cut`
-//! lists of the log, so what is said of an hour is said of the log up to it. What crosses a point
-//! is one value, whatever is known of later tenths.
+//! Both may cross the points between hours. So an hour takes two things over from the one before: the
+//! green of the service that was open at the point, and the services whose red window wasn't over. It
+//! gives the windows that end in it, and the two things for the next hour. The numbers are `OnTenths`
+//! of `detector_state`, said of the log: they stay true whatever is known of later tenths, and they
+//! need no known tenth.
+//!
+//! `window_hour` counts for services that it is given; in `hour` they are those that `service_cut`
+//! lists of the log, so what is said of an hour is said of the log up to it. What crosses a point is
+//! one value, whatever is known of later tenths.
 #![tactic(auto)]
 
 mod all;

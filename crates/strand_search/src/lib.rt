@@ -8,7 +8,8 @@
 //! - `points`: the states at the hour points before the place, and those after it that can be
 //!   completed.
 //! - `crossing`: the hour of the place; `onward`: the hours after it; `back`: those before it.
-//! - `search`: the call.
+//! - `search`: the call. `laws`: letters in the gaps of an hour's moves lead a channel as the same
+//!   letters do as rows, tenth by tenth.
 //!
 //! Tenths are tenths of a second from the window's start.
 #![tactic(auto)]

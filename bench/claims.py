@@ -21,7 +21,7 @@ class Sources:
     def __init__(self):
         self.public, self.calls = {}, {}
         for crate in listed():
-            if crate.startswith("worked_"):
+            if crate.startswith("example_"):
                 continue
             for file in files_below(os.path.join(HERE, "crates", crate, "src"), ".rt"):
                 with open(file) as it:

@@ -50,7 +50,7 @@ impl ArrivalSums {
         }
     }
 
-    /// Adds the numbers of each approach to its own. After want of memory some of them may have
+    /// Adds the numbers of each approach to its own. Where memory ran out some of them may have
     /// been added.
     pub fn add(&mut self, more: &ArrivalSums) -> Result<(), NoMemory>
         ensures { OnOk result (self.new ≡ merged added self.old more.now) }

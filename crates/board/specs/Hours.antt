@@ -53,7 +53,7 @@ AreHourAheads specs rows ss f t after n aheads = (i : ℕ) → i < n → (length
 abbrev pub ArePastsOf : List Spec → List Row → List Stretch → List (List (List Span)) → List (List (List Span)) → Type 0
 ArePastsOf specs rows ss before pasts = (h : ℕ) → IsHour h rows ss → IsHourStop specs rows ss (first_tenth h) (end_tenth h) before None × AreClampedPasts specs rows ss (first_tenth h) (end_tenth h) before pasts
 
--- an error that isn't want of memory names the first known row after which its channel has no state
+-- an error that isn't that memory ran out names the first known row after which its channel has no state
 abbrev pub NamesStop : List Spec → List Row → List Stretch → List (List (List Span)) → PastsError → Type 0
 NamesStop specs rows ss before (NoState row) = (n : ℕ) × (row ≡ slice_index_or rows n no_row) × ((h : ℕ) → IsHour h rows ss → IsHourStop specs rows ss (first_tenth h) (end_tenth h) before (Some n))
 NamesStop specs rows ss before Memory = Unit {0}

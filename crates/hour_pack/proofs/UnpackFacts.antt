@@ -19,7 +19,7 @@ use Rattle.hour_pack.proofs.RowFaults.{failed}
 not_read : {A : Type 0} (read : Result A PackError) (x : A) (e : PackError) → read ≡ Ok x → read ≡ Err e → e ≡ Memory
 not_read read x e h k = let f : Ok x ≡ Err e = sym h ∙ k in absurd cc
 
--- where all is read, an error can only be want of memory
+-- where all is read, an error can only be that memory ran out
 pub only_memory : {A : Type 0} (read : Result A PackError) (x : A) (e : PackError) → read ≡ Ok x → IsFault read e → e ≡ Memory
 only_memory read x NotPacked h k = not_read read x NotPacked h k
 only_memory read x Short h k = not_read read x Short h k

@@ -103,7 +103,7 @@ pub data EndsEarly (signal : List ℕ) (window : Span) (hour : ℕ) (bytes : Lis
   in_count : (rest : List ℕ) → bytes ≡ head_bytes signal window hour ++ rest → length rest < 4 → EndsEarly signal window hour bytes
   in_row : (b : Begins signal window hour bytes) → IsCutRow (hour_end hour) (last_tenth (36000 * hour) b.rows) b.rest → EndsEarly signal window hour bytes
 
--- when each error comes; want of memory, that may come at any time, is never due to the bytes
+-- when each error comes; that memory ran out, which may come at any time, is never due to the bytes
 abbrev pub HasCause : List ℕ → Span → ℕ → List ℕ → PackError → Type 0
 HasCause signal window hour bytes NotPacked = take 4 bytes ≢ mark
 HasCause signal window hour bytes Short = EndsEarly signal window hour bytes

@@ -51,7 +51,7 @@ fn count_below(rows: &[Row], to: u32) -> usize
     rows.iter().take_while(|row| row.at < to).count()
 }
 
-/// One pass over an hour. After want of memory the watch may have been told a part of it.
+/// One pass over an hour. Where memory ran out the watch may have been told a part of it.
 pub fn sweep<W: Watch>(watch: &mut W, rows: &[Row], stretches: &[Stretch]) -> Result<(), NoMemory>
     ensures { OnOk result (watch.new ≡ swept W.after W.cleared stretches.now rows.now watch.old) }
 {

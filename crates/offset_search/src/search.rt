@@ -33,7 +33,7 @@ fn first_counts(alloc: Global, arrivals: &[Arrival], shifts: usize) -> Result<Ve
 /// How many of the vehicles would have met green, had each come later in its own cycle: place `j`
 /// of the result is the count at a shift by `j` seconds, and there is one for each `j` within the
 /// longest cycle. A cycle is 0.1 to 300 seconds long; green doesn't begin after yellow, and the
-/// vehicle comes before its cycle ends. An error is want of memory.
+/// vehicle comes before its cycle ends. An error is that memory ran out.
 pub fn shift_counts(alloc: Global, arrivals: &[Arrival]) -> Result<Shifts, NoMemory>
     requires { All IsInCycle arrivals.now }
     ensures counts { IfOk result (λ s. s ≡ counts_of arrivals.now) }

@@ -78,7 +78,7 @@ impl OtherSums {
     }
 
     /// Adds the numbers of each pedestrian signal and each preempt to its own, and those of the
-    /// coordination. After want of memory some of them may have been added.
+    /// coordination. Where memory ran out some of them may have been added.
     pub fn add(&mut self, more: &OtherSums) -> Result<(), NoMemory>
         ensures { OnOk result (self.new ≡ others_added self.old more.now) }
     {

@@ -10,7 +10,7 @@ use Rattle.ring_config.specs.declared.error.TableName.{TableName}
 use Rattle.ring_config.specs.declared.error.KeyName.{KeyName}
 use Rattle.ring_config.specs.declared.error.KeyName.TheVariants as keys
 
--- what is read, or the first refusal; no definition gives want of memory
+-- what is read, or the first refusal; no definition says that memory ran out
 abbrev pub Read : Type 0 → Type 0
 Read X = Result X ConfigError
 
@@ -20,7 +20,7 @@ abbrev pub ◌>>=◌ : {A B : Type 0} → Read A → (A → Read B) → Read B
 (Ok x) >>= f = f x
 (Err e) >>= f = Err e
 
--- a call that failed did so as the reading does, or for want of memory
+-- a call that failed did so as the reading does, or because memory ran out
 abbrev pub Fails : {X : Type 0} → ConfigError → Read X → Type 0
 Fails Memory read = Unit {0}
 Fails e read = read ≡ Err e

@@ -109,7 +109,7 @@ pub struct KeyAt {
 }
 
 /// The first thing that is wrong with a configuration, in the order that `docs/FORMATS.md` gives,
-/// or want of memory.
+/// or that memory ran out.
 #[derive(Clone, Copy, Debug, PartialEq, Eq, Error)]
 pub enum ConfigError {
     /// The bytes aren't UTF-8, or the text isn't TOML.

@@ -64,7 +64,8 @@ pub struct OpenService {
     pub g: Option<u32>,
 }
 
-/// A last end of yellow at the point after the hour, with every tenth since known.
+/// The last end of yellow of a phase before the point after the hour, where every tenth since is
+/// known: a cycle that isn't over.
 #[derive(Clone, Copy, Debug, PartialEq, Eq)]
 pub struct OpenCycle {
     pub phase: u8,

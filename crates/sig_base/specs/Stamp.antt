@@ -29,7 +29,7 @@ with_year found = with_month found.0 (month_from 12 found.0 1 found.1)
 unfoldable pub civil_of : ℤ → Civil
 civil_of day = with_year (year_from 10000 0 (unsigned_abs (day +ℤ pos 719528)))
 
--- the last decimal digit of a number
+-- the byte of the last decimal digit of a number
 abbrev pub decimal_end : ℕ → ℕ
 decimal_end n = 48 + n % 10
 

@@ -42,7 +42,8 @@ pub struct PhaseItem {
     pub side: u8,
 }
 
-/// The hours whose numbers and verdicts an accepted edit may change, `to` left out.
+/// The hours that an accepted edit moves, `to` left out: outside them no number and no verdict changes;
+/// the decisive window of a broken line may.
 #[derive(Clone, Copy, Debug, PartialEq, Eq)]
 pub struct Applied {
     pub from: u32,

@@ -36,7 +36,7 @@ pub record IsStopOver (specs : List Spec) (hour : ℕ) (rows : Option (List Row)
   pub high : row.at < first_tenth (hour + 1)
   pub stops : StopsIn specs hour rows blanks before (Some place)
 
--- an error that isn't want of memory names that row
+-- an error that isn't that memory ran out names that row
 abbrev pub NamesStopOver : List Spec → ℕ → Option (List Row) → List Span → List (List (List Span)) → PastsError → Type 0
 NamesStopOver specs hour rows blanks before (NoState row) = IsStopOver specs hour rows blanks before row
 NamesStopOver specs hour rows blanks before Memory = Unit {0}

@@ -48,7 +48,7 @@ pub record HasHour (s : Store) (hour : ℕ) (rows : Option (List Row)) (blanks :
   pub held : rows_at s hour ≡ rows
   pub known : (t : ℕ) → first_tenth hour ≤ t → t < first_tenth (hour + 1) → known_in (is_some rows) blanks t ≡ is_known s t
 
--- an error that isn't want of memory names the row at which the log contradicts itself
+-- an error that isn't that memory ran out names the row at which the log contradicts itself
 abbrev pub NamesContradiction : Log → PastsError → Type 0
 NamesContradiction log (NoState row) = IsContradiction log row
 NamesContradiction log Memory = Unit {0}

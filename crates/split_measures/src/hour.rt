@@ -44,7 +44,7 @@ impl SplitSums {
         }
     }
 
-    /// Adds the numbers of each phase and of each approach to its own. After want of memory some of
+    /// Adds the numbers of each phase and of each approach to its own. Where memory ran out some of
     /// them may have been added.
     pub fn add(&mut self, more: &SplitSums) -> Result<(), NoMemory>
         ensures { OnOk result (self.new ≡ splits_added self.old more.now) }

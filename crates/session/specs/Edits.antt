@@ -40,7 +40,7 @@ abbrev pub range_change : RangeEdit → ℤ → ℤ → Change
 range_change range.Blank from to = blank from to
 range_change range.Unblank from to = unblank from to
 
--- whether some tenth from `from` up to `to` lies outside a window of so many hours, were there one between
+-- whether the tenths from `from` up to `to` begin before a window of so many hours, or end past it
 abbrev pub reaches_out : ℕ → ℤ → ℤ → Bool
 reaches_out hours from to = int_lt from (pos 0) || int_lt (pos (36000 * hours)) to
 

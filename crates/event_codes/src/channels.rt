@@ -62,10 +62,11 @@ pub fn channel_of(code: u8, param: u16) -> Option<Channel>
     ensures { result ≡ channel_in_table code param }
 {
     match code {
+        // Most rows are those of detectors.
+        81..=88 => numbered(Kind::Detector, param, 128),
         0 | 1 | 7 | 8 | 9 | 10 | 11 | 12 => numbered(Kind::Phase, param, 16),
         21 | 22 | 23 | 24 => numbered(Kind::Ped, param, 16),
         61 | 62 | 63 | 64 | 65 | 66 => numbered(Kind::Overlap, param, 16),
-        81..=88 => numbered(Kind::Detector, param, 128),
         89 | 90 => numbered(Kind::PedDetector, param, 16),
         102 | 104 => numbered(Kind::PreemptInput, param, 16),
         105 | 106 | 107 | 111 => numbered(Kind::PreemptService, param, 16),

@@ -11,3 +11,4 @@ pub mod Adding
 pub mod SumPlaces
 pub mod Merging
 pub mod SumCommon
+pub mod Pairs

@@ -24,6 +24,13 @@ abbrev pub swept : {S : Type 0} → (S → Row → S) → (S → S) → List Str
 swept after cleared [] xs s = s
 swept after cleared (t ∷ ts) xs s = swept after cleared ts (back t.to xs) (swept_stretch after cleared t.known (front t.to xs) s)
 
+-- two watches that are told the same
+abbrev pub both_after : {S T : Type 0} → (S → Row → S) → (T → Row → T) → S × T → Row → S × T
+both_after f g p x = (f p.0 x, g p.1 x)
+
+abbrev pub both_cleared : {S T : Type 0} → (S → S) → (T → T) → S × T → S × T
+both_cleared f g p = (f p.0, g p.1)
+
 -- what a measure keeps: Keeps t before left s says what s is at tenth t, with these known rows before it and those left
 pub record AreLaws {S : Type 0} (known : ℕ → Bool) (after : S → Row → S) (cleared : S → S) (Keeps : ℕ → List Row → List Row → S → Type 0) : Type 0 where
   pub on : (a b : ℕ) (before left : List Row) (s : S) → a ≤ b → ((t : ℕ) → a ≤ t → t < b → known t ≡ true) → Keeps a before left s → Keeps b before left s

@@ -9,7 +9,7 @@ use std::marker::Model;
 
 /// Two watches, seen as a pair of them: what is told the one is then told the other.
 #[derive(Drop)]
-struct Both<A, B> {
+pub struct Both<A, B> {
     one: A,
     other: B,
 }
@@ -18,6 +18,23 @@ impl<A, B> Model for Both<A, B> {
     ghost Value = { A × B };
 
     ghost view = { λ b. (b.one, b.other) };
+}
+
+impl<A: Drop, B: Drop> Both<A, B> {
+    /// These two.
+    pub fn of(one: A, other: B) -> Both<A, B>
+        ensures { result ≡ (one, other) }
+    {
+        Both { one, other }
+    }
+
+    /// The two.
+    pub fn into_parts(self) -> (A, B)
+        ensures { result ≡ self }
+    {
+        let Both { one, other } = self;
+        (one, other)
+    }
 }
 
 impl<A: Watch, B: Watch> Watch for Both<A, B> {
@@ -46,8 +63,7 @@ pub fn sweep_both<A: Watch + Drop, B: Watch + Drop>(
     ensures one { IfOk result (λ p. p.0 ≡ swept A.after A.cleared stretches.now rows.now one) }
     ensures other { IfOk result (λ p. p.1 ≡ swept B.after B.cleared stretches.now rows.now other) }
 {
-    let mut both = Both { one, other };
+    let mut both = Both::of(one, other);
     sweep(&mut both, rows, stretches)?;
-    let Both { one, other } = both;
-    Ok((one, other))
+    Ok(both.into_parts())
 }

@@ -15,8 +15,8 @@ mod sums;
 mod track;
 mod watch;
 
-pub use both::sweep_both;
+pub use both::{Both, sweep_both};
 pub use each::{Sum, add_each};
 pub use sums::{greatest_of, least_of, total};
-pub use track::{Track, Tracked, track_hour};
+pub use track::{Track, Tracked, track_both, track_hour};
 pub use watch::{Watch, sweep};

@@ -4,6 +4,7 @@ ghost use Rattle.sig_base.specs.declared.values.Row.{Row};
 ghost use Rattle.hour_sweep.specs.Passes.{swept};
 ghost use Rattle.hour_sweep.specs.Numbers.{PassesOver, tracking_after, tracking_cleared};
 
+use crate::both::sweep_both;
 use crate::watch::{Watch, sweep};
 use gap_map::Stretch;
 use sig_base::{NoMemory, Row};
@@ -137,6 +138,16 @@ impl<T: Track> Watch for Tracked<T, T::Out> {
     }
 }
 
+// The parts before the first row, which have given nothing.
+fn tracked_of<T: Track>(alloc: Global, parts: &[Option<T>]) -> Result<Tracked<T, T::Out>, NoMemory>
+    ensures { IfOk result (λ t. t ≡ record { parts = parts.now; outs = [] }) }
+{
+    Ok(Tracked {
+        parts: parts.iter().copied().collect(alloc)?,
+        outs: Vec::new(alloc),
+    })
+}
+
 /// One pass over an hour, from the parts at the point before it.
 pub fn track_hour<T: Track>(
     alloc: Global,
@@ -148,10 +159,27 @@ pub fn track_hour<T: Track>(
         (tracking_cleared T.clear) stretches.now rows.now
         (record { parts = parts.now; outs = [] })) }
 {
-    let mut tracked = Tracked {
-        parts: parts.iter().copied().collect(alloc)?,
-        outs: Vec::new(alloc),
-    };
+    let mut tracked = tracked_of(alloc, parts)?;
     sweep(&mut tracked, rows, stretches)?;
     Ok(tracked)
+}
+
+/// The same for two measures, in one pass over the hour.
+pub fn track_both<S: Track, T: Track>(
+    alloc: Global,
+    ones: &[Option<S>],
+    others: &[Option<T>],
+    rows: &[Row],
+    stretches: &[Stretch],
+) -> Result<(Tracked<S, S::Out>, Tracked<T, T::Out>), NoMemory>
+    ensures ones { IfOk result (λ p. p.0 ≡ swept (tracking_after S.step S.out_by)
+        (tracking_cleared S.clear) stretches.now rows.now
+        (record { parts = ones.now; outs = [] })) }
+    ensures others { IfOk result (λ p. p.1 ≡ swept (tracking_after T.step T.out_by)
+        (tracking_cleared T.clear) stretches.now rows.now
+        (record { parts = others.now; outs = [] })) }
+{
+    let one = tracked_of(alloc, ones)?;
+    let other = tracked_of(alloc, others)?;
+    sweep_both(one, other, rows, stretches)
 }

@@ -1,4 +1,4 @@
--- The rows of one code, counted.
+-- The rows of one code, and of two, counted.
 use Rattle.std.proofs.Common.{◌≡◌, ℕ, ◌+◌, ◌^◌, ◌<◌, Bool, true, false, cond, eqb, List, [], ◌∷◌, ◌++◌, refl, ap, sym, ◌∙◌, arith}
 use Rattle.std.specs.Prelude.{count_by}
 use Rattle.std.proofs.lemmas.List.Sums.{sum_by-cons}
@@ -8,9 +8,10 @@ use Rattle.gap_map.specs.declared.stretch.Stretch.{Stretch}
 use Rattle.hour_sweep.specs.Sums.{capped}
 use Rattle.hour_sweep.specs.Rows.{known_rows}
 use Rattle.hour_sweep.specs.Hours.{IsHour, point}
-use Rattle.hour_sweep.specs.Passes.{swept, AreLaws}
+use Rattle.hour_sweep.specs.Passes.{both_after, both_cleared, swept, AreLaws}
 use Rattle.hour_sweep.proofs.Orders.{rise_ordered}
 use Rattle.hour_sweep.proofs.Hour.{hour_kept}
+use Rattle.hour_sweep.proofs.Pairs.{swept_both}
 use Rattle.other_measures.specs.declared.coordination.CodeCount.{CodeCount}
 use Rattle.other_measures.specs.Hours.{code_after, rows_with}
 
@@ -74,3 +75,16 @@ rows_counted known hour code rows ss end e h =
     let or = rise_ordered (point hour) (point hour + 36000) rows (omega arith) h.are_rows.rise in
     let last = hour_kept known code_after (λ s. s) (IsCounted code all) (laws known code all) ss (point hour) (point hour + 36000) [] rows first h.are_stretches or (All-nil (λ z. z.at < point hour)) (record { same = refl; low = omega arith; whole = zero_added (of_code code (known_rows known rows)) }) in
     rw e (sym (capped_same (swept code_after (λ s. s) ss rows first).count last.low) ∙ last.whole)
+
+-- two codes counted in one pass
+pub both_counted : (known : ℕ → Bool) (hour one other : ℕ) (rows : List Row) (ss : List Stretch) (x y : CodeCount) (start end : CodeCount × CodeCount)
+    → x ≡ record { code = one; count = 0 } → y ≡ record { code = other; count = 0 } → start ≡ (x, y)
+    → end ≡ swept (both_after code_after code_after) (both_cleared (λ s. s) (λ s. s)) ss rows start → IsHour known hour rows ss
+    → (end.0.count ≡ rows_with one (known_rows known rows)) × (end.1.count ≡ rows_with other (known_rows known rows))
+both_counted known hour one other rows ss x y start end ex ey es ee h =
+    let first : CodeCount = record { code = one; count = 0 } in
+    let second : CodeCount = record { code = other; count = 0 } in
+    let begun : start ≡ (first, second) = es ∙ rw (ex, ey) refl in
+    let e = ee ∙ ap (λ p. swept (both_after code_after code_after) (both_cleared (λ s. s) (λ s. s)) ss rows p) begun
+      ∙ swept_both code_after code_after (λ s. s) (λ s. s) ss rows first second in
+    (rows_counted known hour one rows ss end.0 (ap (λ p. p.0) e) h, rows_counted known hour other rows ss end.1 (ap (λ p. p.1) e) h)

@@ -1,11 +1,13 @@
-// Rows of one code, counted.
+// The rows of the coordination's codes, counted in one pass.
 ghost use Rattle.std.specs.Prelude.{◌≡◌, ℕ, Bool, IfOk};
 ghost use Rattle.hour_sweep.specs.Rows.{known_rows};
 ghost use Rattle.hour_sweep.specs.Hours.{IsHour};
-ghost use Rattle.other_measures.specs.Hours.{code_after, rows_with};
+ghost use Rattle.other_measures.specs.Hours.{HasRows, code_after};
 
+use crate::coordination_sums::no_coordination;
+use crate::sums::CoordSum;
 use gap_map::Stretch;
-use hour_sweep::{Watch, sweep, total};
+use hour_sweep::{Both, Watch, sweep_both, total};
 use sig_base::{NoMemory, Row};
 
 /// How many rows of this code there were.
@@ -30,13 +32,28 @@ impl Watch for CodeCount {
     fn gap(&mut self) {}
 }
 
-/// The number of the hour's known rows of this code.
-pub(crate) fn rows_of(code: u8, rows: &[Row], stretches: &[Stretch]) -> Result<u64, NoMemory>
-    ensures { IfOk result (λ n. (known : ℕ → Bool) (hour : ℕ)
-        → IsHour known hour rows.now stretches.now → n ≡ rows_with code
-        (known_rows known rows.now)) }
+// None of this code so far.
+fn none_of(code: u8) -> CodeCount
+    ensures { result ≡ record { code = code; count = 0 } }
 {
-    let mut counted = CodeCount { code, count: 0 };
-    sweep(&mut counted, rows, stretches)?;
-    Ok(counted.count)
+    CodeCount { code, count: 0 }
+}
+
+/// The numbers of the hour's known rows of the coordination's codes, and nothing else.
+pub(crate) fn rows_counted(rows: &[Row], stretches: &[Stretch]) -> Result<CoordSum, NoMemory>
+    ensures { IfOk result (λ s. (known : ℕ → Bool) (hour : ℕ)
+        → IsHour known hour rows.now stretches.now → HasRows (known_rows known rows.now) s) }
+{
+    let plans = Both::of(none_of(131), none_of(132));
+    let points = Both::of(none_of(151), none_of(152));
+    let (plans, points) = sweep_both(plans, points, rows, stretches)?;
+    let (patterns, cycle_changes) = plans.into_parts();
+    let (yields, begins) = points.into_parts();
+    Ok(CoordSum {
+        patterns: patterns.count,
+        cycle_changes: cycle_changes.count,
+        yields: yields.count,
+        begins: begins.count,
+        ..no_coordination()
+    })
 }

@@ -8,7 +8,7 @@ ghost use Rattle.detector_state.specs.declared.state_asked.Asked.TheVariants.{Co
 ghost use Rattle.other_measures.specs.Hours.{HasRows, no_coordination};
 ghost use Rattle.other_measures.specs.States.{HasCoordination, HasTenths, IsWhatIsSeen, MetBy, coordination};
 
-use crate::coordination::rows_of;
+use crate::coordination::rows_counted;
 use crate::states::{Seen, tenths};
 use crate::sums::CoordSum;
 use detector_state::Asked;
@@ -100,16 +100,6 @@ pub(crate) fn coordination_of(
     if !config.coordination() {
         return Ok(no_coordination());
     }
-    let patterns = rows_of(131, rows, stretches)?;
-    let cycle_changes = rows_of(132, rows, stretches)?;
-    let yields = rows_of(151, rows, stretches)?;
-    let begins = rows_of(152, rows, stretches)?;
-    let counted = CoordSum {
-        patterns,
-        cycle_changes,
-        yields,
-        begins,
-        ..no_coordination()
-    };
+    let counted = rows_counted(rows, stretches)?;
     Ok(with_tenths(config, Some(seen), counted))
 }

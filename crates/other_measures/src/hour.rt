@@ -23,7 +23,7 @@ use board::HourView;
 use detector_state::Asked;
 use event_codes::{Channel, Kind};
 use gap_map::{Stretch, first_of};
-use hour_sweep::{Sum, add_each, track_hour};
+use hour_sweep::{Sum, add_each, track_both};
 use ring_config::Config;
 use sig_base::{NoMemory, Row, has_number};
 use std::alloc::Global;
@@ -241,8 +241,9 @@ fn track_others(
         → IsCarry known c before hour carry.now
         → t.events.items ≡ events_from known c before (known_rows known rows.now)) }
 {
-    let (peds, delays) = track_hour(alloc, &carry.peds, rows, stretches)?.into_parts();
-    let (preempts, events) = track_hour(alloc, &carry.preempts, rows, stretches)?.into_parts();
+    let (peds, preempts) = track_both(alloc, &carry.peds, &carry.preempts, rows, stretches)?;
+    let (peds, delays) = peds.into_parts();
+    let (preempts, events) = preempts.into_parts();
     Ok(Tracked {
         carry: OtherCarry {
             peds,

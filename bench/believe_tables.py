@@ -61,8 +61,8 @@ service_cut.Cycles.cycle_at service_cut cycles_are_whole -
 arrival_measures.Green.shows_green hour_work cycles_show_green green not_green
 arrival_measures.Green.green_arrivals_in measure_laws green_is_of_all_histories cycles
 arrival_measures.Green.green_tenths_in measure_laws green_is_of_all_histories cycles
-arrival_measures.Faults.faulty fault_rows faulty_is_sure -
-arrival_measures.Faults.faulty fault_rows faulty_by_states -
+arrival_measures.Faults.faulty hour_work faulty_is_sure -
+arrival_measures.Faults.faulty hour_work faulty_by_states -
 arrival_measures.Faults.is_fault_row fault_rows fault_rows_are_sure -
 arrival_measures.Faults.is_arrival fault_rows fault_rows_are_sure -
 detector_state.Tells.IsSure detector_state colours_tell -

@@ -22,3 +22,7 @@ pub mod OrderLaws
 pub mod BarLaws
 pub mod MovedLaws
 pub mod PickedLaws
+pub mod Masks
+pub mod Letters
+pub mod Tenths
+pub mod Before

@@ -39,8 +39,8 @@ use Rattle.split_measures.proofs.Approaches.{place_there, some_there}
 use Rattle.arrival_measures.specs.declared.faults.Flag.{Flag}
 use Rattle.arrival_measures.specs.Crossing.{CarryParts, flag_of, has_detector}
 use Rattle.arrival_measures.specs.Faults.{faulty}
-use Rattle.fault_rows.specs.Sure.{LeadsToFault, fault}
-use Rattle.fault_rows.proofs.Before.{faulty_by_states}
+use Rattle.hour_work.specs.Sure.{LeadsToFault, fault}
+use Rattle.hour_work.proofs.Before.{faulty_by_states}
 use Rattle.hour_work.specs.Moved.{CarriesAreOne, CarryIsSame, FutureIsSame, FuturesAreOne, IsSameCarry, IsSameFuture, LeadsTo, SaySame}
 use Rattle.hour_work.specs.Points.{Carried, IsFutureAt}
 use Rattle.hour_work.specs.Rows.{earlier_rows}

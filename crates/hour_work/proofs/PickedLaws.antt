@@ -38,8 +38,8 @@ use Rattle.arrival_measures.specs.Views.{IsSeen}
 use Rattle.arrival_measures.proofs.Carried.{points_same}
 use Rattle.arrival_measures.proofs.Each.{length_push}
 use Rattle.arrival_measures.proofs.RowPoints.{has_of, on_has}
-use Rattle.fault_rows.specs.Sure.{IsInFault}
-use Rattle.fault_rows.proofs.Before.{faulty_is_sure}
+use Rattle.hour_work.specs.Sure.{IsInFault}
+use Rattle.hour_work.proofs.Before.{faulty_is_sure}
 use Rattle.hour_work.specs.Points.{Carried, IsCarryAt}
 use Rattle.hour_work.specs.Reports.{IsHourSeen}
 use Rattle.hour_work.specs.Rows.{earlier_rows, own_rows}

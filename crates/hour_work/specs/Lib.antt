@@ -7,3 +7,4 @@ pub mod Measures
 pub mod Reports
 pub mod Known
 pub mod Moved
+pub mod Sure

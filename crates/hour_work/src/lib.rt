@@ -13,6 +13,9 @@
 //! Most of these calls have another, `partial_over` and so on, over an hour that is opened already;
 //! `work_over` gives what is kept at the point after such an hour and its numbers in one go.
 //!
+//! `fault_laws` tie what `arrival_measures` tells by the known rows alone to the histories: before a
+//! known row a detector is faulty so exactly where it is in a fault in all that agree with the log.
+//!
 //! A tenth is known where its hour is held and the tenth isn't blanked. Held rows count at blanked
 //! tenths too.
 #![tactic(auto)]
@@ -20,6 +23,7 @@
 mod again;
 mod carry;
 mod counts;
+mod fault_laws;
 mod hour;
 mod laws;
 mod lists;
@@ -34,6 +38,7 @@ mod work;
 pub use again::backward_again;
 pub use carry::{Between, Carry, Future};
 pub use counts::RuleCount;
+pub use fault_laws::{fault_rows_are_sure, faulty_by_states, faulty_is_sure};
 pub use hour::{audit_lines, audit_over, partial, partial_over};
 pub use laws::{
     cycles_show_green, green_before_yellow, hours_make_up_the_log, points_are_one, reports_are_one,

@@ -1,5 +1,5 @@
 // Laws: functions that do nothing, whose contracts say what holds of every log.
-ghost use Rattle.fault_rows.specs.Sure.{FaultRowsAreSure, FaultyByStates, FaultyIsSure};
+ghost use Rattle.hour_work.specs.Sure.{FaultRowsAreSure, FaultyByStates, FaultyIsSure};
 
 /// Law: before a known row a detector is faulty exactly where it is in a fault in all histories
 /// that agree.

@@ -34,10 +34,10 @@ use Rattle.stop_bar.specs.Own.{detector}
 use Rattle.stop_bar.proofs.ToldAt.{place_channel}
 use Rattle.rule_audit.proofs.Tracked.{channels_are}
 use Rattle.arrival_measures.specs.Faults.{begins_fault, faulty, is_arrival, is_fault_row, is_of}
-use Rattle.fault_rows.specs.Sure.{FaultRowsAreSure, FaultyByStates, FaultyIsSure, IsInFault}
-use Rattle.fault_rows.proofs.Letters.{letter_of, other_letter, own_letter}
-use Rattle.fault_rows.proofs.Masks.{IsDetector, kind_is}
-use Rattle.fault_rows.proofs.Tenths.{tenths_told, told_on}
+use Rattle.hour_work.specs.Sure.{FaultRowsAreSure, FaultyByStates, FaultyIsSure, IsInFault}
+use Rattle.hour_work.proofs.Letters.{letter_of, other_letter, own_letter}
+use Rattle.hour_work.proofs.Masks.{IsDetector, kind_is}
+use Rattle.hour_work.proofs.Tenths.{tenths_told, told_on}
 
 -- ---- the rows before a row
 

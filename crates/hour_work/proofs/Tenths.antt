@@ -25,7 +25,7 @@ use Rattle.detector_state.proofs.Telling.{IsReachedBy, after_one, some_reached, 
 use Rattle.arrival_measures.proofs.Counts.{and_true}
 use Rattle.arrival_measures.specs.Faults.{begins_fault, faulty, faulty_since, is_of}
 use Rattle.arrival_measures.proofs.Detecting.{lost_since, same_since}
-use Rattle.fault_rows.proofs.Masks.{IsDetector, IsTold, told_all, told_letter}
+use Rattle.hour_work.proofs.Masks.{IsDetector, IsTold, told_all, told_letter}
 
 -- ---- what the rows tell
 

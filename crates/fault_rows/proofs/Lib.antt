@@ -1,4 +1,0 @@
-pub mod Masks
-pub mod Letters
-pub mod Tenths
-pub mod Before

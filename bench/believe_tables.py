@@ -63,8 +63,8 @@ arrival_measures.Green.green_arrivals_in measure_laws green_is_of_all_histories 
 arrival_measures.Green.green_tenths_in measure_laws green_is_of_all_histories cycles
 arrival_measures.Faults.faulty hour_work faulty_is_sure -
 arrival_measures.Faults.faulty hour_work faulty_by_states -
-arrival_measures.Faults.is_fault_row fault_rows fault_rows_are_sure -
-arrival_measures.Faults.is_arrival fault_rows fault_rows_are_sure -
+arrival_measures.Faults.is_fault_row hour_work fault_rows_are_sure -
+arrival_measures.Faults.is_arrival hour_work fault_rows_are_sure -
 detector_state.Tells.IsSure detector_state colours_tell -
 detector_state.Tells.IsColourReached detector_state colours_tell -
 hour_pack.Reading.reading hour_pack reading_is_exact -

@@ -1,6 +1,9 @@
 // Decimal numbers of a field.
-ghost use Rattle.std.specs.Prelude.{◌≡◌, ◌≤◌, length, IfSome};
-ghost use Rattle.row_reader.specs.Number.{all_digits, digit, number_from, number_of};
+ghost use Rattle.std.specs.Prelude.{◌≡◌, ◌≤◌, ℕ, Some, length, IfSome};
+ghost use Rattle.row_reader.specs.Number.{all_digits, digit, is_digit, number_from, number_of};
+ghost use Rattle.row_reader.specs.Trim.{trimmed};
+
+use crate::trim::trimmed;
 
 // What an ASCII digit is worth.
 pub(crate) fn digit(b: u8) -> u32
@@ -47,4 +50,38 @@ pub fn read_number(text: &[u8], least: usize, most: usize, limit: u32) -> Option
     }
     let n = number_from(text);
     if n > limit { None } else { Some(n) }
+}
+
+fn is_digit(b: u8) -> bool
+    ensures { result ≡ is_digit b }
+{
+    b >= 48 && b <= 57
+}
+
+// The number of one to three digits, and of no other text.
+fn short_number(text: &[u8]) -> Option<u32>
+    ensures value { IfSome result (λ n. (limit : ℕ) → n ≤ limit
+        → number_of 1 9 limit text.now ≡ Some n) }
+    ensures plain { IfSome result (λ n. trimmed text.now ≡ text.now) }
+{
+    match text {
+        [a] if is_digit(*a) => Some(digit(*a)),
+        [a, b] if is_digit(*a) && is_digit(*b) => Some(10 * digit(*a) + digit(*b)),
+        [a, b, c] if is_digit(*a) && is_digit(*b) && is_digit(*c) => {
+            Some(100 * digit(*a) + 10 * digit(*b) + digit(*c))
+        }
+        _ => None,
+    }
+}
+
+/// The number of one to nine digits that a field says, where it is no more than the limit. Most
+/// have few digits and no space at their ends.
+pub(crate) fn field_number(text: &[u8], limit: u32) -> Option<u32>
+    ensures value { result ≡ number_of 1 9 limit (trimmed text.now) }
+    ensures within { IfSome result (λ n. n ≤ limit) }
+{
+    match short_number(text) {
+        Some(n) if n <= limit => Some(n),
+        _ => read_number(trimmed(text), 1, 9, limit),
+    }
 }

@@ -2,10 +2,11 @@
 ghost use Rattle.std.specs.Prelude.{◌≡◌, ◌+◌, ◌*◌, ◌<◌, ◌≤◌, ◌==◌, ◌||◌, IfSome, IfOk, OnOk, IsTrue, codes, length};
 ghost use Rattle.csv.specs.Records.{fields_of};
 ghost use Rattle.row_reader.specs.Rows.{at_in_hour, field, is_header, is_word, record_row, row_of};
+ghost use Rattle.row_reader.specs.Trim.{trimmed};
 
 use crate::RowError;
 use crate::minute::{Minute, read_next_stamp};
-use crate::number::read_number;
+use crate::number::field_number;
 use crate::trim::trimmed;
 use csv::ByteRecord;
 use sig_base::{Hour, Row, Tenth, Window};
@@ -34,10 +35,17 @@ fn at_in_hour(hour: Hour, at: Tenth) -> Option<u32>
     }
 }
 
+// The field at a place as it is, or no bytes.
+fn whole_field(fields: &ByteRecord, i: usize) -> &[u8]
+    ensures { trimmed result.now ≡ field (fields_of fields.now) i }
+{
+    fields.get(i).unwrap_or(b"")
+}
+
 fn field(fields: &ByteRecord, i: usize) -> &[u8]
     ensures { result.now ≡ field (fields_of fields.now) i }
 {
-    trimmed(fields.get(i).unwrap_or(b""))
+    trimmed(whole_field(fields, i))
 }
 
 fn is_header_word(text: &[u8]) -> bool
@@ -54,7 +62,7 @@ pub(crate) fn is_header(number: u32, fields: &ByteRecord) -> bool
     number == 1 && is_header_word(field(fields, 0))
 }
 
-// The row of four fields. `minute` is that of the stamp before, where it is known, and then that of
+// The row of four fields, of which code and parameter may have spaces at their ends. `minute` is that of the stamp before, where it is known, and then that of
 // this one.
 fn row_of(
     request: &Request<'_>,
@@ -66,7 +74,8 @@ fn row_of(
     param: &[u8],
 ) -> Result<Row, RowError>
     requires { request.now.hour < 744 }
-    ensures value { result ≡ row_of (wanted request.now) n signal.now stamp.now code.now param.now }
+    ensures value { result ≡ row_of (wanted request.now) n signal.now stamp.now
+        (trimmed code.now) (trimmed param.now) }
     ensures range { IfOk result (λ r. (36000 * request.now.hour ≤ r.at)
         × (r.at < 36000 * request.now.hour + 36000)) }
 {
@@ -79,10 +88,10 @@ fn row_of(
     let Some(at) = at_in_hour(request.hour, tenth) else {
         return Err(RowError::OutsideHour(n));
     };
-    let Some(code) = read_number(code, 1, 9, 255) else {
+    let Some(code) = field_number(code, 255) else {
         return Err(RowError::Code(n));
     };
-    let Some(param) = read_number(param, 1, 9, 65_535) else {
+    let Some(param) = field_number(param, 65_535) else {
         return Err(RowError::Param(n));
     };
     Ok(Row {
@@ -121,7 +130,7 @@ pub(crate) fn record_row(
         number,
         field(fields, 0),
         field(fields, 1),
-        field(fields, 2),
-        field(fields, 3),
+        whole_field(fields, 2),
+        whole_field(fields, 3),
     )
 }

@@ -5,6 +5,8 @@ pub mod DayFacts
 pub mod TrimFacts
 pub mod OrderFacts
 pub mod RepeatFacts
+pub mod LookBackFacts
+pub mod NotedFacts
 pub mod ReadFacts
 pub mod CutFacts
 pub mod FormFacts

@@ -8,7 +8,9 @@
 mod count;
 mod kept;
 mod lasts;
+mod look_back;
 mod minute;
+mod noted;
 mod number;
 mod order;
 mod reader;

@@ -1,13 +1,15 @@
 // The minute of the stamp before. Rows stand nearly in order, so most stamps begin with the text of
 // the one before up to and with its second colon: then only the seconds after it are read.
-ghost use Rattle.std.specs.Prelude.{◌≡◌, ◌≤◌, ◌+◌, ◌*◌, ◌++◌, ℕ, List, take, length, IfSome};
+ghost use Rattle.std.specs.Prelude.{◌≡◌, ◌≤◌, ◌+◌, ◌*◌, ◌++◌, ℕ, List, Some, take, length, IfSome};
 ghost use Rattle.std.proofs.Props.{props};
 ghost use Rattle.sig_base.specs.Window.{IsDay};
 ghost use Rattle.row_reader.specs.Minute.{IsMinute};
 ghost use Rattle.row_reader.specs.Stamp.{stamp_in};
+ghost use Rattle.row_reader.specs.Trim.{trimmed};
 
 use crate::number::read_number;
-use crate::stamp::{cut, date_of, read_stamp, seconds_of};
+use crate::stamp::{cut, date_of, read_stamp, seconds_of, short_seconds};
+use crate::trim::{is_plain, trimmed};
 use sig_base::{Tenth, Window};
 
 // The bytes of the longest text of a minute, as `12/31/2023 23:59:`.
@@ -55,6 +57,18 @@ impl Minute {
         text.strip_prefix(&self.text[..self.len])
     }
 
+    // The tenth of the window that the minute's text with these seconds names, where they are two
+    // digits, a dot and one more.
+    fn short_tenth(&self, seconds: &[u8], window: &Window) -> Option<Tenth>
+        ensures { IfSome result (λ t.
+            stamp_in window.now (take self.now.len self.now.text ++ seconds.now) ≡ Some t) }
+    {
+        match short_seconds(seconds) {
+            Some(tenth) => Some(window.tenth_of(self.day, self.start + tenth)),
+            None => None,
+        }
+    }
+
     // The tenth of the window that the minute's text with these seconds names.
     fn tenth(&self, seconds: &[u8], window: &Window) -> Option<Tenth>
         ensures { result ≡ stamp_in window.now (take self.now.len self.now.text ++ seconds.now) }
@@ -64,6 +78,21 @@ impl Minute {
             None => None,
         }
     }
+}
+
+// The tenth of the window that a stamp names which begins with the minute's text, has seconds with
+// one digit after their dot, and no space in front; no answer otherwise. Most stamps are so.
+fn usual_tenth(minute: &Option<Minute>, stamp: &[u8], window: &Window) -> Option<Tenth>
+    ensures { IfSome result (λ t. stamp_in window.now (trimmed stamp.now) ≡ Some t) }
+{
+    let Some(minute) = minute else {
+        return None;
+    };
+    let seconds = minute.after(stamp)?;
+    if !is_plain(stamp) {
+        return None;
+    }
+    minute.short_tenth(seconds, window)
 }
 
 // The minute of a stamp, where a space parts its date from its time. One with `T` has none here: a
@@ -104,13 +133,10 @@ fn tenth_in(minute: &Option<Minute>, stamp: &[u8], window: &Window) -> Option<Op
     }
 }
 
-/// The tenth of the window that a stamp names, as `read_stamp` gives it. `minute` is that of the
-/// stamp before, where it is known, and then that of this one.
-pub(crate) fn read_next_stamp(
-    minute: &mut Option<Minute>,
-    stamp: &[u8],
-    window: &Window,
-) -> Option<Tenth>
+// The tenth of the window that a stamp names. `minute` is that of the stamp before, where it is
+// known, and then that of this one.
+#[inline(never)]
+fn read_known_stamp(minute: &mut Option<Minute>, stamp: &[u8], window: &Window) -> Option<Tenth>
     ensures { result ≡ stamp_in window.now stamp.now }
 {
     if let Some(tenth) = tenth_in(minute, stamp, window) {
@@ -118,4 +144,20 @@ pub(crate) fn read_next_stamp(
     }
     *minute = minute_of(stamp);
     read_stamp(stamp, window)
+}
+
+/// The tenth of the window that a stamp names, which may have spaces at its ends, as `read_stamp`
+/// gives it without them. `minute` is that of the stamp before, where it is known, and then that of
+/// this one.
+pub(crate) fn read_next_stamp(
+    minute: &mut Option<Minute>,
+    stamp: &[u8],
+    window: &Window,
+) -> Option<Tenth>
+    ensures { result ≡ stamp_in window.now (trimmed stamp.now) }
+{
+    if let Some(tenth) = usual_tenth(minute, stamp, window) {
+        return Some(tenth);
+    }
+    read_known_stamp(minute, trimmed(stamp), window)
 }

@@ -74,6 +74,15 @@ fn short_number(text: &[u8]) -> Option<u32>
     }
 }
 
+// The number of one to nine digits that a field says, where it is no more than the limit.
+#[inline(never)]
+fn spaced_number(text: &[u8], limit: u32) -> Option<u32>
+    ensures value { result ≡ number_of 1 9 limit (trimmed text.now) }
+    ensures within { IfSome result (λ n. n ≤ limit) }
+{
+    read_number(trimmed(text), 1, 9, limit)
+}
+
 /// The number of one to nine digits that a field says, where it is no more than the limit. Most
 /// have few digits and no space at their ends.
 pub(crate) fn field_number(text: &[u8], limit: u32) -> Option<u32>
@@ -82,6 +91,6 @@ pub(crate) fn field_number(text: &[u8], limit: u32) -> Option<u32>
 {
     match short_number(text) {
         Some(n) if n <= limit => Some(n),
-        _ => read_number(trimmed(text), 1, 9, limit),
+        _ => spaced_number(text, limit),
     }
 }

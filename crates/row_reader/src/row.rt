@@ -2,12 +2,13 @@
 ghost use Rattle.std.specs.Prelude.{◌≡◌, ◌+◌, ◌*◌, ◌<◌, ◌≤◌, ◌==◌, ◌||◌, IfSome, IfOk, OnOk, IsTrue, codes, length};
 ghost use Rattle.csv.specs.Records.{fields_of};
 ghost use Rattle.row_reader.specs.Rows.{at_in_hour, field, is_header, is_word, record_row, row_of};
+ghost use Rattle.std.specs.Str.{bytes_eq};
 ghost use Rattle.row_reader.specs.Trim.{trimmed};
 
 use crate::RowError;
 use crate::minute::{Minute, read_next_stamp};
 use crate::number::field_number;
-use crate::trim::trimmed;
+use crate::trim::{is_plain, trimmed};
 use csv::ByteRecord;
 use sig_base::{Hour, Row, Tenth, Window};
 
@@ -62,7 +63,14 @@ pub(crate) fn is_header(number: u32, fields: &ByteRecord) -> bool
     number == 1 && is_header_word(field(fields, 0))
 }
 
-// The row of four fields, of which code and parameter may have spaces at their ends. `minute` is that of the stamp before, where it is known, and then that of
+// Whether a field names the signal. Most have no space at their ends.
+fn is_of_signal(field: &[u8], signal: &[u8]) -> bool
+    ensures { result ≡ bytes_eq (trimmed field.now) signal.now }
+{
+    (field == signal && is_plain(field)) || trimmed(field) == signal
+}
+
+// The row of four fields, which may have spaces at their ends. `minute` is that of the stamp before, where it is known, and then that of
 // this one.
 fn row_of(
     request: &Request<'_>,
@@ -74,12 +82,12 @@ fn row_of(
     param: &[u8],
 ) -> Result<Row, RowError>
     requires { request.now.hour < 744 }
-    ensures value { result ≡ row_of (wanted request.now) n signal.now stamp.now
-        (trimmed code.now) (trimmed param.now) }
+    ensures value { result ≡ row_of (wanted request.now) n (trimmed signal.now)
+        (trimmed stamp.now) (trimmed code.now) (trimmed param.now) }
     ensures range { IfOk result (λ r. (36000 * request.now.hour ≤ r.at)
         × (r.at < 36000 * request.now.hour + 36000)) }
 {
-    if signal != request.signal.as_bytes() {
+    if !is_of_signal(signal, request.signal.as_bytes()) {
         return Err(RowError::WrongSignal(n));
     }
     let Some(tenth) = read_next_stamp(minute, stamp, request.window) else {
@@ -128,8 +136,8 @@ pub(crate) fn record_row(
         request,
         minute,
         number,
-        field(fields, 0),
-        field(fields, 1),
+        whole_field(fields, 0),
+        whole_field(fields, 1),
         whole_field(fields, 2),
         whole_field(fields, 3),
     )

@@ -130,7 +130,7 @@ fn tenths(second: Option<u32>, tenth: Option<u32>) -> Option<u32>
 }
 
 // SS.f of three digits, as tenths, or none.
-fn short_seconds(text: &[u8]) -> Option<u32>
+pub(crate) fn short_seconds(text: &[u8]) -> Option<u32>
     ensures value { IfSome result (λ n. seconds_of (cut 46 text.now) text.now ≡ Some n) }
     ensures bound { IfSome result (λ n. n < 600) }
 {

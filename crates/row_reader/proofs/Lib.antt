@@ -12,3 +12,4 @@ pub mod CutFacts
 pub mod FormFacts
 pub mod MinuteFacts
 pub mod PairFacts
+pub mod WordFacts

@@ -20,6 +20,7 @@ mod row_error;
 mod signal;
 mod stamp;
 mod trim;
+mod word;
 
 pub use count::count_code;
 pub use kept::KeptRows;

@@ -9,7 +9,7 @@ ghost use Rattle.row_reader.specs.Trim.{trimmed};
 
 use crate::number::read_number;
 use crate::stamp::{cut, date_of, read_stamp, seconds_of, short_seconds};
-use crate::trim::{is_plain, trimmed};
+use crate::trim::is_plain;
 use crate::word::begins_with;
 use sig_base::{Tenth, Window};
 
@@ -90,9 +90,9 @@ impl Minute {
     }
 }
 
-// The tenth of the window that a stamp names which begins with the minute's text, has seconds with
-// one digit after their dot, and no space in front; no answer otherwise. Most stamps are so.
-fn usual_tenth(minute: &Option<Minute>, stamp: &[u8], window: &Window) -> Option<Tenth>
+/// The tenth of the window that a stamp names which begins with the known minute's text, and then
+/// has seconds with one digit after their dot; no answer otherwise. Most stamps are so.
+pub(crate) fn usual_tenth(minute: &Option<Minute>, stamp: &[u8], window: &Window) -> Option<Tenth>
     ensures { IfSome result (λ t. stamp_in window.now (trimmed stamp.now) ≡ Some t) }
 {
     let Some(minute) = minute else {
@@ -143,10 +143,13 @@ fn tenth_in(minute: &Option<Minute>, stamp: &[u8], window: &Window) -> Option<Op
     }
 }
 
-// The tenth of the window that a stamp names. `minute` is that of the stamp before, where it is
-// known, and then that of this one.
-#[inline(never)]
-fn read_known_stamp(minute: &mut Option<Minute>, stamp: &[u8], window: &Window) -> Option<Tenth>
+/// The tenth of the window that a stamp names, as `read_stamp` gives it. `minute` is that of the
+/// stamp before, where it is known, and then that of this one.
+pub(crate) fn read_next_stamp(
+    minute: &mut Option<Minute>,
+    stamp: &[u8],
+    window: &Window,
+) -> Option<Tenth>
     ensures { result ≡ stamp_in window.now stamp.now }
 {
     if let Some(tenth) = tenth_in(minute, stamp, window) {
@@ -154,20 +157,4 @@ fn read_known_stamp(minute: &mut Option<Minute>, stamp: &[u8], window: &Window) 
     }
     *minute = minute_of(stamp);
     read_stamp(stamp, window)
-}
-
-/// The tenth of the window that a stamp names, which may have spaces at its ends, as `read_stamp`
-/// gives it without them. `minute` is that of the stamp before, where it is known, and then that of
-/// this one.
-pub(crate) fn read_next_stamp(
-    minute: &mut Option<Minute>,
-    stamp: &[u8],
-    window: &Window,
-) -> Option<Tenth>
-    ensures { result ≡ stamp_in window.now (trimmed stamp.now) }
-{
-    if let Some(tenth) = usual_tenth(minute, stamp, window) {
-        return Some(tenth);
-    }
-    read_known_stamp(minute, trimmed(stamp), window)
 }

@@ -1,13 +1,12 @@
 // The row of one record.
-ghost use Rattle.std.specs.Prelude.{◌≡◌, ◌+◌, ◌*◌, ◌<◌, ◌≤◌, ◌==◌, ◌||◌, IfSome, IfOk, OnOk, IsTrue, codes, length};
+ghost use Rattle.std.specs.Prelude.{◌≡◌, ◌+◌, ◌*◌, ◌<◌, ◌≤◌, ◌==◌, ◌||◌, ℕ, Ok, IfSome, IfOk, OnOk, IsTrue, codes, length};
 ghost use Rattle.csv.specs.Records.{fields_of};
 ghost use Rattle.row_reader.specs.Rows.{at_in_hour, field, is_header, is_word, record_row, row_of};
-ghost use Rattle.std.specs.Str.{bytes_eq};
 ghost use Rattle.row_reader.specs.Trim.{trimmed};
 
 use crate::RowError;
-use crate::minute::{Minute, read_next_stamp};
-use crate::number::field_number;
+use crate::minute::{Minute, read_next_stamp, usual_tenth};
+use crate::number::{plain_number, read_number};
 use crate::trim::{is_plain, trimmed};
 use csv::ByteRecord;
 use sig_base::{Hour, Row, Tenth, Window};
@@ -63,15 +62,39 @@ pub(crate) fn is_header(number: u32, fields: &ByteRecord) -> bool
     number == 1 && is_header_word(field(fields, 0))
 }
 
-// Whether a field names the signal. Most have no space at their ends.
-fn is_of_signal(field: &[u8], signal: &[u8]) -> bool
-    ensures { result ≡ bytes_eq (trimmed field.now) signal.now }
+// The row of four fields as most loggers write them: without spaces at their ends, in the minute of
+// the stamp before. No answer where they are otherwise.
+fn usual_row(
+    request: &Request<'_>,
+    minute: &Option<Minute>,
+    signal: &[u8],
+    stamp: &[u8],
+    code: &[u8],
+    param: &[u8],
+) -> Option<Row>
+    requires { request.now.hour < 744 }
+    ensures value { IfSome result (λ r. (n : ℕ) → row_of (wanted request.now) n (trimmed signal.now)
+        (trimmed stamp.now) (trimmed code.now) (trimmed param.now) ≡ Ok r) }
+    ensures range { IfSome result (λ r. (36000 * request.now.hour ≤ r.at)
+        × (r.at < 36000 * request.now.hour + 36000)) }
 {
-    (field == signal && is_plain(field)) || trimmed(field) == signal
+    if signal != request.signal.as_bytes() || !is_plain(signal) {
+        return None;
+    }
+    let tenth = usual_tenth(minute, stamp, request.window)?;
+    let at = at_in_hour(request.hour, tenth)?;
+    let code = plain_number(code, 255)?;
+    let param = plain_number(param, 65_535)?;
+    Some(Row {
+        at,
+        code: code as u8,
+        param: param as u16,
+    })
 }
 
-// The row of four fields, which may have spaces at their ends. `minute` is that of the stamp before, where it is known, and then that of
+// The row of four fields. `minute` is that of the stamp before, where it is known, and then that of
 // this one.
+#[inline(never)]
 fn row_of(
     request: &Request<'_>,
     minute: &mut Option<Minute>,
@@ -82,12 +105,11 @@ fn row_of(
     param: &[u8],
 ) -> Result<Row, RowError>
     requires { request.now.hour < 744 }
-    ensures value { result ≡ row_of (wanted request.now) n (trimmed signal.now)
-        (trimmed stamp.now) (trimmed code.now) (trimmed param.now) }
+    ensures value { result ≡ row_of (wanted request.now) n signal.now stamp.now code.now param.now }
     ensures range { IfOk result (λ r. (36000 * request.now.hour ≤ r.at)
         × (r.at < 36000 * request.now.hour + 36000)) }
 {
-    if !is_of_signal(signal, request.signal.as_bytes()) {
+    if signal != request.signal.as_bytes() {
         return Err(RowError::WrongSignal(n));
     }
     let Some(tenth) = read_next_stamp(minute, stamp, request.window) else {
@@ -96,10 +118,10 @@ fn row_of(
     let Some(at) = at_in_hour(request.hour, tenth) else {
         return Err(RowError::OutsideHour(n));
     };
-    let Some(code) = field_number(code, 255) else {
+    let Some(code) = read_number(code, 1, 9, 255) else {
         return Err(RowError::Code(n));
     };
-    let Some(param) = field_number(param, 65_535) else {
+    let Some(param) = read_number(param, 1, 9, 65_535) else {
         return Err(RowError::Param(n));
     };
     Ok(Row {
@@ -132,13 +154,23 @@ pub(crate) fn record_row(
     if fields.len() != 4 {
         return Err(RowError::Fields(number));
     }
-    row_of(
+    if let Some(row) = usual_row(
         request,
         minute,
-        number,
         whole_field(fields, 0),
         whole_field(fields, 1),
         whole_field(fields, 2),
         whole_field(fields, 3),
+    ) {
+        return Ok(row);
+    }
+    row_of(
+        request,
+        minute,
+        number,
+        field(fields, 0),
+        field(fields, 1),
+        field(fields, 2),
+        field(fields, 3),
     )
 }

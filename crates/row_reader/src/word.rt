@@ -7,7 +7,7 @@ fn word(text: &[u8], at: usize) -> u64
     requires { at + 8 ≤ length text.now }
     ensures { result ≡ from_le_bytes w64 (take 8 (drop at text.now)) }
 {
-    u64::from_le_bytes(*text[at..].first_chunk::<8>().unwrap())
+    u64::from_le_bytes(*text[at..at + 8].first_chunk::<8>().unwrap())
 }
 
 /// Whether a text begins with a front of 8 to 24 bytes. The second eight bytes that are compared,

@@ -8,6 +8,7 @@ use crate::RowError;
 use crate::minute::{Minute, read_next_stamp, usual_tenth};
 use crate::number::{plain_number, read_number};
 use crate::trim::{is_plain, trimmed};
+use crate::word::same_text;
 use csv::ByteRecord;
 use sig_base::{Hour, Row, Tenth, Window};
 
@@ -78,7 +79,7 @@ fn usual_row(
     ensures range { IfSome result (λ r. (36000 * request.now.hour ≤ r.at)
         × (r.at < 36000 * request.now.hour + 36000)) }
 {
-    if signal != request.signal.as_bytes() || !is_plain(signal) {
+    if !same_text(signal, request.signal.as_bytes()) || !is_plain(signal) {
         return None;
     }
     let tenth = usual_tenth(minute, stamp, request.window)?;

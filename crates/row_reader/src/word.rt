@@ -1,6 +1,7 @@
-// Texts compared by eight bytes at once.
-ghost use Rattle.std.specs.Prelude.{◌≡◌, ◌≤◌, ◌+◌, length, take, drop, IsTrue};
-ghost use Rattle.std.specs.Int.{from_le_bytes, w64};
+// Texts compared by four or eight bytes at once.
+ghost use Rattle.std.specs.Prelude.{◌≡◌, ◌≤◌, ◌+◌, length, take, drop, true, IsTrue};
+ghost use Rattle.std.specs.Int.{from_le_bytes, w32, w64};
+ghost use Rattle.std.specs.Str.{bytes_eq};
 
 // The eight bytes of a text from a place on, as a number.
 fn word(text: &[u8], at: usize) -> u64
@@ -24,4 +25,30 @@ pub(crate) fn begins_with(text: &[u8], front: &[u8]) -> bool
         return false;
     }
     word(text, last) == word(front, last)
+}
+
+// The four bytes of a text from a place on, as a number.
+fn half_word(text: &[u8], at: usize) -> u32
+    requires { at + 4 ≤ length text.now }
+    ensures { result ≡ from_le_bytes w32 (take 4 (drop at text.now)) }
+{
+    u32::from_le_bytes(*text[at..at + 4].first_chunk::<4>().unwrap())
+}
+
+/// Whether both texts are the same, found at once where they have four to eight bytes. The four
+/// bytes that are compared last may overlap the first.
+pub(crate) fn same_text(a: &[u8], b: &[u8]) -> bool
+    ensures { IsTrue result → bytes_eq a.now b.now ≡ true }
+{
+    if a.len() != b.len() {
+        return false;
+    }
+    if b.len() < 4 || b.len() > 8 {
+        return a == b;
+    }
+    let last = b.len() - 4;
+    if half_word(a, 0) != half_word(b, 0) {
+        return false;
+    }
+    half_word(a, last) == half_word(b, last)
 }

@@ -93,11 +93,10 @@ rise-end from to [] row le e h = (le, omega (arith, e), tt)
 rise-end from to (x ∷ xs) row le e h = (h.0, h.1, rise-end x.at to xs row (omega (arith, e, h.1)) e h.2)
 
 -- what was looked up tells whether a further row is a repeat
-pub repeat-told : (kept : List Row) (row : Row) (look_up : Group → Option Row) (g : Group) (o : Option Row) (b : Bool)
-    → TellsAt row.at look_up kept → g ≡ group_of_row row → o ≡ look_up g → b ≡ is_row row o → b ≡ is_repeat kept row
-repeat-told kept row look_up g o b tells e f w =
-    w ∙ ap (is_row row) f ∙ ap (λ (k : Group). is_row row (look_up k)) e ∙ sym (event-at row (look_up (group_of_row row)))
-    ∙ ap (is_event_of row) (tells (group_of_row row))
+pub repeat-told : (kept : List Row) (row : Row) (look_up : Group → Option Row) (b : Bool)
+    → TellsAt row.at look_up kept → b ≡ is_row row (look_up (group_of_row row)) → b ≡ is_repeat kept row
+repeat-told kept row look_up b tells e =
+    e ∙ sym (event-at row (look_up (group_of_row row))) ∙ ap (is_event_of row) (tells (group_of_row row))
 
 -- ---- the loop
 

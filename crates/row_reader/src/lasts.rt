@@ -77,6 +77,7 @@ impl Lasts {
     }
 
     /// Notes that this row is the last one of its group.
+    #[inline(never)]
     pub fn note(&mut self, row: Row) -> Result<(), NoMemory>
         ensures { OnOk result (IsWithLast row
             (looked_up self.old.of.items (get pair_cmp self.old.alone))

@@ -33,6 +33,7 @@ fn has_event(kept: &[Row], row: Row) -> bool
 }
 
 // Whether the last row of this row's group at its tenth has its code and parameter.
+#[inline(never)]
 fn ends_group(kept: &[Row], row: Row) -> bool
     requires { RiseIn 0 (row.at + 1) kept.now }
     ensures { result ≡ is_repeat kept.now row }

@@ -1,8 +1,8 @@
 // What is noted of the rows that are kept, to tell of a further row whether it repeats one.
 ghost use Rattle.std.specs.Prelude.{◌≡◌, ◌+◌, ◌++◌, ◌∷◌, ◌↔◌, ℕ, [], drop, IsTrue, IfSome, OnOk};
 ghost use Rattle.sig_base.specs.HourRows.{RiseIn};
-ghost use Rattle.row_reader.specs.Repeats.{is_repeat};
-ghost use Rattle.row_reader.specs.Last.{IsWithAll, StartsAt};
+ghost use Rattle.row_reader.specs.Repeats.{group_of_row, is_repeat};
+ghost use Rattle.row_reader.specs.Last.{IsWithAll, StartsAt, is_row};
 ghost use Rattle.row_reader.specs.Noted.{IsNoted, look_up};
 
 use crate::lasts::Lasts;
@@ -54,6 +54,14 @@ impl Noted {
         u64::from(at) + 1 == self.until
     }
 
+    // Whether the last row of this row's group that is noted is this very row.
+    #[inline(never)]
+    fn has_row(&self, row: Row) -> bool
+        ensures { result ≡ is_row row (look_up self.now.lasts (group_of_row row)) }
+    {
+        is_row(row, self.lasts.last(group_of_row(row)))
+    }
+
     /// Whether this row is a repeat behind those that are kept, none of which is later.
     pub fn is_repeat(&self, kept: &[Row], row: Row) -> bool
         requires noted { IsNoted self.now kept.now }
@@ -61,13 +69,14 @@ impl Noted {
         ensures { result ≡ is_repeat kept.now row }
     {
         if self.has(row.at) {
-            is_row(row, self.lasts.last(group_of_row(row)))
+            self.has_row(row)
         } else {
             is_repeat_behind(kept, row)
         }
     }
 
     // Notes these rows and this one, from now on as those of its tenth.
+    #[inline(never)]
     fn begin(&mut self, run: &[Row], row: Row) -> Result<(), NoMemory>
         ensures until { OnOk result (self.new.until ≡ row.at + 1) }
         ensures all { OnOk result (IsWithAll (run.now ++ row ∷ [])
@@ -88,12 +97,13 @@ impl Noted {
             self.lasts.note(row)?;
             return Ok(());
         }
-        match few_rows(kept, row.at) {
-            Some(run) if self.until <= u64::from(row.at) => {
-                self.begin(run, row)?;
-                Ok(())
-            }
-            _ => Ok(()),
+        let Some(run) = few_rows(kept, row.at) else {
+            return Ok(());
+        };
+        if u64::from(row.at) < self.until {
+            return Ok(());
         }
+        self.begin(run, row)?;
+        Ok(())
     }
 }

@@ -8,7 +8,7 @@ ghost use Rattle.row_reader.specs.Stamp.{stamp_in};
 ghost use Rattle.row_reader.specs.Trim.{trimmed};
 
 use crate::number::read_number;
-use crate::stamp::{cut, date_of, read_stamp, seconds_of, short_seconds};
+use crate::stamp::{cut, date_of, read_stamp, seconds_of};
 use crate::trim::is_plain;
 use crate::word::begins_with;
 use sig_base::{Tenth, Window};
@@ -67,18 +67,6 @@ impl Minute {
         Some(&text[front.len()..])
     }
 
-    // The tenth of the window that the minute's text with these seconds names, where they are two
-    // digits, a dot and one more.
-    fn short_tenth(&self, seconds: &[u8], window: &Window) -> Option<Tenth>
-        ensures { IfSome result (λ t.
-            stamp_in window.now (take self.now.len self.now.text ++ seconds.now) ≡ Some t) }
-    {
-        match short_seconds(seconds) {
-            Some(tenth) => Some(window.tenth_of(self.day, self.start + tenth)),
-            None => None,
-        }
-    }
-
     // The tenth of the window that the minute's text with these seconds names.
     fn tenth(&self, seconds: &[u8], window: &Window) -> Option<Tenth>
         ensures { result ≡ stamp_in window.now (take self.now.len self.now.text ++ seconds.now) }
@@ -90,8 +78,8 @@ impl Minute {
     }
 }
 
-/// The tenth of the window that a stamp names which begins with the known minute's text, and then
-/// has seconds with one digit after their dot; no answer otherwise. Most stamps are so.
+/// The tenth of the window that a stamp names which begins with the known minute's text and has no
+/// space at its ends; no answer where there is none. Most stamps are so.
 pub(crate) fn usual_tenth(minute: &Option<Minute>, stamp: &[u8], window: &Window) -> Option<Tenth>
     ensures { IfSome result (λ t. stamp_in window.now (trimmed stamp.now) ≡ Some t) }
 {
@@ -102,7 +90,7 @@ pub(crate) fn usual_tenth(minute: &Option<Minute>, stamp: &[u8], window: &Window
     if !is_plain(stamp) {
         return None;
     }
-    minute.short_tenth(seconds, window)
+    minute.tenth(seconds, window)
 }
 
 // The minute of a stamp, where a space parts its date from its time. One with `T` has none here: a

@@ -5,8 +5,11 @@ pub mod DayFacts
 pub mod TrimFacts
 pub mod OrderFacts
 pub mod RepeatFacts
+pub mod LookBackFacts
+pub mod NotedFacts
 pub mod ReadFacts
 pub mod CutFacts
 pub mod FormFacts
 pub mod MinuteFacts
 pub mod PairFacts
+pub mod WordFacts

@@ -6,13 +6,11 @@ use Rattle.std.proofs.lemmas.Bool.Decides.{nat_tests}
 use Rattle.std.proofs.lemmas.List.{length-append}
 use Rattle.std.proofs.Math.ListN.{drop_of_length-le}
 use Rattle.event_codes.specs.declared.channels.Group.{Group}
-use Rattle.event_codes.specs.Channels.{same_group}
-use Rattle.event_codes.proofs.Groups.{same_group-symm}
 use Rattle.sig_base.specs.declared.values.Row.{Row}
 use Rattle.sig_base.specs.HourRows.{RiseIn}
 use Rattle.sig_base.proofs.Common.{next_row, or_none}
 use Rattle.row_reader.specs.Repeats.{group_of_row, last_where, is_event_of, is_repeat, kept_after, without_repeats, repeats_of, HasNoRepeat, IsPartOf}
-use Rattle.row_reader.specs.Last.{is_row, last_of, GivesLast, IsWithLast}
+use Rattle.row_reader.specs.Last.{is_row, if_at, TellsAt}
 
 pub or-assoc : (a b c : Option Row) → option_or (option_or a b) c ≡ option_or a (option_or b c)
 or-assoc None b c = refl
@@ -25,24 +23,7 @@ last_where-more test (x ∷ xs) y =
     ap (λ (o : Option Row). option_or o (if test x then Some x else None)) (last_where-more test xs y)
     ∙ or-assoc (if test y then Some y else None) (last_where test xs) (if test x then Some x else None)
 
-pick : (b c : Bool) (row : Row) (o : Option Row) → b ≡ c → (if b then Some row else o) ≡ option_or (if c then Some row else None) o
-pick true true row o e = refl
-pick true false row o e = cc
-pick false true row o e = cc
-pick false false row o e = refl
-
--- the look-ups after a row was noted
-pub noted : (row : Row) (old new : Group → Option Row) (kept : List Row) → GivesLast old kept → IsWithLast row old new → GivesLast new (kept ++ row ∷ [])
-noted row old new kept h w g =
-    w g ∙ pick (same_group (group_of_row row) g) (same_group g (group_of_row row)) row (old g) (same_group-symm (group_of_row row) g)
-    ∙ ap (λ (o : Option Row). option_or (if same_group g (group_of_row row) then Some row else None) o) (h g)
-    ∙ sym (last_where-more (λ r. same_group g (group_of_row r)) kept row)
-
 -- ---- the last row of a group, and the last one at a tenth
-
-abbrev if_at : ℕ → Option Row → Option Row
-if_at t None = None
-if_at t (Some r) = if r.at == t then Some r else None
 
 front-le : (from to : ℕ) (xs : List Row) (row : Row) (rest : List Row) → RiseIn from to (xs ++ row ∷ rest) → from ≤ row.at
 front-le from to [] row rest h = h.0
@@ -64,7 +45,7 @@ lies-or from to x r (Some q) b h k e =
     let l : Lies x.at to q = k q refl in
     rw (← s) (omega (arith, h.0, l.0), l.1)
 
-last-lies : (p : Row → Bool) (from to : ℕ) (xs : List Row) (row : Row) (rest : List Row) (r : Row)
+pub last-lies : (p : Row → Bool) (from to : ℕ) (xs : List Row) (row : Row) (rest : List Row) (r : Row)
     → RiseIn from to (xs ++ row ∷ rest) → last_where p xs ≡ Some r → Lies from row.at r
 last-lies p from to [] row rest r h e = cc
 last-lies p from to (x ∷ xs) row rest r h e =
@@ -91,7 +72,7 @@ at-step : (t : ℕ) (x : Row) (o : Option Row) (b : Bool) → ((r : Row) → o �
 at-step t x None b h = one_at t x (x.at == t) b ∙ at-one t x b
 at-step t x (Some r) b h = earlier t x r (r.at == t) b refl (h r refl)
 
-last-at : (p : Row → Bool) (from to : ℕ) (xs : List Row) (row : Row) (rest : List Row) → RiseIn from to (xs ++ row ∷ rest)
+pub last-at : (p : Row → Bool) (from to : ℕ) (xs : List Row) (row : Row) (rest : List Row) → RiseIn from to (xs ++ row ∷ rest)
     → last_where (λ r. (r.at == row.at) && p r) xs ≡ if_at row.at (last_where p xs)
 last-at p from to [] row rest h = refl
 last-at p from to (x ∷ xs) row rest h =
@@ -106,98 +87,77 @@ event-at : (row : Row) (o : Option Row) → is_event_of row (if_at row.at o) ≡
 event-at row None = refl
 event-at row (Some r) = event-if row r (r.at == row.at)
 
--- the look-up tells the repeats
-repeat-is : (from to : ℕ) (kept : List Row) (row : Row) (rest : List Row) (look_up : Group → Option Row)
-    → RiseIn from to (kept ++ row ∷ rest) → GivesLast look_up kept → is_repeat kept row ≡ is_row row (look_up (group_of_row row))
-repeat-is from to kept row rest look_up rise h =
-    ap (is_event_of row) (last-at (λ r. same_group (group_of_row row) (group_of_row r)) from to kept row rest rise)
-    ∙ event-at row (last_of (group_of_row row) kept)
-    ∙ ap (is_row row) (sym (h (group_of_row row)))
-
 -- the list with this row at its end, at the last tenth
-rise-end : (from to : ℕ) (xs : List Row) (row : Row) → from ≤ row.at → row.at + 1 ≡ to → RiseIn from to xs → RiseIn from to (xs ++ row ∷ [])
+pub rise-end : (from to : ℕ) (xs : List Row) (row : Row) → from ≤ row.at → row.at + 1 ≡ to → RiseIn from to xs → RiseIn from to (xs ++ row ∷ [])
 rise-end from to [] row le e h = (le, omega (arith, e), tt)
 rise-end from to (x ∷ xs) row le e h = (h.0, h.1, rise-end x.at to xs row (omega (arith, e, h.1)) e h.2)
 
 -- what was looked up tells whether a further row is a repeat
-pub told-repeat : (kept : List Row) (row : Row) (look_up : Group → Option Row) (g : Group) (o : Option Row) (b : Bool)
-    → RiseIn 0 (row.at + 1) kept → GivesLast look_up kept → g ≡ group_of_row row → o ≡ look_up g → b ≡ is_row row o → b ≡ is_repeat kept row
-told-repeat kept row look_up g o b rise h e f w =
-    w
-    ∙ sym (repeat-is 0 (row.at + 1) kept row [] look_up (rise-end 0 (row.at + 1) kept row (omega arith) refl rise) h
-    ∙ ap (λ (k : Group). is_row row (look_up k)) (sym e) ∙ ap (is_row row) (sym f))
+pub repeat-told : (kept : List Row) (row : Row) (look_up : Group → Option Row) (b : Bool)
+    → TellsAt row.at look_up kept → b ≡ is_row row (look_up (group_of_row row)) → b ≡ is_repeat kept row
+repeat-told kept row look_up b tells e =
+    e ∙ sym (event-at row (look_up (group_of_row row))) ∙ ap (is_event_of row) (tells (group_of_row row))
 
 -- ---- the loop
 
-rise-lower : (a b to : ℕ) (xs : List Row) → a ≤ b → RiseIn b to xs → RiseIn a to xs
+pub rise-lower : (a b to : ℕ) (xs : List Row) → a ≤ b → RiseIn b to xs → RiseIn a to xs
 rise-lower a b to [] h k = tt
 rise-lower a b to (x ∷ xs) h k = (omega (arith, k.0), k.1, k.2)
 
-rise-without : (from to : ℕ) (xs : List Row) (row : Row) (rest : List Row) → RiseIn from to (xs ++ row ∷ rest) → RiseIn from to (xs ++ rest)
+pub rise-without : (from to : ℕ) (xs : List Row) (row : Row) (rest : List Row) → RiseIn from to (xs ++ row ∷ rest) → RiseIn from to (xs ++ rest)
 rise-without from to [] row rest h = rise-lower from row.at to rest h.0 h.2
 rise-without from to (x ∷ xs) row rest h = (h.0, h.1, rise-without x.at to xs row rest h.2)
 
+-- the rows in front of others are in order, and none of them is behind the first of the others
+pub rise-below : (from to : ℕ) (xs : List Row) (row : Row) (rest : List Row) → RiseIn from to (xs ++ row ∷ rest) → RiseIn from (row.at + 1) xs
+rise-below from to [] row rest h = tt
+rise-below from to (x ∷ xs) row rest h = (h.0, omega (arith, front-le x.at to xs row rest h.2), rise-below x.at to xs row rest h.2)
+
 -- these rows are kept so far, and those are left
-pub record IsKept (from to : ℕ) (rows : List Row) (look_up : Group → Option Row) (kept rest : List Row) : Type 0 where
+pub record IsKept (from to : ℕ) (rows kept rest : List Row) : Type 0 where
   pub same : without_repeats rows ≡ kept_after kept rest
   pub rise : RiseIn from to (kept ++ rest)
-  pub last : GivesLast look_up kept
   pub count : length kept + length rest ≤ length rows
 
-pub kept-start : (from to : ℕ) (rows : List Row) (look_up : Group → Option Row) → RiseIn from to rows → ((g : Group) → look_up g ≡ None)
-    → IsKept from to rows look_up [] rows
-kept-start from to rows look_up h none = record { same = refl; rise = h; last = none; count = omega arith }
+pub kept-start : (from to : ℕ) (rows : List Row) → RiseIn from to rows → IsKept from to rows [] rows
+kept-start from to rows h = record { same = refl; rise = h; count = omega arith }
 
-pub kept-dropped : (from to : ℕ) (rows : List Row) (look_up : Group → Option Row) (kept : List Row) (i : ℕ) (d : Row) → i < length rows
-    → IsKept from to rows look_up kept (drop i rows) → is_row (get_or rows i d) (look_up (group_of_row (get_or rows i d))) ≡ true → IsKept from to rows look_up kept (drop (i + 1) rows)
-kept-dropped from to rows look_up kept i d within h e =
+-- the next row is behind those that are kept, or at the tenth of the last one
+pub kept-rise : (from to : ℕ) (rows kept : List Row) (i : ℕ) (d : Row) → i < length rows → IsKept from to rows kept (drop i rows)
+    → RiseIn 0 ((get_or rows i d).at + 1) kept
+kept-rise from to rows kept i d within h =
     let row : Row = get_or rows i d in
-    let rest : drop i rows ≡ row ∷ drop (i + 1) rows = next_row rows i d within in
-    let k : IsKept from to rows look_up kept (row ∷ drop (i + 1) rows) = rw rest at h in
-    let r : is_repeat kept row ≡ true = repeat-is from to kept row (drop (i + 1) rows) look_up k.rise k.last ∙ e in
+    let k : IsKept from to rows kept (row ∷ drop (i + 1) rows) = rw (next_row rows i d within) at h in
+    rise-lower 0 from (row.at + 1) kept (omega arith) (rise-below from to kept row (drop (i + 1) rows) k.rise)
+
+pub kept-dropped : (from to : ℕ) (rows kept : List Row) (i : ℕ) (d : Row) → i < length rows
+    → IsKept from to rows kept (drop i rows) → is_repeat kept (get_or rows i d) ≡ true → IsKept from to rows kept (drop (i + 1) rows)
+kept-dropped from to rows kept i d within h r =
+    let row : Row = get_or rows i d in
+    let k : IsKept from to rows kept (row ∷ drop (i + 1) rows) = rw (next_row rows i d within) at h in
     record {
       same = k.same ∙ ap (λ (b : Bool). kept_after (if b then kept else kept ++ row ∷ []) (drop (i + 1) rows)) r;
       rise = rise-without from to kept row (drop (i + 1) rows) k.rise;
-      last = k.last;
       count = omega (arith, k.count);
     }
 
--- the last row of the group, as it was looked up, tells the repeats
-looked : (row : Row) (look_up : Group → Option Row) (g : Group) (o : Option Row) (b : Bool) → g ≡ group_of_row row → o ≡ look_up g → is_row row o ≡ b → is_row row (look_up (group_of_row row)) ≡ b
-looked row look_up g o b e f h = ap (λ (k : Group). is_row row (look_up k)) (sym e) ∙ ap (is_row row) (sym f) ∙ h
-
-pub kept-dropped-by : (from to : ℕ) (rows : List Row) (look_up : Group → Option Row) (kept : List Row) (i : ℕ) (d : Row) (g : Group) (o : Option Row) → i < length rows
-    → IsKept from to rows look_up kept (drop i rows) → g ≡ group_of_row (get_or rows i d) → o ≡ look_up g → is_row (get_or rows i d) o ≡ true → IsKept from to rows look_up kept (drop (i + 1) rows)
-kept-dropped-by from to rows look_up kept i d g o within h e f is =
-    kept-dropped from to rows look_up kept i d within h (looked (get_or rows i d) look_up g o true e f is)
-
-pub kept-added : (from to : ℕ) (rows : List Row) (look_up new : Group → Option Row) (kept : List Row) (i : ℕ) (d : Row) → i < length rows
-    → IsKept from to rows look_up kept (drop i rows) → is_row (get_or rows i d) (look_up (group_of_row (get_or rows i d))) ≡ false → IsWithLast (get_or rows i d) look_up new
-    → IsKept from to rows new (kept ++ get_or rows i d ∷ []) (drop (i + 1) rows)
-kept-added from to rows look_up new kept i d within h e w =
+pub kept-added : (from to : ℕ) (rows kept : List Row) (i : ℕ) (d : Row) → i < length rows
+    → IsKept from to rows kept (drop i rows) → is_repeat kept (get_or rows i d) ≡ false → IsKept from to rows (kept ++ get_or rows i d ∷ []) (drop (i + 1) rows)
+kept-added from to rows kept i d within h r =
     let row : Row = get_or rows i d in
-    let rest : drop i rows ≡ row ∷ drop (i + 1) rows = next_row rows i d within in
-    let k : IsKept from to rows look_up kept (row ∷ drop (i + 1) rows) = rw rest at h in
-    let r : is_repeat kept row ≡ false = repeat-is from to kept row (drop (i + 1) rows) look_up k.rise k.last ∙ e in
+    let k : IsKept from to rows kept (row ∷ drop (i + 1) rows) = rw (next_row rows i d within) at h in
     record {
       same = k.same ∙ ap (λ (b : Bool). kept_after (if b then kept else kept ++ row ∷ []) (drop (i + 1) rows)) r;
       rise = rw (append_assoc kept (row ∷ []) (drop (i + 1) rows)) k.rise;
-      last = noted row look_up new kept k.last w;
       count = omega (arith, k.count, length-append kept (row ∷ []));
     }
 
-pub kept-added-by : (from to : ℕ) (rows : List Row) (look_up new : Group → Option Row) (kept : List Row) (i : ℕ) (d : Row) (g : Group) (o : Option Row) → i < length rows
-    → IsKept from to rows look_up kept (drop i rows) → g ≡ group_of_row (get_or rows i d) → o ≡ look_up g → is_row (get_or rows i d) o ≡ false → IsWithLast (get_or rows i d) look_up new
-    → IsKept from to rows new (kept ++ get_or rows i d ∷ []) (drop (i + 1) rows)
-kept-added-by from to rows look_up new kept i d g o within h e f is w =
-    kept-added from to rows look_up new kept i d within h (looked (get_or rows i d) look_up g o false e f is) w
-
 -- nothing is left
-pub kept-end : (from to : ℕ) (rows : List Row) (look_up : Group → Option Row) (kept : List Row) (i : ℕ) → length rows ≤ i
-    → IsKept from to rows look_up kept (drop i rows) → (kept ≡ without_repeats rows) × RiseIn from to kept
-kept-end from to rows look_up kept i h k =
+pub kept-end : (from to : ℕ) (rows kept : List Row) (i : ℕ) → length rows ≤ i
+    → IsKept from to rows kept (drop i rows) → (kept ≡ without_repeats rows) × RiseIn from to kept
+kept-end from to rows kept i h k =
     let e : drop i rows ≡ [] = drop_of_length-le rows h in
-    let m : IsKept from to rows look_up kept [] = rw e at k in
+    let m : IsKept from to rows kept [] = rw e at k in
     (sym m.same, rw append-nil at m.rise)
 
 -- ---- what is kept

@@ -3,7 +3,7 @@ use Rattle.std.proofs.Common.{◌≡◌, ◌<◌, ◌+◌, ◌-◌, ℕ, Bool, t
 use Rattle.std.specs.Prelude.{◌==◌, ◌≢◌}
 use Rattle.std.proofs.lemmas.Bool.Decides.{nat_tests}
 use Rattle.std.proofs.lemmas.List.{take_more, take_all}
-use Rattle.row_reader.specs.Trim.{trim_end, before_end}
+use Rattle.row_reader.specs.Trim.{trim_end, before_end, trim_front, trimmed}
 
 before_end-some : (x b : ℕ) (xs : List ℕ) → before_end x (xs ++ b ∷ []) ≡ x ∷ (xs ++ b ∷ [])
 before_end-some x b [] = refl
@@ -35,3 +35,12 @@ pub trim_end-stays : (text : List ℕ) → 0 < length text → get_or text (leng
 trim_end-stays text h f =
     let e : (get_or text (length text - 1) 0 == 32) ≡ false = grind (arith, nat_tests) in
     ap trim_end (split_last text h) ∙ trim_end-more (take (length text - 1) text) (get_or text (length text - 1) 0) ∙ (rw e refl) ∙ sym (split_last text h)
+
+trim_front-stays : (text : List ℕ) → get_or text 0 0 ≢ 32 → trim_front text ≡ text
+trim_front-stays [] h = refl
+trim_front-stays (b ∷ bs) h = let e : (b == 32) ≡ false = grind (arith, nat_tests, h) in rw e refl
+
+-- a text that neither begins nor ends with a space
+pub trimmed-stays : (text : List ℕ) → get_or text 0 0 ≢ 32 → get_or text (length text - 1) 0 ≢ 32 → trimmed text ≡ text
+trimmed-stays [] h k = refl
+trimmed-stays (b ∷ bs) h k = ap trim_end (trim_front-stays (b ∷ bs) h) ∙ trim_end-stays (b ∷ bs) (omega arith) k

@@ -8,6 +8,7 @@ pub mod Trim
 pub mod Order
 pub mod Repeats
 pub mod Last
+pub mod Noted
 pub mod Rows
 pub mod Request
 pub mod Count

@@ -1,34 +1,32 @@
-// Rows that are kept, with the last one of each group.
+// Rows that are kept, with what is noted of them.
 ghost use Rattle.std.specs.Prelude.{◌≡◌, ◌+◌, ◌++◌, ◌∷◌, [], length, IfOk};
 ghost use Rattle.sig_base.specs.HourRows.{RiseIn};
 ghost use Rattle.row_reader.specs.Repeats.{is_repeat};
 
-use crate::lasts::Lasts;
-use crate::repeats::{group_of_row, is_row};
+use crate::noted::Noted;
 use sig_base::{NoMemory, Row};
 use std::alloc::Global;
 use std::marker::Model;
 
 /// Rows in row order, seen as a list of them, which tell of a further row whether it repeats one:
-/// whether the last row of its group at its tenth has its code and parameter. That takes a look-up,
-/// however many rows stand at one tenth.
+/// whether the last row of its group at its tenth has its code and parameter. That takes a look at a
+/// few rows, or a look-up, however many rows stand at one tenth.
 #[derive(Drop)]
 pub struct KeptRows {
     rows: Vec<Row>,
-    lasts: Lasts,
+    noted: Noted,
 }
 
 impl Model for KeptRows {
     ghost use Rattle.std.specs.Prelude.{List};
-    ghost use Rattle.std.specs.BTreeMap.{get};
     ghost use Rattle.sig_base.specs.declared.values.Row.{Row};
-    ghost use Rattle.row_reader.specs.Last.{Remembers, pair_cmp};
+    ghost use Rattle.row_reader.specs.Noted.{IsNoted};
 
     ghost Value = { List Row };
 
     ghost view = { λ k. k.rows.items };
 
-    ghost invariant = { λ k. Remembers k.lasts.of.items (get pair_cmp k.lasts.alone) k.rows.items };
+    ghost invariant = { λ k. IsNoted k.noted k.rows.items };
 }
 
 impl KeptRows {
@@ -36,9 +34,11 @@ impl KeptRows {
     pub fn with_room(alloc: Global, room: usize) -> Result<KeptRows, NoMemory>
         ensures { IfOk result (λ k. k ≡ []) }
     {
-        let lasts = Lasts::none(alloc)?;
         let rows = Vec::with_capacity(alloc, room)?;
-        Ok(KeptRows { rows, lasts })
+        Ok(KeptRows {
+            rows,
+            noted: Noted::none(alloc),
+        })
     }
 
     /// How many there are.
@@ -53,7 +53,7 @@ impl KeptRows {
         requires { RiseIn 0 (row.at + 1) self.now }
         ensures { result ≡ is_repeat self.now row }
     {
-        is_row(row, self.lasts.last(group_of_row(row)))
+        self.noted.is_repeat(&self.rows, row)
     }
 
     /// The rows and this one behind them.
@@ -62,19 +62,19 @@ impl KeptRows {
     {
         let KeptRows {
             mut rows,
-            mut lasts,
+            mut noted,
         } = self;
-        lasts.note(group_of_row(row), row)?;
+        noted.note(&rows, row)?;
         rows.push(row)?;
-        Ok(KeptRows { rows, lasts })
+        Ok(KeptRows { rows, noted })
     }
 
     /// The rows alone.
     pub fn into_rows(self) -> Vec<Row>
         ensures { result.items ≡ self }
     {
-        let KeptRows { rows, lasts } = self;
-        drop(lasts);
+        let KeptRows { rows, noted } = self;
+        drop(noted);
         rows
     }
 }

@@ -1,18 +1,22 @@
 // The last row of each group.
-ghost use Rattle.std.specs.Prelude.{◌≡◌, ◌*◌, List, Option, Some, None, length, IfOk, OnOk};
+ghost use Rattle.std.specs.Prelude.{◌≡◌, ◌≤◌, ◌*◌, List, Option, Some, None, length, IfOk, OnOk, OnErr};
 ghost use Rattle.std.specs.BTreeMap.{get};
 ghost use Rattle.event_codes.specs.declared.channels.Group.{Group as Group_type};
 ghost use Rattle.sig_base.specs.declared.values.Row.{Row as Row_type};
 ghost use Rattle.row_reader.specs.Repeats.{group_of_row};
-ghost use Rattle.row_reader.specs.Last.{IsWithLast, looked_up, pair_cmp};
+ghost use Rattle.row_reader.specs.Last.{IsWithAll, IsWithLast, looked_up, pair_cmp};
 
+use crate::repeats::group_of_row;
 use event_codes::Group;
 use sig_base::{NoMemory, Row};
 use std::alloc::Global;
 use std::collections::BTreeMap;
 
+// The places of the table of channels.
+const CELLS: usize = 2048;
+
 /// The last row of each group: those of channels in a table by channel, since most rows are theirs,
-/// all others in the order of code and parameter.
+/// all others in the order of code and parameter. There is no table before the first row.
 #[derive(Drop)]
 pub(crate) struct Lasts {
     of: Vec<Option<Row>>,
@@ -21,35 +25,45 @@ pub(crate) struct Lasts {
 
 impl Lasts {
     /// No group has a row.
-    pub fn none(alloc: Global) -> Result<Lasts, NoMemory>
-        ensures full { IfOk result (λ l. length l.of.items ≡ 2048) }
-        ensures none { IfOk result (λ l. (g : Group_type)
-            → looked_up l.of.items (get pair_cmp l.alone) g ≡ None) }
+    pub fn none(alloc: Global) -> Lasts
+        ensures { (g : Group_type) → looked_up result.of.items (get pair_cmp result.alone) g ≡ None }
     {
-        Ok(Lasts {
-            of: vec![in alloc; None::<Row>; 2048]?,
+        Lasts {
+            of: Vec::new(alloc),
             alone: BTreeMap::new(alloc),
-        })
+        }
     }
 
     /// The last row of a group.
     pub fn last(&self, group: Group) -> Option<Row>
-        requires { length self.now.of.items ≡ 2048 }
         ensures { result ≡ looked_up self.now.of.items (get pair_cmp self.now.alone) group }
     {
         match group {
-            Group::Of(channel) => self.of[channel.cell()],
+            Group::Of(channel) => match self.of.get(channel.cell()) {
+                Some(cell) => *cell,
+                None => None,
+            },
             Group::Alone { code, param } => self.alone.get(&(code, param)).copied(),
         }
     }
 
-    /// Notes that this row is the last one of its group.
+    // Makes the table, where there is none yet.
+    fn make_table(&mut self) -> Result<(), NoMemory>
+        ensures full { OnOk result (2048 ≤ length self.new.of.items) }
+        ensures same { (g : Group_type) → looked_up self.new.of.items (get pair_cmp self.new.alone) g
+            ≡ looked_up self.old.of.items (get pair_cmp self.old.alone) g }
+    {
+        if self.of.len() < CELLS {
+            self.of.resize(CELLS, None)?;
+        }
+        Ok(())
+    }
+
     #[tactic(auto, unfolding(event_codes::specs::Channels::same_group))]
-    pub fn note(&mut self, group: Group, row: Row) -> Result<(), NoMemory>
-        requires full { length self.old.of.items ≡ 2048 }
+    fn put(&mut self, group: Group, row: Row) -> Result<(), NoMemory>
+        requires full { 2048 ≤ length self.old.of.items }
         requires group { group ≡ group_of_row row }
-        ensures full { length self.new.of.items ≡ 2048 }
-        ensures note { OnOk result (IsWithLast row
+        ensures { OnOk result (IsWithLast row
             (looked_up self.old.of.items (get pair_cmp self.old.alone))
             (looked_up self.new.of.items (get pair_cmp self.new.alone))) }
     {
@@ -58,6 +72,29 @@ impl Lasts {
             Group::Alone { code, param } => {
                 self.alone.insert((code, param), row)?;
             }
+        }
+        Ok(())
+    }
+
+    /// Notes that this row is the last one of its group.
+    #[inline(never)]
+    pub fn note(&mut self, row: Row) -> Result<(), NoMemory>
+        ensures { OnOk result (IsWithLast row
+            (looked_up self.old.of.items (get pair_cmp self.old.alone))
+            (looked_up self.new.of.items (get pair_cmp self.new.alone))) }
+    {
+        self.make_table()?;
+        self.put(group_of_row(row), row)
+    }
+
+    /// Notes these rows, one after another.
+    pub fn note_all(&mut self, rows: &[Row]) -> Result<(), NoMemory>
+        ensures { OnOk result (IsWithAll rows.now
+            (looked_up self.old.of.items (get pair_cmp self.old.alone))
+            (looked_up self.new.of.items (get pair_cmp self.new.alone))) }
+    {
+        for row in rows {
+            self.note(*row)?;
         }
         Ok(())
     }

@@ -8,7 +8,9 @@
 mod count;
 mod kept;
 mod lasts;
+mod look_back;
 mod minute;
+mod noted;
 mod number;
 mod order;
 mod reader;
@@ -18,6 +20,7 @@ mod row_error;
 mod signal;
 mod stamp;
 mod trim;
+mod word;
 
 pub use count::count_code;
 pub use kept::KeptRows;

@@ -1,17 +1,23 @@
 // The minute of the stamp before. Rows stand nearly in order, so most stamps begin with the text of
 // the one before up to and with its second colon: then only the seconds after it are read.
-ghost use Rattle.std.specs.Prelude.{◌≡◌, ◌≤◌, ◌+◌, ◌*◌, ◌++◌, ℕ, List, take, length, IfSome};
+ghost use Rattle.std.specs.Prelude.{◌≡◌, ◌≤◌, ◌+◌, ◌*◌, ◌++◌, ℕ, List, Some, take, length, IfSome};
 ghost use Rattle.std.proofs.Props.{props};
 ghost use Rattle.sig_base.specs.Window.{IsDay};
 ghost use Rattle.row_reader.specs.Minute.{IsMinute};
 ghost use Rattle.row_reader.specs.Stamp.{stamp_in};
+ghost use Rattle.row_reader.specs.Trim.{trimmed};
 
 use crate::number::read_number;
 use crate::stamp::{cut, date_of, read_stamp, seconds_of};
+use crate::trim::is_plain;
+use crate::word::begins_with;
 use sig_base::{Tenth, Window};
 
 // The bytes of the longest text of a minute, as `12/31/2023 23:59:`.
 const LONGEST: usize = 17;
+
+// No text of a minute has less, and so many are compared at once.
+const SHORTEST: usize = 8;
 
 /// A minute as its stamps begin: their text up to and with the second colon, the day, and the tenth
 /// of the day at which the minute starts.
@@ -22,6 +28,7 @@ pub(crate) struct Minute {
     day: i64,
     start: u32,
     ghost fits: { len ≤ 17 },
+    ghost some: { 8 ≤ len },
     ghost in_years: { IsDay day },
     ghost in_day: { start ≤ 863400 },
     ghost begins: { IsMinute (take len text) day start } by { Prim.hlevel props },
@@ -31,6 +38,7 @@ impl Minute {
     // The minute of this text.
     fn new(text: &[u8], day: i64, start: u32) -> Minute
         requires fits { length text.now ≤ 17 }
+        requires some { 8 ≤ length text.now }
         requires day { IsDay day }
         requires start { start ≤ 863400 }
         requires begins { IsMinute text.now day start }
@@ -52,7 +60,11 @@ impl Minute {
     fn after<'a>(&self, text: &'a [u8]) -> Option<&'a [u8]>
         ensures { IfSome result (λ r. text.now ≡ take self.now.len self.now.text ++ r.now) }
     {
-        text.strip_prefix(&self.text[..self.len])
+        let front = &self.text[..self.len];
+        if text.len() < front.len() || !begins_with(text, front) {
+            return None;
+        }
+        Some(&text[front.len()..])
     }
 
     // The tenth of the window that the minute's text with these seconds names.
@@ -66,6 +78,21 @@ impl Minute {
     }
 }
 
+/// The tenth of the window that a stamp names which begins with the known minute's text and has no
+/// space at its ends; no answer where there is none. Most stamps are so.
+pub(crate) fn usual_tenth(minute: &Option<Minute>, stamp: &[u8], window: &Window) -> Option<Tenth>
+    ensures { IfSome result (λ t. stamp_in window.now (trimmed stamp.now) ≡ Some t) }
+{
+    let Some(minute) = minute else {
+        return None;
+    };
+    let seconds = minute.after(stamp)?;
+    if !is_plain(stamp) {
+        return None;
+    }
+    minute.tenth(seconds, window)
+}
+
 // The minute of a stamp, where a space parts its date from its time. One with `T` has none here: a
 // space in what follows would part it elsewhere.
 fn minute_of(stamp: &[u8]) -> Option<Minute>
@@ -75,7 +102,7 @@ fn minute_of(stamp: &[u8]) -> Option<Minute>
     let (hour, rest) = cut(time, b':')?;
     let (minute, _) = cut(rest, b':')?;
     let len = date.len() + hour.len() + minute.len() + 3;
-    if len > LONGEST {
+    if len < SHORTEST || len > LONGEST {
         return None;
     }
     match (

@@ -14,6 +14,13 @@ use csv::{ByteRecord, ReaderBuilder};
 use sig_base::{Hour, HourRows, NoMemory, Row, Window};
 use std::alloc::Global;
 
+// No rows, with room for those that a file of these bytes may have. Few records take less than 24.
+fn room_for(alloc: Global, bytes: &[u8]) -> Result<Vec<Row>, NoMemory>
+    ensures { IfOk result (λ v. v.items ≡ []) }
+{
+    Ok(Vec::with_capacity(alloc, (bytes.len() / 24).min(400_000))?)
+}
+
 // The rows of a file as it has them.
 fn good_rows(alloc: Global, bytes: &[u8], request: &Request<'_>) -> Result<Vec<Row>, RowError>
     requires { request.now.hour < 744 }
@@ -28,7 +35,7 @@ fn good_rows(alloc: Global, bytes: &[u8], request: &Request<'_>) -> Result<Vec<R
         .flexible(true)
         .from_reader(alloc, bytes);
     let mut fields = ByteRecord::new(alloc);
-    let mut rows = Vec::new(alloc);
+    let mut rows = room_for(alloc, bytes)?;
     let mut headers = 0;
     let mut minute = None;
     for number in 1..400_003 {

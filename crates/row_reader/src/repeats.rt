@@ -4,7 +4,7 @@ ghost use Rattle.sig_base.specs.HourRows.{RiseIn};
 ghost use Rattle.row_reader.specs.Repeats.{group_of_row, without_repeats, repeats_of, HasNoRepeat, IsPartOf};
 ghost use Rattle.row_reader.specs.Last.{is_row};
 
-use crate::lasts::Lasts;
+use crate::noted::Noted;
 use event_codes::{Group, group_of};
 use sig_base::{Hour, NoMemory, Row};
 use std::alloc::Global;
@@ -36,14 +36,13 @@ pub fn drop_repeats(alloc: Global, hour: Hour, rows: &[Row]) -> Result<Vec<Row>,
     ensures no_repeat { IfOk result (λ v. HasNoRepeat [] v.items) }
     ensures count { IfOk result (λ v. length v.items + repeats_of rows.now ≡ length rows.now) }
 {
-    let mut lasts = Lasts::none(alloc)?;
-    let mut kept = Vec::new(alloc);
+    let mut noted = Noted::none(alloc);
+    let mut kept = Vec::with_capacity(alloc, rows.len())?;
     for row in rows {
-        let group = group_of_row(*row);
-        if is_row(*row, lasts.last(group)) {
+        if noted.is_repeat(&kept, *row) {
             continue;
         }
-        lasts.note(group, *row)?;
+        noted.note(&kept, *row)?;
         kept.push(*row)?;
     }
     Ok(kept)

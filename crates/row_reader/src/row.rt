@@ -1,12 +1,14 @@
 // The row of one record.
-ghost use Rattle.std.specs.Prelude.{◌≡◌, ◌+◌, ◌*◌, ◌<◌, ◌≤◌, ◌==◌, ◌||◌, IfSome, IfOk, OnOk, IsTrue, codes, length};
+ghost use Rattle.std.specs.Prelude.{◌≡◌, ◌+◌, ◌*◌, ◌<◌, ◌≤◌, ◌==◌, ◌||◌, ℕ, Ok, IfSome, IfOk, OnOk, IsTrue, codes, length};
 ghost use Rattle.csv.specs.Records.{fields_of};
 ghost use Rattle.row_reader.specs.Rows.{at_in_hour, field, is_header, is_word, record_row, row_of};
+ghost use Rattle.row_reader.specs.Trim.{trimmed};
 
 use crate::RowError;
-use crate::minute::{Minute, read_next_stamp};
-use crate::number::read_number;
-use crate::trim::trimmed;
+use crate::minute::{Minute, read_next_stamp, usual_tenth};
+use crate::number::{plain_number, read_number};
+use crate::trim::{is_plain, trimmed};
+use crate::word::same_text;
 use csv::ByteRecord;
 use sig_base::{Hour, Row, Tenth, Window};
 
@@ -34,10 +36,17 @@ fn at_in_hour(hour: Hour, at: Tenth) -> Option<u32>
     }
 }
 
+// The field at a place as it is, or no bytes.
+fn whole_field(fields: &ByteRecord, i: usize) -> &[u8]
+    ensures { trimmed result.now ≡ field (fields_of fields.now) i }
+{
+    fields.get(i).unwrap_or(b"")
+}
+
 fn field(fields: &ByteRecord, i: usize) -> &[u8]
     ensures { result.now ≡ field (fields_of fields.now) i }
 {
-    trimmed(fields.get(i).unwrap_or(b""))
+    trimmed(whole_field(fields, i))
 }
 
 fn is_header_word(text: &[u8]) -> bool
@@ -54,8 +63,39 @@ pub(crate) fn is_header(number: u32, fields: &ByteRecord) -> bool
     number == 1 && is_header_word(field(fields, 0))
 }
 
+// The row of four fields as most loggers write them: without spaces at their ends, in the minute of
+// the stamp before. No answer where they are otherwise.
+fn usual_row(
+    request: &Request<'_>,
+    minute: &Option<Minute>,
+    signal: &[u8],
+    stamp: &[u8],
+    code: &[u8],
+    param: &[u8],
+) -> Option<Row>
+    requires { request.now.hour < 744 }
+    ensures value { IfSome result (λ r. (n : ℕ) → row_of (wanted request.now) n (trimmed signal.now)
+        (trimmed stamp.now) (trimmed code.now) (trimmed param.now) ≡ Ok r) }
+    ensures range { IfSome result (λ r. (36000 * request.now.hour ≤ r.at)
+        × (r.at < 36000 * request.now.hour + 36000)) }
+{
+    if !same_text(signal, request.signal.as_bytes()) || !is_plain(signal) {
+        return None;
+    }
+    let tenth = usual_tenth(minute, stamp, request.window)?;
+    let at = at_in_hour(request.hour, tenth)?;
+    let code = plain_number(code, 255)?;
+    let param = plain_number(param, 65_535)?;
+    Some(Row {
+        at,
+        code: code as u8,
+        param: param as u16,
+    })
+}
+
 // The row of four fields. `minute` is that of the stamp before, where it is known, and then that of
 // this one.
+#[inline(never)]
 fn row_of(
     request: &Request<'_>,
     minute: &mut Option<Minute>,
@@ -114,6 +154,16 @@ pub(crate) fn record_row(
     }
     if fields.len() != 4 {
         return Err(RowError::Fields(number));
+    }
+    if let Some(row) = usual_row(
+        request,
+        minute,
+        whole_field(fields, 0),
+        whole_field(fields, 1),
+        whole_field(fields, 2),
+        whole_field(fields, 3),
+    ) {
+        return Ok(row);
     }
     row_of(
         request,

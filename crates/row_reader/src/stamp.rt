@@ -143,17 +143,26 @@ fn short_seconds(text: &[u8]) -> Option<u32>
     Some(100 * digit(*a) + 10 * digit(*b) + digit(*c))
 }
 
+// SS or SS.f of any length, as tenths.
+#[inline(never)]
+fn long_seconds(text: &[u8]) -> Option<u32>
+    ensures value { result ≡ seconds_of (cut 46 text.now) text.now }
+    ensures bound { IfSome result (λ n. n < 600) }
+{
+    match cut(text, b'.') {
+        Some((second, fraction)) => tenths(read_number(second, 2, 2, 59), first_digit(fraction)),
+        None => tenths(read_number(text, 2, 2, 59), Some(0)),
+    }
+}
+
 // SS or SS.f, as tenths.
 pub(crate) fn seconds_of(text: &[u8]) -> Option<u32>
     ensures value { result ≡ seconds_of (cut 46 text.now) text.now }
     ensures bound { IfSome result (λ n. n < 600) }
 {
-    if let Some(short) = short_seconds(text) {
-        return Some(short);
-    }
-    match cut(text, b'.') {
-        Some((second, fraction)) => tenths(read_number(second, 2, 2, 59), first_digit(fraction)),
-        None => tenths(read_number(text, 2, 2, 59), Some(0)),
+    match short_seconds(text) {
+        Some(short) => Some(short),
+        None => long_seconds(text),
     }
 }
 

@@ -7,6 +7,7 @@ invariant_of-result c =
     let copied = c.copy_from_slice.ensures.after in
     record {
       fits = c.requires.fits;
+      some = c.requires.some;
       in_years = search rules;
       in_day = c.requires.start;
       begins = let d : to_z w64 (of_z w64 c.args.day) ≡ c.args.day = search rules in

@@ -1,0 +1,22 @@
+use Rattle.std.proofs.Common.{arith}
+use Rattle.sig_base.proofs.Common.{clash}
+use Rattle.row_reader.proofs.NotedFacts.{knows-noted, knows-passed, knows-begun}
+use Rattle.row_reader.proofs.noted.Noted.note.Goals as goal
+
+pub returns-then-has : goal.returns-then-has
+returns-then-has c =
+    knows-noted c.args.self.now.until _ _ c.args.kept.now c.args.row (c.has.ensures.0 c.if-has.true) c.requires c.in_ok-note.ensures
+
+pub returns-in_default : goal.returns-in_default
+returns-in_default c =
+    knows-passed c.args.self.now.until _ c.args.kept.now c.args.row (λ q. clash _ (c.has.ensures.1 q) c.if-has.false) c.requires
+
+pub returns-then-from-self : goal.returns-then-from-self
+returns-then-from-self c =
+    knows-passed c.args.self.now.until _ c.args.kept.now c.args.row (λ q. clash _ (c.has.ensures.1 q) c.if-has.false) c.requires
+
+pub returns : goal.returns
+returns c =
+    let run = c.in-Some.ensures in
+    rw c.in_ok-begin.ensures.until (knows-begun c.args.self.now.until _ _ c.args.kept.now c.in-Some.run'.now c.args.row run.0 run.1 run.2
+    (omega (arith, c.if-from-self.false, c.from.ensures)) c.requires c.in_ok-begin.ensures.all)

@@ -56,6 +56,13 @@ impl Course {
     {
         self.moves.as_slice()
     }
+
+    /// The moves, in the place of the course.
+    pub fn into_moves(self) -> Vec<Move>
+        ensures { result.items ≡ self }
+    {
+        self.moves
+    }
 }
 
 /// The moves of each channel over the stretches.

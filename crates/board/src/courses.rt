@@ -19,6 +19,9 @@ use sig_base::{NoMemory, Row};
 use std::alloc::Global;
 use std::marker::Model;
 
+// Up to so many moves a course has room for from the start.
+const MOST_ROOM: usize = 1_024;
+
 /// The moves of one channel.
 #[derive(Drop)]
 pub struct Course {
@@ -35,12 +38,12 @@ impl Model for Course {
 }
 
 impl Course {
-    fn new(alloc: Global) -> Course
-        ensures { result ≡ [] }
+    // None yet, with room for so many.
+    fn new(alloc: Global, room: usize) -> Result<Course, NoMemory>
+        ensures { IfOk result (λ c. c ≡ []) }
     {
-        Course {
-            moves: Vec::new(alloc),
-        }
+        let moves = Vec::with_capacity(alloc, room)?;
+        Ok(Course { moves })
     }
 
     fn add(&mut self, one: Move) -> Result<(), NoMemory>
@@ -56,6 +59,13 @@ impl Course {
     {
         self.moves.as_slice()
     }
+
+    /// The moves, in the place of the course.
+    pub fn into_moves(self) -> Vec<Move>
+        ensures { result.items ≡ self }
+    {
+        self.moves
+    }
 }
 
 /// The moves of each channel over the stretches.
@@ -70,7 +80,7 @@ pub fn courses_of(
     ensures { IfOk result (λ v. AreCourses specs.now rows.now stretches.now v.items) }
 {
     let table = SpecTable::new(alloc, specs)?;
-    let mut courses = empty(alloc, specs.len())?;
+    let mut courses = empty(alloc, specs.len(), (rows.len() / 64).min(MOST_ROOM))?;
     let mut next: usize = 0;
     for stretch in stretches {
         next = add_stretch(specs, &table, courses.as_mut_slice(), rows, next, *stretch)?;
@@ -78,13 +88,15 @@ pub fn courses_of(
     Ok(courses)
 }
 
-fn empty(alloc: Global, count: usize) -> Result<Vec<Course>, NoMemory>
+// So many courses, each with room for so many moves.
+fn empty(alloc: Global, count: usize, room: usize) -> Result<Vec<Course>, NoMemory>
     ensures { IfOk result (λ v. (length v.items ≡ count)
         × ((i : ℕ) → slice_index_or v.items i [] ≡ [])) }
 {
-    let mut courses = Vec::new(alloc);
+    let mut courses = Vec::with_capacity(alloc, count)?;
     for _course in 0..count {
-        courses.push(Course::new(alloc))?;
+        let course = Course::new(alloc, room)?;
+        courses.push(course)?;
     }
     Ok(courses)
 }

@@ -103,15 +103,11 @@ impl HourView {
     {
         let courses = courses_of(alloc, specs, rows, stretches)?;
         let marks = marks_of(alloc, courses.as_slice(), first_of(stretches))?;
-        let mut paths = Vec::new(alloc);
-        for i in 0..specs.len() {
-            let path = path_of(
-                alloc,
-                &specs[i],
-                &before.pasts[i],
-                courses[i].moves(),
-                &after.aheads[i],
-            )?;
+        let mut paths = Vec::with_capacity(alloc, courses.len())?;
+        for course in courses {
+            let i = paths.len();
+            let moves = course.into_moves();
+            let path = path_of(alloc, &specs[i], &before.pasts[i], moves, &after.aheads[i])?;
             paths.push(path)?;
         }
         Ok(HourView {
@@ -178,20 +174,19 @@ fn path_of(
     alloc: Global,
     spec: &Spec,
     before: &Past,
-    moves: &[Move],
+    moves: Vec<Move>,
     after: &Ahead,
 ) -> Result<Path<AnyMachine>, NoMemory>
     requires fits { IsSpec spec.now }
     requires order { (low : ℕ) × EnteredBefore before.now low
-        × InOrder (rules_of spec.now) low moves.now }
+        × InOrder (rules_of spec.now) low moves.items }
     requires colours { length before.now ≡ (rules_of spec.now).colours }
     requires ahead { length after.now ≡ (rules_of spec.now).colours }
     ensures { IfOk result (λ l. (any_rules l.machine ≡ rules_of spec.now) × (l.before ≡ before.now)
-        × (l.moves ≡ moves.now) × (l.after ≡ after.now)) }
+        × (l.moves ≡ moves.items) × (l.after ≡ after.now)) }
 {
     let machine = machine_of(spec);
-    let own = Vec::from_slice(alloc, moves)?;
-    let path = Path::new(alloc, &machine, before, own, after)?;
+    let path = Path::new(alloc, &machine, before, moves, after)?;
     Ok(path)
 }
 

@@ -1,5 +1,5 @@
 -- Legs among the moves of a walk.
-use Rattle.std.proofs.Common.{◌≡◌, ◌∙◌, ap, sym, subst, inl, inr, ℕ, ◌+◌, ◌-◌, ◌<◌, ◌≤◌, List, ◌++◌, length, take, drop, get_or, arith}
+use Rattle.std.proofs.Common.{suc, zero, ◌≡◌, ◌∙◌, ap, sym, subst, inl, inr, ℕ, ◌+◌, ◌-◌, ◌<◌, ◌≤◌, List, [], ◌∷◌, ◌++◌, length, take, drop, get_or, arith}
 use Rattle.std.proofs.lemmas.Bool.{cases_eq}
 use Rattle.std.proofs.lemmas.List.{get_or_default, get_or-take, get_or-drop, length-take-le, length-drop, take-append-drop, take-take, drop-take, drop-drop}
 use Rattle.channel_path.specs.declared.moves.Move.{Move}
@@ -82,6 +82,18 @@ leg_gaps xs many leg k d lt = elim (cases_eq (k + 1) (length xs)) [
       apart_second (get_or xs (k - 1) d) (get_or xs k d) (rw at at (leg (k - 1) d (omega arith)))
   | inr ne ↦ apart_first (get_or xs k d) (get_or xs (k + 1) d) (leg k d (omega arith))
 ]
+
+-- a leg whose first move is a gap has no letter
+pub gaps_leg : (xs : List Move) (f t : ℕ) → IsLeg xs → ((d : Move) → get_or xs 0 d ≡ Gap f t) → AreGaps xs
+gaps_leg [] f t leg first k d lt = absurd (omega arith)
+gaps_leg (x ∷ []) f t leg first zero d lt = rw (first d) tt
+gaps_leg (x ∷ []) f t leg first (suc k) d lt = absurd (omega arith)
+gaps_leg (x ∷ (y ∷ ys)) f t leg first k d lt = leg_gaps (x ∷ (y ∷ ys)) (omega arith) leg k d lt
+
+pub gaps_slice : (xs : List Move) (a b f t : ℕ) (d : Move) → a < b → b ≤ length xs → get_or xs a d ≡ Gap f t → IsLeg (take (b - a) (drop a xs)) → AreGaps (take (b - a) (drop a xs))
+gaps_slice xs a b f t d lt h gap leg =
+    let at : a + 0 ≡ a = omega arith in
+    gaps_leg (take (b - a) (drop a xs)) f t leg (λ e. get_slice xs a b 0 e (omega arith) ∙ (ap (λ n. get_or xs n e) at ∙ (get_or_default xs a e d (omega arith) ∙ gap)))
 
 -- the moves up to a place, and those from it to another
 pub slice_join : (xs : List Move) (a b : ℕ) → a ≤ b → take b xs ≡ take a xs ++ take (b - a) (drop a xs)

@@ -1,7 +1,7 @@
 -- Moves one after another, forward and backward.
-use Rattle.std.proofs.Common.{suc, zero, ◌≡◌, refl, sym, subst, inl, inr, ◌↔◌, ℕ, ◌+◌, ◌-◌, ◌<◌, ◌≤◌, ℤ, pos, ◌+ℤ◌, ◌<ℤ◌, Bool, true, false, List, [], ◌∷◌, ◌++◌, length, take, drop, get_or, arith, Option, Result, Ok, Err, IsTrue, MatchBool, OnOk, IfOk}
+use Rattle.std.proofs.Common.{suc, zero, ◌≡◌, refl, sym, ◌∙◌, subst, inl, inr, ◌↔◌, ℕ, ◌+◌, ◌-◌, ◌<◌, ◌≤◌, ℤ, pos, ◌+ℤ◌, ◌<ℤ◌, Bool, true, false, List, [], ◌∷◌, ◌++◌, length, take, drop, get_or, arith, Option, IsTrue}
 use Rattle.std.proofs.lemmas.Int.{ints}
-use Rattle.std.proofs.lemmas.List.{take-take, take_all, drop_all, drop_more}
+use Rattle.std.proofs.lemmas.List.{take_all, take_more, drop_all, drop_more}
 use Rattle.span_set.specs.declared.set.Span.{Span}
 use Rattle.colour_machine.specs.Rules.{Rules}
 use Rattle.reach.specs.Runs.{State, Step, Steps, Run, Fills}
@@ -9,6 +9,7 @@ use Rattle.reach.specs.Past.{Holds}
 use Rattle.reach.specs.Ahead.{Admits}
 use Rattle.reach.proofs.States.{fills_none}
 use Rattle.reach.proofs.Arriving.{fills_later}
+use Rattle.reach.proofs.Later.{then_iff}
 use Rattle.channel_path.specs.declared.moves.Move.{Move}
 use Rattle.channel_path.specs.declared.moves.Move.TheVariants.{Letter, Gap}
 use Rattle.channel_path.specs.Walks.{limit_before, limit_after, IsMove, InOrder, Taken, Walk, AfterMove, AfterMoves, BeforeMove, BeforeMoves, StopsAt, EnteredBefore}
@@ -48,20 +49,6 @@ after_join m old now new xs ys inv step u = (
 pub after_leg : (m : Rules) (old now new : List (List Span)) (xs : List Move) (a b : ℕ) → a ≤ b → ((u : State) → Holds now u ↔ AfterMoves m old (take a xs) u) → ((u : State) → Holds new u ↔ AfterMoves m now (take (b - a) (drop a xs)) u) → (u : State) → Holds new u ↔ AfterMoves m old (take b xs) u
 after_leg m old now new xs a b le inv step u = rw (slice_join xs a b le) (after_join m old now new (take a xs) (take (b - a) (drop a xs)) inv step u)
 
--- a leg that stops at its first move stops the walk there
-pub stops_leg : (m : Rules) (old now : List (List Span)) (xs : List Move) (a b : ℕ) → a < b → b ≤ length xs → ((u : State) → Holds now u ↔ AfterMoves m old (take a xs) u) → StopsAt m now (take (b - a) (drop a xs)) 0 → StopsAt m old xs a
-stops_leg m old now xs a b lt h inv (_, (u, (v, hv, w)), none) =
-    let first : take 1 (take (b - a) (drop a xs)) ≡ take 1 (drop a xs) = take-take 1 (b - a) (drop a xs) (omega arith) in
-    let one : (a + 1) - a ≡ 1 = omega arith in
-    let joined : take (a + 1) xs ≡ take a xs ++ take 1 (drop a xs) = rw one at (slice_join xs a (a + 1) (omega arith)) in (
-      omega arith,
-      (v, (inv v).0 hv),
-      λ z after.
-          let (s, hs, r) = rw joined at after in
-          let (y, one_way, rest) = (walk_join m (take a xs) (take 1 (drop a xs)) s z).0 r in
-          none z (y, (inv y).1 (s, hs, one_way), rw first rest),
-    )
-
 pub after_none : (m : Rules) (old : List (List Span)) (xs : List Move) (u : State) → Holds old u ↔ AfterMoves m old (take 0 xs) u
 after_none m old xs u = (λ h. (u, h, refl), λ (s, h, e). rw e h)
 
@@ -77,19 +64,21 @@ after_one m sets [] d u e = absurd (omega arith)
 after_one m sets (x ∷ []) d u e = (λ (s, h, a). (s, h, (walk_one m x s u).1 a), λ (s, h, w). (s, h, (walk_one m x s u).0 w))
 after_one m sets (x ∷ (y ∷ ys)) d u e = absurd (omega arith)
 
-stops_one : (m : Rules) (old new : List (List Span)) (xs : List Move) (d : Move) (b : Bool) → length xs ≡ 1 → ((s : State) × Holds old s) → ((u : State) → Holds new u ↔ AfterMove m old (get_or xs 0 d) u) → (IsTrue b ↔ ((u : State) × Holds new u)) → MatchBool b ((u : State) × Holds new u) (StopsAt m old xs 0)
-stops_one m old new xs d true e some after iff = iff.0 refl
-stops_one m old new xs d false e (s, h) after iff = (
-  omega arith,
-  (s, (s, h, refl)),
-  λ u w.
-      let all : take (0 + 1) xs ≡ xs = take_all 1 xs (omega arith) in
-      let yes = iff.1 (u, (after u).1 ((after_one m old xs d u e).1 (rw all at w))) in cc,
-)
+-- the sets after one move more
+pub after_more : (m : Rules) (old now new : List (List Span)) (xs : List Move) (i : ℕ) (d : Move) → i < length xs → ((u : State) → Holds now u ↔ AfterMoves m old (take i xs) u) → ((u : State) → Holds new u ↔ AfterMove m now (get_or xs i d) u) → (u : State) → Holds new u ↔ AfterMoves m old (take (i + 1) xs) u
+after_more m old now new xs i d lt inv step u =
+    let x = get_or xs i d in
+    rw (take_more xs i d lt) (after_join m old now new (take i xs) (x ∷ []) inv (λ w. then_iff (step w) (after_one m now (x ∷ []) d w refl)) u)
 
-pub stops_first : {E : Type 0} (m : Rules) (old new : List (List Span)) (xs : List Move) (d : Move) (r : Result Bool E) → length xs ≡ 1 → OnOk r ((u : State) → Holds new u ↔ AfterMove m old (get_or xs 0 d) u) → (((s : State) × Holds old s) → IfOk r (λ b. IsTrue b ↔ ((u : State) × Holds new u))) → ((s : State) × Holds old s) → IfOk r (λ b. MatchBool b ((u : State) × Holds new u) (StopsAt m old xs 0))
-stops_first m old new xs d (Ok b) e after iff some = stops_one m old new xs d b e some after (iff some)
-stops_first m old new xs d (Err x) e after iff some = iff some
+-- a walk stops at the move after which no state is left
+pub stops_more : (m : Rules) (old now new : List (List Span)) (xs : List Move) (i : ℕ) (d : Move) (b : Bool) → i < length xs → ((s : State) × Holds now s) → ((u : State) → Holds now u ↔ AfterMoves m old (take i xs) u) → ((u : State) → Holds new u ↔ AfterMove m now (get_or xs i d) u) → (IsTrue b ↔ ((u : State) × Holds new u)) → b ≡ false → StopsAt m old xs i
+stops_more m old now new xs i d b lt (s, h) inv step some none = (
+  lt,
+  (s, (inv s).0 h),
+  λ u w.
+      let yes : b ≡ true = some.1 (u, (after_more m old now new xs i d lt inv step u).1 w) in
+      let bad : true ≡ false = sym yes ∙ none in cc,
+)
 
 -- no state is entered after the moves that lead to it
 step_early : (m : Rules) (t x : ℤ) (s u : State) (l : ℕ) → Step m t s l u → t <ℤ x → s.entry <ℤ x → u.entry <ℤ x
@@ -134,6 +123,16 @@ leg_order m old now xs a b (low, none, o) inv = (
   λ s h. let (z, hz, w) = (inv s).0 h in walk_early m low (take a xs) z s (order_take m low a xs o) w (none z hz),
   order_take m (limit_of low (take a xs)) (b - a) (drop a xs) (order_drop m low a xs o),
 )
+
+-- and so for the next move, which is one of the machine's
+pub move_order : (m : Rules) (old now : List (List Span)) (xs : List Move) (i : ℕ) (d x : Move) → i < length xs → get_or xs i d ≡ x → ((low : ℕ) × EnteredBefore old low × InOrder m low xs) → ((u : State) → Holds now u ↔ AfterMoves m old (take i xs) u) → IsMove m x × EnteredBefore now (limit_before x)
+move_order m old now xs i d x lt e (low, none, o) inv =
+    let here = limit_of low (take i xs) in
+    let order : InOrder m here (get_or xs i d ∷ drop (i + 1) xs) = rw (drop_more xs i d lt) at (order_drop m low i xs o) in
+    let (le, fits, rest) = rw e at order in (
+      fits,
+      λ s h. let (z, hz, w) = (inv s).0 h in let early = walk_early m low (take i xs) z s (order_take m low i xs o) w (none z hz) in omega (arith, ints),
+    )
 
 pub gap_keeps : (m : Rules) (f t : ℕ) (s : State) → f < t → Fills m (pos f) (pos t) s s
 gap_keeps m f t s lt = fills_later m (pos f) (pos f) (pos t) s s (omega (arith, ints)) ((fills_none m (pos f) s s).1 refl)

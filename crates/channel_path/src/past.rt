@@ -1,8 +1,9 @@
 // The states after moves.
-ghost use Rattle.std.specs.Prelude.{◌≡◌, ℕ, pos, ◌<◌, ◌≤◌, ◌+◌, ◌^◌, ◌↔◌, ◌∷◌, length, take, IsTrue, IfOk, OnOk, OnErr, MatchOption, MatchBool, slice_index_or, []};
+ghost use Rattle.std.specs.Prelude.{◌≡◌, ℕ, pos, ◌<◌, ◌≤◌, ◌+◌, ◌^◌, ◌↔◌, ◌∷◌, ◌++◌, length, take, IsTrue, IfOk, OnOk, OnErr, MatchOption, MatchBool, slice_index_or, []};
 ghost use Rattle.reach.specs.Runs.{State};
-ghost use Rattle.reach.specs.Past.{Holds, AfterGap};
-ghost use Rattle.channel_path.specs.Walks.{limit_before, IsMove, InOrder, AfterMove, AfterMoves, StopsAt, EnteredBefore};
+ghost use Rattle.reach.specs.Past.{Holds, AfterGap, AfterRow};
+ghost use Rattle.channel_path.specs.declared.moves.Move.TheVariants.{Gap};
+ghost use Rattle.channel_path.specs.Walks.{InOrder, AfterMoves, StopsAt, EnteredBefore};
 ghost use Rattle.channel_path.specs.Kept.{letters, AreRuns, kept_before, HasPast, past_of, ArePasts};
 ghost use Rattle.channel_path.specs.Legs.{IsLeg};
 
@@ -35,65 +36,65 @@ pub fn walk_past<M: Machine>(
     let mut holes = Vec::new(alloc);
     let mut place = 0;
     while place < moves.len() {
-        let end = leg_end(moves, place);
-        if !leg_past(machine, past, &mut holes, &moves[place..end])? {
-            return Ok(Some(place));
+        match moves[place] {
+            Move::Letter { at, letter, .. } => {
+                if !letter_past(machine, past, at, letter)? {
+                    return Ok(Some(place));
+                }
+                place += 1;
+            }
+            Move::Gap { from, to } => {
+                let end = leg_end(moves, place);
+                gaps_past(machine, past, &mut holes, &moves[place..end], from, to)?;
+                place = end;
+            }
         }
-        place = end;
     }
     Ok(None)
 }
 
-// The moves of one leg. Answers whether a state is left, where there was one. The buffer takes the
-// holes of two gaps or more.
-fn leg_past<M: Machine>(
+// One letter. Answers whether a state is left.
+fn letter_past<M: Machine>(
+    machine: &M,
+    past: &mut Past,
+    at: u32,
+    letter: u8,
+) -> Result<bool, NoMemory>
+    requires fits { letter < (M.rules machine.now).letters }
+    requires place { EnteredBefore past.old (at + 1) }
+    requires colours { length past.old ≡ (M.rules machine.now).colours }
+    ensures after { OnOk result ((u : State) → Holds past.new u
+        ↔ AfterRow (M.rules machine.now) past.old (pos at) letter u) }
+    ensures some { IfOk result (λ b. IsTrue b ↔ ((u : State) × Holds past.new u)) }
+    ensures colours { length past.new ≡ length past.old }
+{
+    past_row(machine, past, i64::from(at), letter)
+}
+
+// The gaps of one leg, of which this is the first. The buffer takes the holes of two or more.
+fn gaps_past<M: Machine>(
     machine: &M,
     past: &mut Past,
     holes: &mut Vec<Span>,
     leg: &[Move],
-) -> Result<bool, NoMemory>
+    from: u32,
+    to: u32,
+) -> Result<(), NoMemory>
     requires some { 0 < length leg.now }
     requires leg { IsLeg leg.now }
+    requires first { (d : Move) → slice_index_or leg.now 0 d ≡ Gap from to }
     requires order { (low : ℕ) × EnteredBefore past.old low
         × InOrder (M.rules machine.now) low leg.now }
     requires colours { length past.old ≡ (M.rules machine.now).colours }
     ensures after { OnOk result ((u : State) → Holds past.new u
         ↔ AfterMoves (M.rules machine.now) past.old leg.now u) }
-    ensures some { ((s : State) × Holds past.old s)
-        → IfOk result (λ b. MatchBool b ((u : State) × Holds past.new u)
-        (StopsAt (M.rules machine.now) past.old leg.now 0)) }
     ensures colours { length past.new ≡ length past.old }
 {
     if leg.len() == 1 {
-        return move_past(machine, past, leg[0]);
+        return gap_past(machine, past, from, to);
     }
     put_holes(holes, leg)?;
-    past_run(machine, past, holes.as_slice(), 0, END)?;
-    Ok(true)
-}
-
-// One move. Answers whether a state is left, where there was one.
-fn move_past<M: Machine>(machine: &M, past: &mut Past, one: Move) -> Result<bool, NoMemory>
-    requires fits { IsMove (M.rules machine.now) one }
-    requires place { EnteredBefore past.old (limit_before one) }
-    requires colours { length past.old ≡ (M.rules machine.now).colours }
-    ensures after { OnOk result ((u : State) → Holds past.new u
-        ↔ AfterMove (M.rules machine.now) past.old one u) }
-    ensures some { ((s : State) × Holds past.old s) → IfOk result (λ b. IsTrue b
-        ↔ ((u : State) × Holds past.new u)) }
-    ensures colours { length past.new ≡ length past.old }
-{
-    match one {
-        Move::Letter {
-            at,
-            letter,
-            row: _row,
-        } => past_row(machine, past, i64::from(at), letter),
-        Move::Gap { from, to } => {
-            gap_past(machine, past, from, to)?;
-            Ok(true)
-        }
-    }
+    past_run(machine, past, holes.as_slice(), 0, END)
 }
 
 fn gap_past<M: Machine>(machine: &M, past: &mut Past, from: u32, to: u32) -> Result<(), NoMemory>
@@ -144,10 +145,18 @@ pub fn pasts_of<M: Machine>(
     let mut holes = Vec::new(alloc);
     let mut place = 0;
     while place < moves.len() {
-        let end = leg_end(moves, place);
-        end_run(&mut pasts, &past, moves[place])?;
-        let _some = leg_past(machine, &mut past, &mut holes, &moves[place..end])?;
-        place = end;
+        match moves[place] {
+            Move::Letter { at, letter, .. } => {
+                keep_past(&mut pasts, &past)?;
+                let _some = letter_past(machine, &mut past, at, letter)?;
+                place += 1;
+            }
+            Move::Gap { from, to } => {
+                let end = leg_end(moves, place);
+                gaps_past(machine, &mut past, &mut holes, &moves[place..end], from, to)?;
+                place = end;
+            }
+        }
     }
     pasts.push(past)?;
     Ok(RunPasts { pasts, runs })
@@ -185,11 +194,17 @@ pub fn end_run(pasts: &mut Vec<Past>, past: &Past, next: Move) -> Result<(), NoM
     ensures err { OnErr result (pasts.new.items ≡ pasts.old.items) }
 {
     match next {
-        Move::Letter { .. } => {
-            let kept = past.copy()?;
-            pasts.push(kept)?;
-            Ok(())
-        }
+        Move::Letter { .. } => keep_past(pasts, past),
         Move::Gap { .. } => Ok(()),
     }
+}
+
+// One Past more.
+fn keep_past(pasts: &mut Vec<Past>, past: &Past) -> Result<(), NoMemory>
+    ensures ok { OnOk result (pasts.new.items ≡ pasts.old.items ++ past.now ∷ []) }
+    ensures err { OnErr result (pasts.new.items ≡ pasts.old.items) }
+{
+    let kept = past.copy()?;
+    pasts.push(kept)?;
+    Ok(())
 }

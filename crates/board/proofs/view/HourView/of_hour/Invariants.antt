@@ -3,5 +3,5 @@ use Rattle.board.specs.Logs.{hour_log}
 use Rattle.board.specs.Places.{ArePaths}
 use Rattle.board.proofs.view.HourView.of_hour.Given as goal
 
-abbrev pub invariant-loop-i : goal.invariant-loop-i
-invariant-loop-i l = (length l.paths.items ≡ l.i) × ArePaths (hour_log l.hour l.specs l.rows l.stretches l.before l.after) l.i l.paths.items
+abbrev pub invariant-loop-course : goal.invariant-loop-course
+invariant-loop-course l = (length l.paths.items ≡ length l.yielded) × ArePaths (hour_log l.hour l.specs l.rows l.stretches l.before l.after) (length l.yielded) l.paths.items

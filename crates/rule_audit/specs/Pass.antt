@@ -75,7 +75,7 @@ pub record IsReady (h : AuditedHour) : Type 0 where
   pub are_specs : All IsSpec h.specs.now
   pub are_rules : All (FitsRule h.specs.now) h.rules.now
   pub seen : length h.view.now.specs ≡ length h.specs.now
-  pub own : AreOwn h.specs.now h.rows.now (length h.rows.now) h.own.now
+  pub own : AreOwn h.specs.now h.rules.now h.rows.now (length h.rows.now) h.own.now
   pub timed : AreSkips h.specs.now h.rules.now false (length h.specs.now) h.timed.now
   pub clauses : AreSkips h.specs.now h.rules.now true (length h.specs.now) h.clauses.now
 

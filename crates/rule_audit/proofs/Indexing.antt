@@ -18,7 +18,7 @@ use Rattle.ring_config.proofs.TrackLaws.{or_true}
 use Rattle.rule_audit.specs.declared.rules.Rule.{Rule}
 use Rattle.rule_audit.specs.declared.rules.Rule.TheVariants.{Interval, Conflict, Companion, Parents}
 use Rattle.rule_audit.specs.Obligations.{has_row_at, is_clause, is_due, is_row_of_some, is_timed_by, terms_of, row_obligations, end_obligations}
-use Rattle.rule_audit.specs.Index.{is_clause_on, is_due_by, is_picked, is_timed_on, no_rule, AreSkips, IsNext, IsNextDue, IsOwn, IsSkips}
+use Rattle.rule_audit.specs.Index.{is_clause_on, is_due_by, is_picked, is_timed_on, no_rule, AreSkips, HasNoRule, IsNext, IsNextDue, IsOwn, IsRuledPlace, IsSkips}
 use Rattle.rule_audit.specs.Pass.{FitsRule, IsCutAt}
 use Rattle.rule_audit.proofs.Adding.{row_rules, row_rules_over, end_rules}
 
@@ -67,6 +67,16 @@ module _ (p : ℕ → Bool) (n : ℕ) where
   pub next_here : (k : ℕ) → k < n → p k ≡ true → IsNext p n k k
   next_here k lt is = record { from = omega arith; within = omega arith; none = λ x a b. absurd (omega arith); passes = λ _. is }
 
+  -- none passes where the first is the one after the last
+  pub none_from : (m : ℕ) → IsNext p n 0 m → m ≡ n → (x : ℕ) → x < n → p x ≡ false
+  none_from m next same x lt = next.none x (omega arith) (omega arith)
+
+  pub over_from : (m : ℕ) → IsNext p n 0 m → ((x : ℕ) → x < n → p x ≡ false) → m ≡ n
+  over_from m next none = elim (cases_lt m n) [
+    | inl lt ↦ absurd (let bad : true ≡ false = sym (next.passes lt) ∙ none m lt in cc)
+    | inr ge ↦ let top = next.within in omega arith
+  ]
+
 -- ---- rows and their channels
 
 pub timed_by : (specs : List Spec) (r : Row) (x : Rule) → is_timed_by specs r x ≡ is_timed_on specs (channel_in_table r.code r.param) x
@@ -75,7 +85,7 @@ timed_by specs r (Conflict a b terms) = refl
 timed_by specs r (Companion p terms) = refl
 timed_by specs r (Parents p terms) = refl
 
-clause_by : (specs : List Spec) (r : Row) (x : Rule) → (is_clause x && is_row_of_some specs r (terms_of x)) ≡ is_clause_on specs (channel_in_table r.code r.param) x
+pub clause_by : (specs : List Spec) (r : Row) (x : Rule) → (is_clause x && is_row_of_some specs r (terms_of x)) ≡ is_clause_on specs (channel_in_table r.code r.param) x
 clause_by specs r (Interval item) = refl
 clause_by specs r (Conflict a b terms) = refl
 clause_by specs r (Companion p terms) = refl
@@ -99,6 +109,11 @@ module _ (specs : List Spec) (o : Option Channel) (none : (i : ℕ) → i < leng
   none_clause (Companion p terms) fit = no_term terms fit
   none_clause (Parents p terms) fit = no_term terms fit
 
+  pub none_ruled : (rules : List Rule) → All (FitsRule specs) rules → HasNoRule specs rules o
+  none_ruled rules fit x lt =
+      let fits = All-get_or (FitsRule specs) rules x no_rule lt fit in
+      (none_timed (get_or rules x no_rule) fits, none_clause (get_or rules x no_rule) fits)
+
 pub absent_channel : (c d : Channel) → c ≢ d → is_channel c (Some d) ≡ false
 absent_channel c d other = elim (cases_Bool (is_channel c (Some d))) [
   | inl is ↦ absurd (other (let e : Some d ≡ Some c = found_channel c (Some d) is in let s : d ≡ c = cc in sym s))
@@ -114,7 +129,22 @@ skips_same p q n xs same (size, each) = (
       record { from = next.from; within = next.within; none = λ x a b. sym (same x) ∙ next.none x a b; passes = λ lt. sym (same (get_or xs (n - k) 0)) ∙ next.passes lt },
 )
 
-module _ (specs : List Spec) (rules : List Rule) (r : Row) (s : ℕ) (own : IsOwn specs r s) where
+module _ (specs : List Spec) (rules : List Rule) (i : ℕ) (timed clauses : List (List ℕ)) (are_timed : AreSkips specs rules false (length specs) timed) (are_clauses : AreSkips specs rules true (length specs) clauses) (lt : i < length specs) where
+  -- neither list of the channel has a rule
+  pub none_listed : ((p : ℕ → Bool) → IsSkips p (length rules) (get_or timed i []) → (x : ℕ) → x < length rules → p x ≡ false) → ((p : ℕ → Bool) → IsSkips p (length rules) (get_or clauses i []) → (x : ℕ) → x < length rules → p x ≡ false) → HasNoRule specs rules (Some (get_or specs i no_spec).channel)
+  none_listed a b x less = (
+    a (is_picked specs rules false (get_or specs i no_spec).channel) (are_timed.1 i lt) x less,
+    b (is_picked specs rules true (get_or specs i no_spec).channel) (are_clauses.1 i lt) x less,
+  )
+
+-- the row of a channel with this place
+pub own_place : (specs : List Spec) (rules : List Rule) (r : Row) (i s : ℕ) → i < length specs → channel_in_table r.code r.param ≡ Some (get_or specs i no_spec).channel → IsRuledPlace specs rules i s → IsOwn specs rules r s
+own_place specs rules r i s lt e place = elim place [
+  | inl same ↦ inl (omega arith, e ∙ ap (λ (k : ℕ). Some (get_or specs k no_spec).channel) (sym same))
+  | inr (last, none) ↦ inr (last, subst (λ (o : Option Channel). HasNoRule specs rules o) (sym e) none)
+]
+
+module _ (specs : List Spec) (rules : List Rule) (r : Row) (s : ℕ) (own : IsOwn specs rules r s) where
   own_channel : s < length specs → channel_in_table r.code r.param ≡ Some (get_or specs s no_spec).channel
   own_channel lt = elim own [ inl (_, e) ↦ e | inr (same, _) ↦ absurd (omega arith) ]
 
@@ -125,20 +155,20 @@ module _ (specs : List Spec) (rules : List Rule) (r : Row) (s : ℕ) (own : IsOw
   pub clause_skips : (n : ℕ) (lists : List (List ℕ)) → AreSkips specs rules true n lists → s < n → n ≡ length specs → IsSkips (is_due_by specs rules r) (length rules) (get_or lists s [])
   clause_skips n lists are lt all = skips_same (is_picked specs rules true (get_or specs s no_spec).channel) (is_due_by specs rules r) (length rules) (get_or lists s []) (λ x. sym (ap (λ (o : Option Channel). is_clause_on specs o (get_or rules x no_rule)) (own_channel (omega arith)))) (are.1 s lt)
 
-  -- a row of no channel has no rule
-  module _ (fit : All (FitsRule specs) rules) (ge : length specs ≤ s) where
-    no_channel : (i : ℕ) → i < length specs → is_channel (get_or specs i no_spec).channel (channel_in_table r.code r.param) ≡ false
-    no_channel = elim own [ inl (lt, _) ↦ absurd (omega arith) | inr (_, none) ↦ none ]
+  -- a row whose place is the number of specs has no rule
+  module _ (ge : length specs ≤ s) where
+    pub own_none : HasNoRule specs rules (channel_in_table r.code r.param)
+    own_none = elim own [ inl (lt, _) ↦ absurd (omega arith) | inr (_, none) ↦ none ]
 
     pub none_timed_by : (x : ℕ) → x < length rules → is_timed_by specs r (get_or rules x no_rule) ≡ false
-    none_timed_by x lt = timed_by specs r (get_or rules x no_rule) ∙ none_timed specs (channel_in_table r.code r.param) no_channel (get_or rules x no_rule) (All-get_or (FitsRule specs) rules x no_rule lt fit)
+    none_timed_by x lt = timed_by specs r (get_or rules x no_rule) ∙ (own_none x lt).0
 
     pub none_due_by : (k : ℕ) → k ≤ length rules → IsNext (is_due_by specs rules r) (length rules) k (length rules)
-    none_due_by k le = record { from = le; within = omega arith; none = λ x a lt. none_clause specs (channel_in_table r.code r.param) no_channel (get_or rules x no_rule) (All-get_or (FitsRule specs) rules x no_rule lt fit); passes = λ lt. absurd (omega arith) }
+    none_due_by k le = record { from = le; within = omega arith; none = λ x a lt. (own_none x lt).1; passes = λ lt. absurd (omega arith) }
 
 -- ---- what is due at a tenth
 
-any_none : {X : Type 0} → (p : X → Bool) (xs : List X) (d : X) → ((k : ℕ) → k < length xs → p (get_or xs k d) ≡ false) → list_any p xs ≡ false
+pub any_none : {X : Type 0} → (p : X → Bool) (xs : List X) (d : X) → ((k : ℕ) → k < length xs → p (get_or xs k d) ≡ false) → list_any p xs ≡ false
 any_none p [] d none = refl
 any_none p (x ∷ xs) d none = rw (none 0 (omega arith)) (any_none p xs d (λ k lt. none (suc k) (omega arith)))
 
@@ -147,7 +177,7 @@ any_some p [] d k lt is = absurd (omega arith)
 any_some p (x ∷ xs) d zero lt is = rw is refl
 any_some p (x ∷ xs) d (suc k) lt is = rw (any_some p xs d k (omega arith) is) (or_true (p x))
 
-off_by : (a b : Bool) → (a && b) ≡ false → a ≡ true → b ≡ false
+pub off_by : (a b : Bool) → (a && b) ≡ false → a ≡ true → b ≡ false
 off_by true b e is = e
 off_by false b e is = absurd (let bad : false ≡ true = is in cc)
 

@@ -1,16 +1,18 @@
 -- Obligations tenth by tenth, and the rows of a tenth.
-use Rattle.std.proofs.Common.{suc, zero, ◌≡◌, ◌≢◌, refl, ap, sym, ◌∙◌, inl, inr, ℕ, ◌+◌, ◌-◌, ◌<◌, ◌≤◌, Bool, true, false, ◌&&◌, ◌||◌, nat_eq, if◌then◌else◌, List, [], ◌∷◌, ◌++◌, length, get_or, take, drop, length-drop, get_or-drop, arith}
-use Rattle.std.specs.List.{list_any}
-use Rattle.std.proofs.lemmas.Bool.{cases_lt, eq-eqb, ne_eqb}
+use Rattle.std.proofs.Common.{suc, zero, ◌≡◌, ◌≢◌, refl, ap, sym, ◌∙◌, inl, inr, ℕ, ◌+◌, ◌-◌, ◌<◌, ◌≤◌, Bool, true, false, ◌&&◌, nat_eq, if◌then◌else◌, List, [], ◌∷◌, ◌++◌, length, get_or, drop, length-drop, get_or-drop, arith}
+use Rattle.std.proofs.lemmas.Bool.{cases_Bool, cases_lt, eq-eqb, eqb-true, ne_eqb}
 use Rattle.std.proofs.lemmas.List.{drop_more}
 use Rattle.sig_base.specs.declared.values.Row.{Row}
 use Rattle.sig_base.proofs.Common.{and_false}
+use Rattle.event_codes.specs.Channels.{channel_in_table}
 use Rattle.channel_tables.specs.declared.spec.Spec.{Spec}
-use Rattle.board.specs.declared.clause.Term.{Term}
 use Rattle.board.specs.Logs.{no_row}
 use Rattle.rule_audit.specs.declared.rules.Rule.{Rule}
 use Rattle.rule_audit.specs.Obligations.{Obligation, has_row_at, is_due, is_clause, is_row_of_some, terms_of, row_obligations, rows_obligations, end_obligations, tenth_obligations, obligations_from}
-use Rattle.rule_audit.specs.Pass.{IsCutAt, Rises}
+use Rattle.rule_audit.specs.Index.{no_rule, HasNoRule}
+use Rattle.rule_audit.specs.Pass.{IsCutAt, IsStart, Rises}
+use Rattle.rule_audit.proofs.Adding.{end_rules_over}
+use Rattle.rule_audit.proofs.Indexing.{any_none, clause_by, end_skip, off_by, row_none, timed_by}
 
 -- ---- cuts
 
@@ -69,47 +71,82 @@ module _ (specs : List Spec) (rules : List Rule) (t : ℕ) where
       let q : (get_or rows (j + k) no_row).at ≡ t = sym (ap (λ (r : Row). r.at) at) ∙ same in
       absurd (omega arith))
 
--- whether a row of the tenth passes a test
-module _ (p : Row → Bool) (t : ℕ) where
-  abbrev pub at_and : Row → Bool
-  at_and r = nat_eq r.at t && p r
+-- ---- where rows begin a tenth
 
-  any_elsewhere : (rows : List Row) → Elsewhere t rows → list_any at_and rows ≡ false
-  any_elsewhere [] h = refl
-  any_elsewhere (r ∷ rs) h =
-      let other : nat_eq r.at t ≡ false = ne_eqb r.at t (h 0 (omega arith)) in
-      rw other (any_elsewhere rs (λ k lt. h (suc k) (omega arith)))
+-- the row that begins its tenth, from which on rows may be before tenth t
+module _ (rows : List Row) (rises : Rises rows) (y t i : ℕ) (le : y ≤ t) (cut : IsCutAt rows y i) where
+  early : (j k : ℕ) → ((n : ℕ) → i ≤ n → n < j → (get_or rows n no_row).at < t) → k < j → (get_or rows k no_row).at < t
+  early j k before lt = elim (cases_lt k i) [
+    | inl less ↦ let p = cut.1 k less in omega arith
+    | inr ge ↦ before k ge lt
+  ]
 
-  any_part : (n m : ℕ) (rows : List Row) → n + m ≤ length rows → ((k : ℕ) → k < n → (get_or rows k no_row).at ≢ t) → ((k : ℕ) → n ≤ k → k < n + m → (get_or rows k no_row).at ≡ t) → ((k : ℕ) → n + m ≤ k → k < length rows → (get_or rows k no_row).at ≢ t) → list_any at_and rows ≡ list_any p (take m (drop n rows))
-  any_part zero zero rows le a b c = any_elsewhere rows (λ k lt. c k (omega arith) lt)
-  any_part zero (suc m) [] le a b c = absurd (omega arith)
-  any_part zero (suc m) (r ∷ rs) le a b c =
-      let same : nat_eq r.at t ≡ true = eq-eqb r.at t (b 0 (omega arith) (omega arith)) in
-      rw same (ap (λ (q : Bool). p r || q) (any_part zero m rs (omega arith) (λ k lt. absurd (omega arith)) (λ k le2 lt. b (suc k) (omega arith) (omega arith)) (λ k le2 lt. c (suc k) (omega arith) (omega arith))))
-  any_part (suc n) m [] le a b c = absurd (omega arith)
-  any_part (suc n) m (r ∷ rs) le a b c =
-      let other : nat_eq r.at t ≡ false = ne_eqb r.at t (a 0 (omega arith)) in
-      rw other (any_part n m rs (omega arith) (λ k lt. a (suc k) (omega arith)) (λ k le2 lt. b (suc k) (omega arith) (omega arith)) (λ k le2 lt. c (suc k) (omega arith) (omega arith)))
+  pub start_cut : (n j : ℕ) → n < length rows → i ≤ n → ((k : ℕ) → i ≤ k → k < n → (get_or rows k no_row).at < t) → IsStart rows i n j → (z : ℕ) × (y ≤ z) × (z ≤ t) × IsCutAt rows z j
+  start_cut n j lt ge before start =
+      let at = (get_or rows n no_row).at in
+      let from = start.from in
+      let within = start.within in
+      let same = start.same in
+      let high : y ≤ at = cut.2 n ge lt in
+      let later : (k : ℕ) → j ≤ k → k < length rows → at ≤ (get_or rows k no_row).at = λ k le2 less. let p = rises j k le2 less in omega arith in
+      elim (cases_lt at t) [
+        | inl less ↦ (at, high, omega arith, (omega arith, (λ k low. elim (cases_lt k i) [ inl first ↦ let p = cut.1 k first in omega arith | inr ge2 ↦ start.before k ge2 low ]), later))
+        | inr over ↦ (t, le, omega arith, (omega arith, (λ k low. early j k (λ m a b. before m a (omega arith)) low), λ k le2 less. let p = later k le2 less in omega arith))
+      ]
 
-  pub any_tenth : (rows : List Row) (i j : ℕ) → IsCutAt rows t i → IsCutAt rows (t + 1) j → list_any at_and rows ≡ list_any p (take (j - i) (drop i rows))
-  any_tenth rows i j a b =
-      let le = cut_le rows t (t + 1) i j (omega arith) a b in
-      let top = b.0 in
-      any_part i (j - i) rows (omega arith) (λ k lt same. let q = a.1 k lt in absurd (omega arith))
-      (λ k le2 lt. let q = a.2 k le2 (omega arith) in let q2 = b.1 k (omega arith) in omega arith)
-      (λ k le2 lt same. let q = b.2 k (omega arith) lt in absurd (omega arith))
+  pub over_cut : ((k : ℕ) → i ≤ k → k < length rows → (get_or rows k no_row).at < t) → (z : ℕ) × (y ≤ z) × (z ≤ t) × IsCutAt rows z (length rows)
+  over_cut before = (t, le, omega arith, (omega arith, (λ k low. early (length rows) k before low), λ k le2 less. absurd (omega arith)))
 
-pub no_row_at : (specs : List Spec) (rows : List Row) (t : ℕ) (terms : List Term) → Elsewhere t rows → has_row_at specs rows t terms ≡ false
-no_row_at specs rows t terms h = any_elsewhere (λ (r : Row). is_row_of_some specs r terms) t rows h
+-- the first row of a tenth
+pub start_here : (rows : List Row) (i n j : ℕ) → Rises rows → i ≤ n → n < length rows → i ≤ j → j ≤ n → (get_or rows j no_row).at ≡ (get_or rows n no_row).at → (i < j → (get_or rows (j - 1) no_row).at < (get_or rows n no_row).at) → IsStart rows i n j
+start_here rows i n j rises le lt from within same less = record {
+  from = from;
+  within = within;
+  same = same;
+  before = λ k a b. let p = rises k (j - 1) (omega arith) (omega arith) in let q = less (omega arith) in omega arith;
+}
+
+-- ---- tenths in which no row has a rule
+
+-- no rule is of the row's channel
+abbrev IsUnruled : List Spec → List Rule → Row → Type 0
+IsUnruled specs rules r = HasNoRule specs rules (channel_in_table r.code r.param)
+
+-- no row of the tenth has a rule
+abbrev IsQuiet : List Spec → List Rule → ℕ → List Row → Type 0
+IsQuiet specs rules t rows = (k : ℕ) → k < length rows → (get_or rows k no_row).at ≡ t → IsUnruled specs rules (get_or rows k no_row)
+
+module _ (specs : List Spec) (rules : List Rule) (t : ℕ) where
+  row_quiet : (i : ℕ) (r : Row) → IsUnruled specs rules r → row_obligations specs i r 1 rules ≡ []
+  row_quiet i r none = row_none specs i r rules (λ x lt. timed_by specs r (get_or rules x no_rule) ∙ (none x lt).0)
+
+  rows_quiet : (i : ℕ) (rows : List Row) → IsQuiet specs rules t rows → rows_obligations specs rules t i rows ≡ []
+  unfolding rows_obligations
+  rows_quiet i [] h = refl
+  rows_quiet i (r ∷ rs) h =
+      let rest = rows_quiet (i + 1) rs (λ k lt same. h (suc k) (omega arith) same) in
+      elim (cases_Bool (nat_eq r.at t)) [
+        | inl is ↦ rw (is, row_quiet i r (h 0 (omega arith) (eqb-true r.at t is))) rest
+        | inr off ↦ rw off rest
+      ]
+
+  due_quiet : (rows : List Row) (x : ℕ) → x < length rules → IsQuiet specs rules t rows → is_due specs rows true t (get_or rules x no_rule) ≡ false
+  due_quiet rows x lt h =
+      let rule = get_or rules x no_rule in
+      elim (cases_Bool (is_clause rule)) [
+        | inr off ↦ rw off refl
+        | inl is ↦
+            let none : has_row_at specs rows t (terms_of rule) ≡ false = any_none (λ (r : Row). nat_eq r.at t && is_row_of_some specs r (terms_of rule)) rows no_row (λ k less. elim (cases_Bool (nat_eq (get_or rows k no_row).at t)) [
+              | inr off ↦ rw off refl
+              | inl here ↦ rw here (off_by (is_clause rule) (is_row_of_some specs (get_or rows k no_row) (terms_of rule)) (clause_by specs (get_or rows k no_row) rule ∙ (h k less (eqb-true (get_or rows k no_row).at t here) x lt).1) is)
+            ]) in
+            ap (λ (b : Bool). is_clause rule && b) none ∙ and_false (is_clause rule)
+      ]
+
+  end_quiet : (rows : List Row) → IsQuiet specs rules t rows → end_obligations specs rows true t 1 rules ≡ []
+  end_quiet rows h = end_skip specs rows true t rules 0 (length rules) (omega arith) (omega arith) (λ x a b. due_quiet rows x b h) ∙ end_rules_over specs rows true t rules (length rules) (length rules + 1) (omega arith)
 
 -- ---- tenths
-
-end_none : (specs : List Spec) (rows : List Row) (t n : ℕ) (rules : List Rule) → Elsewhere t rows → end_obligations specs rows true t n rules ≡ []
-unfolding end_obligations
-end_none specs rows t n [] h = refl
-end_none specs rows t n (x ∷ xs) h =
-    let none : is_due specs rows true t x ≡ false = ap (λ (b : Bool). is_clause x && b) (no_row_at specs rows t (terms_of x) h) ∙ and_false (is_clause x) in
-    rw none (end_none specs rows t (n + 1) xs h)
 
 module _ (known : ℕ → Bool) (specs : List Spec) (rules : List Rule) (rows : List Row) where
   -- the obligations of the tenths from x up to t
@@ -135,22 +172,25 @@ module _ (known : ℕ → Bool) (specs : List Spec) (rules : List Rule) (rows : 
   pub up_over : (before : Bool) (t : ℕ) → obligations_up before t t ≡ []
   up_over before t = none_of before t (t - t) (omega arith)
 
-  up_quiet : (x t : ℕ) → x < t → known x ≡ true → Elsewhere x rows → obligations_up true x t ≡ obligations_up true (x + 1) t
-  up_quiet x t lt e h = up_tenth true x t lt e ∙ rw (rows_none specs rules x 0 rows h, end_none specs rows x 1 rules h) refl
+  up_quiet : (x t : ℕ) → x < t → known x ≡ true → IsQuiet specs rules x rows → obligations_up true x t ≡ obligations_up true (x + 1) t
+  up_quiet x t lt e h = up_tenth true x t lt e ∙ rw (rows_quiet specs rules x 0 rows h, end_quiet specs rules x rows h) refl
 
-  quiet_by : (n x t : ℕ) → x + n ≤ t → ((y : ℕ) → x ≤ y → y < x + n → known y ≡ true) → ((y : ℕ) → x ≤ y → y < x + n → Elsewhere y rows) → obligations_up true x t ≡ obligations_up true (x + n) t
+  quiet_by : (n x t : ℕ) → x + n ≤ t → ((y : ℕ) → x ≤ y → y < x + n → known y ≡ true) → ((y : ℕ) → x ≤ y → y < x + n → IsQuiet specs rules y rows) → obligations_up true x t ≡ obligations_up true (x + n) t
   quiet_by zero x t le k h = ap (λ (y : ℕ). obligations_up true y t) (let e : x ≡ x + 0 = omega arith in e)
   quiet_by (suc n) x t le k h =
       let e : x + 1 + n ≡ x + suc n = omega arith in
       up_quiet x t (omega arith) (k x (omega arith) (omega arith)) (h x (omega arith) (omega arith))
       ∙ (quiet_by n (x + 1) t (omega arith) (λ y a b. k y (omega arith) (omega arith)) (λ y a b. h y (omega arith) (omega arith)) ∙ ap (λ (y : ℕ). obligations_up true y t) e)
 
-  -- known tenths without rows, of which the one before is known
-  pub up_to_next : (x y t i : ℕ) → x ≤ y → y ≤ t → ((z : ℕ) → x ≤ z → z < y → known z ≡ true) → IsCutAt rows x i → IsCutAt rows y i → obligations_up true x t ≡ obligations_up true y t
-  up_to_next x y t i le le2 k a b =
+  -- known tenths whose rows have no rule, of which the one before is known
+  pub up_to_next : (x y t i j : ℕ) → x ≤ y → y ≤ t → ((z : ℕ) → x ≤ z → z < y → known z ≡ true) → IsCutAt rows x i → IsCutAt rows y j → ((k : ℕ) → i ≤ k → k < j → IsUnruled specs rules (get_or rows k no_row)) → obligations_up true x t ≡ obligations_up true y t
+  up_to_next x y t i j le le2 k a b none =
       let e : x + (y - x) ≡ y = omega arith in
       quiet_by (y - x) x t (omega arith) (λ z p q. k z p (omega arith))
-      (λ z p q j lt same. elim (cases_lt j i) [ inl l ↦ let u = a.1 j l in absurd (omega arith) | inr g ↦ let u = b.2 j g lt in absurd (omega arith) ])
+      (λ z p q n lt same. elim (cases_lt n i) [
+        | inl l ↦ let u = a.1 n l in absurd (omega arith)
+        | inr g ↦ elim (cases_lt n j) [ inl l ↦ none n g l | inr g2 ↦ let u = b.2 n g2 lt in absurd (omega arith) ]
+      ])
       ∙ ap (λ (z : ℕ). obligations_up true z t) e
 
   unknown_by : (n : ℕ) (before : Bool) (x t : ℕ) → x + suc n ≤ t → ((y : ℕ) → x ≤ y → y < x + suc n → known y ≡ false) → obligations_up before x t ≡ obligations_up false (x + suc n) t

@@ -1,7 +1,9 @@
 -- The walk over the stretches of an hour.
-use Rattle.std.proofs.Common.{suc, zero, ◌≡◌, ap, ◌∙◌, subst, ℕ, ◌+◌, ◌<◌, ◌≤◌, Bool, true, false, List, [], ◌∷◌, length, get_or, drop, Result, Ok, Err, IfOk, arith}
+use Rattle.std.proofs.Common.{suc, zero, ◌≡◌, ap, ◌∙◌, subst, inl, inr, ℕ, ◌+◌, ◌<◌, ◌≤◌, Bool, true, false, List, [], ◌∷◌, length, get_or, drop, Result, Ok, Err, IfOk, arith}
+use Rattle.std.proofs.lemmas.Bool.{cases_lt}
 use Rattle.std.proofs.lemmas.List.{drop_more, drop_all}
 use Rattle.sig_base.specs.declared.values.Row.{Row}
+use Rattle.event_codes.specs.Channels.{channel_in_table}
 use Rattle.gap_map.specs.declared.stretch.Stretch.{Stretch}
 use Rattle.gap_map.specs.Stretches.{FollowOn, known_at}
 use Rattle.board.specs.Logs.{IsHour, end_tenth, first_tenth, no_row}
@@ -11,8 +13,9 @@ use Rattle.board.proofs.Within.{hour_rows}
 use Rattle.rule_audit.specs.declared.hour.AuditedHour.{AuditedHour}
 use Rattle.rule_audit.specs.declared.lines.AuditLine.{AuditLine}
 use Rattle.rule_audit.specs.Judged.{HasVerdict}
+use Rattle.rule_audit.specs.Index.{HasNoRule}
 use Rattle.rule_audit.specs.Obligations.{Obligation, tenth_obligations}
-use Rattle.rule_audit.specs.Pass.{Adds, AddsUpTo, Ends, IsCutAt, Rises, log_of, obligations_in}
+use Rattle.rule_audit.specs.Pass.{Adds, AddsUpTo, AreUnruled, Ends, IsCutAt, Rises, log_of, obligations_in, row_at}
 use Rattle.rule_audit.proofs.Adding.{upto_join, upto_of, upto_start}
 use Rattle.rule_audit.proofs.Tenths.{cut_further, up_tenth, up_to_next, up_unknown}
 
@@ -39,6 +42,19 @@ hour_rises h rows ss is j k le lt = sorted (first_tenth h) (end_tenth h) j k row
 
 pub cut_first : (h : ℕ) (rows : List Row) (ss : List Stretch) → IsHour h rows ss → IsCutAt rows (first_tenth h) 0
 cut_first h rows ss is = (omega arith, (λ k lt. absurd (omega arith)), λ k le lt. rows_low (first_tenth h) (end_tenth h) k rows (hour_rows h rows ss is) lt)
+
+-- one row more
+pub unruled_more : (h : AuditedHour) (i j : ℕ) → AreUnruled h i j → HasNoRule h.specs.now h.rules.now (channel_in_table (row_at h j).code (row_at h j).param) → AreUnruled h i (j + 1)
+unruled_more h i j none here k a b = elim (cases_lt k j) [
+  | inl less ↦ none k a less
+  | inr ge ↦ subst (λ (n : ℕ). HasNoRule h.specs.now h.rules.now (channel_in_table (row_at h n).code (row_at h n).param)) (let same : j ≡ k = omega arith in same) here
+]
+
+pub before_more : (h : AuditedHour) (i j t : ℕ) → ((k : ℕ) → i ≤ k → k < j → (row_at h k).at < t) → (row_at h j).at < t → (k : ℕ) → i ≤ k → k < j + 1 → (row_at h k).at < t
+before_more h i j t before here k a b = elim (cases_lt k j) [
+  | inl less ↦ before k a less
+  | inr ge ↦ subst (λ (n : ℕ). (row_at h n).at < t) (let same : j ≡ k = omega arith in same) here
+]
 
 -- ---- stretches
 
@@ -80,10 +96,15 @@ module _ (h : AuditedHour) (e : Ends) (rises : Rises h.rows.now) where
   abbrev On : Bool → ℕ → Bool → ℕ → List AuditLine → List AuditLine → Type 0
   On b x c y old new = AddsUpTo (HasVerdict (log_of h e)) (obligations_in h b x (end_tenth e.hour)) (obligations_in h c y (end_tenth e.hour)) old new
 
-  pub on_further : (b : Bool) (from y z i : ℕ) (old new : List AuditLine) → y ≤ z → z ≤ end_tenth e.hour → ((t : ℕ) → y ≤ t → t < z → known_at h.stretches.now t ≡ true) → IsCutAt h.rows.now y i → (i < length h.rows.now → z ≤ (get_or h.rows.now i no_row).at) → On b from true y old new → On b from true z old new
-  on_further b from y z i old new le top known cut next a =
-      let same : obligations_in h true y (end_tenth e.hour) ≡ obligations_in h true z (end_tenth e.hour) = up_to_next (known_at h.stretches.now) h.specs.now h.rules.now h.rows.now y z (end_tenth e.hour) i le top known cut (cut_further h.rows.now y z i rises le next cut) in
+  -- over rows without a rule
+  pub on_over : (b : Bool) (from y z i j : ℕ) (old new : List AuditLine) → y ≤ z → z ≤ end_tenth e.hour → ((t : ℕ) → y ≤ t → t < z → known_at h.stretches.now t ≡ true) → IsCutAt h.rows.now y i → IsCutAt h.rows.now z j → AreUnruled h i j → On b from true y old new → On b from true z old new
+  on_over b from y z i j old new le top known low high none a =
+      let same : obligations_in h true y (end_tenth e.hour) ≡ obligations_in h true z (end_tenth e.hour) = up_to_next (known_at h.stretches.now) h.specs.now h.rules.now h.rows.now y z (end_tenth e.hour) i j le top known low high none in
       subst (λ (os : List Obligation). AddsUpTo (HasVerdict (log_of h e)) (obligations_in h b from (end_tenth e.hour)) os old new) same a
+
+  -- over tenths without rows
+  pub on_further : (b : Bool) (from y z i : ℕ) (old new : List AuditLine) → y ≤ z → z ≤ end_tenth e.hour → ((t : ℕ) → y ≤ t → t < z → known_at h.stretches.now t ≡ true) → IsCutAt h.rows.now y i → (i < length h.rows.now → z ≤ (get_or h.rows.now i no_row).at) → On b from true y old new → On b from true z old new
+  on_further b from y z i old new le top known cut next a = on_over b from y z i i old new le top known cut (cut_further h.rows.now y z i rises le next cut) (λ k p q. absurd (omega arith)) a
 
   pub on_tenth : (b : Bool) (x : ℕ) (old new : List AuditLine) → x < end_tenth e.hour → known_at h.stretches.now x ≡ true → Adds (HasVerdict (log_of h e)) (tenth_obligations h.specs.now h.rules.now h.rows.now b x) old new → On b x true (x + 1) old new
   on_tenth b x old new lt known a =

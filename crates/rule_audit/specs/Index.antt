@@ -47,13 +47,25 @@ is_picked specs rules clauses c x = if clauses then is_clause_on specs (Some c) 
 abbrev pub AreSkips : List Spec → List Rule → Bool → ℕ → List (List ℕ) → Type 0
 AreSkips specs rules clauses n lists = (length lists ≡ n) × ((s : ℕ) → s < n → IsSkips (is_picked specs rules clauses (slice_index_or specs s no_spec).channel) (length rules) (slice_index_or lists s []))
 
--- the row is of the channel with this place, or of none among the specs where that is their number
-abbrev pub IsOwn : List Spec → Row → ℕ → Type 0
-IsOwn specs r s = ((s < length specs) × (channel_in_table r.code r.param ≡ Some (slice_index_or specs s no_spec).channel)) ⊎ ((s ≡ length specs) × ((i : ℕ) → i < length specs → is_channel (slice_index_or specs i no_spec).channel (channel_in_table r.code r.param) ≡ false))
+-- no rule is of the channel: neither an interval rule nor a clause with a term of it
+abbrev pub HasNoRule : List Spec → List Rule → Option Channel → Type 0
+HasNoRule specs rules o = (x : ℕ) → x < length rules → (is_timed_on specs o (slice_index_or rules x no_rule) ≡ false) × (is_clause_on specs o (slice_index_or rules x no_rule) ≡ false)
+
+-- the place i of a channel among the specs, or their number where no rule is of that channel
+abbrev pub IsRuledPlace : List Spec → List Rule → ℕ → ℕ → Type 0
+IsRuledPlace specs rules i s = (s ≡ i) ⊎ ((s ≡ length specs) × HasNoRule specs rules (Some (slice_index_or specs i no_spec).channel))
+
+-- for each of the first n specs
+abbrev pub AreRuledPlaces : List Spec → List Rule → ℕ → List ℕ → Type 0
+AreRuledPlaces specs rules n places = (length places ≡ n) × ((i : ℕ) → i < n → IsRuledPlace specs rules i (slice_index_or places i 0))
+
+-- the row is of the channel with this place, or no rule is of its channel where that is the number of specs
+abbrev pub IsOwn : List Spec → List Rule → Row → ℕ → Type 0
+IsOwn specs rules r s = ((s < length specs) × (channel_in_table r.code r.param ≡ Some (slice_index_or specs s no_spec).channel)) ⊎ ((s ≡ length specs) × HasNoRule specs rules (channel_in_table r.code r.param))
 
 -- each of the first n rows
-abbrev pub AreOwn : List Spec → List Row → ℕ → List ℕ → Type 0
-AreOwn specs rows n own = (length own ≡ n) × ((i : ℕ) → i < n → IsOwn specs (slice_index_or rows i no_row) (slice_index_or own i 0))
+abbrev pub AreOwn : List Spec → List Rule → List Row → ℕ → List ℕ → Type 0
+AreOwn specs rules rows n own = (length own ≡ n) × ((i : ℕ) → i < n → IsOwn specs rules (slice_index_or rows i no_row) (slice_index_or own i 0))
 
 -- the row is of a channel of the clause with this place
 abbrev pub is_due_by : List Spec → List Rule → Row → ℕ → Bool

@@ -3,6 +3,7 @@ use Rattle.std.specs.Prelude.{◌≡◌, ◌↔◌, ℕ, ◌+◌, ◌-◌, ◌<�
 use Rattle.span_set.specs.declared.set.Span.{Span}
 use Rattle.sig_base.specs.declared.values.Row.{Row}
 use Rattle.sig_base.specs.declared.values.Verdict.{Verdict}
+use Rattle.event_codes.specs.Channels.{channel_in_table}
 use Rattle.gap_map.specs.Stretches.{known_at}
 use Rattle.channel_tables.specs.declared.spec.Spec.{Spec}
 use Rattle.channel_tables.specs.Spec.{IsSpec}
@@ -21,7 +22,7 @@ use Rattle.rule_audit.specs.declared.lines.AuditLine.{AuditLine}
 use Rattle.rule_audit.specs.declared.rules.Rule.{Rule}
 use Rattle.rule_audit.specs.declared.rules.Rule.TheVariants.{Interval, Conflict, Companion, Parents}
 use Rattle.rule_audit.specs.Obligations.{Obligation, end_obligation, is_clause, is_due, obligations_from}
-use Rattle.rule_audit.specs.Index.{no_rule, AreOwn, AreSkips}
+use Rattle.rule_audit.specs.Index.{no_rule, AreOwn, AreSkips, HasNoRule}
 use Rattle.rule_audit.specs.Judged.{HasRuns, HasVerdict}
 use Rattle.rule_audit.specs.Lines.{AreLinesOf}
 
@@ -75,13 +76,35 @@ pub record IsReady (h : AuditedHour) : Type 0 where
   pub are_specs : All IsSpec h.specs.now
   pub are_rules : All (FitsRule h.specs.now) h.rules.now
   pub seen : length h.view.now.specs ≡ length h.specs.now
-  pub own : AreOwn h.specs.now h.rows.now (length h.rows.now) h.own.now
+  pub own : AreOwn h.specs.now h.rules.now h.rows.now (length h.rows.now) h.own.now
   pub timed : AreSkips h.specs.now h.rules.now false (length h.specs.now) h.timed.now
   pub clauses : AreSkips h.specs.now h.rules.now true (length h.specs.now) h.clauses.now
 
 -- the first i rows are those before tenth x
 abbrev pub IsCutAt : List Row → ℕ → ℕ → Type 0
 IsCutAt rows x i = (i ≤ length rows) × ((k : ℕ) → k < i → (slice_index_or rows k no_row).at < x) × ((k : ℕ) → i ≤ k → k < length rows → x ≤ (slice_index_or rows k no_row).at)
+
+-- no rule is of the channel of a row from row i up to row j
+abbrev pub AreUnruled : AuditedHour → ℕ → ℕ → Type 0
+AreUnruled h i j = (k : ℕ) → i ≤ k → k < j → HasNoRule h.specs.now h.rules.now (channel_in_table (row_at h k).code (row_at h k).param)
+
+-- row j is the first from row i on that has a rule or isn't before tenth t, or j is the number of rows
+pub record IsNextRuled (h : AuditedHour) (i t j : ℕ) : Type 0 where
+  pub from : i ≤ j
+  pub within : j ≤ length h.rows.now
+  pub none : AreUnruled h i j
+  pub before : (k : ℕ) → i ≤ k → k < j → (row_at h k).at < t
+
+-- row j is the first of the rows from row i on that are of the tenth of row n
+pub record IsStart (rows : List Row) (i n j : ℕ) : Type 0 where
+  pub from : i ≤ j
+  pub within : j ≤ n
+  pub same : (slice_index_or rows j no_row).at ≡ (slice_index_or rows n no_row).at
+  pub before : (k : ℕ) → i ≤ k → k < j → (slice_index_or rows k no_row).at < (slice_index_or rows n no_row).at
+
+-- from row i on, which is the first from some tenth on, rows without a rule are passed over up to row j, which is the first of a later tenth, up to t
+abbrev pub PassesOver : AuditedHour → ℕ → ℕ → ℕ → Type 0
+PassesOver h i t j = (i ≤ j) × AreUnruled h i j × ((y : ℕ) → y ≤ t → IsCutAt h.rows.now y i → (z : ℕ) × (y ≤ z) × (z ≤ t) × IsCutAt h.rows.now z j)
 
 -- whether some of the states has the colour with an age in the bound, and whether some hasn't
 pub record SeesColour (P : State → Type 0) (c : ℕ) (bound : AgeBound) (t : ℤ) (seen : Seen) : Type 0 where

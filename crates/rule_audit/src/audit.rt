@@ -39,7 +39,7 @@ pub fn audit_rows(
     let specs = config.specs();
     let timed = all_skips(alloc, specs, rules, false)?;
     let clauses = all_skips(alloc, specs, rules, true)?;
-    let own = own_places(alloc, specs, rows)?;
+    let own = own_places(alloc, specs, rules, &timed, &clauses, rows)?;
     let hour = AuditedHour {
         specs,
         rules,

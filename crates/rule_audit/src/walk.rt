@@ -4,7 +4,7 @@ ghost use Rattle.gap_map.specs.Stretches.{known_at};
 ghost use Rattle.board.specs.Logs.{end_tenth, first_tenth, no_row};
 ghost use Rattle.rule_audit.specs.Judged.{HasVerdict};
 ghost use Rattle.rule_audit.specs.Lines.{AreLinesOf};
-ghost use Rattle.rule_audit.specs.Pass.{AddsUpTo, Ends, IsCutAt, IsLogOf, IsReady, Rises, log_of, obligations_in};
+ghost use Rattle.rule_audit.specs.Pass.{AddsUpTo, Ends, IsCutAt, IsLogOf, IsNextRuled, IsReady, IsStart, PassesOver, Rises, log_of, obligations_in};
 
 use crate::hour::AuditedHour;
 use crate::lines::AuditLine;
@@ -28,8 +28,56 @@ fn until(rows: &[Row], first: usize, tenth: u32) -> usize
     rows.len()
 }
 
-// The known tenths from `from` up to `to`, where the tenth before them is known: those with rows.
-// Answers how many rows are before `to`.
+// The first row from this one on that has a rule or is not before the tenth, or the number of rows.
+fn next_ruled(hour: &AuditedHour<'_>, first: usize, to: u32) -> usize
+    requires ready { IsReady hour.now }
+    requires first { first ≤ length hour.now.rows.now }
+    ensures { IsNextRuled hour.now first to result }
+{
+    let count = hour.specs.len();
+    for index in first..hour.rows.len() {
+        if (hour.own[index] as usize) < count {
+            return index;
+        }
+        if hour.rows[index].at >= to {
+            return index;
+        }
+    }
+    hour.rows.len()
+}
+
+// The first of the rows from `first` up to this one that are of its tenth.
+fn start_of(rows: &[Row], first: usize, index: usize) -> usize
+    requires rises { Rises rows.now }
+    requires range { first ≤ index }
+    requires index { index < length rows.now }
+    ensures { IsStart rows.now first index result }
+{
+    for turn in 0..index - first {
+        let start = index - turn;
+        if rows[start - 1].at < rows[index].at {
+            return start;
+        }
+    }
+    first
+}
+
+// Passes over the tenths from row `first` on in which no row has a rule, up to the tenth `to`:
+// answers the first row of the next other one, or how many rows are before `to`.
+fn pass_over(hour: &AuditedHour<'_>, first: usize, to: u32) -> usize
+    requires ready { IsReady hour.now }
+    requires first { first ≤ length hour.now.rows.now }
+    ensures { PassesOver hour.now first to result }
+{
+    let ruled = next_ruled(hour, first, to);
+    if ruled < hour.rows.len() {
+        return start_of(hour.rows, first, ruled);
+    }
+    ruled
+}
+
+// The known tenths from `from` up to `to`, where the tenth before them is known: those with a row
+// of a rule's channel. Answers how many rows are before `to`.
 fn judge_on(
     lines: &mut Vec<AuditLine>,
     hour: &AuditedHour<'_>,
@@ -48,7 +96,7 @@ fn judge_on(
         (end_tenth e.hour)) (obligations_in hour.now true to (end_tenth e.hour)) lines.old.items
         lines.new.items) }
 {
-    let mut next = first;
+    let mut next = pass_over(hour, first, to);
     'tenths: while next < hour.rows.len() {
         let at = hour.rows[next].at;
         if at >= to {
@@ -56,7 +104,7 @@ fn judge_on(
         }
         let end = until(hour.rows, next, at + 1);
         judge_tenth(lines, hour, at, next, end, true)?;
-        next = end;
+        next = pass_over(hour, end, to);
     }
     Ok(next)
 }

@@ -23,9 +23,18 @@ all_skips-requires-2-clause-fit c = rw (c.requires.rules, c.specs-specs.ensures.
 pub all_skips-requires-2-clause-few : goal.all_skips-requires-2-clause-few
 all_skips-requires-2-clause-few c = rw c.requires.rules (few_rules c.args.config.now c.specs-specs.ensures.sound)
 
+pub own_places-requires-clause-fit : goal.own_places-requires-clause-fit
+own_places-requires-clause-fit c = rw (c.requires.rules, c.specs-specs.ensures.value) (rules_fit c.args.config.now c.specs-specs.ensures.sound)
+
+pub own_places-requires-clause-timed : goal.own_places-requires-clause-timed
+own_places-requires-clause-timed c = subst (λ (xs : List (List ℕ)). AreSkips c.specs-specs.result.now c.args.rules.now false (length c.specs-specs.result.now) xs) (sym c.deref.ensures.value) c.in_ok-timed.ensures
+
+pub own_places-requires-clause-clauses : goal.own_places-requires-clause-clauses
+own_places-requires-clause-clauses c = subst (λ (xs : List (List ℕ)). AreSkips c.specs-specs.result.now c.args.rules.now true (length c.specs-specs.result.now) xs) (sym c.deref-2.ensures.value) c.in_ok-clauses.ensures
+
 pub judge_hour-requires : goal.judge_hour-requires
 judge_hour-requires c =
-    let hour : AuditedHour = record { specs = c.specs-specs.result; rules = c.args.rules; timed = c.deref.result; clauses = c.deref-2.result; view = c.args.view; rows = c.args.rows; own = c.deref-3.result; stretches = c.args.stretches } in
+    let hour : AuditedHour = record { specs = c.specs-specs.result; rules = c.args.rules; timed = c.deref-3.result; clauses = c.deref-4.result; view = c.args.view; rows = c.args.rows; own = c.deref-5.result; stretches = c.args.stretches } in
     let (log, is) = c.requires.view in
     let there = log_there c.args.config.now hour log c.specs-specs.ensures.value is in
     let is_hour = there.is_view.is_log.is_hour in
@@ -39,14 +48,14 @@ judge_hour-requires c =
         are_specs = rw c.specs-specs.ensures.value c.specs-specs.ensures.specs;
         are_rules = fit;
         seen = ap (λ (l : HourLog). length l.specs) there.is_view.same;
-        own = subst (λ (xs : List ℕ). AreOwn c.specs-specs.result.now c.args.rows.now (length c.args.rows.now) xs) (sym c.deref-3.ensures.value) c.in_ok-own.ensures;
-        timed = subst (λ (xs : List (List ℕ)). AreSkips c.specs-specs.result.now c.args.rules.now false (length c.specs-specs.result.now) xs) (sym c.deref.ensures.value) c.in_ok-timed.ensures;
-        clauses = subst (λ (xs : List (List ℕ)). AreSkips c.specs-specs.result.now c.args.rules.now true (length c.specs-specs.result.now) xs) (sym c.deref-2.ensures.value) c.in_ok-clauses.ensures;
+        own = subst (λ (xs : List ℕ). AreOwn c.specs-specs.result.now c.args.rules.now c.args.rows.now (length c.args.rows.now) xs) (sym c.deref-5.ensures.value) c.in_ok-own.ensures;
+        timed = subst (λ (xs : List (List ℕ)). AreSkips c.specs-specs.result.now c.args.rules.now false (length c.specs-specs.result.now) xs) (sym c.deref-3.ensures.value) c.in_ok-timed.ensures;
+        clauses = subst (λ (xs : List (List ℕ)). AreSkips c.specs-specs.result.now c.args.rules.now true (length c.specs-specs.result.now) xs) (sym c.deref-4.ensures.value) c.in_ok-clauses.ensures;
       };
       some = (ends_of log, there);
     }
 
 pub returns : goal.returns
 returns c =
-    let hour : AuditedHour = record { specs = c.specs-specs.result; rules = c.args.rules; timed = c.deref.result; clauses = c.deref-2.result; view = c.args.view; rows = c.args.rows; own = c.deref-3.result; stretches = c.args.stretches } in
+    let hour : AuditedHour = record { specs = c.specs-specs.result; rules = c.args.rules; timed = c.deref-3.result; clauses = c.deref-4.result; view = c.args.view; rows = c.args.rows; own = c.deref-5.result; stretches = c.args.stretches } in
     if_ok c.judge_hour.result _ _ (λ v f log is. lines_there c.args.config.now hour log c.specs-specs.ensures.value is c.args.known_before v.items (f (ends_of log) (log_there c.args.config.now hour log c.specs-specs.ensures.value is))) c.judge_hour.ensures

@@ -25,4 +25,4 @@ returns c = λ e is known.
     let own = get_or h.own.now c.args.index 0 in
     let size = c.requires.ready.timed.0 in
     let over : length h.timed.now ≤ own = c.if-own-hour.false in
-    rw (row_none h.specs.now c.args.index row h.rules.now (none_timed_by h.specs.now h.rules.now row own (c.requires.ready.own.1 c.args.index c.requires.index) c.requires.ready.are_rules (omega arith))) (adds_none (HasVerdict (log_of h e)) c.args.lines.now.items)
+    rw (row_none h.specs.now c.args.index row h.rules.now (none_timed_by h.specs.now h.rules.now row own (c.requires.ready.own.1 c.args.index c.requires.index) (omega arith))) (adds_none (HasVerdict (log_of h e)) c.args.lines.now.items)

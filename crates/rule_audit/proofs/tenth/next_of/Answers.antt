@@ -22,4 +22,4 @@ returns c =
     let own = get_or h.own.now c.args.index 0 in
     let size = c.requires.ready.clauses.0 in
     let over : length h.clauses.now ≤ own = c.if-own-hour.false in
-    none_due_by h.specs.now h.rules.now row own (c.requires.ready.own.1 c.args.index c.requires.index) c.requires.ready.are_rules (omega arith) c.args.from c.requires.from
+    none_due_by h.specs.now h.rules.now row own (c.requires.ready.own.1 c.args.index c.requires.index) (omega arith) c.args.from c.requires.from

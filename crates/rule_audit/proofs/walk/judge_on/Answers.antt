@@ -2,7 +2,7 @@ use Rattle.std.proofs.Common.{arith, ◌≡◌, ◌+◌, ◌<◌, ◌≤◌, tru
 use Rattle.gap_map.specs.Stretches.{known_at}
 use Rattle.board.specs.Logs.{no_row}
 use Rattle.rule_audit.proofs.Tenths.{cut_further}
-use Rattle.rule_audit.proofs.Walking.{on_further, on_join, on_tenth}
+use Rattle.rule_audit.proofs.Walking.{on_further, on_join, on_over, on_start, on_tenth}
 use Rattle.rule_audit.proofs.walk.judge_on.Goals as goal
 
 pub returns-then-at-to-clause-lines : goal.returns-then-at-to-clause-lines
@@ -12,6 +12,20 @@ returns-then-at-to-clause-lines c = λ e is.
     let past : c.args.to ≤ (get_or h.rows.now c.tenths.next no_row).at = c.if-at-to.true in
     on_further h e c.requires.ready.rises true c.args.from y c.args.to c.tenths.next c.args.lines.now.items c.tenths.lines.items high (c.requires.within e is) (λ t le lt. c.requires.known t (omega arith) lt) cut (λ lt. past) (added e is)
 
+pub tenths-init : goal.tenths-init
+tenths-init c =
+    let h = c.args.hour.now in
+    let (le, none, cuts) = c.pass_over-next.ensures in
+    let (y, low, high, cut) = cuts c.args.from c.requires.range c.requires.first in (
+      y,
+      low,
+      high,
+      cut,
+      λ e is.
+          let top = c.requires.within e is in
+          on_over h e c.requires.ready.rises true c.args.from c.args.from y c.args.first c.pass_over-next.result c.args.lines.now.items c.args.lines.now.items low (omega arith) (λ t a b. c.requires.known t a (omega arith)) c.requires.first cut none (on_start h e c.requires.ready.rises true c.args.from c.args.lines.now.items),
+    )
+
 pub tenths-preserved : goal.tenths-preserved
 tenths-preserved c =
     let h = c.args.hour.now in
@@ -19,15 +33,21 @@ tenths-preserved c =
     let at = (get_or h.rows.now c.tenths.next no_row).at in
     let less : at < c.args.to = c.if-at-to.false in
     let from : y ≤ at = cut.2 c.tenths.next (omega arith) c.tenths-test.true in
-    let known : known_at h.stretches.now at ≡ true = c.requires.known at (omega arith) less in (
-      at + 1,
+    let known : known_at h.stretches.now at ≡ true = c.requires.known at (omega arith) less in
+    let (ahead, none, cuts) = c.pass_over-next-in-tenths.ensures in
+    let (z, over, under, later) = cuts (at + 1) (omega arith) c.until-end.ensures in (
+      z,
       omega arith,
-      omega arith,
-      c.until-end.ensures,
+      under,
+      later,
       λ e is.
           let top = c.requires.within e is in
-          let there = on_further h e c.requires.ready.rises true c.args.from y at c.tenths.next c.args.lines.now.items c.tenths.lines.items from (omega arith) (λ t le lt. c.requires.known t (omega arith) (omega arith)) cut (λ lt. omega arith) (added e is) in
-          on_join h e c.requires.ready.rises true true true c.args.from at (at + 1) c.args.lines.now.items c.tenths.lines.items c.judge_tenth.new.lines.items there (on_tenth h e c.requires.ready.rises true at c.tenths.lines.items c.judge_tenth.new.lines.items (omega arith) known (c.in_ok-judge_tenth.ensures e is)),
+          let old = c.args.lines.now.items in
+          let now = c.tenths.lines.items in
+          let new = c.judge_tenth.new.lines.items in
+          let there = on_further h e c.requires.ready.rises true c.args.from y at c.tenths.next old now from (omega arith) (λ t le lt. c.requires.known t (omega arith) (omega arith)) cut (λ lt. omega arith) (added e is) in
+          let judged = on_join h e c.requires.ready.rises true true true c.args.from at (at + 1) old now new there (on_tenth h e c.requires.ready.rises true at now new (omega arith) known (c.in_ok-judge_tenth.ensures e is)) in
+          on_over h e c.requires.ready.rises true c.args.from (at + 1) z c.until-end.result c.pass_over-next-in-tenths.result old new over (omega arith) (λ t a b. c.requires.known t (omega arith) (omega arith)) c.until-end.ensures later none judged,
     )
 
 pub returns-clause-lines : goal.returns-clause-lines

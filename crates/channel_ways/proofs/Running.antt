@@ -1,7 +1,7 @@
 -- The possible states of the runs between letters.
 use Rattle.std.proofs.Common.{suc, zero, ◌≡◌, refl, sym, subst, inl, inr, ◌↔◌, ℕ, ◌+◌, ◌-◌, ◌<◌, ◌≤◌, ◌^◌, ℤ, pos, negsuc, ◌+ℤ◌, ◌≤ℤ◌, List, [], ◌∷◌, ◌++◌, length, take, drop, get_or, arith}
 use Rattle.std.proofs.lemmas.Int.{ints}
-use Rattle.std.proofs.lemmas.List.{length_push, drop_more}
+use Rattle.std.proofs.lemmas.List.{length_push, drop_more, take-take}
 use Rattle.span_set.specs.declared.set.Span.{Span}
 use Rattle.span_set.proofs.Sets.{int_cases}
 use Rattle.colour_machine.specs.Rules.{Rules}
@@ -13,7 +13,8 @@ use Rattle.channel_path.specs.declared.moves.Move.TheVariants.{Letter, Gap}
 use Rattle.channel_path.specs.Walks.{limit_before, InOrder, Taken, Walk, AfterMoves, EnteredBefore, StopsAt}
 use Rattle.channel_path.specs.Places.{EntersBefore}
 use Rattle.channel_path.specs.Kept.{letters, AreRuns, IsPast}
-use Rattle.channel_path.proofs.Moving.{stops_leg}
+use Rattle.channel_path.proofs.Legs.{slice_join}
+use Rattle.channel_path.proofs.Moving.{walk_join}
 use Rattle.channel_path.proofs.Keeping.{IsAfter, AreKept, pasts_stand}
 use Rattle.channel_ways.specs.Pasts.{AreRunPasts}
 
@@ -98,6 +99,20 @@ length_take_most (suc n) (x ∷ xs) = let i = length_take_most n xs in omega ari
 
 slice_one : (xs : List Move) (a b : ℕ) → length (take (b - a) (drop a xs)) ≤ b - a
 slice_one xs a b = length_take_most (b - a) (drop a xs)
+
+-- a leg that stops at its first move stops the walk there
+stops_leg : (m : Rules) (old now : List (List Span)) (xs : List Move) (a b : ℕ) → a < b → b ≤ length xs → ((u : State) → Holds now u ↔ AfterMoves m old (take a xs) u) → StopsAt m now (take (b - a) (drop a xs)) 0 → StopsAt m old xs a
+stops_leg m old now xs a b lt h inv (_, (u, (v, hv, w)), none) =
+    let first : take 1 (take (b - a) (drop a xs)) ≡ take 1 (drop a xs) = take-take 1 (b - a) (drop a xs) (omega arith) in
+    let one : (a + 1) - a ≡ 1 = omega arith in
+    let joined : take (a + 1) xs ≡ take a xs ++ take 1 (drop a xs) = rw one at (slice_join xs a (a + 1) (omega arith)) in (
+      omega arith,
+      (v, (inv v).0 hv),
+      λ z after.
+          let (s, hs, r) = rw joined at after in
+          let (y, one_way, rest) = (walk_join m (take a xs) (take 1 (drop a xs)) s z).0 r in
+          none z (y, (inv y).1 (s, hs, one_way), rw first rest),
+    )
 
 pub no_stop_one : (m : Rules) (before past : List (List Span)) (xs : List Move) (a b j : ℕ) → b ≡ a + 1 → b ≤ length xs → ((u : State) × AfterMoves m before xs u) → ((u : State) → Holds past u ↔ AfterMoves m before (take a xs) u) → StopsAt m past (take (b - a) (drop a xs)) j → ⊥
 no_stop_one m before past xs a b j e h some is stop =

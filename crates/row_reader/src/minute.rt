@@ -81,6 +81,7 @@ impl Minute {
 
 // The tenth of the window that a stamp names which begins with the known minute's text; no answer
 // where it is another one.
+#[inline(always)]
 fn tenth_in(minute: &Option<Minute>, stamp: &[u8], window: &Window) -> Option<Tenth>
     ensures { IfSome result (λ t. stamp_in window.now stamp.now ≡ Some t) }
 {

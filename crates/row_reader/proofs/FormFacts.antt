@@ -13,7 +13,7 @@ at_cut-some : {A : Type 0} (f : List ℕ → List ℕ → Option A) (o : Option 
 at_cut-some f None v e = cc
 at_cut-some f (Some p) v e = (p.0, p.1, refl, e)
 
-or-from : {A : Type 0} (a b : Option A) (v : A) → option_or a b ≡ Some v → (a ≡ Some v) ⊎ (b ≡ Some v)
+pub or-from : {A : Type 0} (a b : Option A) (v : A) → option_or a b ≡ Some v → (a ≡ Some v) ⊎ (b ≡ Some v)
 or-from None b v e = inr e
 or-from (Some x) b v e = inl e
 
@@ -121,7 +121,7 @@ whole-from : (text : List ℕ) (s : ℕ) (o : Option ℕ) → number_of 2 2 59 t
 whole-from text s None e f = cc
 whole-from text s (Some k) e f = record { second = k; form = e; is = let q : 10 * k + 0 ≡ s = cc in omega arith }
 
-seconds-from : (text : List ℕ) (s : ℕ) (o : Option (List ℕ × List ℕ)) → cut 46 text ≡ o → seconds_of o text ≡ Some s → IsWhole text s ⊎ IsBroken text s
+pub seconds-from : (text : List ℕ) (s : ℕ) (o : Option (List ℕ × List ℕ)) → cut 46 text ≡ o → seconds_of o text ≡ Some s → IsWhole text s ⊎ IsBroken text s
 seconds-from text s None e f = inl (whole-from text s (number_of 2 2 59 text) refl f)
 seconds-from text s (Some p) e f = inr (record { whole = p.0; fraction = p.1; form = cut-splits 46 text p.0 p.1 e; is = f })
 

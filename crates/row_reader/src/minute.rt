@@ -8,7 +8,7 @@ ghost use Rattle.row_reader.specs.Stamp.{stamp_in};
 ghost use Rattle.row_reader.specs.Trim.{trimmed};
 
 use crate::number::read_number;
-use crate::stamp::{cut, date_of, read_stamp, seconds_of};
+use crate::stamp::{cut, date_of, halves, read_stamp, seconds_of};
 use crate::trim::is_plain;
 use crate::word::begins_with;
 use sig_base::{Tenth, Window};
@@ -67,9 +67,10 @@ impl Minute {
         Some(&text[front.len()..])
     }
 
-    // The tenth of the window that the minute's text with these seconds names.
+    // The tenth of the window that the minute's text with these seconds names, where they are some.
     fn tenth(&self, seconds: &[u8], window: &Window) -> Option<Tenth>
-        ensures { result ≡ stamp_in window.now (take self.now.len self.now.text ++ seconds.now) }
+        ensures { IfSome result (λ t.
+            stamp_in window.now (take self.now.len self.now.text ++ seconds.now) ≡ Some t) }
     {
         match seconds_of(seconds) {
             Some(tenth) => Some(window.tenth_of(self.day, self.start + tenth)),
@@ -78,27 +79,36 @@ impl Minute {
     }
 }
 
-/// The tenth of the window that a stamp names which begins with the known minute's text and has no
-/// space at its ends; no answer where there is none. Most stamps are so.
-pub(crate) fn usual_tenth(minute: &Option<Minute>, stamp: &[u8], window: &Window) -> Option<Tenth>
-    ensures { IfSome result (λ t. stamp_in window.now (trimmed stamp.now) ≡ Some t) }
+// The tenth of the window that a stamp names which begins with the known minute's text; no answer
+// where it is another one.
+#[inline(always)]
+fn tenth_in(minute: &Option<Minute>, stamp: &[u8], window: &Window) -> Option<Tenth>
+    ensures { IfSome result (λ t. stamp_in window.now stamp.now ≡ Some t) }
 {
     let Some(minute) = minute else {
         return None;
     };
     let seconds = minute.after(stamp)?;
-    if !is_plain(stamp) {
-        return None;
-    }
     minute.tenth(seconds, window)
 }
 
-// The minute of a stamp, where a space parts its date from its time. One with `T` has none here: a
-// space in what follows would part it elsewhere.
+/// The tenth of the window that a stamp names which begins with the known minute's text and has no
+/// space at its ends; no answer where it is another one. Most stamps are so.
+pub(crate) fn usual_tenth(minute: &Option<Minute>, stamp: &[u8], window: &Window) -> Option<Tenth>
+    ensures { IfSome result (λ t. stamp_in window.now (trimmed stamp.now) ≡ Some t) }
+{
+    if is_plain(stamp) {
+        tenth_in(minute, stamp, window)
+    } else {
+        None
+    }
+}
+
+// The minute of a stamp.
 fn minute_of(stamp: &[u8]) -> Option<Minute>
     ensures { IfSome result (λ m. (rest : List ℕ) × (stamp.now ≡ take m.len m.text ++ rest)) }
 {
-    let (date, time) = cut(stamp, b' ')?;
+    let (date, time) = halves(stamp)?;
     let (hour, rest) = cut(time, b':')?;
     let (minute, _) = cut(rest, b':')?;
     let len = date.len() + hour.len() + minute.len() + 3;
@@ -117,20 +127,6 @@ fn minute_of(stamp: &[u8]) -> Option<Minute>
     }
 }
 
-// The tenth of the window that a stamp names which begins with the known minute's text; no answer
-// where it begins otherwise.
-fn tenth_in(minute: &Option<Minute>, stamp: &[u8], window: &Window) -> Option<Option<Tenth>>
-    ensures { IfSome result (λ t. t ≡ stamp_in window.now stamp.now) }
-{
-    let Some(minute) = minute else {
-        return None;
-    };
-    match minute.after(stamp) {
-        Some(seconds) => Some(minute.tenth(seconds, window)),
-        None => None,
-    }
-}
-
 /// The tenth of the window that a stamp names, as `read_stamp` gives it. `minute` is that of the
 /// stamp before, where it is known, and then that of this one.
 pub(crate) fn read_next_stamp(
@@ -141,7 +137,7 @@ pub(crate) fn read_next_stamp(
     ensures { result ≡ stamp_in window.now stamp.now }
 {
     if let Some(tenth) = tenth_in(minute, stamp, window) {
-        return tenth;
+        return Some(tenth);
     }
     *minute = minute_of(stamp);
     read_stamp(stamp, window)

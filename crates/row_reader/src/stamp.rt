@@ -202,7 +202,7 @@ fn time_of(text: &[u8]) -> Option<u32>
 }
 
 // The date and the time of a stamp: what is before and what is after its space or its `T`.
-fn halves(text: &[u8]) -> Option<(&[u8], &[u8])>
+pub(crate) fn halves(text: &[u8]) -> Option<(&[u8], &[u8])>
     ensures { option_map (λ p. (p.0.now, p.1.now)) result
         ≡ option_or (cut 32 text.now) (cut 84 text.now) }
 {

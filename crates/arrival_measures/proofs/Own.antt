@@ -1,5 +1,5 @@
 -- A cycle is the same over the rows of its phase and its detector alone.
-use Rattle.std.proofs.Common.{◌≡◌, ℕ, ◌+◌, ◌-◌, Bool, true, false, ◌&&◌, ◌||◌, cond, List, [], ◌∷◌, refl, ap, sym, ◌∙◌, filter, ltb, leb, length, inl, inr}
+use Rattle.std.proofs.Common.{◌≡◌, ℕ, ◌+◌, ◌-◌, Bool, true, false, ◌&&◌, ◌||◌, cond, eqb, List, [], ◌∷◌, refl, ap, sym, ◌∙◌, filter, ltb, leb, length, inl, inr}
 use Rattle.std.specs.Prelude.{count_by}
 use Rattle.std.proofs.lemmas.Bool.{cases_Bool, and_parts, or_right}
 use Rattle.std.proofs.lemmas.List.Elements.{filter_agree}
@@ -7,7 +7,7 @@ use Rattle.std.proofs.lemmas.List.Sums.{length-filter}
 use Rattle.sig_base.specs.declared.values.Row.{Row}
 use Rattle.arrival_measures.specs.Arrivals.{is_on, ons_of, rows_within}
 use Rattle.arrival_measures.specs.Green.{greens, green_after, shows_green, arrivals_in, green_arrivals_in, green_tenths_in}
-use Rattle.arrival_measures.specs.Own.{is_own, own_rows}
+use Rattle.arrival_measures.specs.Own.{is_own, is_turn, own_rows, turns_green, turns_of}
 use Rattle.arrival_measures.specs.Opens.{open_at}
 use Rattle.arrival_measures.proofs.Tenths.{tenths_same}
 
@@ -38,6 +38,17 @@ and_part false false h = refl
 -- a test that passes less
 pub filter_less : {X : Type 0} (p q : X → Bool) → ((x : X) → p x ≡ true → q x ≡ true) → (xs : List X) → filter p (filter q xs) ≡ filter p xs
 filter_less p q h xs = filter_filter p q xs ∙ filter_agree (λ x. q x && p x) p (λ x. and_part (q x) (p x) (h x)) xs
+
+-- rows of codes 1, 7 and 8
+
+turn_code : (a b c : Bool) → ((a && b) || (a && c)) ≡ true → (b || c) ≡ true
+turn_code true b c h = h
+turn_code false true c h = refl
+turn_code false false true h = refl
+turn_code false false false h = h
+
+pub turns_kept : (p : ℕ) (rows : List Row) → filter (turns_green p) (turns_of rows) ≡ filter (turns_green p) rows
+turns_kept p rows = filter_less (turns_green p) is_turn (λ x h. turn_code (eqb x.param p) (eqb x.code 1) (eqb x.code 7 || eqb x.code 8) h) rows
 
 -- rows of others
 

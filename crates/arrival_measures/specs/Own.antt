@@ -1,5 +1,5 @@
 -- The rows on which a cycle depends: those of its phase and of its detector.
-use Rattle.std.specs.Prelude.{ℕ, Bool, ◌||◌, List, filter}
+use Rattle.std.specs.Prelude.{ℕ, Bool, ◌==◌, ◌||◌, List, filter}
 use Rattle.sig_base.specs.declared.values.Row.{Row}
 use Rattle.arrival_measures.specs.Arrivals.{is_on}
 use Rattle.arrival_measures.specs.Green.{begins_green, ends_green}
@@ -8,7 +8,14 @@ use Rattle.arrival_measures.specs.Green.{begins_green, ends_green}
 abbrev pub turns_green : ℕ → Row → Bool
 turns_green p x = begins_green p x || ends_green p x
 
--- it does so, or detector d goes on
+-- it has the code of such a row: 1, 7 or 8
+abbrev pub is_turn : Row → Bool
+is_turn x = x.code == 1 || (x.code == 7 || x.code == 8)
+
+abbrev pub turns_of : List Row → List Row
+turns_of rows = filter is_turn rows
+
+-- it begins or ends green of phase p, or detector d goes on
 abbrev pub is_own : ℕ → ℕ → Row → Bool
 is_own p d x = turns_green p x || is_on d x
 

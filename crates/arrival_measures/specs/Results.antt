@@ -17,6 +17,7 @@ use Rattle.arrival_measures.specs.declared.sources.Sources.{Sources}
 use Rattle.arrival_measures.specs.declared.sums.ArrivalSum.{ArrivalSum}
 use Rattle.arrival_measures.specs.Crossing.{CarryParts, IsCarry, crossing_of}
 use Rattle.arrival_measures.specs.Hours.{AreAllJudged, HasJudged, HaveCycles, IsUnheld}
+use Rattle.arrival_measures.specs.Own.{turns_of}
 use Rattle.arrival_measures.specs.Steps.{AreDetections, AreGiven, AreSources, IsHourOf, IsOwnOf}
 use Rattle.arrival_measures.specs.Views.{IsSeen}
 
@@ -62,8 +63,8 @@ IsSumBy c view s a h sum =
 
 -- the hour's rows in chains
 abbrev pub AreChained : Settings → Detections → List Row → List Stretch → Sources → Type 0
-AreChained c found rows ss s =
-    (known : ℕ → Bool) (before : List Row) (hour : ℕ) → IsHour known hour rows ss → AreOrdered 0 (point hour) before → AreDetections known c before (known_rows known rows) hour found
+AreChained c found turns ss s =
+    (known : ℕ → Bool) (before rows : List Row) (hour : ℕ) → turns ≡ turns_of rows → IsHour known hour rows ss → AreOrdered 0 (point hour) before → AreDetections known c before (known_rows known rows) hour found
     → AreSources known c before rows hour s
 
 -- their numbers, by the view if there is one

@@ -23,6 +23,7 @@ use Rattle.ring_config.specs.declared.items.Approach.{Approach}
 use Rattle.arrival_measures.specs.declared.open.Open.{Open}
 use Rattle.arrival_measures.specs.Arrivals.{ons_of}
 use Rattle.arrival_measures.specs.Opens.{open_at}
+use Rattle.arrival_measures.specs.Own.{turns_of}
 use Rattle.arrival_measures.specs.declared.carry.Crossing.{Crossing}
 use Rattle.arrival_measures.specs.declared.faults.Flag.{Flag}
 use Rattle.arrival_measures.specs.declared.faults.Detection.{Detection}
@@ -91,7 +92,7 @@ pub record AreSources (known : ℕ → Bool) (c : Settings) (before rows : List 
   pub is_hour : IsHour known hour rows s.stretches.now
   pub ordered : AreOrdered 0 (point hour) before
   pub earlier : All (λ x. x.at < point hour) before
-  pub turns : s.turns ≡ rows
+  pub turns : s.turns ≡ turns_of rows
   pub arrivals : s.arrivals ≡ of_approaches c (arrivals_from known before (known_rows known rows))
   pub faults : s.faults ≡ of_approaches c (faults_from known before (known_rows known rows))
   pub first : s.first ≡ point hour

@@ -3,6 +3,7 @@ ghost use Rattle.std.specs.Prelude.{◌≡◌, ◌+◌, ◌<◌, true, false, fi
 ghost use Rattle.board.specs.Logs.{no_row};
 ghost use Rattle.arrival_measures.specs.declared.chains.Chain.{Chain};
 ghost use Rattle.arrival_measures.specs.Chains.{IsNext, IsOnlyIn, cell_of, is_in, number_of};
+ghost use Rattle.arrival_measures.specs.Own.{is_turn, turns_of};
 
 use sig_base::{NoMemory, Row};
 use std::alloc::Global;
@@ -124,6 +125,24 @@ impl<'a> Chains<'a> {
     {
         self.next[place]
     }
+}
+
+fn is_turn(row: &Row) -> bool
+    ensures { result ≡ is_turn row.now }
+{
+    row.code == 1 || row.code == 7 || row.code == 8
+}
+
+/// Those of the rows that begin or end green of a phase, in their order. They are few.
+pub(crate) fn turns_among(alloc: Global, rows: &[Row]) -> Result<Vec<Row>, NoMemory>
+    ensures { IfOk result (λ v. v.items ≡ turns_of rows.now) }
+{
+    let turns = rows
+        .iter()
+        .copied()
+        .filter(|row| is_turn(row))
+        .collect(alloc)?;
+    Ok(turns)
 }
 
 /// The rows that the chain has, in their order.

@@ -10,7 +10,7 @@ ghost use Rattle.arrival_measures.specs.Results.{AreChained, AreHourSums, AreHou
 use crate::ahead::{ApproachHour, approach_hour, due_of};
 use crate::approach::{approach_of, phase_spec};
 use crate::carry::{ArrivalCarry, Crossing};
-use crate::chains::{Chain, Chains, chain_rows};
+use crate::chains::{Chain, Chains, chain_rows, turns_among};
 use crate::cycles::CycleSum;
 use crate::faults::{Detections, detect};
 use crate::judged::{Judged, green, judged_rows, nothing, red, unseen_rows};
@@ -229,20 +229,20 @@ fn is_last(config: &Config, first: u32) -> bool
     first / 36_000 + 1 == config.hours()
 }
 
-// The hour's rows in chains, with its tenths.
+// The hour's rows in chains, with its tenths: `turns` are those that begin or end green.
 fn sources_of<'a>(
     alloc: Global,
     config: &Config,
     found: &'a Detections,
-    rows: &'a [Row],
+    turns: &'a [Row],
     stretches: &'a [Stretch],
 ) -> Result<Sources<'a>, NoMemory>
     ensures stretches { IfOk result (λ s. s.stretches.now ≡ stretches.now) }
-    ensures sources { IfOk result (AreChained config.now found.now rows.now stretches.now) }
+    ensures sources { IfOk result (AreChained config.now found.now turns.now stretches.now) }
 {
     let first = first_of(stretches);
     Ok(Sources {
-        turns: Chains::new(alloc, rows)?,
+        turns: Chains::new(alloc, turns)?,
         arrivals: Chains::new(alloc, &found.arrivals)?,
         faults: Chains::new(alloc, &found.faults)?,
         stretches,
@@ -273,7 +273,8 @@ fn over_hour(
 {
     let found = detect(alloc, &carry.flags, rows, stretches)?;
     let numbers = {
-        let sources = sources_of(alloc, config, &found, rows, stretches)?;
+        let turns = turns_among(alloc, rows)?;
+        let sources = sources_of(alloc, config, &found, &turns, stretches)?;
         hour_numbers(alloc, config, &carry.crossings, cuts, view, &sources)?
     };
     carry.crossings = numbers.crossings;

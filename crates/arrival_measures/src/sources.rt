@@ -5,7 +5,7 @@ use gap_map::Stretch;
 /// The rows of an hour in chains, and its tenths.
 #[derive(Drop)]
 pub(crate) struct Sources<'a> {
-    /// All rows, also those at unknown tenths.
+    /// The rows that begin or end green of a phase, also those at unknown tenths.
     pub(crate) turns: Chains<'a>,
     /// The arrivals of all detectors.
     pub(crate) arrivals: Chains<'a>,

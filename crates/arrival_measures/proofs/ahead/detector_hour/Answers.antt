@@ -17,6 +17,7 @@ use Rattle.arrival_measures.specs.Steps.{AreUnderWay, GiveSame, IsOpenUnderWay, 
 use Rattle.arrival_measures.proofs.Arriving.{arriving_is, open_given, open_under_way}
 use Rattle.arrival_measures.proofs.Crossing.{are_cycles_of, cycle_with, open_found, open_is_cycle}
 use Rattle.arrival_measures.proofs.Hours.{has_some, hour_ordered}
+use Rattle.arrival_measures.proofs.Own.{turns_kept}
 use Rattle.arrival_measures.proofs.Telling.{are_under_way, early, give_same, in_order, late, own}
 use Rattle.arrival_measures.proofs.Travels.{late_late}
 use Rattle.arrival_measures.proofs.ahead.detector_hour.Goals as goal
@@ -45,7 +46,7 @@ returns c = λ known s before rows hour are cut of_it cross.
     let arrives : c.in_ok-arriving.arriving.items ≡ L =
     arriving_is known s p d v t before rows first or tr c.list.result.now c.deref.result.now c.in_ok-arriving.arriving.items (omega arith) has
     (c.list.ensures ∙ pended) (c.deref.ensures.value ∙ c.in_ok-ons.ensures ∙ ap (λ zs. filter (is_on d) zs) are.arrivals) c.in_ok-arriving.ensures in
-    let turns : c.deref-2.result.now ≡ filter (turns_green p) rows = c.deref-2.ensures.value ∙ c.in_ok-turns.ensures ∙ ap (λ zs. filter (turns_green p) zs) are.turns in
+    let turns : c.deref-2.result.now ≡ filter (turns_green p) rows = c.deref-2.ensures.value ∙ c.in_ok-turns.ensures ∙ ap (λ zs. filter (turns_green p) zs) are.turns ∙ turns_kept p rows in
     let owned : c.in_ok-own.own.items ≡ O = c.in_ok-own.ensures ∙ ap (λ zs. merged zs c.deref-3.result.now) turns ∙ ap (λ zs. merged (filter (turns_green p) rows) zs) (c.deref-3.ensures.value ∙ arrives) in
     let all_cycles = are_cycles_of known s a d before hour rows c.args.cuts.now c.args.crossing.now.begun are.earlier or cut begun in
     let under = are_under_way known p d v t before rows first or tr c.args.crossing.now.begun c.args.cuts.now.cycles are.earlier all_cycles in

@@ -15,10 +15,10 @@ use Rattle.arrival_measures.proofs.hour.over_hour.Goals.{After-drop-found-3}
 detections_of : (c : After-drop-found-3) (known : ℕ → Bool) (before : List Row) (hour : ℕ) → IsHour known hour c.args.rows.now c.args.stretches.now → IsCarry known c.args.config.now before hour c.args.carry.now → AreDetections known c.args.config.now before (known_rows known c.args.rows.now) hour c.in_ok-found.found
 detections_of c known before hour h is = c.in_ok-found.ensures known c.args.config.now before hour h is.earlier (c.deref.ensures.value ∙ ap (λ (z : CarryParts). z.flags) c.carry.view_is ∙ is.flags_are)
 
-given : (c : After-drop-found-3) (known : ℕ → Bool) (before : List Row) (hour : ℕ) → IsHour known hour c.args.rows.now c.args.stretches.now → IsCarry known c.args.config.now before hour c.args.carry.now → IsCut known c.args.config.now.phases before hour c.args.rows.now c.args.cuts.now → AreGiven known c.args.config.now before c.args.rows.now hour c.in_ok-sources.sources c.deref-2.result.now c.args.cuts.now
+given : (c : After-drop-found-3) (known : ℕ → Bool) (before : List Row) (hour : ℕ) → IsHour known hour c.args.rows.now c.args.stretches.now → IsCarry known c.args.config.now before hour c.args.carry.now → IsCut known c.args.config.now.phases before hour c.args.rows.now c.args.cuts.now → AreGiven known c.args.config.now before c.args.rows.now hour c.in_ok-sources.sources c.deref-3.result.now c.args.cuts.now
 given c known before hour h is cut =
-    let are = c.in_ok-sources.ensures.sources known before hour h is.ordered (detections_of c known before hour h is) in
-    given_of known c.args.config.now before c.args.rows.now hour c.in_ok-sources.sources c.args.carry.now c.deref-2.result.now c.args.cuts.now are is (c.deref-2.ensures.value ∙ ap (λ (z : CarryParts). z.crossings) c.carry.view_is) cut
+    let are = c.in_ok-sources.ensures.sources known before c.args.rows.now hour (c.deref-2.ensures.value ∙ c.in_ok-turns.ensures) h is.ordered (detections_of c known before hour h is) in
+    given_of known c.args.config.now before c.args.rows.now hour c.in_ok-sources.sources c.args.carry.now c.deref-3.result.now c.args.cuts.now are is (c.deref-3.ensures.value ∙ ap (λ (z : CarryParts). z.crossings) c.carry.view_is) cut
 
 carried : (c : After-drop-found-3) (known : ℕ → Bool) (before : List Row) (hour : ℕ) → IsHour known hour c.args.rows.now c.args.stretches.now → IsCarry known c.args.config.now before hour c.args.carry.now → IsCut known c.args.config.now.phases before hour c.args.rows.now c.args.cuts.now → IsCarry known c.args.config.now (before ++ known_rows known c.args.rows.now) (hour + 1) (record { crossings = c.in_ok-numbers.numbers.crossings.items; flags = c.in_ok-found.found.flags.items })
 carried c known before hour h is cut =

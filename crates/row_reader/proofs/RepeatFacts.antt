@@ -1,4 +1,4 @@
--- Dropping the repeats of rows in order, with a look-up of the last row of each group.
+-- Dropping the repeats of rows in order, and what is left then.
 use Rattle.std.proofs.Common.{◌≡◌, ◌≤◌, ◌<◌, ◌+◌, ℕ, Bool, true, false, List, [], ◌∷◌, ◌++◌, length, refl, sym, ap, ◌∙◌, arith, drop, get_or, append_assoc, append-nil, if◌then◌else◌, inl, inr}
 use Rattle.std.specs.Prelude.{◌==◌, ◌&&◌, Option, Some, None}
 use Rattle.std.specs.Option.{option_or}
@@ -45,7 +45,7 @@ lies-or from to x r (Some q) b h k e =
     let l : Lies x.at to q = k q refl in
     rw (← s) (omega (arith, h.0, l.0), l.1)
 
-pub last-lies : (p : Row → Bool) (from to : ℕ) (xs : List Row) (row : Row) (rest : List Row) (r : Row)
+last-lies : (p : Row → Bool) (from to : ℕ) (xs : List Row) (row : Row) (rest : List Row) (r : Row)
     → RiseIn from to (xs ++ row ∷ rest) → last_where p xs ≡ Some r → Lies from row.at r
 last-lies p from to [] row rest r h e = cc
 last-lies p from to (x ∷ xs) row rest r h e =
@@ -104,7 +104,7 @@ pub rise-lower : (a b to : ℕ) (xs : List Row) → a ≤ b → RiseIn b to xs �
 rise-lower a b to [] h k = tt
 rise-lower a b to (x ∷ xs) h k = (omega (arith, k.0), k.1, k.2)
 
-pub rise-without : (from to : ℕ) (xs : List Row) (row : Row) (rest : List Row) → RiseIn from to (xs ++ row ∷ rest) → RiseIn from to (xs ++ rest)
+rise-without : (from to : ℕ) (xs : List Row) (row : Row) (rest : List Row) → RiseIn from to (xs ++ row ∷ rest) → RiseIn from to (xs ++ rest)
 rise-without from to [] row rest h = rise-lower from row.at to rest h.0 h.2
 rise-without from to (x ∷ xs) row rest h = (h.0, h.1, rise-without x.at to xs row rest h.2)
 

@@ -8,7 +8,7 @@ use Rattle.colour_machine.specs.Mask.{Has}
 use Rattle.reach.specs.Runs.{State}
 use Rattle.reach.specs.declared.seen.Seen.{Seen}
 use Rattle.gap_map.specs.declared.stretch.Stretch.{Stretch}
-use Rattle.gap_map.specs.Stretches.{known_at}
+use Rattle.gap_map.specs.Stretches.{AreStretches, known_at}
 use Rattle.board.specs.Logs.{HourLog, no_row}
 use Rattle.board.specs.Verdicts.{MayPass}
 use Rattle.hour_sweep.specs.Sums.{capped, one_if}
@@ -143,6 +143,14 @@ abbrev pub due_of : Bool → ℕ → List Row → List Row
 due_of last end rows = filter (λ x. last || nat_lt x.at end) rows
 
 -- ---- judged rows
+
+-- stands where a list has no stretch
+abbrev pub no_stretch : Stretch
+no_stretch = record { from = 0; to = 0; known = false }
+
+-- of the stretches, up to tenth b, the one with this place tells whether tenth t is known; one from b on isn't
+abbrev pub IsPlaceAt : List Stretch → ℕ → ℕ → Type 0
+IsPlaceAt ss t i = (known : ℕ → Bool) (a b : ℕ) → AreStretches known a b ss → a ≤ t → (slice_index_or ss i no_stretch).known ≡ (known t && nat_lt t b)
 
 -- the colours are those that pass the test
 abbrev pub IsMaskOf : (ℕ → Bool) → ℕ → Type 0

@@ -1,5 +1,5 @@
 // Rows of detectors, judged by what their phase shows.
-ghost use Rattle.std.specs.Prelude.{◌≡◌, ◌≤◌, ◌<◌, ◌+◌, ◌&&◌, nat_lt, ℕ, Bool, true, false, List, All, length};
+ghost use Rattle.std.specs.Prelude.{◌≡◌, ◌≤◌, ◌<◌, ◌+◌, ◌&&◌, nat_lt, ℕ, Bool, true, false, List, All, IsTrue, length, slice_index_or};
 ghost use Rattle.sig_base.specs.declared.values.Row.{Row};
 ghost use Rattle.gap_map.specs.Stretches.{AreStretches, known_at};
 ghost use Rattle.hour_sweep.specs.Sums.{capped, one_if};
@@ -7,7 +7,7 @@ ghost use Rattle.board.specs.Logs.{HourLog};
 ghost use Rattle.board.specs.Places.{IsViewOf};
 ghost use Rattle.board.specs.Verdicts.{MayPass};
 ghost use Rattle.arrival_measures.specs.Judged.{is_green, is_red};
-ghost use Rattle.arrival_measures.specs.Steps.{AreJudgedRows, IsMaskOf, JudgesRows, Says, judged_unseen, judged_with, no_judged};
+ghost use Rattle.arrival_measures.specs.Steps.{AreJudgedRows, IsMaskOf, IsPlaceAt, JudgesRows, Says, judged_unseen, judged_with, no_judged, no_stretch};
 
 use board::HourView;
 use colour_machine::Mask;
@@ -103,14 +103,55 @@ fn seen(view: &HourView, spec: u16, at: u32, colours: Mask) -> Seen
     view.seen_at_end(spec, at, &test)
 }
 
+// The place of the stretch that has the tenth, or their number where none has it.
+fn place_of(stretches: &[Stretch], at: u32) -> usize
+    ensures { IsPlaceAt stretches.now at result }
+{
+    stretches.partition_point(|stretch| stretch.to <= at)
+}
+
+// Whether the stretch with this place has the tenth.
+fn has_at(stretches: &[Stretch], place: usize, at: u32) -> bool
+    ensures { IsTrue result → IsPlaceAt stretches.now at place }
+{
+    if place >= stretches.len() {
+        return false;
+    }
+    let stretch = stretches[place];
+    if at < stretch.from {
+        return false;
+    }
+    if at < stretch.to {
+        return true;
+    }
+    false
+}
+
+// The same as `place_of`, where the stretch at `near` mostly has the tenth.
+fn place_near(stretches: &[Stretch], near: usize, at: u32) -> usize
+    ensures { IsPlaceAt stretches.now at result }
+{
+    if has_at(stretches, near, at) {
+        near
+    } else {
+        place_of(stretches, at)
+    }
+}
+
+// Whether the tenths of the stretch with this place are known.
+fn knows(stretches: &[Stretch], place: usize) -> bool
+    ensures { result ≡ (slice_index_or stretches.now place no_stretch).known }
+{
+    place < stretches.len() && stretches[place].known
+}
+
 /// Whether the tenth is known, by the stretches of an hour that isn't past it; one after the hour
 /// isn't.
 pub(crate) fn is_known(stretches: &[Stretch], at: u32) -> bool
     ensures { (known : ℕ → Bool) (a b : ℕ) → AreStretches known a b stretches.now → a ≤ at
         → result ≡ (known at && nat_lt at b) }
 {
-    let place = stretches.partition_point(|stretch| stretch.to <= at);
-    place < stretches.len() && stretches[place].known
+    knows(stretches, place_of(stretches, at))
 }
 
 /// Arrivals at the hour's first tenth or later, each that is seen judged by whether the phase is in
@@ -126,8 +167,10 @@ pub(crate) fn judged_rows(
     ensures { JudgesRows view.now stretches.now spec colours rows.now result }
 {
     let mut judged = nothing();
+    let mut place = 0;
     for row in rows {
-        judged = if is_known(stretches, row.at) {
+        place = place_near(stretches, place, row.at);
+        judged = if knows(stretches, place) {
             judged.with(seen(view, spec, row.at, colours))
         } else {
             judged.with_unseen()

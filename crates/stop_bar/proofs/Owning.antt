@@ -1,9 +1,10 @@
 -- The rows of each detector, row by row.
-use Rattle.std.proofs.Common.{zero, suc, ◌≡◌, refl, ap, sym, ◌∙◌, inl, inr, ℕ, ◌+◌, ◌<◌, true, false, eqb, List, [], ◌∷◌, ◌++◌, length, take, get_or, set}
+use Rattle.std.proofs.Common.{zero, suc, ◌≡◌, refl, ap, sym, ◌∙◌, inl, inr, ℕ, ◌+◌, ◌<◌, Bool, true, false, eqb, List, [], ◌∷◌, ◌++◌, length, take, get_or, set}
 use Rattle.std.proofs.lemmas.Bool.Decides.{eqb_tells}
 use Rattle.std.proofs.lemmas.List.{append-nil, get_or-set_same, get_or-set_other, take_more}
 use Rattle.std.proofs.lemmas.List.Elements.{filter-append}
 use Rattle.sig_base.specs.declared.values.Row.{Row}
+use Rattle.sig_base.proofs.Common.{clash}
 use Rattle.stop_bar.specs.Own.{is_own, own_of}
 
 own_one : (n : ℕ) (r : Row) → is_own n r ≡ true → own_of n (r ∷ []) ≡ r ∷ []
@@ -28,6 +29,15 @@ one_added table new number r lt own e n = elim (eqb_tells n number) [
       ∙ (get_or-set_other table number n (get_or table number [] ++ r ∷ []) [] other
       ∙ (sym (append-nil (get_or table n []))
       ∙ ap (λ (xs : List Row). get_or table n [] ++ xs) (sym (own_none n r none))))
+]
+
+-- the row of a detector that isn't wanted is none of the rows of those that are
+pub one_left : (table : List (List Row)) (wanted : List Bool) (number : ℕ) (r : Row) → ((d : ℕ) → is_own d r ≡ eqb d number) → get_or wanted number false ≡ false → (n : ℕ) → get_or wanted n false ≡ true → get_or table n [] ≡ get_or table n [] ++ own_of n (r ∷ [])
+one_left table wanted number r own off n on = elim (eqb_tells n number) [
+  | inl (t, same) ↦ absurd (clash (get_or wanted n false) on (ap (λ (k : ℕ). get_or wanted k false) same ∙ off))
+  | inr (f, other) ↦
+      sym (append-nil (get_or table n []))
+      ∙ ap (λ (xs : List Row). get_or table n [] ++ xs) (sym (own_none n r (own n ∙ f)))
 ]
 
 -- another row is none of them

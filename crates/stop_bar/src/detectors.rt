@@ -9,7 +9,7 @@ ghost use Rattle.detector_state.specs.Hours.{TellsColours};
 ghost use Rattle.stop_bar.specs.All.{AreTold, IsHourHeld};
 
 use crate::bars::stop_bars;
-use crate::own::rows_by_detector;
+use crate::own::{rows_by_detector, wanted_by};
 use board::Pasts;
 use detector_state::{Switched, switched};
 use event_codes::{Channel, Kind};
@@ -21,7 +21,7 @@ use std::alloc::Global;
 
 /// The tenths of the detector of each stop bar in an hour, in file order: by the hour's rows, none
 /// where it isn't held, its stretches, and the states in which each channel may be before it.
-/// Goes over the rows once, and over each detector's own rows.
+/// Goes over the rows once, and over the own rows of each of these detectors.
 pub fn detectors_hour(
     alloc: Global,
     config: &Config,
@@ -39,7 +39,7 @@ pub fn detectors_hour(
     if list.is_empty() {
         return Ok(told);
     }
-    let table = rows_by_detector(alloc, rows)?;
+    let table = rows_by_detector(alloc, &wanted_by(&list), rows)?;
     for bar in &list {
         let own = table[usize::from(bar.detector)].list();
         told.push(detector_hour(alloc, config, bar.detector, pasts, own, stretches)?)?;

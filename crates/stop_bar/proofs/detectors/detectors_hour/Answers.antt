@@ -1,4 +1,5 @@
-use Rattle.std.proofs.Common.{◌≡◌, ap, ◌∙◌, subst, ℕ, List, [], arith, take, take_all, get_or, length}
+use Rattle.std.proofs.Common.{◌≡◌, ap, sym, ◌∙◌, subst, true, false, ℕ, List, [], arith, take, take_all, get_or, length}
+use Rattle.std.specs.Prelude.{All}
 use Rattle.std.proofs.lemmas.List.{get_or_default, take_more}
 use Rattle.sig_base.specs.declared.values.Row.{Row}
 use Rattle.signal_log.specs.Log.{log_of}
@@ -25,11 +26,13 @@ loop-bar-preserved c = λ s hour is.
     let k = c.from.result in
     let n = (get_or c.deref-bar-items.result.now j d).detector in
     let there = c.in_ok-table.ensures.size in
+    let bars = subst (λ (xs : List StopBar). All (λ (z : StopBar). get_or c.wanted_by.result z.detector false ≡ true) xs) (c.deref.ensures.value ∙ sym c.deref-bar-items.ensures.value) c.wanted_by.ensures in
+    let wanted : get_or c.wanted_by.result k false ≡ true = ap (λ (m : ℕ). get_or c.wanted_by.result m false) c.from.ensures ∙ bars j d test in
     let mine : c.list-own.result.now ≡ own_of n c.args.rows.now =
     c.list-own.ensures
     ∙ (c.index.ensures
     ∙ (get_or_default c.in_ok-table.table.items k c.index.result.now [] (omega arith)
-    ∙ (c.in_ok-table.ensures.rows k (omega arith)
+    ∙ (c.in_ok-table.ensures.rows k (omega arith) wanted
     ∙ ap (λ (m : ℕ). own_of m c.args.rows.now) c.from.ensures))) in
     let tells : (i : ℕ) → IsPlaceOf c.args.config.now (get_or c.deref-bar-items.result.now j d) i → TellsColours (detector n) (get_or c.args.pasts.now i []) (own_of n c.args.rows.now) c.args.stretches.now c.in_ok-detector_hour.field-0 =
     λ i place. subst (λ (xs : List Row). TellsColours (detector n) (get_or c.args.pasts.now i []) xs c.args.stretches.now c.in_ok-detector_hour.field-0) mine (c.in_ok-detector_hour.ensures i place) in

@@ -8,3 +8,4 @@ pub mod Places
 pub mod Hours
 pub mod Verdicts
 pub mod SpecPlaces
+pub mod Finding

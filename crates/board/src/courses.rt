@@ -1,19 +1,16 @@
 // The moves of each channel in an hour, in one pass over stretches and rows.
-ghost use Rattle.std.specs.Prelude.{◌≡◌, ◌≢◌, ℕ, ◌+◌, ◌<◌, ◌≤◌, ◌^◌, [], ◌∷◌, ◌++◌, Some, None, length, drop, take, slice_index_or, MatchOption, OnOk, IfOk, IsTrue, ◌↔◌};
-ghost use Rattle.event_codes.specs.declared.channels.Channel.{Channel};
+ghost use Rattle.std.specs.Prelude.{◌≡◌, ℕ, ◌+◌, ◌<◌, ◌≤◌, ◌^◌, [], ◌∷◌, ◌++◌, length, drop, take, slice_index_or, OnOk, IfOk};
 ghost use Rattle.channel_tables.specs.declared.spec.Spec.{Spec};
 ghost use Rattle.channel_path.specs.declared.moves.Move.{Move};
 ghost use Rattle.channel_path.specs.declared.moves.Move.TheVariants.{Letter, Gap};
 ghost use Rattle.board.specs.Channels.{letter_in, track, AreSpecs};
 ghost use Rattle.board.specs.Moves.{count_before, with_letter, letter_moves, stretch_moves};
 ghost use Rattle.board.specs.Courses.{AreAdded, AreCourses};
-ghost use Rattle.board.specs.Logs.{no_spec};
-ghost use Rattle.board.specs.SpecPlaces.{IsTable};
+ghost use Rattle.board.specs.Finding.{IsFinder};
 
-use crate::spec_table::SpecTable;
+use crate::finder::Finder;
 use channel_path::Move;
-use channel_tables::{Spec, letter_of_kind};
-use event_codes::{Channel, channel_of};
+use channel_tables::Spec;
 use gap_map::Stretch;
 use sig_base::{NoMemory, Row};
 use std::alloc::Global;
@@ -79,11 +76,18 @@ pub fn courses_of(
     requires few { length rows.now < 2 ^ 32 }
     ensures { IfOk result (λ v. AreCourses specs.now rows.now stretches.now v.items) }
 {
-    let table = SpecTable::new(alloc, specs)?;
+    let mut finder = Finder::new(alloc, specs, rows.len())?;
     let mut courses = empty(alloc, specs.len(), (rows.len() / 64).min(MOST_ROOM))?;
     let mut next: usize = 0;
     for stretch in stretches {
-        next = add_stretch(specs, &table, courses.as_mut_slice(), rows, next, *stretch)?;
+        next = add_stretch(
+            specs,
+            &mut finder,
+            courses.as_mut_slice(),
+            rows,
+            next,
+            *stretch,
+        )?;
     }
     Ok(courses)
 }
@@ -104,14 +108,14 @@ fn empty(alloc: Global, count: usize, room: usize) -> Result<Vec<Course>, NoMemo
 // The moves of a stretch, of which the next row is the first. Answers which row comes next then.
 fn add_stretch(
     specs: &[Spec],
-    table: &SpecTable,
+    finder: &mut Finder,
     courses: &mut [Course],
     rows: &[Row],
     next: usize,
     stretch: Stretch,
 ) -> Result<usize, NoMemory>
     requires specs { AreSpecs specs.now }
-    requires table { IsTable specs.now table.now }
+    requires finder { IsFinder specs.now finder.old }
     requires same { length courses.old ≡ length specs.now }
     requires few { length rows.now < 2 ^ 32 }
     requires next { next ≤ length rows.now }
@@ -119,12 +123,13 @@ fn add_stretch(
     ensures added { OnOk result ((d : Spec) → AreAdded courses.old courses.new
         (λ i. stretch_moves (track (slice_index_or specs.now i d)) next
         (take (count_before stretch.to (drop next rows.now)) (drop next rows.now)) stretch)) }
+    ensures finder { IsFinder specs.now finder.new }
 {
     let (_done, rest) = rows.split_at(next);
     let count = count_before(rest, stretch.to);
     if stretch.known {
         let (here, _later) = rest.split_at(count);
-        add_rows(specs, table, courses, here, next as u32)?;
+        add_rows(specs, finder, courses, here, next as u32)?;
         return Ok(next + count);
     }
     add_gap(courses, stretch.from, stretch.to)?;
@@ -156,21 +161,22 @@ fn add_gap(courses: &mut [Course], from: u32, to: u32) -> Result<(), NoMemory>
 // The rows, of which the first has this number.
 fn add_rows(
     specs: &[Spec],
-    table: &SpecTable,
+    finder: &mut Finder,
     courses: &mut [Course],
     rows: &[Row],
     first: u32,
 ) -> Result<(), NoMemory>
     requires specs { AreSpecs specs.now }
-    requires table { IsTable specs.now table.now }
+    requires finder { IsFinder specs.now finder.old }
     requires same { length courses.old ≡ length specs.now }
     requires few { first + length rows.now < 2 ^ 32 }
-    ensures { OnOk result ((d : Spec) → AreAdded courses.old courses.new
+    ensures finder { IsFinder specs.now finder.new }
+    ensures added { OnOk result ((d : Spec) → AreAdded courses.old courses.new
         (λ i. letter_moves (track (slice_index_or specs.now i d)) first rows.now)) }
 {
     let mut number = first;
     for row in rows {
-        add_row(specs, table, courses, *row, number)?;
+        add_row(specs, finder, courses, *row, number)?;
         number += 1;
     }
     Ok(())
@@ -179,50 +185,26 @@ fn add_rows(
 // A row, for the channel to which it belongs.
 fn add_row(
     specs: &[Spec],
-    table: &SpecTable,
+    finder: &mut Finder,
     courses: &mut [Course],
     row: Row,
     number: u32,
 ) -> Result<(), NoMemory>
     requires specs { AreSpecs specs.now }
-    requires table { IsTable specs.now table.now }
+    requires finder { IsFinder specs.now finder.old }
     requires same { length courses.old ≡ length specs.now }
-    ensures { OnOk result ((d : Spec) → AreAdded courses.old courses.new
+    ensures finder { IsFinder specs.now finder.new }
+    ensures added { OnOk result ((d : Spec) → AreAdded courses.old courses.new
         (λ i. with_letter (letter_in (slice_index_or specs.now i d) row.code row.param) row.at
         number [])) }
 {
-    let Some((i, letter)) = find(specs, table, row.code, row.param) else {
+    let Some((place, letter)) = finder.find(specs, row.code, row.param) else {
         return Ok(());
     };
-    courses[i].add(Move::Letter {
+    courses[place as usize].add(Move::Letter {
         at: row.at,
         letter,
         row: number,
     })?;
     Ok(())
-}
-
-// The place of the spec to whose channel the event belongs, and its letter.
-fn find(specs: &[Spec], table: &SpecTable, code: u8, param: u16) -> Option<(usize, u8)>
-    requires table { IsTable specs.now table.now }
-    ensures { MatchOption result ((i : ℕ) (d : Spec) → i < length specs.now
-        → letter_in (slice_index_or specs.now i d) code param ≡ None) (λ p. (p.0 < length specs.now)
-        × ((d : Spec) → letter_in (slice_index_or specs.now p.0 d) code param ≡ Some p.1)) }
-{
-    let channel = channel_of(code, param)?;
-    let place = place_of_channel(specs, table, channel)?;
-    let letter = letter_of_kind(channel.kind, code, param)?;
-    Some((place, letter))
-}
-
-fn place_of_channel(specs: &[Spec], table: &SpecTable, channel: Channel) -> Option<usize>
-    requires table { IsTable specs.now table.now }
-    ensures { MatchOption result ((i : ℕ) (d : Spec) → i < length specs.now
-        → (slice_index_or specs.now i d).channel ≢ channel) (λ p. (p < length specs.now)
-        × ((d : Spec) → (slice_index_or specs.now p d).channel ≡ channel)) }
-{
-    match table.place_of(channel) {
-        Some(place) => Some(place as usize),
-        None => None,
-    }
 }

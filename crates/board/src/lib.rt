@@ -13,6 +13,7 @@ mod again;
 mod aheads;
 mod clause;
 mod courses;
+mod finder;
 mod marks;
 mod meeting;
 mod pasts;

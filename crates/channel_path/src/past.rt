@@ -1,5 +1,5 @@
 // The states after moves.
-ghost use Rattle.std.specs.Prelude.{◌≡◌, ℕ, pos, ◌<◌, ◌≤◌, ◌+◌, ◌^◌, ◌↔◌, ◌∷◌, ◌++◌, length, take, IsTrue, IfOk, OnOk, OnErr, MatchOption, MatchBool, slice_index_or, []};
+ghost use Rattle.std.specs.Prelude.{◌≡◌, ℕ, pos, ◌<◌, ◌≤◌, ◌+◌, ◌^◌, ◌↔◌, ◌∷◌, ◌++◌, length, take, IsTrue, IfOk, OnOk, OnErr, MatchOption, slice_index_or, []};
 ghost use Rattle.reach.specs.Runs.{State};
 ghost use Rattle.reach.specs.Past.{Holds, AfterGap, AfterRow};
 ghost use Rattle.channel_path.specs.declared.moves.Move.TheVariants.{Gap};

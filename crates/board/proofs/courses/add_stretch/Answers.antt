@@ -11,7 +11,7 @@ returns-then-stretch-clause-added c =
     let back = c.split_at.ensures.back in
     let count = rw back at c.count_before-count.ensures in
     let front = rw (back, count) at c.split_at-then-stretch.ensures.front in
-    let added = c.in_ok-add_rows.ensures in
+    let added = c.in_ok-add_rows.ensures.added in
     λ d. ((added d).0, λ i lt. (added d).1 i lt ∙ ap (λ ms. get_or c.args.courses.now i [] ++ ms) (stretch_known (track (get_or c.args.specs.now i d)) c.args.next _ _ c.args.stretch c.if-stretch.true front))
 
 pub overflow_add-result-2 : goal.overflow_add-result-2

@@ -16,9 +16,9 @@ loop-stretch-preserved c =
     let added = rw c.as_mut_slice.ensures.value at c.in_ok-next.ensures.added in
     let c1 = count_le (get_or c.args.stretches.now c.loop-stretch.stretch-index no_stretch).to (drop c.loop-stretch.next c.args.rows.now) in
     let c2 = length-drop c.loop-stretch.next c.args.rows.now in
-    rw back (omega arith, len ∙ inv.1, λ i d lt. rw next (stretch_turn (track (get_or c.args.specs.now i d)) c.args.rows.now c.args.stretches.now c.loop-stretch.next c.loop-stretch.stretch-index no_stretch (get_or c.loop-stretch.courses.items i []) (get_or c.add_stretch.new.courses i []) _ c.loop-stretch-test.true (inv.2 i d lt) ((added d).1 i (let l = inv.1 in omega arith))))
+    rw back (c.in_ok-next.ensures.finder, omega arith, len ∙ inv.2, λ i d lt. rw next (stretch_turn (track (get_or c.args.specs.now i d)) c.args.rows.now c.args.stretches.now c.loop-stretch.next c.loop-stretch.stretch-index no_stretch (get_or c.loop-stretch.courses.items i []) (get_or c.add_stretch.new.courses i []) _ c.loop-stretch-test.true (inv.3 i d lt) ((added d).1 i (let l = inv.2 in omega arith))))
 
 pub returns : goal.returns
 returns c =
     let inv = c.loop-stretch.invariant in
-    (inv.1, λ i d lt. stretches_done (track (get_or c.args.specs.now i d)) _ c.args.stretches.now c.loop-stretch.next c.loop-stretch.stretch-index (get_or c.loop-stretch.courses.items i []) _ (omega arith) (inv.2 i d lt))
+    (inv.2, λ i d lt. stretches_done (track (get_or c.args.specs.now i d)) _ c.args.stretches.now c.loop-stretch.next c.loop-stretch.stretch-index (get_or c.loop-stretch.courses.items i []) _ (omega arith) (inv.3 i d lt))

@@ -86,5 +86,5 @@ both_counted known hour one other rows ss x y start end ex ey es ee h =
     let second : CodeCount = record { code = other; count = 0 } in
     let begun : start ≡ (first, second) = es ∙ rw (ex, ey) refl in
     let e = ee ∙ ap (λ p. swept (both_after code_after code_after) (both_cleared (λ s. s) (λ s. s)) ss rows p) begun
-      ∙ swept_both code_after code_after (λ s. s) (λ s. s) ss rows first second in
+    ∙ swept_both code_after code_after (λ s. s) (λ s. s) ss rows first second in
     (rows_counted known hour one rows ss end.0 (ap (λ p. p.0) e) h, rows_counted known hour other rows ss end.1 (ap (λ p. p.1) e) h)

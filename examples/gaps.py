@@ -24,9 +24,9 @@ what these scores are worth together by telling gaps that it cuts into the log i
    so come from the log's own, but those where the log contradicts itself. These may hide holes too: the regression is
    fitted again without those that look like cuts (the case of learning from positive and unlabelled examples: C. Elkan
    and K. Noto, Learning Classifiers from Only Positive and Unlabeled Data, 2008). What speaks for a hole never counts
-   against one: without that bound a gap beyond all that was cut, where every channel is odd, could be told from holes.
-   And the holes of contradictions are known: where there are such, all is learned again without what follows over them,
-   or a row that is nowhere else would have been seen there.
+   against one: without that bound a gap in which all channels are odder than in any cut could be told from a hole. Where
+   the log contradicts itself, all is learned again with these holes known, since what follows a row over a hole isn't
+   usual, and gaps beside it look odd.
 4. Best first. The likeliest gap is taken as a hole, and rows on both sides of it count together no longer; so it
    explains its neighbours away. Then the next.
 5. Other cuts, which the regression hasn't seen, tell which outages are found in this log, and which aren't.

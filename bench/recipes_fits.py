@@ -1,9 +1,9 @@
 """The part of bench/recipes on the regression of examples/fits.py: small problems at random, and the same by a slow sure
 way. Nothing here is proved.
 
-The slow way goes down the slope by a step that can't overshoot, until nothing is left of the slope but where a weight is
-held at 0. It shares no line with the quick one. Some problems have labels that can be told apart wholly, a number twice,
-or one that is the same in all rows; and in each some weights, or none, aren't let below 0.
+The slow way goes down the slope by a step that can't overshoot, until nothing is left of the slope but where a weight
+is held at 0. It shares no line with the quick one. Some problems have labels that can be told apart wholly, a number
+twice, or one that is the same in all rows; and in each some weights, or none, aren't let below 0.
 """
 import math
 import os

@@ -1,12 +1,12 @@
 """Logistic regression with a ridge: what `gaps` learns by. Not proved.
 
 What it makes least is the loss: minus the logarithm of the likelihood, and half the ridge times the squares of all
-weights but the first, which is the constant's. Some weights aren't let below 0. The loss is strictly convex, so there is
-one least place, and there it ends: each step is Newton's in the weights that are free, put back to 0 where it goes
+weights but the first, which is the constant's. Some weights aren't let below 0. The loss is strictly convex, so there
+is one least place, and there it ends: each step is Newton's in the weights that are free, put back to 0 where it goes
 below, and halved until the loss falls by a share of what its slope promises (D. P. Bertsekas, Projected Newton Methods
 for Optimization Problems with Simple Constraints, 1982). A weight that is at 0 and would go below isn't free. It stops
-where no free weight has more than SETTLED of slope left. Since the loss is curved by the ridge at least, the weights are
-then wrong by some SETTLED over the ridge.
+where no free weight has more than SETTLED of slope left. Since the loss is curved by the ridge at least, the weights
+are then wrong by some SETTLED over the ridge.
 """
 import math
 

@@ -24,9 +24,9 @@ what these scores are worth together by telling gaps that it cuts into the log i
    so come from the log's own, but those where the log contradicts itself. These may hide holes too: the regression is
    fitted again without those that look like cuts (the case of learning from positive and unlabelled examples: C. Elkan
    and K. Noto, Learning Classifiers from Only Positive and Unlabeled Data, 2008). What speaks for a hole never counts
-   against one: without that bound a gap in which all channels are odder than in any cut could be told from a hole. Where
-   the log contradicts itself, all is learned again with these holes known, since what follows a row over a hole isn't
-   usual, and gaps beside it look odd.
+   against one: without that bound a gap in which all channels are odder than in any cut could be told from a hole.
+   Where the log contradicts itself, all is learned again with these holes known, since what follows a row over a hole
+   isn't usual, and gaps beside it look odd.
 4. Best first. The likeliest gap is taken as a hole, and rows on both sides of it count together no longer; so it
    explains its neighbours away. Then the next.
 5. Other cuts, which the regression hasn't seen, tell which outages are found in this log, and which aren't.
@@ -63,9 +63,9 @@ RING_CODES = {0, 1, 3, 4, 5, 6, 7, 8, 9, 10, 11, 12}
 CALLS = {43: "call", 44: "call", 45: "ped_detector"}
 SUMMED = ("ring", "detector", "ped", "ped_detector", "call", "other")
 RISING = 13           # numbers of a vector that only speak for a hole: none of their weights is below 0
-# Grades by a gap's score: the logarithm of the odds of a hole, were there one cut a day that doesn't contradict, for a gap
-# of a minute (PLAIN, in tenths). Blanked in vain a gap costs its seconds, so twice as long it wants twice the odds: on a
-# day each of five made signals without a hole that blanks 150 s a day and not 1,200, and by day no fewer cuts are found.
+# Grades by a gap's score: the logarithm of the odds of a hole, were there one cut a day that doesn't contradict, for a
+# gap of a minute (PLAIN, in tenths). Blanked in vain a gap costs its seconds, so twice as long it wants twice the odds:
+# of five made signals without a hole that blanks 150 s a day and not 1,200, and by day no fewer cuts are found.
 SURE, LIKELY, WEAK = 0.0, -2.5, -5.0
 PLAIN = 600
 # The lengths and the parts of the day of `chances`, in tenths and hours; CHANCE_CUTS draws for each of both.
@@ -332,8 +332,8 @@ class Gaps:
         return {group: channel.score(begin, end, self.holes, self.begins) for group, channel in self.channels.items()}
 
     def vector(self, gap):
-        """What the regression is told of a gap: RISING numbers that speak for a hole; then how long it is and how busy the
-        signal, and products where one bends with another."""
+        """What the regression is told of a gap: RISING numbers that speak for a hole; then how long it is and how busy
+        the signal, and products where one bends with another."""
         begin, end = gap
         sums = dict.fromkeys(SUMMED, 0.0)
         each = self.scores(begin, end)
@@ -346,7 +346,8 @@ class Gaps:
         busy = self.busy(begin, end, logs.HOUR // 2)
         told = [min(FULL, value) for value in (*sums.values(), silent, worst[0], worst[1] + worst[2], odd)]
         told += [worst[0] * busy, math.log(0.01 + silent), math.log1p(odd)]
-        return told + [length, self.busy(begin, end, logs.HOUR // 12), busy, length * busy, busy * busy, length * length]
+        return told + [length, self.busy(begin, end, logs.HOUR // 12), busy,
+                       length * busy, busy * busy, length * length]
 
     def draw(self, rng, shortest, longest, hours=None):
         """A stretch at random, cut out of the log: (row before, row after, length); None where no row is lost."""

@@ -14,15 +14,19 @@ what these scores are worth together by telling gaps that it cuts into the log i
    first is a likelihood ratio of renewal processes with marks, by empirical distributions (D. R. Cox and P. A. W.
    Lewis, The Statistical Analysis of Series of Events, 1966). The gap's own time is left out of what it is compared
    with. If x and y are odd together, the hole may be in any gap between them: so each has its part of the ratio, by
-   their number. And a hole that took no row of a channel leaves x and y as they are: so the score is the logarithm of
-   1 and that part together, and a channel that goes on as ever says nothing. Lengths of yellow, least greens, walks,
-   and that a detector goes on and off in turns come out of the counts; none stands here as a rule.
+   their number. And a hole that took no row of a channel leaves x and y as they are: so the ratio counts by the chance
+   that the next row would have come within the gap, as it seldom does on a button in ten seconds; and the score is the
+   logarithm of 1 and that part together, so that a channel that goes on as ever says nothing. Lengths of yellow, least
+   greens, walks, and that a detector goes on and off in turns come out of the counts; none stands here as a rule.
 3. What scores are worth together. Channels depend on one another, so their scores don't just add. CUTS stretches are
    cut out of the log at random places with lengths from SHORTEST to LONGEST, of those that leave no contradiction
    (the others are found without a model), and a logistic regression over the numbers of `vector` tells the gaps that
    so come from the log's own, but those where the log contradicts itself. These may hide holes too: the regression is
    fitted again without those that look like cuts (the case of learning from positive and unlabelled examples: C. Elkan
-   and K. Noto, Learning Classifiers from Only Positive and Unlabeled Data, 2008).
+   and K. Noto, Learning Classifiers from Only Positive and Unlabeled Data, 2008). What speaks for a hole never counts
+   against one: without that bound a gap in which all channels are odder than in any cut could be told from a hole.
+   Where the log contradicts itself, all is learned again with these holes known, since what follows a row over a hole
+   isn't usual, and gaps beside it look odd.
 4. Best first. The likeliest gap is taken as a hole, and rows on both sides of it count together no longer; so it
    explains its neighbours away. Then the next.
 5. Other cuts, which the regression hasn't seen, tell which outages are found in this log, and which aren't.
@@ -49,26 +53,29 @@ ENOUGH = 30           # times of a row: a share of one in thirty is told from no
 ENOUGH_GAPS = 200     # gaps around a time of day, to rank a silence among them
 CUTS = 500            # for learning: 25 and more for each number of a vector
 SHORTEST, LONGEST = 50, 18000   # tenths: their lengths, five seconds to half an hour
-FAR = 3000            # no channel's ratio is more: one odd row alone isn't a hole
+FAR = 30000           # no channel's ratio is more: a day has some 30,000 tenths with rows, and shows nothing rarer
 FULL = 40.0           # no number of a vector is more: what ten channels say that fit worst is enough
 ROUNDS = 4            # of learning without the gaps that look like cuts
-RIDGE = 1.0           # of the regression: before the log is seen, a number of spread 1 is held to weigh some 1. Fifths
-                      # of the gaps and cuts of three days, left out in turn, are told apart best with it on two of
-                      # them, and by 1 % of the log likelihood worse than with 0.1 on one
+RIDGE = 0.01          # of the regression: before the log is seen, a number of spread 1 is held to weigh some 10 or less.
+                      # Of cuts of 5 to 15 s by day, fresh ones in seven logs of four signals, 69, 70 and 71 in 100 are
+                      # found with 1, 0.1 and 0.01, and of longer ones no fewer; the log's own stand out as seldom
 RING_CODES = {0, 1, 3, 4, 5, 6, 7, 8, 9, 10, 11, 12}
 CALLS = {43: "call", 44: "call", 45: "ped_detector"}
 SUMMED = ("ring", "detector", "ped", "ped_detector", "call", "other")
-# Grades by the logarithm of the odds of a hole, were there one cut a day that doesn't contradict. Without a hole, three
-# simulated days, d1 and d3 of bench/days among them, had no `likely` gap, and six `weak` ones a day.
+RISING = 13           # numbers of a vector that only speak for a hole: none of their weights is below 0
+# Grades by a gap's score: the logarithm of the odds of a hole, were there one cut a day that doesn't contradict, for a
+# gap of a minute (PLAIN, in tenths). Blanked in vain a gap costs its seconds, so twice as long it wants twice the odds:
+# of five made signals without a hole that blanks 150 s a day and not 1,200, and by day no fewer cuts are found.
 SURE, LIKELY, WEAK = 0.0, -2.5, -5.0
+PLAIN = 600
 # The lengths and the parts of the day of `chances`, in tenths and hours; CHANCE_CUTS draws for each of both.
 LENGTHS = (50, 150, 600, 3000, 18000)
 PARTS = (0, 5, 9, 15, 19, 22, 24)
 CHANCE_CUTS = 20
 
 
-def grade_of(odds):
-    return "sure" if odds >= SURE else "likely" if odds >= LIKELY else "weak" if odds >= WEAK else "solid"
+def grade_of(score):
+    return "sure" if score >= SURE else "likely" if score >= LIKELY else "weak" if score >= WEAK else "solid"
 
 
 def group_of(code, param, rings):
@@ -105,11 +112,14 @@ class Channel:
         self.marks.append(self.numbers.setdefault(mark, len(self.numbers)))
 
     def count(self, known_of_bin, missing):
-        """Counts the times from row to row, but those over a missing hour."""
+        """Counts the times from row to row, but those over a missing hour or a known hole."""
         self.known_of_bin, self.tables, self.sorted = known_of_bin, {}, {}
         self.after, self.pair, self.before = ([{} for _ in range(BINS)] for _ in range(3))
+        self.counted, ends = bytearray(), [end for _, end in missing]
         for t, u, x, y in zip(self.tenths, self.tenths[1:], self.marks, self.marks[1:]):
-            if u - t < logs.HOUR or not any(t < end and begin < u for begin, end in missing):
+            after = bisect.bisect_right(ends, t)
+            self.counted.append(after == len(ends) or u <= missing[after][0])
+            if self.counted[-1]:
                 time, place = u - t, bin_of(t)
                 self.after[place].setdefault(x, []).append(time)
                 self.pair[place].setdefault((x, y), []).append(time)
@@ -161,20 +171,23 @@ class Channel:
         place = bin_of(begin)
         all_x, all_xy, near_x, near_xy, width_x, near_y, known, width_y = (
             self.tables.get((x, y, place)) or self.table(x, y, place))
-        own = 1 if j == i + 1 else 0    # in a cut the rows between are there yet: the time isn't counted
+        own = self.counted[i] if j == i + 1 else 0    # in a cut the rows between are there yet
         own_x = 1 if own and distance(bin_of(before), place) <= width_x else 0
         own_y = 1 if own and distance(bin_of(after), place) <= width_y else 0
         time, age, silence = after - before, begin - before, after - end
         spans = spans_around(time, age)
         # Without a hole. Times that never came have a heavy tail: 1 in 20 rows does what none did before.
         tail = (1.0 if len(all_xy) > own else 0.05) * (age + 10.0) / (time + 10.0) ** 2
-        share = (density(all_xy, spans, own) + tail) / (longer(all_x, age, own) + 1)
-        share = (density(near_xy, spans, own_x) + 4 * share) / (longer(near_x, age, own_x) + 4)
-        fresh = (longer(near_y, silence, own_y) + 0.5) / known
-        most = min(FAR, 1 + len(all_x))    # a row that was seen twice can't say much
+        alive, alive_near = longer(all_x, age, own) + 1, longer(near_x, age, own_x) + 4
+        share = (density(all_xy, spans, own) + tail) / alive
+        share = (density(near_xy, spans, own_x) + 4 * share) / alive_near
+        # With one that took a row, as it does where the next row would have come before the gap's end.
+        spared = (longer(all_x, end - before, own) + 0.5) / alive
+        spared = (longer(near_x, end - before, own_x) + 4 * spared) / alive_near
+        fresh = (1 - spared) * (longer(near_y, silence, own_y) + 0.5) / known
         left = bisect.bisect_left
         others = left(begins, begin) - left(begins, before) + left(begins, after) - left(begins, end)
-        return math.log1p(min(most, fresh / share) / (1 + others))
+        return math.log1p(min(FAR, fresh / share) / (1 + others))
 
     def explained(self, begin, end):
         """Its rows on both sides of a gap, and what usually follows such a row."""
@@ -248,24 +261,25 @@ class Gaps:
     """The gaps of a log, each with its score. stretches are (begin, end, rows) of hours that follow one another without
     one missing, rows (tenth, code, parameter) in order; rings says the ring of each phase; contradicts says of a gap
     whether the machines find a hole in it by themselves, were there a hole; wrong has the first and the last tenth of
-    each stretch in which they do find one."""
+    each stretch in which they do find one; known are holes that are known before, none over another, in order."""
 
-    def __init__(self, stretches, rings, contradicts, wrong):
-        self.holes, self.contradicts = [], contradicts
+    def __init__(self, stretches, rings, contradicts, wrong, known=()):
+        self.holes, self.contradicts, self.known = [], contradicts, known
+        self.take(known)
         self.stretches = [(begin, end) for begin, end, _ in stretches]
-        missing = [(a[1], b[0]) for a, b in zip(self.stretches, self.stretches[1:])]
+        missing = sorted([(a[1], b[0]) for a, b in zip(self.stretches, self.stretches[1:])] + list(known))
         self.days = sum(end - begin for begin, end in self.stretches) / (24 * logs.HOUR)
-        known = [0] * BINS
+        tenths_of_bin = [0] * BINS
         for begin, end in self.stretches:
             for tenth in range(begin, end, BIN):
-                known[bin_of(tenth)] += BIN
+                tenths_of_bin[bin_of(tenth)] += BIN
         self.tenths = []
         self.channels = self.read(stretches, rings)
         self.every = Channel()
         for tenth in self.tenths:
             self.every.add(tenth, 0)
         for channel in (self.every, *self.channels.values()):
-            channel.count(known, missing)
+            channel.count(tenths_of_bin, missing)
         self.least = max(LEAST, 3 * usual_step(self.tenths) // 2)
         self.own = [gap for gap in zip(self.tenths, self.tenths[1:])
                     if gap[1] - gap[0] >= self.least and not overlaps(gap, missing)]
@@ -294,7 +308,7 @@ class Gaps:
         place = bin_of(begin)
         found = self.every.times("after", 0, place, self.every.width("after", 0, place, ENOUGH_GAPS))
         i = bisect.bisect_right(self.tenths, begin)
-        own = 1 if i < len(self.tenths) and self.tenths[i] == end else 0
+        own = self.every.counted[i - 1] if i < len(self.tenths) and self.tenths[i] == end else 0
         return len(found) - bisect.bisect_left(found, end - begin) - own, len(found), found, own
 
     def silent(self, begin, end):
@@ -318,7 +332,8 @@ class Gaps:
         return {group: channel.score(begin, end, self.holes, self.begins) for group, channel in self.channels.items()}
 
     def vector(self, gap):
-        """What the regression is told of a gap: 13 numbers, and six products where one bends with another."""
+        """What the regression is told of a gap: RISING numbers that speak for a hole; then how long it is and how busy
+        the signal, and products where one bends with another."""
         begin, end = gap
         sums = dict.fromkeys(SUMMED, 0.0)
         each = self.scores(begin, end)
@@ -329,10 +344,10 @@ class Gaps:
         silent, length = self.silent(begin, end), math.log(end - begin)
         odd = min(FULL, sum(score - 3 for score in worst if score > 3))    # those that fit 20 times worse and more
         busy = self.busy(begin, end, logs.HOUR // 2)
-        plain = [*sums.values(), silent, length, worst[0], worst[1] + worst[2], odd,
-                 self.busy(begin, end, logs.HOUR // 12), busy]
-        bent = [length * busy, worst[0] * busy, math.log(0.01 + silent), math.log1p(odd), busy * busy, length * length]
-        return [min(FULL, value) for value in plain] + bent
+        told = [min(FULL, value) for value in (*sums.values(), silent, worst[0], worst[1] + worst[2], odd)]
+        told += [worst[0] * busy, math.log(0.01 + silent), math.log1p(odd)]
+        return told + [length, self.busy(begin, end, logs.HOUR // 12), busy,
+                       length * busy, busy * busy, length * length]
 
     def draw(self, rng, shortest, longest, hours=None):
         """A stretch at random, cut out of the log: (row before, row after, length); None where no row is lost."""
@@ -349,7 +364,7 @@ class Gaps:
         if not 0 < i < j < len(self.tenths) or self.tenths[i - 1] < begin or self.tenths[j] >= end:
             return None
         gap = self.tenths[i - 1], self.tenths[j]
-        return (*gap, length) if gap[1] - gap[0] >= self.least else None
+        return (*gap, length) if gap[1] - gap[0] >= self.least and not overlaps(gap, self.known) else None
 
     def learn(self, jobs=1):
         """The weights: the log's own gaps against cuts, again without those of its own that look like cuts. False where
@@ -364,36 +379,37 @@ class Gaps:
         step = max(1, len(self.examples) // 4000)
         own = [self.vectors[gap] for gap in self.examples[::step]]
         self.base = math.log(len(made) / self.days)
-        self.weights, kept = fits.regression(own, made, step, RIDGE), own
+        self.weights, kept = fits.regression(own, made, step, RIDGE, rising=RISING), own
         for _ in range(ROUNDS):
             before, kept = len(kept), [vector for vector in own if self.odds(vector) < 2 - self.base]
             if len(kept) == before:
                 break
-            self.weights = fits.regression(kept, made, step, RIDGE, self.weights)
+            self.weights = fits.regression(kept, made, step, RIDGE, self.weights, RISING)
         return True
 
     def odds(self, vector):
         """The logarithm of the odds of a hole, were there one cut a day in the place of all of them."""
         return sum(map(float.__mul__, self.weights, [1.0] + vector)) - self.base
 
-    def score(self, begin, end):
-        return self.odds(self.vector((begin, end)))
+    def score(self, begin, end, vector=None):
+        """What a gap is graded by: its odds, for one twice as long half of them."""
+        return self.odds(vector or self.vector((begin, end))) - math.log((end - begin) / PLAIN)
 
     def take(self, holes):
         """From now on these are known holes, none over another: rows on both sides of one tell nothing together."""
         self.holes = sorted([*self.holes, *((begin, end - 1) for begin, end in holes)])
 
     def find(self, least=WEAK, taken=LIKELY):
-        """The likeliest gaps one after another, each from `taken` on held for a hole before the next: (odds, gap)."""
-        heap = [(-self.odds(vector), gap) for gap, vector in self.vectors.items()]
+        """The likeliest gaps one after another, each from `taken` on held for a hole before the next: (score, gap)."""
+        heap = [(-self.score(*gap, vector), gap) for gap, vector in self.vectors.items()]
         heap = [entry for entry in heap if -entry[0] >= least and not overlaps(entry[1], self.holes)]
         heapq.heapify(heap)
         found, scored_at = [], {}
         while heap:
-            odds, gap = heapq.heappop(heap)
+            score, gap = heapq.heappop(heap)
             if scored_at.get(gap) == len(self.holes):
-                found.append((-odds, gap))
-                if -odds >= taken:
+                found.append((-score, gap))
+                if -score >= taken:
                     bisect.insort(self.holes, gap)
                 continue
             scored_at[gap] = len(self.holes)
@@ -423,11 +439,11 @@ class Gaps:
         return sorted(self.scores(begin, end).items(), key=lambda item: (-item[1], item[0]))[:count]
 
     def explained(self, begin, end):
-        """Why a gap has its odds: a line for the silence, then one for each channel, the worst first."""
-        odds = self.score(begin, end)
+        """Why a gap has its grade: a line for the silence, then one for each channel, the worst first."""
+        mine = self.score(begin, end)
         count, whole, _, _ = self.rank(begin, end)
         yield "%s %.1f silence %d of %d gaps around this time of day last as long" % (
-            grade_of(odds), odds, count, whole)
+            grade_of(mine), mine, count, whole)
         for group, score in self.worst(begin, end, len(self.channels)):
             told = self.channels[group].explained(begin, end)
             if told:

@@ -29,7 +29,7 @@ class Hole:
     begin: int
     end: int
     grade: str
-    odds: float | None
+    score: float | None
     why: str
 
     def blank(self):
@@ -40,7 +40,7 @@ class Hole:
 
 @dataclasses.dataclass
 class Found:
-    """holes; suspects as (odds, begin, end, why); chances as in gaps; misfits, contradictions that are no holes, as
+    """holes; suspects as (score, begin, end, why); chances as in gaps; misfits, contradictions that are no holes, as
     (kind, code, count, rows, first tenth); small, what was too small to learn from, as (begin, end, tenths)."""
     holes: list = dataclasses.field(default_factory=list)
     suspects: list = dataclasses.field(default_factory=list)
@@ -125,16 +125,29 @@ def name_of(channel):
 
 
 def model_of(log, config, jobs=1):
-    """The model of a log, learned; None where the log is too small."""
+    """The model of a log, learned, and the holes that the contradictions in it want; None where the log is too small.
+
+    With these known it is learned anew: which rows follow one another over a hole isn't usual.
+    """
     rings = {entry["number"]: entry["ring"] for entry in (config or {}).get("phase", [])}
     rows, floors = machine_rows(log), machines.floors_of(config)
     wrong = contradictions(rows, floors, log.missing())
     odd = {kind for kind, *_ in misfits(rows, wrong)}
-    rows = {channel: mine for channel, mine in rows.items() if channel[0] not in odd}
-    stretches = [(begin, end, log.rows(begin, end)) for begin, end in log.stretches()]
-    model = gaps.Gaps(stretches, rings, contradicts(rows, floors),
-                      [(low, high) for _, low, high, channel, _ in wrong if channel[0] not in odd])
-    return model if model.enough() and model.learn(jobs) else None
+    told = contradicts({channel: mine for channel, mine in rows.items() if channel[0] not in odd}, floors)
+    wrong = [(low, high) for _, low, high, channel, _ in wrong if channel[0] not in odd]
+
+    def learned(known):
+        stretches = [(begin, end, log.rows(begin, end)) for begin, end in log.stretches()]
+        model = gaps.Gaps(stretches, rings, told, wrong, known)
+        return model if model.enough() and model.learn(jobs) else None
+
+    model, found = learned(()), Found()
+    if model:
+        settle(log, config, found, model)
+        if found.holes:
+            model = None    # two of a long log would be too much memory
+            model = learned(merged(hole.blank() for hole in found.holes))
+    return model and (model, found.holes)
 
 
 def in_words(model, gap):
@@ -165,23 +178,20 @@ def proposals(log, config, silence=None, jobs=1, chances=True, certain=False):
 
 def proposals_of(log, end, edges, config, jobs, chances):
     """What is found in a portion up to a tenth; edges are the begins and ends of the whole log's stretches."""
-    found = Found()
-    model = model_of(log, config, jobs)
-    if model is None:
+    found, learned = Found(), model_of(log, config, jobs)
+    if learned is None:
         found.small.append((log.stretches()[0][0], log.stretches()[-1][1], len(log.tenths())))
         return found
-    settle(log, config, found, model)
-    model.take(merged(hole.blank() for hole in found.holes))
-    for odds, gap in model.find():
-        if odds >= gaps.LIKELY:
-            found.holes.append(Hole(*gap, gaps.grade_of(odds), odds, in_words(model, gap)))
+    model, found.holes = learned
+    for score, gap in model.find():
+        if score >= gaps.LIKELY:
+            found.holes.append(Hole(*gap, gaps.grade_of(score), score, in_words(model, gap)))
         else:
-            found.suspects.append((odds, *gap, in_words(model, gap)))
+            found.suspects.append((score, *gap, in_words(model, gap)))
     found.holes += [Hole(*s, "likely", None, "edge") for s in log.silences()
                     if (s[0] in edges or s[1] in edges) and s[1] - s[0] >= gaps.LEAST and model.silent(*s) > EDGE]
     if chances:
         found.chances = list(model.chances())
-    found.misfits = []
     found.holes = [hole for hole in found.holes if hole.begin < end]
     found.suspects = [entry for entry in found.suspects if entry[1] < end]
     return found
@@ -191,22 +201,20 @@ def explained(log, config, stamp, jobs=1):
     """Why the gap at a stamp has its grade: lines, of which the first has the gap; None where there is no gap, or where
     the log is too small. Scores are those with which it was found: with the holes known that were taken before it."""
     portion = next((portion for portion, end in log.portions() if stamp < end), log)
-    model, found = model_of(portion, config, jobs), Found()
+    model, holes = model_of(portion, config, jobs) or (None, ())
     gap = model and next((gap for gap in zip(model.tenths, model.tenths[1:]) if gap[0] <= stamp < gap[1]), None)
     if not gap:
         return None
-    settle(portion, config, found, model)
-    model.take(merged(hole.blank() for hole in found.holes))
     certain, taken = list(model.holes), []
-    for odds, other in model.find():
+    for score, other in model.find():
         if other == gap:
             model.holes = sorted(certain + taken)
             break
-        if odds >= gaps.LIKELY:
+        if score >= gaps.LIKELY:
             taken.append(other)
     told = list(model.explained(*gap))
     told[0] = "gap %.1f %s %s %s" % ((gap[1] - gap[0]) / 10, logs.show(gap[0]), logs.show(gap[1]), told[0])
-    return ["certain %s" % hole.why for hole in found.holes if hole.begin < gap[1] and gap[0] < hole.end] + told
+    return ["certain %s" % hole.why for hole in holes if hole.begin < gap[1] and gap[0] < hole.end] + told
 
 
 def summed(chances):
@@ -297,7 +305,7 @@ def likeliest_of(inside, model):
     """The gaps that have the hole together for nearly sure; all of them where there is no model."""
     if model is None:
         return inside
-    scored = sorted(((model.score(*gap), gap) for gap in inside), reverse=True)
+    scored = sorted(((model.odds(model.vector(gap)), gap) for gap in inside), reverse=True)
     whole = sum(math.exp(odds) for odds, _ in scored)
     taken, share = [], 0.0
     for odds, gap in scored:

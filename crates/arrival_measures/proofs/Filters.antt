@@ -1,9 +1,10 @@
 -- Lists cut by tests.
-use Rattle.std.proofs.Common.{◌≡◌, ℕ, zero, suc, ◌≤◌, Bool, true, false, not, ◌&&◌, List, [], ◌∷◌, length, take, drop, refl, ap, sym, ◌∙◌, arith}
+use Rattle.std.proofs.Common.{◌≡◌, ℕ, zero, suc, ◌+◌, ◌<◌, ◌≤◌, Bool, true, false, not, ◌&&◌, List, [], ◌∷◌, ◌++◌, Option, get_or, length, take, drop, refl, ap, sym, ◌∙◌, arith}
 use Rattle.std.specs.Prelude.{All, count_by}
-use Rattle.std.specs.List.{filter, AllWithin}
+use Rattle.std.specs.List.{filter, filter_map, AllWithin}
 use Rattle.std.specs.List.Sorted.{IsPartitionPoint}
-use Rattle.std.proofs.lemmas.List.Elements.{All-head, All-tail}
+use Rattle.std.proofs.lemmas.List.Elements.{All-head, All-tail, filter_map-append}
+use Rattle.std.proofs.lemmas.List.{take_more}
 use Rattle.std.proofs.lemmas.List.Sums.{length-filter}
 
 pub filter_same : {X : Type 0} (p q : X → Bool) (xs : List X) → All (λ x. p x ≡ q x) xs → filter p xs ≡ filter q xs
@@ -40,3 +41,11 @@ cut_at p (x ∷ xs) (suc i) le h =
     let here : p x ≡ true = h.0 0 x (omega arith) (omega arith) in
     let more = cut_at p xs i (omega arith) ((λ k d lo hi. h.0 (suc k) d (omega arith) (omega arith)), (λ k d lo hi. h.1 (suc k) d (omega arith) (omega arith))) in
     rw here (ap (λ zs. x ∷ zs) more.0, more.1)
+
+-- one element more
+pub kept_more : {X Y : Type 0} (h : X → Option Y) (xs : List X) (i : ℕ) (d : X) (old new : List Y) → i < length xs → old ≡ filter_map h (take i xs) → new ≡ old ++ filter_map h (get_or xs i d ∷ []) → new ≡ filter_map h (take (i + 1) xs)
+kept_more h xs i d old new lt e n =
+    n
+    ∙ ap (λ ys. ys ++ filter_map h (get_or xs i d ∷ [])) e
+    ∙ sym (filter_map-append h (take i xs) (get_or xs i d ∷ []))
+    ∙ ap (λ zs. filter_map h zs) (sym (take_more xs i d lt))

@@ -1,5 +1,5 @@
 // What an hour gives of an approach by its advance detector: its arrivals and its cycles.
-ghost use Rattle.std.specs.Prelude.{◌≡◌, ◌≤◌, ◌<◌, ◌+◌, ◌++◌, map, ℕ, length, IfOk, OnOk};
+ghost use Rattle.std.specs.Prelude.{◌≡◌, ◌≤◌, ◌<◌, ◌+◌, ◌++◌, map, ℕ, length, IfOk};
 ghost use Rattle.sig_base.specs.declared.values.Row.{Row};
 ghost use Rattle.hour_sweep.specs.Hours.{AreOrdered, point};
 ghost use Rattle.hour_sweep.specs.Passes.{front};
@@ -61,7 +61,7 @@ fn arriving(
     ensures { IfOk result (λ v. v.items ≡ map (row_on detector) pending.now ++ map
         (moved travel) rows.now) }
 {
-    let mut all = Vec::new(alloc);
+    let mut all = Vec::with_capacity(alloc, pending.len() + rows.len())?;
     for at in pending {
         all.push(row_on(detector, *at))?;
     }
@@ -79,28 +79,19 @@ fn count_below(rows: &[Row], to: u32) -> usize
     rows.iter().take_while(|row| row.at < to).count()
 }
 
-fn push_all(rows: &[Row], all: &mut Vec<Row>) -> Result<(), NoMemory>
-    ensures { OnOk result (all.new.items ≡ all.old.items ++ rows.now) }
-{
-    for row in rows {
-        all.push(*row)?;
-    }
-    Ok(())
-}
-
 // The rows of both lists by tenth.
 fn merged(alloc: Global, turns: &[Row], arriving: &[Row]) -> Result<Vec<Row>, NoMemory>
     ensures { IfOk result (λ v. v.items ≡ merged turns.now arriving.now) }
 {
-    let mut all = Vec::new(alloc);
+    let mut all = Vec::with_capacity(alloc, turns.len() + arriving.len())?;
     let mut left = arriving;
     for turn in turns {
         let (here, rest) = left.split_at(count_below(left, turn.at));
-        push_all(here, &mut all)?;
+        all.extend_from_slice(here)?;
         all.push(*turn)?;
         left = rest;
     }
-    push_all(left, &mut all)?;
+    all.extend_from_slice(left)?;
     Ok(all)
 }
 

@@ -1,5 +1,5 @@
 // Detectors that go on in an hour, and faults of detectors.
-ghost use Rattle.std.specs.Prelude.{◌≡◌, ◌<◌, ◌==◌, ℕ, Bool, List, All, IfOk};
+ghost use Rattle.std.specs.Prelude.{◌≡◌, ◌<◌, ◌==◌, ◌++◌, ◌∷◌, [], ℕ, Bool, List, All, IfOk, OnOk};
 ghost use Rattle.std.specs.List.{filter_map};
 ghost use Rattle.sig_base.specs.declared.values.Row.{Row};
 ghost use Rattle.hour_sweep.specs.Rows.{known_rows};
@@ -85,33 +85,36 @@ impl Track for Flag {
     }
 }
 
-fn arrival_in(one: &Detection) -> Option<Row>
-    ensures { result ≡ arrival_in one.now }
+// Adds the row of the detection to the arrivals, or to the faults where it has one.
+fn add_detection(
+    one: &Detection,
+    arrivals: &mut Vec<Row>,
+    faults: &mut Vec<Row>,
+) -> Result<(), NoMemory>
+    ensures arrivals { OnOk result (arrivals.new.items
+        ≡ arrivals.old.items ++ filter_map arrival_in (one.now ∷ [])) }
+    ensures faults { OnOk result (faults.new.items
+        ≡ faults.old.items ++ filter_map fault_in (one.now ∷ [])) }
 {
-    if one.fault { None } else { Some(one.row) }
+    if one.fault {
+        faults.push(one.row)?;
+        return Ok(());
+    }
+    arrivals.push(one.row)?;
+    Ok(())
 }
 
-fn fault_in(one: &Detection) -> Option<Row>
-    ensures { result ≡ fault_in one.now }
+// The rows of the detections without a fault, which most are, and of those with one.
+fn told_apart(alloc: Global, found: &[Detection]) -> Result<(Vec<Row>, Vec<Row>), NoMemory>
+    ensures arrivals { IfOk result (λ v. v.0.items ≡ filter_map arrival_in found.now) }
+    ensures faults { IfOk result (λ v. v.1.items ≡ filter_map fault_in found.now) }
 {
-    if one.fault { Some(one.row) } else { None }
-}
-
-fn arrivals_among(alloc: Global, found: &[Detection]) -> Result<Vec<Row>, NoMemory>
-    ensures { IfOk result (λ v. v.items ≡ filter_map arrival_in found.now) }
-{
-    let rows = found
-        .iter()
-        .filter_map(|one| arrival_in(one))
-        .collect(alloc)?;
-    Ok(rows)
-}
-
-fn faults_among(alloc: Global, found: &[Detection]) -> Result<Vec<Row>, NoMemory>
-    ensures { IfOk result (λ v. v.items ≡ filter_map fault_in found.now) }
-{
-    let rows = found.iter().filter_map(|one| fault_in(one)).collect(alloc)?;
-    Ok(rows)
+    let mut arrivals = Vec::with_capacity(alloc, found.len())?;
+    let mut faults = Vec::new(alloc);
+    for one in found {
+        add_detection(one, &mut arrivals, &mut faults)?;
+    }
+    Ok((arrivals, faults))
 }
 
 /// The rows of an hour at which detectors of approaches go on, and what crosses the point after it.
@@ -140,8 +143,7 @@ pub(crate) fn detect(
 {
     let tracked = track_hour(alloc, flags, rows, stretches)?;
     let (flags, found) = tracked.into_parts();
-    let arrivals = arrivals_among(alloc, &found)?;
-    let faults = faults_among(alloc, &found)?;
+    let (arrivals, faults) = told_apart(alloc, &found)?;
     Ok(Detections {
         arrivals,
         faults,

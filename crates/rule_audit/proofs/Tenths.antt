@@ -97,15 +97,6 @@ module _ (rows : List Row) (rises : Rises rows) (y t i : ℕ) (le : y ≤ t) (cu
   pub over_cut : ((k : ℕ) → i ≤ k → k < length rows → (get_or rows k no_row).at < t) → (z : ℕ) × (y ≤ z) × (z ≤ t) × IsCutAt rows z (length rows)
   over_cut before = (t, le, omega arith, (omega arith, (λ k low. early (length rows) k before low), λ k le2 less. absurd (omega arith)))
 
--- the first row of a tenth
-pub start_here : (rows : List Row) (i n j : ℕ) → Rises rows → i ≤ n → n < length rows → i ≤ j → j ≤ n → (get_or rows j no_row).at ≡ (get_or rows n no_row).at → (i < j → (get_or rows (j - 1) no_row).at < (get_or rows n no_row).at) → IsStart rows i n j
-start_here rows i n j rises le lt from within same less = record {
-  from = from;
-  within = within;
-  same = same;
-  before = λ k a b. let p = rises k (j - 1) (omega arith) (omega arith) in let q = less (omega arith) in omega arith;
-}
-
 -- ---- tenths in which no row has a rule
 
 -- no rule is of the row's channel

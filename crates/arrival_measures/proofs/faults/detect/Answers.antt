@@ -9,6 +9,6 @@ returns c = λ known s before hour h low at.
     let end = c.in_ok-tracked.tracked in
     let is = detected known s before hour c.args.rows.now c.args.stretches.now c.args.flags.now end c.in_ok-tracked.ensures h low at in
     detections_are known s before hour c.args.rows.now end.outs end.parts _ is
-    (c.in_ok-arrivals.ensures ∙ ap (λ zs. filter_map arrival_in zs) (c.deref.ensures.value ∙ c.into_parts-flags.ensures.outs))
-    (c.in_ok-faults.ensures ∙ ap (λ zs. filter_map fault_in zs) (c.deref-2.ensures.value ∙ c.into_parts-flags.ensures.outs))
+    (c.in_ok-arrivals.ensures.arrivals ∙ ap (λ zs. filter_map arrival_in zs) (c.deref.ensures.value ∙ c.into_parts-flags.ensures.outs))
+    (c.in_ok-arrivals.ensures.faults ∙ ap (λ zs. filter_map fault_in zs) (c.deref.ensures.value ∙ c.into_parts-flags.ensures.outs))
     c.into_parts-flags.ensures.parts

@@ -1,32 +1,17 @@
 -- The table of detectors.
-use Rattle.std.specs.Prelude.{ℕ, [], ◌∷◌, codes}
-use Rattle.channel_tables.specs.Table.{Line, Table, line}
+use Rattle.std.specs.Prelude.{ℕ, [], ◌∷◌, codes, map}
+use Rattle.channel_tables.specs.Table.{Table, line}
 
--- a fault has begun, and no row 81, 82 or 83 has come since
-abbrev fault : ℕ
-fault = 2
-
--- the detector is occupied
-abbrev on : ℕ
-on = 1
-
--- the detector isn't occupied
-abbrev off : ℕ
-off = 0
-
--- a code that leads to a fault from every colour
-abbrev fails : ℕ → Line
-fails code = line code (off ∷ on ∷ fault ∷ []) fault
-
--- 81 off, 82 on, 83 restored, 84 to 88 faults
+-- 81 off, 82 on, 83 restored, 84 to 88 faults: these are the letters 0 to 7; in a fault, no row 81, 82 or 83 has come since it began
 abbrev pub detector_table : Table
-detector_table = record {
-  names = codes "Off" ∷ codes "On" ∷ codes "Fault" ∷ [];
-  signs = 81 ∷ 82 ∷ 83 ∷ 84 ∷ 85 ∷ 86 ∷ 87 ∷ 88 ∷ [];
-  lines =
-      line 81 (off ∷ on ∷ fault ∷ []) off
-      ∷ line 82 (off ∷ on ∷ fault ∷ []) on
-      ∷ line 83 (off ∷ fault ∷ []) off
-      ∷ line 83 (on ∷ []) on
-      ∷ fails 84 ∷ fails 85 ∷ fails 86 ∷ fails 87 ∷ fails 88 ∷ [];
-}
+detector_table =
+    let off : ℕ = 0 in let on : ℕ = 1 in let fault : ℕ = 2 in let any = off ∷ on ∷ fault ∷ [] in
+    record {
+      names = codes "Off" ∷ codes "On" ∷ codes "Fault" ∷ [];
+      signs = 81 ∷ 82 ∷ 83 ∷ 84 ∷ 85 ∷ 86 ∷ 87 ∷ 88 ∷ [];
+      lines =
+          line 81 any off
+          ∷ line 82 any on
+          ∷ line 83 (off ∷ fault ∷ []) off ∷ line 83 (on ∷ []) on
+          ∷ map (λ code. line code any fault) (84 ∷ 85 ∷ 86 ∷ 87 ∷ 88 ∷ []);
+    }

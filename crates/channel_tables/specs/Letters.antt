@@ -1,5 +1,5 @@
 -- Which letter of its channel's machine a row is.
-use Rattle.std.specs.Prelude.{ℕ, ◌≡◌, ◌≤◌, Option, Some, None}
+use Rattle.std.specs.Prelude.{ℕ, ◌≡◌, ◌≤◌, Option, option_and_then}
 use Rattle.event_codes.specs.declared.channels.Channel.{Channel}
 use Rattle.event_codes.specs.declared.channels.Kind.{Kind}
 use Rattle.event_codes.specs.declared.channels.Kind.TheVariants.{Phase, Ped, Overlap, Detector, PedDetector, PreemptInput, PreemptService, Coordination}
@@ -9,23 +9,16 @@ use Rattle.channel_tables.specs.Tables.{table_of}
 
 -- what a row of a channel of this kind is told apart by: its code, but in the coordination, whose rows have one code, its parameter
 abbrev pub sign_of : Kind → ℕ → ℕ → ℕ
-sign_of Phase code param = code
-sign_of Ped code param = code
-sign_of Overlap code param = code
-sign_of Detector code param = code
-sign_of PedDetector code param = code
-sign_of PreemptInput code param = code
-sign_of PreemptService code param = code
 sign_of Coordination code param = param
+sign_of _ code param = code
 
--- the letter in the table of a channel, where there is one
-abbrev pub letter_with : Option Channel → ℕ → ℕ → Option ℕ
-letter_with None code param = None
-letter_with (Some channel) code param = place_of (sign_of channel.kind code param) (table_of channel.kind).signs
-
--- the letter of a row with this code and parameter in the table of its channel
+-- the letter of a row with this code and parameter in the table of its channel, where there is one
 abbrev pub letter_in_table : ℕ → ℕ → Option ℕ
-letter_in_table code param = letter_with (channel_in_table code param) code param
+letter_in_table code param = option_and_then (λ c. place_of (sign_of c.kind code param) (table_of c.kind).signs) (channel_in_table code param)
+
+-- For contracts alone: the letter of a row by its channel.
+abbrev pub letter_with : Option Channel → ℕ → ℕ → Option ℕ
+letter_with channel code param = option_and_then (λ c. place_of (sign_of c.kind code param) (table_of c.kind).signs) channel
 
 -- a number that a channel of this kind can have
 abbrev pub IsNumber : Kind → ℕ → Type 0

@@ -34,24 +34,20 @@ clear = 6
 abbrev pub clear_done : ℕ
 clear_done = 7
 
--- 0 phase on, 1 begin green, 7 green termination, 8 begin yellow, 9 end yellow, 10 begin red clearance, 11 end red clearance, 12 phase inactive: these are the letters 0 to 7
+-- 0 phase on, 1 begin green, 7 green termination, 8 begin yellow, 9 end yellow, 10 begin red clearance, 11 end red clearance, 12 phase inactive: these are the letters 0 to 7.
+-- A line from a colour to itself takes a row that a controller writes late, or once more; where a code has no line for a colour, its row is illegal there.
 abbrev pub phase_table : Table
 phase_table = record {
   names = codes "Red" ∷ codes "On" ∷ codes "Green" ∷ codes "Term" ∷ codes "Yellow" ∷ codes "YellowDone" ∷ codes "Clear" ∷ codes "ClearDone" ∷ [];
   signs = 0 ∷ 1 ∷ 7 ∷ 8 ∷ 9 ∷ 10 ∷ 11 ∷ 12 ∷ [];
   lines =
-      line 0 (red ∷ yellow_done ∷ clear_done ∷ []) on
-      ∷ line 0 (green ∷ []) green
+      line 0 (red ∷ yellow_done ∷ clear_done ∷ []) on ∷ line 0 (green ∷ []) green
       ∷ line 1 (red ∷ on ∷ term ∷ yellow_done ∷ clear_done ∷ []) green
-      ∷ line 7 (green ∷ []) term
-      ∷ line 7 (yellow ∷ []) yellow
+      ∷ line 7 (green ∷ []) term ∷ line 7 (yellow ∷ []) yellow
       ∷ line 8 (green ∷ term ∷ []) yellow
-      ∷ line 9 (yellow ∷ []) yellow_done
-      ∷ line 9 (clear ∷ []) clear
+      ∷ line 9 (yellow ∷ []) yellow_done ∷ line 9 (clear ∷ []) clear
       ∷ line 10 (yellow ∷ yellow_done ∷ []) clear
-      ∷ line 11 (clear ∷ []) clear_done
-      ∷ line 11 (red ∷ []) red
-      ∷ line 12 (term ∷ yellow_done ∷ clear ∷ clear_done ∷ []) red
-      ∷ line 12 (red ∷ []) red
+      ∷ line 11 (clear ∷ []) clear_done ∷ line 11 (red ∷ []) red
+      ∷ line 12 (term ∷ yellow_done ∷ clear ∷ clear_done ∷ []) red ∷ line 12 (red ∷ []) red
       ∷ [];
 }

@@ -1,6 +1,7 @@
 -- A table of a machine of colours, line by line.
 use Rattle.std.specs.Prelude.{ℕ, ◌+◌, ◌≤◌, Bool, true, false, not, nat_eq, nat_lt, ◌&&◌, Option, Some, None, List, [], ◌∷◌, length, slice_index, if◌then◌else◌}
 use Rattle.std.specs.List.{list_any}
+use Rattle.std.specs.Option.{option_map_or}
 use Rattle.colour_machine.specs.Rules.{Rules}
 
 -- a line of a table: the sign, which is a code of the log or for the coordination a parameter, is legal in these colours and leads to this one
@@ -28,16 +29,15 @@ place_from k n (x ∷ xs) = if nat_eq x n then Some k else place_from (k + 1) n 
 abbrev pub place_of : ℕ → List ℕ → Option ℕ
 place_of n xs = place_from 0 n xs
 
--- the sign has this letter
-abbrev pub is_letter : Option ℕ → ℕ → Bool
-is_letter None l = false
-is_letter (Some k) l = nat_eq k l
-
--- the colour that letter l leads to in colour c, by the first line that has both; none where no line has
+-- the colour that letter l leads to in colour c, by the first line whose sign has this letter and which is legal in this colour; none where no line is so
 abbrev pub next_by : List ℕ → List Line → ℕ → ℕ → Option ℕ
 next_by signs [] c l = None
 next_by signs (x ∷ xs) c l =
-    if is_letter (place_of x.sign signs) l && list_any (λ y. nat_eq y c) x.legal_in then Some x.to else next_by signs xs c l
+    if option_map_or (λ k. nat_eq k l) (place_of x.sign signs) false && list_any (λ y. nat_eq y c) x.legal_in then Some x.to else next_by signs xs c l
+
+-- For contracts alone: the sign has this letter.
+abbrev pub is_letter : Option ℕ → ℕ → Bool
+is_letter place l = option_map_or (λ k. nat_eq k l) place false
 
 -- the machine of a table, with a floor for each colour in tenths of a second
 abbrev pub table_rules : Table → List ℕ → Rules

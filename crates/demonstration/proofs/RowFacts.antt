@@ -2,8 +2,26 @@
 use Rattle.std.proofs.Common.{◌≡◌, ◌≤◌, ◌<◌, ◌+◌, ◌-◌, ◌/◌, ◌%◌, ℕ, zero, suc, true, cond, nat_lt, List, [], ◌∷◌, ◌++◌, refl, sym, ap, ◌∙◌, arith, append_assoc, append-nil}
 use Rattle.sig_base.specs.declared.values.Row.{Row}
 use Rattle.sig_base.proofs.Common.{is_less, not_less}
-use Rattle.demonstration.specs.Draws.{after_two, next}
-use Rattle.demonstration.specs.Rows.{row, services, pulses, service_rows, pulse_rows, other_phase, green, ending, quiet, held}
+use Rattle.demonstration.specs.Draws.{drawn, next}
+use Rattle.demonstration.specs.Rows.{row, services, pulses, service_rows, pulse_rows, other_phase}
+
+-- where the sequence stands after two draws
+abbrev after_two : ℕ → ℕ
+after_two x = next (next x)
+
+-- the next green and the code that ends it, by the next two draws
+abbrev green : ℕ → ℕ
+green x = 100 + drawn (next x) % 200
+
+abbrev ending : ℕ → ℕ
+ending x = 4 + drawn (next (next x)) % 3
+
+-- how long the detector is off and then on, by the next two draws
+abbrev quiet : ℕ → ℕ
+quiet x = 20 + drawn (next x) % 100
+
+abbrev held : ℕ → ℕ
+held x = 5 + drawn (next (next x)) % 40
 
 -- where no more tenths are left than are looked at, it doesn't matter how many are
 services-enough : (k j end x at phase : ℕ) → end ≤ at + k → end ≤ at + j → services k end x at phase ≡ services j end x at phase

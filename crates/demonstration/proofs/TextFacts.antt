@@ -5,7 +5,7 @@ use Rattle.std.specs.Str.{bytes_eq}
 use Rattle.sig_base.specs.declared.values.Row.{Row}
 use Rattle.std.proofs.Math.ListN.{drop_of_length-le}
 use Rattle.sig_base.proofs.Common.{next_row}
-use Rattle.demonstration.specs.Rows.{all_rows, services, pulses}
+use Rattle.demonstration.specs.Rows.{services, pulses}
 use Rattle.demonstration.specs.Order.{ordered}
 use Rattle.demonstration.specs.Texts.{config_text, demo_rows, each_hour, hour_text, record_of, records_of, script_text}
 use Rattle.demonstration.specs.Files.{config_name, demo_files, hour_named, script_name}
@@ -75,7 +75,7 @@ named-later hours hour digits name lt e same h =
 -- all rows, from those of the parts
 pub rows-are : (hours : ℕ) (a b c d : List Row) → a ≡ [] → b ≡ a ++ services (36000 * hours) (36000 * hours) 1 0 2
     → c ≡ b ++ pulses (36000 * hours) (36000 * hours) 7 0 → d ≡ ordered c → d ≡ demo_rows hours
-unfolding demo_rows all_rows
+unfolding demo_rows
 rows-are hours a b c d ea eb ec ed = rw (ed, ec, eb, ea) refl
 
 -- the files by their names

@@ -9,18 +9,6 @@ next x = (1103515245 * x + 12345) % 2 ^ 31
 abbrev pub drawn : ℕ → ℕ
 drawn x = x / 65536
 
--- the next draw of a sequence that stands at this number
-abbrev pub first_draw : ℕ → ℕ
-first_draw x = drawn (next x)
-
--- the draw after the next
-abbrev pub second_draw : ℕ → ℕ
-second_draw x = drawn (next (next x))
-
--- where the sequence stands after two draws
-abbrev pub after_two : ℕ → ℕ
-after_two x = next (next x)
-
 -- the number of this place in the sequence with this start, which has place 0
 unfoldable pub number_at : ℕ → ℕ → ℕ
 number_at start zero = start

@@ -3,7 +3,7 @@ use Rattle.std.specs.Prelude.{◌+◌, ◌*◌, ◌/◌, ◌%◌, ◌==◌, ◌&
 use Rattle.sig_base.specs.declared.values.Row.{Row}
 use Rattle.sig_base.specs.Stamp.{stamp_at}
 use Rattle.sig_base.specs.Window.{Span}
-use Rattle.demonstration.specs.Rows.{all_rows}
+use Rattle.demonstration.specs.Rows.{pulses, services}
 use Rattle.demonstration.specs.Order.{ordered}
 
 -- a window that begins with 2024 and has the end of the longest demonstration, 168 hours, within it
@@ -24,34 +24,23 @@ unfoldable pub records_of : List Row → List ℕ
 records_of [] = []
 records_of (r ∷ rs) = record_of r ++ records_of rs
 
--- the line at the head of each hour file
-abbrev pub header : List ℕ
-header = codes "SignalID,Timestamp,EventCode,EventParam\n"
-
--- the row is of this hour
-abbrev pub is_of_hour : ℕ → Row → Bool
-is_of_hour hour r = nat_le (36000 * hour) r.at && nat_lt r.at (36000 * hour + 36000)
-
--- all rows of so many hours in order
+-- all rows of so many hours in order: the services by the sequence that starts with 1, the pulses by the one that starts with 7;
+-- each service and each pulse takes a tenth at least, so no more of them than there are tenths begin before the end
 unfoldable pub demo_rows : ℕ → List Row
-demo_rows hours = ordered (all_rows (36000 * hours))
+demo_rows hours = ordered (services (36000 * hours) (36000 * hours) 1 0 2 ++ pulses (36000 * hours) (36000 * hours) 7 0)
 
--- the file of this hour of a demonstration of so many hours
+-- the file of this hour of a demonstration of so many hours: a header, and the records of the hour's rows
 unfoldable pub hour_text : ℕ → ℕ → List ℕ
-hour_text hours hour = header ++ records_of (filter (is_of_hour hour) (demo_rows hours))
+hour_text hours hour =
+    codes "SignalID,Timestamp,EventCode,EventParam\n"
+    ++ records_of (filter (λ r. nat_le (36000 * hour) r.at && nat_lt r.at (36000 * hour + 36000)) (demo_rows hours))
 
--- the configuration up to the number of hours
-abbrev pub config_begin : List ℕ
-config_begin = codes "signal = \"9000\"\nstart = \"2024-01-01T00\"\nhours = "
-
--- the configuration after the number of hours: phases 2 and 4, one rule on the green of phase 2, and one approach
-abbrev pub config_end : List ℕ
-config_end =
-    codes "\n\n[[phase]]\nnumber = 2\nring = 1\nside = 1\n\n[[phase]]\nnumber = 4\nring = 1\nside = 2\n\n[[interval]]\nchannel = \"phase 2\"\ncolour = \"Green\"\nat_least = 120\n\n[[approach]]\nname = \"A\"\nphase = 2\nadvance = 5\nstop_bar = 5\n"
-
--- the configuration of a demonstration of so many hours
+-- the configuration of a demonstration of so many hours: phases 2 and 4, one rule on the green of phase 2, and one approach
 unfoldable pub config_text : ℕ → List ℕ
-config_text hours = config_begin ++ decimal hours ++ config_end
+config_text hours =
+    codes "signal = \"9000\"\nstart = \"2024-01-01T00\"\nhours = " ++ decimal hours
+    ++ (codes "\n\n[[phase]]\nnumber = 2\nring = 1\nside = 1\n\n[[phase]]\nnumber = 4\nring = 1\nside = 2\n\n"
+    ++ codes "[[interval]]\nchannel = \"phase 2\"\ncolour = \"Green\"\nat_least = 120\n\n[[approach]]\nname = \"A\"\nphase = 2\nadvance = 5\nstop_bar = 5\n")
 
 -- the line that loads an hour from its file
 unfoldable pub load_line : ℕ → List ℕ
@@ -62,9 +51,30 @@ unfoldable pub blank_line : ℕ → List ℕ
 blank_line hour =
     codes "blank " ++ stamp_at calendar (36000 * hour + 18000) ++ codes " " ++ stamp_at calendar (36000 * hour + 18100) ++ codes "\n"
 
--- the line that asks for the measures
-abbrev pub measures_line : List ℕ
-measures_line = codes "measures\n"
+-- a line for each of so many hours from this one on that leaves this remainder when it is divided
+unfoldable pub each_hour : (ℕ → List ℕ) → ℕ → ℕ → ℕ → ℕ → List ℕ
+each_hour line by rest zero hour = []
+each_hour line by rest (suc n) hour =
+    (if hour % by == rest then line hour else []) ++ each_hour line by rest n (hour + 1)
+
+-- the script of a demonstration of so many hours: even hours are loaded, then odd ones, and a part of each fourth hour is blanked;
+-- then the hour in the middle is withdrawn and measured without, loaded again, all is known, and it's measured again
+unfoldable pub script_text : ℕ → List ℕ
+script_text hours =
+    each_hour load_line 2 0 hours 0 ++ each_hour load_line 2 1 hours 0 ++ each_hour blank_line 4 0 hours 0
+    ++ ((codes "withdraw " ++ decimal (hours / 2) ++ codes "\n") ++ codes "measures\n" ++ load_line (hours / 2)
+    ++ (codes "unblank " ++ stamp_at calendar 0 ++ codes " " ++ stamp_at calendar (36000 * hours) ++ codes "\n") ++ codes "measures\n")
+
+-- ---- for contracts alone
+
+-- the row is of this hour
+abbrev pub is_of_hour : ℕ → Row → Bool
+is_of_hour hour r = nat_le (36000 * hour) r.at && nat_lt r.at (36000 * hour + 36000)
+
+-- the script's edits
+abbrev pub edit_lines : ℕ → List ℕ
+edit_lines hours =
+    each_hour load_line 2 0 hours 0 ++ each_hour load_line 2 1 hours 0 ++ each_hour blank_line 4 0 hours 0
 
 -- the line that takes an hour out
 abbrev pub withdraw_line : ℕ → List ℕ
@@ -75,22 +85,7 @@ abbrev pub unblank_line : ℕ → List ℕ
 unblank_line hours =
     codes "unblank " ++ stamp_at calendar 0 ++ codes " " ++ stamp_at calendar (36000 * hours) ++ codes "\n"
 
--- a line for each of so many hours from this one on that leaves this remainder when it is divided
-unfoldable pub each_hour : (ℕ → List ℕ) → ℕ → ℕ → ℕ → ℕ → List ℕ
-each_hour line by rest zero hour = []
-each_hour line by rest (suc n) hour =
-    (if hour % by == rest then line hour else []) ++ each_hour line by rest n (hour + 1)
-
--- the script's edits: even hours are loaded, then odd ones; a part of each fourth hour is blanked
-abbrev pub edit_lines : ℕ → List ℕ
-edit_lines hours =
-    each_hour load_line 2 0 hours 0 ++ each_hour load_line 2 1 hours 0 ++ each_hour blank_line 4 0 hours 0
-
--- the script's end: one hour is withdrawn and measured without; then it is loaded again and all is known
+-- the script's end
 abbrev pub end_lines : ℕ → ℕ → List ℕ
 end_lines hours middle =
-    withdraw_line middle ++ measures_line ++ load_line middle ++ unblank_line hours ++ measures_line
-
--- the script of a demonstration of so many hours
-unfoldable pub script_text : ℕ → List ℕ
-script_text hours = edit_lines hours ++ end_lines hours (hours / 2)
+    withdraw_line middle ++ codes "measures\n" ++ load_line middle ++ unblank_line hours ++ codes "measures\n"

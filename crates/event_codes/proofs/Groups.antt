@@ -7,7 +7,8 @@ use Rattle.event_codes.specs.declared.channels.Kind.TheVariants.{Phase, Ped, Ove
 use Rattle.event_codes.specs.declared.channels.Channel.{Channel}
 use Rattle.event_codes.specs.declared.channels.Group.{Group}
 use Rattle.event_codes.specs.declared.channels.Group.TheVariants.{Of, Alone}
-use Rattle.event_codes.specs.Channels.{same_group, same_kind}
+use Rattle.event_codes.specs.Cells.{kind_number}
+use Rattle.event_codes.specs.Channels.{same_group}
 
 abbrev channel : Kind → ℕ → Channel
 channel k n = record { kind = k; number = n }
@@ -39,27 +40,6 @@ same_group-one (Of c) (Alone k p) h = cc
 same_group-one (Alone k p) (Of d) h = cc
 same_group-one (Alone k p) (Alone l q) h = grind (arith, nat_tests)
 
-kind-refl : (k : Kind) → same_kind k k ≡ true
-kind-refl Phase = refl
-kind-refl Ped = refl
-kind-refl Overlap = refl
-kind-refl Detector = refl
-kind-refl PedDetector = refl
-kind-refl PreemptInput = refl
-kind-refl PreemptService = refl
-kind-refl Coordination = refl
-
-kind-symm : (k l : Kind) → same_kind k l ≡ same_kind l k
-kind-symm Phase Phase = refl
-kind-symm Ped Ped = refl
-kind-symm Overlap Overlap = refl
-kind-symm Detector Detector = refl
-kind-symm PedDetector PedDetector = refl
-kind-symm PreemptInput PreemptInput = refl
-kind-symm PreemptService PreemptService = refl
-kind-symm Coordination Coordination = refl
-kind-symm k l = refl
-
 number-refl : (n : ℕ) → (n == n) ≡ true
 number-refl n = grind (arith, nat_tests)
 
@@ -68,12 +48,12 @@ number-symm m n = grind (arith, nat_tests)
 
 pub same_group-refl : (g : Group) → same_group g g ≡ true
 unfolding same_group
-same_group-refl (Of c) = rw (kind-refl c.kind, number-refl c.number) refl
+same_group-refl (Of c) = rw (number-refl (kind_number c.kind), number-refl c.number) refl
 same_group-refl (Alone k p) = rw (number-refl k, number-refl p) refl
 
 pub same_group-symm : (a b : Group) → same_group a b ≡ same_group b a
 unfolding same_group
-same_group-symm (Of c) (Of d) = ap₂ (λ p q. p && q) (kind-symm c.kind d.kind) (number-symm c.number d.number)
+same_group-symm (Of c) (Of d) = ap₂ (λ p q. p && q) (number-symm (kind_number c.kind) (kind_number d.kind)) (number-symm c.number d.number)
 same_group-symm (Of c) (Alone k p) = refl
 same_group-symm (Alone k p) (Of d) = refl
 same_group-symm (Alone k p) (Alone l q) = ap₂ (λ r s. r && s) (number-symm k l) (number-symm p q)

@@ -1,6 +1,8 @@
 -- Which device a row speaks of.
-use Rattle.std.specs.Prelude.{ℕ, ◌==◌, ◌&&◌, nat_eq, nat_lt, Bool, true, false, List, [], ◌∷◌, Option, Some, None, if◌then◌else◌}
+use Rattle.std.specs.Prelude.{ℕ, ◌==◌, ◌&&◌, nat_eq, nat_lt, Bool, false, List, [], ◌∷◌, Option, Some, None, if◌then◌else◌}
 use Rattle.std.specs.List.{list_any}
+use Rattle.std.specs.Option.{option_map_or}
+use Rattle.event_codes.specs.Cells.{kind_number}
 use Rattle.event_codes.specs.declared.channels.Channel.{Channel}
 use Rattle.event_codes.specs.declared.channels.Kind.{Kind}
 use Rattle.event_codes.specs.declared.channels.Kind.TheVariants.{Phase, Ped, Overlap, Detector, PedDetector, PreemptInput, PreemptService, Coordination}
@@ -33,21 +35,13 @@ channel_lines =
 
 -- the number of a channel of this kind: the parameter, but 0 for the coordination, whose parameter is its new state
 abbrev pub number_of : Kind → ℕ → ℕ
-number_of Phase param = param
-number_of Ped param = param
-number_of Overlap param = param
-number_of Detector param = param
-number_of PedDetector param = param
-number_of PreemptInput param = param
-number_of PreemptService param = param
 number_of Coordination param = 0
+number_of _ param = param
 
 -- the channel of this kind, where the parameter is from least to most
 abbrev pub numbered_channel : Kind → ℕ → ℕ → ℕ → Option Channel
 numbered_channel kind least most param =
-    if nat_lt param least then None else
-    if nat_lt most param then None else
-    Some (record { kind = kind; number = number_of kind param })
+    if nat_lt param least then None else if nat_lt most param then None else Some (record { kind = kind; number = number_of kind param })
 
 -- the channel by the first line that has the code
 abbrev pub channel_by : List Line → ℕ → ℕ → Option Channel
@@ -59,29 +53,12 @@ channel_by (x ∷ xs) code param =
 abbrev pub channel_in_table : ℕ → ℕ → Option Channel
 channel_in_table code param = channel_by channel_lines code param
 
--- the group of a row for finding repeats: its channel where it has one, else its code and parameter
-abbrev pub group_with : Option Channel → ℕ → ℕ → Group
-group_with (Some channel) code param = Of channel
-group_with None code param = Alone code param
-
--- the group of a row with this code and parameter
-abbrev pub group_in_table : ℕ → ℕ → Group
-group_in_table code param = group_with (channel_in_table code param) code param
-
--- both kinds are one
-abbrev pub same_kind : Kind → Kind → Bool
-same_kind Phase Phase = true
-same_kind Ped Ped = true
-same_kind Overlap Overlap = true
-same_kind Detector Detector = true
-same_kind PedDetector PedDetector = true
-same_kind PreemptInput PreemptInput = true
-same_kind PreemptService PreemptService = true
-same_kind Coordination Coordination = true
-same_kind _ _ = false
-
 -- both groups are one: that of one channel, or of one code and parameter that have no channel
 unfoldable pub same_group : Group → Group → Bool
-same_group (Of c) (Of d) = same_kind c.kind d.kind && (c.number == d.number)
+same_group (Of c) (Of d) = (kind_number c.kind == kind_number d.kind) && (c.number == d.number)
 same_group (Alone code param) (Alone other_code other_param) = (code == other_code) && (param == other_param)
 same_group _ _ = false
+
+-- For contracts alone: the group of a row with this code and parameter, for finding repeats: its channel where it has one, else its code and parameter.
+abbrev pub group_in_table : ℕ → ℕ → Group
+group_in_table code param = option_map_or Of (channel_in_table code param) (Alone code param)

@@ -2,12 +2,14 @@
 use Rattle.std.proofs.Common.{◌≡◌, ◌≢◌, ◌∙◌, ℕ, Bool, true, false, List, [], ◌∷◌, Option, Some, None, refl, sym, arith, inl, inr, if◌then◌else◌, nat_lt}
 use Rattle.std.specs.Prelude.{◌⊎◌, nat_eq}
 use Rattle.std.specs.List.{AllByRecursion, list_any}
+use Rattle.std.specs.Option.{option_map_or}
 use Rattle.std.proofs.lemmas.Bool.Decides.{nat_tests}
 use Rattle.sig_base.specs.declared.values.Row.{Row}
 use Rattle.event_codes.specs.declared.channels.Channel.{Channel}
 use Rattle.event_codes.specs.declared.channels.Kind.{Kind}
 use Rattle.event_codes.specs.declared.channels.Kind.TheVariants.{Coordination}
-use Rattle.event_codes.specs.Channels.{Line, channel_lines, channel_by, channel_in_table, number_of, numbered_channel, group_with}
+use Rattle.event_codes.specs.declared.channels.Group.TheVariants.{Of, Alone}
+use Rattle.event_codes.specs.Channels.{Line, channel_lines, channel_by, channel_in_table, number_of, numbered_channel}
 use Rattle.event_codes.specs.Channels.{same_group}
 use Rattle.row_reader.specs.Repeats.{group_of_row}
 use Rattle.event_codes.proofs.Groups.{same_group-is}
@@ -80,7 +82,7 @@ one-channel a b m n c (inl p) (inr q) = absurd (q.0 p.0)
 one-channel a b m n c (inr p) (inl q) = absurd (p.0 q.0)
 one-channel a b m n c (inr p) (inr q) = inl (sym p.1 ∙ q.1)
 
-one-group : (a b m n : ℕ) (c d : Option Channel) → channel_in_table a m ≡ c → channel_in_table b n ≡ d → group_with c a m ≡ group_with d b n
+one-group : (a b m n : ℕ) (c d : Option Channel) → channel_in_table a m ≡ c → channel_in_table b n ≡ d → option_map_or Of c (Alone a m) ≡ option_map_or Of d (Alone b n)
     → (m ≡ n) ⊎ ((a ≡ 150) × (b ≡ 150))
 one-group a b m n None None hc hd e = let same : m ≡ n = cc in inl same
 one-group a b m n None (Some d) hc hd e = absurd cc

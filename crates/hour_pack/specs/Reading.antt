@@ -1,22 +1,17 @@
--- What bytes say as a packed hour, read from the front: the rows, or the first fault.
+-- What bytes say as a packed hour, read from their start: the rows, or the first fault.
 use Rattle.std.specs.Prelude.{◌≡◌, ◌==◌, ◌||◌, ◌+◌, ◌-◌, ◌*◌, nat_eq, nat_lt, nat_le, if◌then◌else◌, ℕ, zero, suc, List, [], ◌∷◌, ◌++◌, length, take, drop, Result, Ok, Err, ⊤}
 use Rattle.std.specs.List.{starts_with}
 use Rattle.std.specs.Int.{w32, from_be_bytes}
 use Rattle.sig_base.specs.declared.values.Row.{Row}
 use Rattle.sig_base.specs.Window.{Span}
 use Rattle.row_reader.specs.Repeats.{is_repeat}
+pub use Rattle.row_reader.specs.Rows.{◌>>=◌}
 use Rattle.hour_pack.specs.declared.pack_error.PackError.{PackError}
 use Rattle.hour_pack.specs.declared.pack_error.PackError.TheVariants.{NotPacked, Short, WrongSignal, WrongHour, TooManyRows, Extra, Memory}
 use Rattle.hour_pack.specs.declared.pack_error.PackError.TheVariants.{Row as BadRow}
 use Rattle.hour_pack.specs.Grammar.{mark, hour_part}
 
--- ---- one thing read after the other
-
-infixl 10 ◌>>=◌
--- what is read next, unless a fault was found before
-abbrev pub ◌>>=◌ : {A B : Type 0} → Result A PackError → (A → Result B PackError) → Result B PackError
-(Ok x) >>= f = f x
-(Err e) >>= f = Err e
+-- ---- what a call gives of what is read
 
 -- what a call returned, seen by `view`, is what was read
 abbrev pub Gives : {X Y : Type 0} → (X → Y) → Result X PackError → Result Y PackError → Type 0
@@ -39,11 +34,7 @@ abbrev pub GivesInMemory : {X Y : Type 0} → (X → Y) → Result X PackError �
 GivesInMemory view (Ok x) read = read ≡ Ok (view x)
 GivesInMemory view (Err e) read = IsFault read e
 
--- ---- what stands in front of the rows
-
--- the bytes behind the mark; without it they are no packed hour
-abbrev pub after_mark : List ℕ → Result (List ℕ) PackError
-after_mark bytes = if starts_with nat_eq bytes mark then Ok (drop 4 bytes) else Err NotPacked
+-- ---- what stands before the rows
 
 -- the bytes behind this part; else they end within it, or one of them differs
 abbrev pub after_part : PackError → List ℕ → List ℕ → Result (List ℕ) PackError
@@ -52,22 +43,19 @@ after_part wrong part bytes =
     else if starts_with nat_eq part bytes then Err Short
     else Err wrong
 
--- the bytes behind the signal and the hour, which have to be those that are wanted
+-- the bytes behind the mark, without which they are no packed hour, and behind the signal and the hour, which have to be those that are wanted
 unfoldable pub after_head : List ℕ → Span → ℕ → List ℕ → Result (List ℕ) PackError
 after_head signal window hour bytes = do
-  body ← after_mark bytes
+  body ← if starts_with nat_eq bytes mark then Ok (drop 4 bytes) else Err NotPacked
   body ← after_part WrongSignal (length signal ∷ []) body
   body ← after_part WrongSignal signal body
   after_part WrongHour (hour_part window hour) body
 
--- a packed hour has at most 400,000 rows
-abbrev pub few_rows : ℕ × List ℕ → Result (ℕ × List ℕ) PackError
-few_rows count = if nat_lt 400000 count.0 then Err TooManyRows else Ok count
-
--- how many rows there are to be, and the bytes behind that
+-- how many rows there are to be, which is at most 400,000, and the bytes behind that
 unfoldable pub count_at : List ℕ → Result (ℕ × List ℕ) PackError
 count_at bytes =
-    if nat_lt (length bytes) 4 then Err Short else few_rows (from_be_bytes w32 (take 4 bytes), drop 4 bytes)
+    let count = from_be_bytes w32 (take 4 bytes) in
+    if nat_lt (length bytes) 4 then Err Short else if nat_lt 400000 count then Err TooManyRows else Ok (count, drop 4 bytes)
 
 -- ---- a row
 
@@ -90,38 +78,27 @@ unfoldable pub number_at : ℕ → List ℕ → Result (ℕ × List ℕ) PackErr
 number_at row [] = Err Short
 number_at row (a ∷ bytes) = if nat_lt a 128 then Ok (a, bytes) else second_byte row a bytes
 
--- the tenth of a row by how many tenths it comes after the row before; it has to lie in the hour
-abbrev pub tenth_by : ℕ → ℕ → ℕ → ℕ × List ℕ → Result (ℕ × List ℕ) PackError
-tenth_by row to last since = if nat_lt (last + since.0) to then Ok (last + since.0, since.1) else Err (BadRow row)
-
--- the tenth of a row, before `to`
+-- the tenth of a row, by how many tenths it comes after the row before; it has to lie before `to`
 unfoldable pub tenth_at : ℕ → ℕ → ℕ → List ℕ → Result (ℕ × List ℕ) PackError
-tenth_at row to last bytes = number_at row bytes >>= tenth_by row to last
+tenth_at row to last bytes = number_at row bytes >>= λ since. if nat_lt (last + since.0) to then Ok (last + since.0, since.1) else Err (BadRow row)
 
 -- the code of a row: one byte
 abbrev pub code_at : List ℕ → Result (ℕ × List ℕ) PackError
 code_at [] = Err Short
 code_at (code ∷ bytes) = Ok (code, bytes)
 
--- the parameter of a row has two bytes' room
-abbrev pub param_by : ℕ → ℕ × List ℕ → Result (ℕ × List ℕ) PackError
-param_by row param = if nat_lt param.0 65536 then Ok param else Err (BadRow row)
-
--- the parameter of the row of this place
+-- the parameter of the row of this place, which has two bytes' room
 unfoldable pub param_at : ℕ → List ℕ → Result (ℕ × List ℕ) PackError
-param_at row bytes = number_at row bytes >>= param_by row
+param_at row bytes = number_at row bytes >>= λ param. if nat_lt param.0 65536 then Ok param else Err (BadRow row)
 
--- a row that is read isn't a repeat of those before it
-abbrev pub fresh : List Row → Row → List ℕ → Result (Row × List ℕ) PackError
-fresh kept row bytes = if is_repeat kept row then Err (BadRow (length kept + 1)) else Ok (row, bytes)
-
--- the row behind those that are kept, the last of which is at this tenth
+-- the row behind those that are kept, the last of which is at this tenth; it isn't a repeat of these
 unfoldable pub row_at : ℕ → ℕ → List Row → List ℕ → Result (Row × List ℕ) PackError
 row_at to last kept bytes = do
   at ← tenth_at (length kept + 1) to last bytes
   code ← code_at at.1
   param ← param_at (length kept + 1) code.1
-  fresh kept (record { at = at.0; code = code.0; param = param.0 }) param.1
+  let row : Row = record { at = at.0; code = code.0; param = param.0 } in
+      if is_repeat kept row then Err (BadRow (length kept + 1)) else Ok (row, param.1)
 
 -- the rows that are kept, and so many more
 unfoldable pub rows_at : ℕ → ℕ → ℕ → List Row → List ℕ → Result (List Row × List ℕ) PackError
@@ -132,17 +109,39 @@ rows_at (suc left) to last kept bytes = do
 
 -- ---- all of it
 
--- nothing may follow the last row
-abbrev pub at_end : List Row × List ℕ → Result (List Row) PackError
-at_end rows = if length rows.1 == 0 then Ok rows.0 else Err Extra
-
--- the rows of an hour, from the count on
+-- the rows of an hour, from the count on; nothing may follow the last one
 unfoldable pub hour_rows : ℕ → List ℕ → Result (List Row) PackError
 hour_rows hour bytes = do
   count ← count_at bytes
   rows ← rows_at count.0 (36000 * hour + 36000) (36000 * hour) [] count.1
-  at_end rows
+  if length rows.1 == 0 then Ok rows.0 else Err Extra
 
 -- the rows of this signal and this hour of the window, or the first fault
 unfoldable pub reading : List ℕ → Span → ℕ → List ℕ → Result (List Row) PackError
 reading signal window hour bytes = after_head signal window hour bytes >>= hour_rows hour
+
+-- ---- for contracts alone
+
+-- the bytes behind the mark; without it they are no packed hour
+abbrev pub after_mark : List ℕ → Result (List ℕ) PackError
+after_mark bytes = if starts_with nat_eq bytes mark then Ok (drop 4 bytes) else Err NotPacked
+
+-- a packed hour has at most 400,000 rows
+abbrev pub few_rows : ℕ × List ℕ → Result (ℕ × List ℕ) PackError
+few_rows count = if nat_lt 400000 count.0 then Err TooManyRows else Ok count
+
+-- the tenth of a row by how many tenths it comes after the row before; it has to lie in the hour
+abbrev pub tenth_by : ℕ → ℕ → ℕ → ℕ × List ℕ → Result (ℕ × List ℕ) PackError
+tenth_by row to last since = if nat_lt (last + since.0) to then Ok (last + since.0, since.1) else Err (BadRow row)
+
+-- the parameter of a row has two bytes' room
+abbrev pub param_by : ℕ → ℕ × List ℕ → Result (ℕ × List ℕ) PackError
+param_by row param = if nat_lt param.0 65536 then Ok param else Err (BadRow row)
+
+-- a row that is read isn't a repeat of those before it
+abbrev pub fresh : List Row → Row → List ℕ → Result (Row × List ℕ) PackError
+fresh kept row bytes = if is_repeat kept row then Err (BadRow (length kept + 1)) else Ok (row, bytes)
+
+-- nothing may follow the last row
+abbrev pub at_end : List Row × List ℕ → Result (List Row) PackError
+at_end rows = if length rows.1 == 0 then Ok rows.0 else Err Extra

@@ -28,7 +28,7 @@ pub enum PackError {
     /// A byte follows the last row.
     #[error("goes on after the last row")]
     Extra,
-    /// Memory ran out.
+    /// Memory ran out. No transcript has it: such a run ends with `Memory`.
     #[error("out of memory")]
     Memory,
 }

@@ -7,12 +7,10 @@ use Rattle.line_laws.specs.Lines.{AreSpaces, EndsWord, HasWords, IsWord, LinesHa
 
 -- spaces are skipped, and a word isn't
 skip_past : (spaces rest : List ℕ) → AreSpaces spaces → skip_spaces (spaces ++ rest) ≡ skip_spaces rest
-unfolding skip_spaces
 skip_past [] rest h = refl
 skip_past (b ∷ bs) rest h = rw (All-head (λ x. x ≡ 32) b bs h) (skip_past bs rest (All-tail (λ x. x ≡ 32) b bs h))
 
 skip_word : (v rest : List ℕ) → IsWord v → skip_spaces (v ++ rest) ≡ v ++ rest
-unfolding skip_spaces
 skip_word [] rest h = absurd (h.0 refl)
 skip_word (b ∷ bs) rest h = rw (ne_eqb b 32 (All-head (λ x. x ≢ 32) b bs h.1)) refl
 
@@ -50,7 +48,6 @@ is_first line v ws h =
     record { starts = starts; first = ap word starts ∙ goes.0; after = ap after_word starts ∙ goes.1 }
 
 pub spaces_skipped : (line : List ℕ) → AreSpaces line → skip_spaces line ≡ []
-unfolding skip_spaces
 spaces_skipped [] h = refl
 spaces_skipped (b ∷ bs) h = rw (All-head (λ x. x ≡ 32) b bs h) (spaces_skipped bs (All-tail (λ x. x ≡ 32) b bs h))
 

@@ -176,7 +176,7 @@ time-from text tenth e =
 
 time-to : (text : List ℕ) (tenth : ℕ) → IsTime text tenth → time_of text ≡ Some tenth
 time-to text tenth h =
-    let t = tenth_of_day-three _ _ _ tenth h.is in
+    let t = tenth_of_day-three _ _ (Some h.of_minute) tenth h.is in
     ap time_of h.form
     ∙ ap (at_cut minutes_of) (cut-found 58 h.hour (h.minute ++ 58 ∷ h.seconds) (number-lacks 58 1 2 23 t.a h.hour refl t.x_is))
     ∙ ap (at_cut (λ (minute second : List ℕ). tenth_of_day (number_of 1 2 23 h.hour) (number_of 2 2 59 minute) (seconds_of (cut 46 second) second)))
@@ -186,7 +186,7 @@ time-to text tenth h =
 
 time-lacks : (mark : ℕ) (text : List ℕ) (tenth : ℕ) → is_digit mark ≡ false → 58 ≢ mark → 46 ≢ mark → IsTime text tenth → Lacks mark text
 time-lacks mark text tenth f n m h =
-    let t = tenth_of_day-three _ _ _ tenth h.is in
+    let t = tenth_of_day-three _ _ (Some h.of_minute) tenth h.is in
     let all : Lacks mark (h.hour ++ 58 ∷ (h.minute ++ 58 ∷ h.seconds)) =
     lacks-append mark h.hour _ (number-lacks mark 1 2 23 t.a h.hour f t.x_is)
     (n, lacks-append mark h.minute _ (number-lacks mark 2 2 59 t.b h.minute f t.y_is) (n, seconds-lacks mark h.seconds h.of_minute f m h.seconds_are)) in

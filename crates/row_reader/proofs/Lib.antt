@@ -9,6 +9,7 @@ pub mod LookBackFacts
 pub mod NotedFacts
 pub mod ReadFacts
 pub mod CutFacts
+pub mod ShortFacts
 pub mod FormFacts
 pub mod MinuteFacts
 pub mod PairFacts

@@ -29,7 +29,7 @@ pub enum RowError {
     /// The parameter isn't one to nine digits with a value of at most 65,535.
     #[error("record {0}: not a parameter")]
     Param(u32),
-    /// Memory ran out.
+    /// Memory ran out. No transcript has it: such a run ends with `Memory`.
     #[error("out of memory")]
     Memory,
 }

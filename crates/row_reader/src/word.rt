@@ -11,7 +11,7 @@ fn word(text: &[u8], at: usize) -> u64
     u64::from_le_bytes(*text[at..at + 8].first_chunk::<8>().unwrap())
 }
 
-/// Whether a text begins with a front of 8 to 24 bytes. The second eight bytes that are compared,
+/// Whether a text begins with a prefix of 8 to 24 bytes. The second eight bytes that are compared,
 /// and the last, may overlap those before them.
 pub(crate) fn begins_with(text: &[u8], front: &[u8]) -> bool
     requires least { 8 ≤ length front.now }

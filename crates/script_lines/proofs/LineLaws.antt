@@ -44,15 +44,12 @@ unfolding word after_word
 word_over = (refl, refl)
 
 pub spaces_end : (text : List ℕ) (i : ℕ) → i < length text → (get_or text i 0 ≡ 32 → ⊥) → skip_spaces (drop i text) ≡ drop i text
-unfolding skip_spaces
 spaces_end text i lt ne = rw (drop_more text i 0 lt, ne_eqb (get_or text i 0) 32 ne) refl
 
 pub spaces_go : (text : List ℕ) (i : ℕ) → i < length text → get_or text i 0 ≡ 32 → skip_spaces (drop i text) ≡ skip_spaces (drop (i + 1) text)
-unfolding skip_spaces
 spaces_go text i lt e = rw (drop_more text i 0 lt, e) refl
 
 pub spaces_over : skip_spaces [] ≡ []
-unfolding skip_spaces
 spaces_over = refl
 
 -- one item further, a function that gives its first items

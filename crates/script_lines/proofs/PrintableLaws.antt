@@ -22,7 +22,6 @@ pub printable_utf8 : (text : List ℕ) → ArePrintable text → IsUtf8 text
 printable_utf8 text h = IsUtf8-from_ascii text (ascii text h)
 
 pub printable_skip : (text : List ℕ) → ArePrintable text → ArePrintable (skip_spaces text)
-unfolding skip_spaces
 printable_skip [] h = h
 printable_skip (b ∷ bs) h = elim (cases_Bool (eqb b 32)) as (λ _. ArePrintable (skip_spaces (b ∷ bs))) [
   | inl t ↦ rw t (printable_skip bs (and_parts (is_printable b) (list_all is_printable bs) h).1)
@@ -47,8 +46,13 @@ printable_after (b ∷ bs) h = elim (cases_Bool (eqb b 32)) as (λ _. ArePrintab
 
 -- the second word of a printable line, and the third
 pub printable_second : (line : List ℕ) → ArePrintable line → ArePrintable (word (skip_spaces (after_word (skip_spaces line))))
-printable_second line h = printable_word _ (printable_skip _ (printable_after _ (printable_skip line h)))
+printable_second line h =
+    let one = skip_spaces line in
+    printable_word (skip_spaces (after_word one)) (printable_skip (after_word one) (printable_after one (printable_skip line h)))
 
 pub printable_third : (line : List ℕ) → ArePrintable line → ArePrintable (word (skip_spaces (after_word (skip_spaces (after_word (skip_spaces line))))))
 printable_third line h =
-    printable_word _ (printable_skip _ (printable_after _ (printable_skip _ (printable_after _ (printable_skip line h)))))
+    let one = skip_spaces line in
+    let two = skip_spaces (after_word one) in
+    printable_word (skip_spaces (after_word two)) (printable_skip (after_word two)
+    (printable_after two (printable_skip (after_word one) (printable_after one (printable_skip line h)))))

@@ -6,7 +6,7 @@ use Rattle.jiff_core.specs.Calendar.{IsCivilDate, days_from_civil, day_count, da
 use Rattle.jiff_core.proofs.CalendarLemmas.{day_count-epoch, day_count-day_of_year, day_count-next_year, day_count-later_year, day_of_year_bound, days_of_months_mono, days_of_months_more, days_of_months-zero}
 use Rattle.jiff_core.proofs.SignedLemmas.{signed_arith}
 use Rattle.sig_base.specs.declared.stamp.Civil.{Civil}
-use Rattle.sig_base.specs.Stamp.{IsDateOf, civil_of, year_from, month_from, with_year}
+use Rattle.sig_base.specs.Stamp.{IsDateOf, civil_of, year_from, month_from}
 use Rattle.sig_base.proofs.Years.{year_0}
 
 year-here : (k y n : ℕ) → n < days_in_year (pos y) → year_from (suc k) y n ≡ (y, n)
@@ -67,6 +67,10 @@ month-found (suc k) m0 y m d one low high some few =
           let n : day_of_year (pos y) m d - 1 - days_of_months (pos y) (m0 - 1) - days_in_month (pos y) m0 ≡ day_of_year (pos y) m d - 1 - days_of_months (pos y) (m0 + 1 - 1) = rw back (omega arith) in
           month-on k y m0 (day_of_year (pos y) m d - 1 - days_of_months (pos y) (m0 - 1)) (omega arith) ∙ ap (month_from k y (m0 + 1)) n ∙ month-found k (m0 + 1) y m d (omega arith) (omega arith) (omega arith) some few
     ]
+
+-- a date by its year with the day's place in it
+abbrev with_year : ℕ × ℕ → Civil
+with_year year = let month = month_from 12 year.0 1 year.1 in record { year = year.0; month = month.0; day = month.1 + 1 }
 
 date-at : (y m d n k : ℕ) → year_from 10000 0 n ≡ (y, k) → month_from 12 y 1 k ≡ (m, d - 1) → 1 ≤ d
     → with_year (year_from 10000 0 n) ≡ record { year = y; month = m; day = d }

@@ -17,17 +17,12 @@ month_from (suc k) year month n =
     if nat_lt n (days_in_month (pos year) month) then (month, n)
     else month_from k year (month + 1) (n - days_in_month (pos year) month)
 
--- a date by its year, and its month with the day's place in it
-abbrev pub with_month : ℕ → ℕ × ℕ → Civil
-with_month year found = record { year = year; month = found.0; day = found.1 + 1 }
-
--- a date by its year with the day's place in it
-abbrev pub with_year : ℕ × ℕ → Civil
-with_year found = with_month found.0 (month_from 12 found.0 1 found.1)
-
 -- the date of a day of the years 0000 to 9999, of which 0000-01-01 is 719528 days before 1970-01-01
 unfoldable pub civil_of : ℤ → Civil
-civil_of day = with_year (year_from 10000 0 (unsigned_abs (day +ℤ pos 719528)))
+civil_of day =
+    let year = year_from 10000 0 (unsigned_abs (day +ℤ pos 719528)) in
+    let month = month_from 12 year.0 1 year.1 in
+    record { year = year.0; month = month.0; day = month.1 + 1 }
 
 -- the byte of the last decimal digit of a number
 abbrev pub decimal_end : ℕ → ℕ
@@ -44,17 +39,17 @@ stamp_text date tenth =
     ∷ decimal_end (tenth / 10 % 60 / 10) ∷ decimal_end (tenth / 10 % 60) ∷ 46
     ∷ decimal_end tenth ∷ []
 
--- tenths from the start of the window's first day to this tenth of the window
+-- the stamp of this tenth of the window: its day and its tenth of that day, counted from the start of the window's first day
+unfoldable pub stamp_at : Span → ℕ → List ℕ
+stamp_at w at = stamp_text (civil_of (w.day +ℤ pos ((36000 * w.hour + at) / 864000))) ((36000 * w.hour + at) % 864000)
+
+-- For contracts alone: tenths from the start of the window's first day to this tenth of the window.
 abbrev pub since_first_day : Span → ℕ → ℕ
 since_first_day w at = 36000 * w.hour + at
 
--- the day of this tenth of the window
+-- For contracts alone: the day of this tenth of the window.
 abbrev pub day_at : Span → ℕ → ℤ
 day_at w at = w.day +ℤ pos (since_first_day w at / 864000)
-
--- the stamp of this tenth of the window
-unfoldable pub stamp_at : Span → ℕ → List ℕ
-stamp_at w at = stamp_text (civil_of (day_at w at)) (since_first_day w at % 864000)
 
 -- the date is in the calendar and has this day number
 abbrev pub IsDateOf : ℤ → Civil → Type 0

@@ -42,8 +42,8 @@ pub struct PhaseItem {
     pub side: u8,
 }
 
-/// The hours that an accepted edit moves, `to` left out: outside them no number and no verdict changes;
-/// the decisive window of a broken line may.
+/// The hours that an accepted edit moves, `to` left out: those that it touches, and those that a
+/// carry or a future at their points has changed for.
 #[derive(Clone, Copy, Debug, PartialEq, Eq)]
 pub struct Applied {
     pub from: u32,
@@ -67,6 +67,6 @@ pub enum EditError {
     TooManyBlanks,
     /// No history agrees with the log up to this row.
     Contradiction(Row),
-    /// Memory ran out.
+    /// Memory ran out. No transcript has it: such a run ends with `Memory`.
     Memory,
 }

@@ -11,7 +11,7 @@ use Rattle.ring_config.specs.declared.error.KeyName.TheVariants as keys
 use Rattle.ring_config.specs.declared.items.Approach.{Approach}
 use Rattle.ring_config.specs.Reading.{Read, ◌>>=◌, EntryData, place, value_at, good, required, defaulted, optional}
 use Rattle.ring_config.specs.Values as values
-use Rattle.ring_config.specs.Values.{whole, passing, configured, is_short_text, is_name_byte}
+use Rattle.ring_config.specs.Values.{whole, configured, is_short_text, is_name_byte}
 use Rattle.ring_config.specs.Tables.{is_over, numerator, high_of, high_at, travel_with, approach_values, approach_rules}
 use Rattle.ring_config.proofs.DoLaws.{ok_is, bound, good_is, required_value, passing_is}
 use Rattle.config_laws.specs.Walk.{IsGood}
@@ -131,7 +131,6 @@ high_cases e (Some d) den f p q h =
     ok_is (IsHigh e.members) (record { num = a.0; den = b.0 }) f b.2 (inl (record { num = n; den = m; most = not_over a.0 b.0 over }))
 
 high_is : (e : EntryData) (f : Frac) → high_at e ≡ Ok f → IsHigh e.members f
-unfolding high_at
 high_is e f h = high_cases e (value_at keys.HighNum e) (value_at keys.HighDen e) f refl refl h
 
 over_is : (n m : ℕ) → n ≤ m → is_over n (Some (pos m)) ≡ false
@@ -145,7 +144,6 @@ abbrev share : ℕ → ℕ → Read Frac
 share num den = Ok (record { num = num; den = den })
 
 high_gives : (e : EntryData) (f : Frac) → IsHigh e.members f → high_at e ≡ Ok f
-unfolding high_at
 high_gives e f (inl h) =
     let start : high_of e (value_at keys.HighNum e) (value_at keys.HighDen e) ≡ high_of e (Some (integer (pos f.num))) (value_at keys.HighDen e) = ap (λ (v : Option Data). high_of e v (value_at keys.HighDen e)) h.num.there in
     start ∙ rw (numerator_value e f h, number_gives 1 1000 keys.HighDen e f.den h.den) refl

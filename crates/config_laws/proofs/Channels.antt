@@ -23,7 +23,7 @@ use Rattle.ring_config.specs.declared.items.IntervalItem.{IntervalItem}
 use Rattle.ring_config.specs.Reading.{◌>>=◌, EntryData, place, value_at, good, required}
 use Rattle.ring_config.specs.Values.{whole, kind_word, is_word_and, is_named, named_from, channel, colour, colour_of}
 use Rattle.ring_config.specs.Walk.{EachPair}
-use Rattle.ring_config.specs.Settings.{Layout, numbered, signal_channels, all_channels, kind_rank}
+use Rattle.ring_config.specs.Settings.{Layout, numbered, signal_channels, all_channels, spec_rank}
 use Rattle.ring_config.specs.Sound.{IsBefore}
 use Rattle.ring_config.specs.Tables.{floor_values, floor_rules, bound_of, bound_at, interval_values, interval_rules}
 use Rattle.ring_config.proofs.ColourLaws.{named_place}
@@ -150,7 +150,7 @@ signals_ordered l =
     pairs_front IsBefore (signal_channels l) _ (pairs_front IsBefore _ _ (pairs_front IsBefore _ _ (channels_ordered l [] false)))
 
 before_is : (x c : Channel) → IsBefore x c → x.kind ≡ c.kind → x.number ≡ c.number → ⊥
-before_is x c (inl lt) kind number = let e = ap kind_rank kind in let f : kind_rank x.kind ≡ kind_rank c.kind = e in absurd (omega arith)
+before_is x c (inl lt) kind number = let e = ap spec_rank kind in let f : spec_rank x.kind ≡ spec_rank c.kind = e in absurd (omega arith)
 before_is x c (inr later) kind number = let lt : x.number < c.number = later.1 in absurd (omega arith)
 
 abbrev at_place : ℕ → Kind → Option Named
@@ -202,7 +202,6 @@ channel_gives l e kind spec h =
 -- ---- colours
 
 colour_named : (kind : Kind) (text : List ℕ) (c : ℕ) → colour_of kind text ≡ Some c → HasName kind c text
-unfolding colour_of
 colour_named kind text c h =
     let p = position-Some (λ name. bytes_eq text name) (table_of kind).names c [] h in
     slice_get-get_or (table_of kind).names c [] p.0 ∙ ap Some (sym ((bytes_eq-Decides text (get_or (table_of kind).names c [])).0 p.1))
@@ -262,11 +261,9 @@ bound_cases e (Some d) (Some c) b p q h =
     let a = bound (good (place keys.AtLeast e) (whole 1 36000 d)) (λ n. Err (BadValue (place keys.AtMost e))) b h in absurd cc
 
 bound_is : (e : EntryData) (b : AgeBound) → bound_at e ≡ Ok b → HasBound e.members b
-unfolding bound_at
 bound_is e b h = bound_cases e (value_at keys.AtLeast e) (value_at keys.AtMost e) b refl refl h
 
 bound_gives : (e : EntryData) (b : AgeBound) → HasBound e.members b → bound_at e ≡ Ok b
-unfolding bound_at
 bound_gives e AnyAge h = absurd h
 bound_gives e (AtLeast n) h = rw (h.0.there, h.1, whole_gives 1 36000 n h.0.least h.0.most) refl
 bound_gives e (AtMost n) h = rw (h.1, h.0.there, whole_gives 1 36000 n h.0.least h.0.most) refl

@@ -21,16 +21,18 @@ use Rattle.channel_tables.specs.declared.spec.Spec.{Spec}
 use Rattle.ring_config.specs.declared.items.Pair.{Pair}
 use Rattle.ring_config.specs.Reading.{Read, ◌>>=◌, EntryData, key_text, required, defaulted, only}
 use Rattle.ring_config.specs.Values as values
-use Rattle.ring_config.specs.Values.{whole, passing, last_day, window_from, is_pair}
+use Rattle.ring_config.specs.Values.{whole, last_day, window_from, is_pair}
 use Rattle.ring_config.specs.Walk.{Rules, entry_at, entries_of}
 use Rattle.ring_config.specs.Tables.{Top, LayoutArrays, DetailArrays, top_keys, top_of, layout_arrays_of, detail_arrays_of, phase_rules, ped_rules, overlap_rules, preempt_rules, conflict_rules, allow_rules, floor_rules, interval_rules, approach_rules}
-use Rattle.ring_config.specs.Settings.{Settings, Layout, Details, Parts, document, layout_of, details_of, parts_of, config_at, settings_of, signal_channels}
+use Rattle.ring_config.specs.Settings.{Settings, Layout, Details, Parts, document, layout_of, details_of, parts_of, config_at, staged_at, settings_of, signal_channels}
 use Rattle.ring_config.proofs.DoLaws.{ok_is, bound, required_value, passing_is, and_then_is}
 use Rattle.ring_config.proofs.ListLaws.{all_at}
+use Rattle.ring_config.proofs.StagedLaws.{after_2, config_stages}
 use Rattle.config_laws.specs.Keys.{HasOnly, HasNumber}
 use Rattle.config_laws.specs.Walk.{IsGood, AreGoodFrom}
 use Rattle.config_laws.specs.Entries.{Floor, IsPhaseEntry, IsConfigured, IsPedEntry, IsOverlapEntry, IsPreemptEntry, IsConflictEntry, IsAllowEntry, IsFloorEntry, IsIntervalEntry, IsApproachEntry, IsSamePair, IsSameColour}
 use Rattle.config_laws.specs.Document.{IsSignalByte, HasSignal, HasWindow, HasCoordination, Say, HasTable, layout, Describes, ConfigurationsAreAccepted}
+use Rattle.config_laws.specs.Refusals.{HasArrays}
 use Rattle.config_laws.proofs.Entries.{fails, refutes, phase_good, phase_said, ped_good, ped_said, overlap_good, overlap_said, preempt_good, preempt_said, pair_test, conflict_good, conflict_said, allow_good, allow_said, both_test}
 use Rattle.config_laws.proofs.Channels.{floor_good, floor_said, interval_good, interval_said}
 use Rattle.config_laws.proofs.Approaches.{approach_good, approach_said}
@@ -446,18 +448,33 @@ said_parts ms c h =
     }
 
 config_is : (ms : Members) (c : Settings) → config_at ms ≡ Ok c → Describes ms c
-unfolding config_at
 config_is ms c h =
-    let a = bound (parts_of (document ms)) (λ p. Ok (settings_of p.top p.layout p.details)) c h in
+    let a = bound (parts_of (document ms)) (λ p. Ok (settings_of p.top p.layout p.details)) c (sym (config_stages ms) ∙ h) in
     ok_is (Describes ms) (settings_of a.0.top a.0.layout a.0.details) c a.2 (parts_said ms a.0 (parts_are (document ms) a.0 a.1))
 
 abbrev with_specs : Settings → List Spec → Read Settings
 with_specs c specs = Ok (record c { specs = specs })
 
-config_gives : (ms : Members) (c : Settings) → Describes ms c → config_at ms ≡ Ok c
-unfolding config_at
-config_gives ms c h =
+staged_gives : (ms : Members) (c : Settings) → Describes ms c → staged_at ms ≡ Ok c
+staged_gives ms c h =
     rw (parts_give (document ms) (parts_with c h.floors) (said_parts ms c h)) (ap (with_specs c) (sym h.specs))
+
+config_gives : (ms : Members) (c : Settings) → Describes ms c → config_at ms ≡ Ok c
+config_gives ms c h = config_stages ms ∙ staged_gives ms c h
 
 pub configurations_accepted : ConfigurationsAreAccepted
 configurations_accepted ms c = (config_is ms c, config_gives ms c)
+
+-- what a document comes to whose keys and single values are good
+pub document_comes : (ms : Members) (x : LayoutArrays) (y : DetailArrays) (h : HasArrays ms x y) → config_at ms ≡ (layout_of x >>= λ l. details_of l y >>= λ d. Ok (settings_of (record { signal = h.signal; window = h.window; coordination = h.coordination }) l d))
+unfolding parts_of
+document_comes ms x y h =
+    let e = document ms in
+    let t : Top = record { signal = h.signal; window = h.window; coordination = h.coordination } in
+    config_stages ms ∙ rw (
+      only_gives top_keys e h.only,
+      top_gives e t (record { signal = h.signal_there; window = h.window_there; coordination = h.coordination_there }),
+      layout_arrays_give e x (record { phase = tables_gives keys.Phase e x.phase h.phase; ped = tables_gives keys.Ped e x.ped h.ped; overlap = tables_gives keys.Overlap e x.overlap h.overlap; preempt = tables_gives keys.Preempt e x.preempt h.preempt }),
+      detail_arrays_give e y (record { conflict = tables_gives keys.Conflict e y.conflict h.conflict; allow = tables_gives keys.Allow e y.allow h.allow; floor = tables_gives keys.Floor e y.floor h.floor; interval = tables_gives keys.Interval e y.interval h.interval; approach = tables_gives keys.Approach e y.approach h.approach }),
+    )
+    (after_2 (layout_of x) (λ l. details_of l y) (λ l d. let p : Parts = record { top = t; layout = l; details = d } in p) (λ p. Ok (settings_of p.top p.layout p.details)) (λ l d. Ok (settings_of t l d)) (λ l d. refl))

@@ -254,7 +254,6 @@ module _ (phases : List PhaseItem) (low : (n : ℕ) → IsConfigured phases n �
   -- ---- pairs
 
   partner_value : (barred : List Pair) (a b : ℕ) → IsConfigured phases b → a ≢ b → has_pair barred a b ≡ false → partner phases barred a (integer (pos b)) ≡ Some b
-  unfolding partner
   partner_value barred a b is differ free =
       let f : (b == a) ≡ false = refutes (b == a) (Decides-eqb b a) (λ same. differ (sym same)) in
       rw (configured_value b is, f, free) refl
@@ -271,7 +270,7 @@ module _ (phases : List PhaseItem) (low : (n : ℕ) → IsConfigured phases n �
     free : has_pair barred p.a p.b ≡ false
 
   pair_said : (barred : List Pair) (e : EntryData) (p : Pair) → HasOnly (map key_text (keys.A ∷ keys.B ∷ [])) e.members → pair_values phases barred e ≡ Ok p → IsPairSaid barred e p
-  unfolding pair_values partner
+  unfolding pair_values
   pair_said barred e p listed h =
       let a = bound (required (configured phases) keys.A e) (λ x. required (partner phases barred x) keys.B e >>= λ y. Ok (record { a = x; b = y })) p h in
       let b = bound (required (partner phases barred a.0) keys.B e) (λ y. Ok (record { a = a.0; b = y })) p a.2 in

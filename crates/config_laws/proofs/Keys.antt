@@ -14,7 +14,7 @@ use Rattle.ring_config.specs.declared.error.ConfigError.TheVariants.{Unknown}
 use Rattle.ring_config.specs.declared.error.KeyAt.{KeyAt}
 use Rattle.ring_config.specs.declared.error.KeyName.{KeyName}
 use Rattle.ring_config.specs.declared.error.KeyName.TheVariants as keys
-use Rattle.ring_config.specs.Reading.{EntryData, place, key_text, is_among, all_among, only, value_at, present, required, or_default, defaulted, optional}
+use Rattle.ring_config.specs.Reading.{EntryData, place, key_text, is_among, all_among, only, value_at, required, or_default, defaulted, optional}
 use Rattle.ring_config.specs.Values.{whole, tables, tables_from}
 use Rattle.ring_config.proofs.DoLaws.{good_is, required_value, whole_between, whole_integer, and_then_is}
 use Rattle.config_laws.specs.Keys.{StandsAt, IsAbsent, HasOnly, HasOther, HasNumber, MayHaveNumber, AreTables, HasTables}
@@ -162,7 +162,7 @@ only_or_other listed e =
 
 module _ {X : Type 0} (means : Data → Option X) (key : KeyName) (e : EntryData) where
   pub required_gives : (d : Data) (x : X) → StandsAt (key_text key) e.members d → means d ≡ Some x → required means key e ≡ Ok x
-  unfolding required present
+  unfolding required
   required_gives d x there is = rw (there, is) refl
 
   pub absent_gives : (y : X) → IsAbsent (key_text key) e.members → defaulted y means key e ≡ Ok y

@@ -1,13 +1,17 @@
 -- Which table is refused first.
-use Rattle.std.proofs.Common.{◌≡◌, inl, inr, List, Ok, Err, refl, ap, ◌∙◌}
+use Rattle.std.proofs.Common.{◌≡◌, inl, inr, ℕ, List, Ok, Err, refl, sym, ap, ◌∙◌}
 use Rattle.toml.specs.Data.{Members}
 use Rattle.ring_config.specs.declared.error.ConfigError.{ConfigError}
 use Rattle.ring_config.specs.Reading.{Read, ◌>>=◌}
 use Rattle.ring_config.specs.Walk.{Rules, entries_of}
-use Rattle.ring_config.specs.Tables.{LayoutArrays, DetailArrays, phase_rules, ped_rules, overlap_rules, preempt_rules, conflict_rules, allow_rules, floor_rules, interval_rules, approach_rules}
-use Rattle.ring_config.specs.Settings.{Layout, layout_of, details_of, signal_channels}
+use Rattle.ring_config.specs.Tables.{LayoutArrays, DetailArrays, Top, phase_rules, ped_rules, overlap_rules, preempt_rules, conflict_rules, allow_rules, floor_rules, interval_rules, approach_rules}
+use Rattle.ring_config.specs.Settings.{Layout, Settings, layout_of, details_of, settings_of, signal_channels}
 use Rattle.config_laws.specs.Walk.{IsRefusedTable}
-use Rattle.config_laws.specs.Refusals.{IsRefusedFrom, IsRefusedLayout, AreRefusedDetails, LayoutsAreRefused, DetailsAreRefused}
+use Rattle.config_laws.specs.Refusals.{IsRefusedFrom, IsRefusedLayout, AreRefusedDetails, AreRefusedTables, LayoutsAreRefused, DetailsAreRefused, DocumentsAreRefused}
+use Rattle.sig_base.specs.declared.values.PhaseItem.{PhaseItem}
+use Rattle.ring_config.specs.declared.items.OverlapItem.{OverlapItem}
+use Rattle.ring_config.proofs.StagedLaws.{after_4}
+use Rattle.config_laws.proofs.Document.{document_comes}
 use Rattle.config_laws.proofs.Walk.{given, tables_accepted, tables_refused}
 
 module _ {X B : Type 0} (rules : Rules X) (mss : List Members) (error : ConfigError) where
@@ -71,3 +75,47 @@ details_give l x error h =
 
 pub details_refused : DetailsAreRefused
 details_refused l x error = (details_are l x error, details_give l x error)
+
+-- ---- a whole document
+
+error_is : {A B : Type 0} (r : Read A) (f : A → B) (error : ConfigError) → (r >>= λ x. Ok (f x)) ≡ Err error → r ≡ Err error
+error_is (Ok x) f error h = absurd cc
+error_is (Err k) f error h = let same : k ≡ error = cc in ap Err same
+
+abbrev layout_with : List PhaseItem → List ℕ → List OverlapItem → List ℕ → Layout
+layout_with p q o r = record { phases = p; peds = q; overlaps = o; preempts = r }
+
+layout_then : {B : Type 0} (x : LayoutArrays) (k : Layout → Read B) → (layout_of x >>= k) ≡ (entries_of phase_rules x.phase >>= λ p. entries_of (ped_rules p) x.ped >>= λ q. entries_of (overlap_rules p) x.overlap >>= λ o. entries_of preempt_rules x.preempt >>= λ r. k (layout_with p q o r))
+unfolding layout_of
+layout_then x k = after_4 (entries_of phase_rules x.phase) (λ p. entries_of (ped_rules p) x.ped) (λ p q. entries_of (overlap_rules p) x.overlap) (λ p q o. entries_of preempt_rules x.preempt) layout_with k (λ p q o r. k (layout_with p q o r)) (λ p q o r. refl)
+
+module _ (x : LayoutArrays) (y : DetailArrays) (error : ConfigError) (t : Top) where
+  abbrev rest : Layout → Read Settings
+  rest l = details_of l y >>= λ d. Ok (settings_of t l d)
+
+  rest_is : (l : Layout) → rest l ≡ Err error → AreRefusedDetails l y error
+  rest_is l h = (details_refused l y error).0 (error_is (details_of l y) (settings_of t l) error h)
+
+  rest_gives : (l : Layout) → AreRefusedDetails l y error → rest l ≡ Err error
+  rest_gives l r = rw ((details_refused l y error).1 r) refl
+
+  tables_are : (layout_of x >>= rest) ≡ Err error → AreRefusedTables x y error
+  tables_are h =
+      refused_then phase_rules x.phase error (λ p. entries_of (ped_rules p) x.ped >>= λ q. entries_of (overlap_rules p) x.overlap >>= λ o. entries_of preempt_rules x.preempt >>= λ r. rest (layout_with p q o r)) _ (λ p k.
+      refused_then (ped_rules p) x.ped error (λ q. entries_of (overlap_rules p) x.overlap >>= λ o. entries_of preempt_rules x.preempt >>= λ r. rest (layout_with p q o r)) _ (λ q m.
+      refused_then (overlap_rules p) x.overlap error (λ o. entries_of preempt_rules x.preempt >>= λ r. rest (layout_with p q o r)) _ (λ o n.
+      refused_then preempt_rules x.preempt error (λ r. rest (layout_with p q o r)) _ (λ r u. rest_is (layout_with p q o r) u) n) m) k) (sym (layout_then x rest) ∙ h)
+
+  tables_give : AreRefusedTables x y error → (layout_of x >>= rest) ≡ Err error
+  tables_give h =
+      layout_then x rest ∙
+      then_refused phase_rules x.phase error (λ p. entries_of (ped_rules p) x.ped >>= λ q. entries_of (overlap_rules p) x.overlap >>= λ o. entries_of preempt_rules x.preempt >>= λ r. rest (layout_with p q o r)) _ (λ p k.
+      then_refused (ped_rules p) x.ped error (λ q. entries_of (overlap_rules p) x.overlap >>= λ o. entries_of preempt_rules x.preempt >>= λ r. rest (layout_with p q o r)) _ (λ q m.
+      then_refused (overlap_rules p) x.overlap error (λ o. entries_of preempt_rules x.preempt >>= λ r. rest (layout_with p q o r)) _ (λ o n.
+      then_refused preempt_rules x.preempt error (λ r. rest (layout_with p q o r)) _ (λ r u. rest_gives (layout_with p q o r) u) n) m) k) h
+
+pub documents_refused : DocumentsAreRefused
+documents_refused ms x y error h =
+    let t : Top = record { signal = h.signal; window = h.window; coordination = h.coordination } in
+    let comes = document_comes ms x y h in
+    (λ e. tables_are x y error t (sym comes ∙ e), λ r. comes ∙ tables_give x y error t r)

@@ -1,6 +1,6 @@
 // Which tables and which configurations are accepted.
 ghost use Rattle.config_laws.specs.Document.{ConfigurationsAreAccepted, FilesAreAccepted};
-ghost use Rattle.config_laws.specs.Refusals.{DetailsAreRefused, LayoutsAreRefused};
+ghost use Rattle.config_laws.specs.Refusals.{DetailsAreRefused, DocumentsAreRefused, LayoutsAreRefused};
 ghost use Rattle.config_laws.specs.Walk.{TablesAreAccepted, TablesAreRefused};
 
 /// Law: whatever the rules of a table are, its reading gives entries exactly where there are at
@@ -21,8 +21,10 @@ pub fn configurations_are_accepted()
 {}
 
 /// Law: the tables are read one after another, and the first one that is refused decides, each
-/// whole before the next: of what the intersection has, and of what is said of that.
+/// whole before the next: of what the intersection has, and of what is said of that. So it is of a
+/// whole document whose keys and single values are good.
 pub fn first_table_decides()
     ensures layouts { LayoutsAreRefused }
     ensures details { DetailsAreRefused }
+    ensures documents { DocumentsAreRefused }
 {}

@@ -8,13 +8,13 @@ use Rattle.board.specs.Logs.{no_row}
 use Rattle.signal_log.specs.Log.{Log, window_end}
 use Rattle.signal_log.specs.States.{MayBeAfter, MayBeAtEnd}
 use Rattle.rule_audit.specs.declared.rules.Rule.{Rule}
-use Rattle.rule_audit.specs.declared.rules.Rule.TheVariants.{Interval, Conflict, Companion, Parents}
+use Rattle.rule_audit.specs.declared.rules.Rule.TheVariants.{Interval}
 use Rattle.rule_audit.specs.Judged.{IsRuleVerdict, States}
 use Rattle.rule_audit.specs.declared.lines.AuditLine.{AuditLine}
 use Rattle.rule_audit.specs.declared.lines.Place.{Place}
 use Rattle.rule_audit.specs.declared.lines.Place.TheVariants.{BeforeRow, EndOfTenth}
 use Rattle.rule_audit.specs.Index.{no_rule}
-use Rattle.rule_audit.specs.Obligations.{Obligation, is_row_of, is_row_of_some, obligation}
+use Rattle.rule_audit.specs.Obligations.{Obligation, is_row_of, is_row_of_some, obligation, terms_of}
 use Rattle.signal_log.specs.Rows.{rows_before}
 
 -- ---- less of a log
@@ -48,9 +48,7 @@ HasLogVerdict log rows o x = IsRuleVerdict (states_over log rows) log.specs rows
 -- the row is of one of the rule's channels
 abbrev pub is_row_of_rule : List Spec → Row → Rule → Bool
 is_row_of_rule specs r (Interval item) = is_row_of specs r item.spec
-is_row_of_rule specs r (Conflict a b terms) = is_row_of_some specs r terms
-is_row_of_rule specs r (Companion p terms) = is_row_of_some specs r terms
-is_row_of_rule specs r (Parents o terms) = is_row_of_some specs r terms
+is_row_of_rule specs r rule = is_row_of_some specs r (terms_of rule)
 
 -- some known row at the tenth is of one of the rule's channels
 pub record HasRowAt (log : Log) (rule : Rule) (t : ℕ) : Type 0 where

@@ -1,5 +1,6 @@
 -- What is asked of the channels of a rule at the place of a line, and strands that answer.
-use Rattle.std.specs.Prelude.{◌≡◌, ◌≢◌, ◌⊎◌, ◌↔◌, ℕ, ◌+◌, ◌<◌, ◌≤◌, pos, Bool, true, false, List, [], ◌∷◌, length, slice_index_or, Option, Some, None}
+use Rattle.std.specs.Prelude.{◌≡◌, ◌≢◌, ◌⊎◌, ◌↔◌, ℕ, ◌+◌, ◌-◌, ◌/◌, ◌<◌, ◌≤◌, pos, Bool, true, false, List, [], ◌∷◌, length, slice_index_or, Option, Some, None}
+use Rattle.std.specs.List.{AllByRecursion}
 use Rattle.sig_base.specs.declared.values.Row.{Row}
 use Rattle.sig_base.specs.declared.values.Verdict.TheVariants.{Undecided}
 use Rattle.channel_tables.specs.declared.spec.Spec.{Spec}
@@ -19,6 +20,7 @@ use Rattle.rule_audit.specs.declared.lines.AuditLine.{AuditLine}
 use Rattle.rule_audit.specs.declared.lines.Place.{Place}
 use Rattle.rule_audit.specs.declared.lines.Place.TheVariants.{BeforeRow, EndOfTenth}
 use Rattle.rule_audit.specs.declared.rules.Rule.{Rule}
+use Rattle.rule_audit.specs.Index.{no_rule}
 use Rattle.rule_audit.specs.Judged.{IsRuleVerdict, States}
 use Rattle.rule_audit.specs.Obligations.{is_clause, terms_of}
 use Rattle.rule_audit.specs.Pass.{FitsRule}
@@ -28,8 +30,8 @@ use Rattle.filling_pair.specs.declared.asks.Ask.{Ask}
 use Rattle.filling_pair.specs.declared.strands.Pair.{Pair}
 use Rattle.filling_pair.specs.declared.strands.Strand.{Strand}
 use Rattle.filling_pair.specs.Strands.{AreStrands, HasStrand, IsStrand, rows_of}
-use Rattle.filling_pair.specs.Kept.{IsAsSaid, IsPlaced, KeepLine, StandsAtLine, line_rows, rule_of}
-use Rattle.signal_log.specs.Rows.{rows_before}
+use Rattle.filling_pair.specs.Kept.{AreKept, IsAsSaid, IsPlaced, StandsAtLine, line_rows, rule_of}
+use Rattle.signal_log.specs.Rows.{hour_rows, rows_before}
 
 -- ---- a line that is undecided
 
@@ -127,16 +129,11 @@ LacksReply specs s line asks = (a : Ask) × IsAmong a asks × NoneStands specs s
 
 -- ---- the pair
 
--- no strand has more than sixteen fills in any one run of unknown tenths of an hour
-abbrev pub HaveFew : Store → List Strand → Type 0
-HaveFew s [] = Unit {0}
-HaveFew s (z ∷ zs) = AreFew (is_known s) (rows_of z.fills) × HaveFew s zs
-
--- these strands are ones of the rule, with them it is kept or not as said, and they fill with few events
+-- these strands are ones of the rule, with them it is kept or not as said at the line's place, and none has more than sixteen fills in any one run of unknown tenths of an hour
 pub record Shows (specs : List Spec) (s : Store) (line : AuditLine) (rule : Rule) (kept : Bool) (ss : List Strand) : Type 0 where
   pub strands : AreStrands (log_of specs s) rule ss
-  pub said : IsAsSaid kept (KeepLine specs s (line_rows s line) line rule ss)
-  pub few : HaveFew s ss
+  pub said : IsAsSaid kept (AreKept (log_of specs s) (hour_rows s (line.at / 36000)) line.at line.place rule ss)
+  pub few : AllByRecursion (λ z. AreFew (is_known s) (rows_of z.fills)) ss
 
 -- a pair has strands with which the rule is kept at the line's place, and others with which it isn't
 pub record ShowsBoth (specs : List Spec) (s : Store) (line : AuditLine) (rule : Rule) (pair : Pair) : Type 0 where
@@ -145,7 +142,11 @@ pub record ShowsBoth (specs : List Spec) (s : Store) (line : AuditLine) (rule : 
 
 -- the pair shows of an undecided line that its rule may have been kept and may have been broken
 abbrev pub IsPair : List Spec → Store → List Rule → AuditLine → Pair → Type 0
-IsPair specs s rules line pair = ShowsBoth specs s line (rule_of rules line) pair
+IsPair specs s rules line pair = ShowsBoth specs s line (slice_index_or rules (line.rule - 1) no_rule) pair
+
+-- for contracts alone: no strand has more than sixteen fills in any one run of unknown tenths of an hour
+abbrev pub HaveFew : Store → List Strand → Type 0
+HaveFew s ss = AllByRecursion (λ z. AreFew (is_known s) (rows_of z.fills)) ss
 
 -- ---- clauses
 

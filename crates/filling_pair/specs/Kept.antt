@@ -13,20 +13,18 @@ use Rattle.rule_audit.specs.declared.lines.AuditLine.{AuditLine}
 use Rattle.rule_audit.specs.declared.lines.Place.{Place}
 use Rattle.rule_audit.specs.declared.lines.Place.TheVariants.{BeforeRow, EndOfTenth}
 use Rattle.rule_audit.specs.declared.rules.Rule.{Rule}
-use Rattle.rule_audit.specs.declared.rules.Rule.TheVariants.{Interval, Conflict, Companion, Parents}
+use Rattle.rule_audit.specs.declared.rules.Rule.TheVariants.{Interval}
+use Rattle.rule_audit.specs.Obligations.{terms_of}
 use Rattle.rule_audit.specs.Index.{no_rule}
 use Rattle.rule_audit.specs.Judged.{KeepsInterval}
 use Rattle.filling_pair.specs.declared.strands.Strand.{Strand}
 use Rattle.filling_pair.specs.Strands.{AreStrands, Leads, events_with}
 use Rattle.signal_log.specs.Rows.{hour_rows, rows_before}
 
--- what stands at the tenths before t, and then the first j events of tenth t, lead the strand's channel to the state v
-abbrev pub LeadsInto : Log → Strand → ℕ → ℕ → State → Type 0
-LeadsInto log s t j v = (a : State) × Leads log s t a × Steps (track_at log s.spec).rules (pos t) a (letters (track_at log s.spec) (take j (events_with log s.fills t))) v
-
--- the strand comes to the state at the place of tenth t, where these are the rows of its hour
+-- what stands at the tenths before the place, and the events of its tenth t before it, lead the strand's channel to the state, where these are the rows of its hour
 abbrev pub StandsAt : Log → List Row → ℕ → Place → Strand → State → Type 0
-StandsAt log rows t (BeforeRow n) s v = LeadsInto log s t (rows_before rows n) v
+StandsAt log rows t (BeforeRow n) s v =
+    (a : State) × Leads log s t a × Steps (track_at log s.spec).rules (pos t) a (letters (track_at log s.spec) (take (rows_before rows n) (events_with log s.fills t))) v
 StandsAt log rows t EndOfTenth s v = Leads log s (t + 1) v
 
 -- some term is of channel i and has the colour
@@ -37,24 +35,29 @@ HoldsIn (c ∷ cs) i colour = ((c.spec ≡ i) × Has c.colours colour) ⊎ Holds
 -- with the channel in the state the rule is kept at the place; an interval rule is judged before rows alone, and a clause at the end of tenths alone
 abbrev pub KeepsBy : List Spec → List Row → Place → Rule → ℕ → State → Type 0
 KeepsBy specs rows (BeforeRow n) (Interval item) i v = (item.spec ≡ i) × KeepsInterval (slice_index_or specs item.spec no_spec) (slice_index_or rows n no_row) item v
-KeepsBy specs rows EndOfTenth (Conflict a b terms) i v = HoldsIn terms i v.colour
-KeepsBy specs rows EndOfTenth (Companion p terms) i v = HoldsIn terms i v.colour
-KeepsBy specs rows EndOfTenth (Parents o terms) i v = HoldsIn terms i v.colour
-KeepsBy specs rows place rule i v = ⊥
+KeepsBy specs rows (BeforeRow n) rule i v = ⊥
+KeepsBy specs rows EndOfTenth (Interval item) i v = ⊥
+KeepsBy specs rows EndOfTenth rule i v = HoldsIn (terms_of rule) i v.colour
 
--- the strand comes at the place to a state with which the rule is kept
-abbrev pub KeepsAt : Log → List Row → ℕ → Place → Rule → Strand → Type 0
-KeepsAt log rows t place rule s = (v : State) × StandsAt log rows t place s v × KeepsBy log.specs rows place rule s.spec v
-
--- with one of the strands the rule is kept at the place
+-- one of the strands comes at the place to a state with which the rule is kept
 abbrev pub AreKept : Log → List Row → ℕ → Place → Rule → List Strand → Type 0
 AreKept log rows t place rule [] = ⊥
-AreKept log rows t place rule (s ∷ ss) = KeepsAt log rows t place rule s ⊎ AreKept log rows t place rule ss
+AreKept log rows t place rule (s ∷ ss) = ((v : State) × StandsAt log rows t place s v × KeepsBy log.specs rows place rule s.spec v) ⊎ AreKept log rows t place rule ss
 
 -- P holds, or doesn't, as said
 abbrev pub IsAsSaid : Bool → Type 0 → Type 0
 IsAsSaid true P = P
 IsAsSaid false P = P → ⊥
+
+-- ---- For contracts alone
+
+-- what stands at the tenths before t, and then the first j events of tenth t, lead the strand's channel to the state v
+abbrev pub LeadsInto : Log → Strand → ℕ → ℕ → State → Type 0
+LeadsInto log s t j v = (a : State) × Leads log s t a × Steps (track_at log s.spec).rules (pos t) a (letters (track_at log s.spec) (take j (events_with log s.fills t))) v
+
+-- the strand comes at the place to a state with which the rule is kept
+abbrev pub KeepsAt : Log → List Row → ℕ → Place → Rule → Strand → Type 0
+KeepsAt log rows t place rule s = (v : State) × StandsAt log rows t place s v × KeepsBy log.specs rows place rule s.spec v
 
 -- the rule that a line is of
 abbrev pub rule_of : List Rule → AuditLine → Rule

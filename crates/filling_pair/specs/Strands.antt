@@ -1,23 +1,20 @@
 -- Channels' runs with the events that fill the unknown tenths.
-use Rattle.std.specs.Prelude.{◌≡◌, ◌⊎◌, ◌↔◌, ℕ, ◌+◌, ◌<◌, ◌≤◌, Bool, true, false, if◌then◌else◌, IsSome, List, [], ◌∷◌, length}
+use Rattle.std.specs.Prelude.{◌≡◌, ◌⊎◌, ◌↔◌, ℕ, ◌+◌, ◌<◌, ◌≤◌, Bool, true, false, if◌then◌else◌, IsSome, List, [], ◌∷◌, length, map}
+use Rattle.std.specs.List.{AllByRecursion}
 use Rattle.sig_base.specs.declared.values.Row.{Row}
 use Rattle.reach.specs.Runs.{State, state}
 use Rattle.board.specs.History.{Agreeing, Event, Track, events_at}
 use Rattle.board.specs.Verdicts.{HasSpec}
 use Rattle.signal_log.specs.Log.{IsBeforeWindow, Log, track_at, window_end}
 use Rattle.rule_audit.specs.declared.rules.Rule.{Rule}
-use Rattle.rule_audit.specs.declared.rules.Rule.TheVariants.{Interval, Conflict, Companion, Parents}
+use Rattle.rule_audit.specs.declared.rules.Rule.TheVariants.{Interval}
+use Rattle.rule_audit.specs.Obligations.{terms_of}
 use Rattle.filling_pair.specs.declared.strands.Fill.{Fill}
 use Rattle.filling_pair.specs.declared.strands.Strand.{Strand}
 
--- the fill as a row
-abbrev pub row_of : Fill → Row
-row_of f = record { at = f.at; code = f.code; param = f.param }
-
 -- the fills as rows
 abbrev pub rows_of : List Fill → List Row
-rows_of [] = []
-rows_of (f ∷ fs) = row_of f ∷ rows_of fs
+rows_of fs = map (λ f. record { at = f.at; code = f.code; param = f.param }) fs
 
 -- what stands at a tenth: its known rows where it is known, else the fills
 abbrev pub events_with : Log → List Fill → ℕ → List Event
@@ -43,11 +40,6 @@ pub record IsStrand (log : Log) (s : Strand) : Type 0 where
   pub fills : AreFills (track_at log s.spec) log.known 0 (window_end log) s.fills
   pub legal : (u : State) × Leads log s (window_end log) u
 
--- each of these is a strand of the log
-abbrev pub AreAllStrands : Log → List Strand → Type 0
-AreAllStrands log [] = Unit {0}
-AreAllStrands log (s ∷ ss) = IsStrand log s × AreAllStrands log ss
-
 -- the channels ascend, the first being low or a later one
 abbrev pub Ascend : ℕ → List Strand → Type 0
 Ascend low [] = Unit {0}
@@ -61,16 +53,24 @@ HasStrand i (s ∷ ss) = (s.spec ≡ i) ⊎ HasStrand i ss
 -- the rule is about the channel
 abbrev pub IsAbout : Rule → ℕ → Type 0
 IsAbout (Interval item) i = item.spec ≡ i
-IsAbout (Conflict a b terms) i = HasSpec i terms
-IsAbout (Companion p terms) i = HasSpec i terms
-IsAbout (Parents o terms) i = HasSpec i terms
+IsAbout rule i = HasSpec i (terms_of rule)
 
--- one strand for each channel of the rule, by ascending channel
+-- strands of the log, one for each channel of the rule, by ascending channel
 pub record AreStrands (log : Log) (rule : Rule) (ss : List Strand) : Type 0 where
   pub ascend : Ascend 0 ss
   pub channels : (i : ℕ) → HasStrand i ss ↔ IsAbout rule i
-  pub each : AreAllStrands log ss
+  pub each : AllByRecursion (IsStrand log) ss
 
 -- stands where a list has no fill
 abbrev pub no_fill : Fill
 no_fill = record { at = 0; code = 0; param = 0 }
+
+-- ---- For contracts alone
+
+-- the fill as a row
+abbrev pub row_of : Fill → Row
+row_of f = record { at = f.at; code = f.code; param = f.param }
+
+-- each of these is a strand of the log
+abbrev pub AreAllStrands : Log → List Strand → Type 0
+AreAllStrands log ss = AllByRecursion (IsStrand log) ss

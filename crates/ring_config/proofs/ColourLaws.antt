@@ -40,5 +40,4 @@ place_in names text (Some c) None e named every =
     absurd (found_some (λ name. bytes_eq text name) names c [] lt ((bytes_eq-Decides text (get_or names c [])).1 (sym here)) e)
 
 pub named_place : (kind : Kind) (text : List ℕ) (r : Option ℕ) → IfSome r (λ c. HasName kind c text) → ((c : ℕ) → HasName kind c text → r ≡ Some c) → r ≡ colour_of kind text
-unfolding colour_of
 named_place kind text r named every = place_in (table_of kind).names text r (position (λ name. bytes_eq text name) (table_of kind).names) refl named every

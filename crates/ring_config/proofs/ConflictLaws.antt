@@ -4,7 +4,7 @@ use Rattle.std.proofs.lemmas.Bool.Decides.{same_from_decides, Decides-eqb}
 use Rattle.sig_base.specs.declared.values.PhaseItem.{PhaseItem}
 use Rattle.ring_config.specs.declared.items.Pair.{Pair}
 use Rattle.ring_config.specs.Values.{has_pair}
-use Rattle.ring_config.specs.Settings.{phase_of, clash, conflict_by}
+use Rattle.ring_config.specs.Settings.{Settings, phase_of, clash, conflict_by, in_conflict}
 
 or_comm : (x y : Bool) → (x || y) ≡ (y || x)
 or_comm true true = refl
@@ -26,5 +26,8 @@ clash_comm (Some p) None = refl
 clash_comm (Some p) (Some q) = ap₂ (λ (x y : Bool). x || not y) (eq_comm p.ring q.ring) (eq_comm p.side q.side)
 
 pub conflict_comm : (conflicts allows : List Pair) (phases : List PhaseItem) (a b : ℕ) → conflict_by conflicts allows phases a b ≡ conflict_by conflicts allows phases b a
-unfolding conflict_by
 conflict_comm conflicts allows phases a b = rw (pair_comm conflicts a b, pair_comm allows a b, clash_comm (phase_of phases a) (phase_of phases b)) refl
+
+pub conflict_is : (c : Settings) (a b : ℕ) → conflict_by c.conflicts c.allows c.phases a b ≡ in_conflict c a b
+unfolding in_conflict
+conflict_is c a b = refl

@@ -32,7 +32,7 @@ present_is at (Some c) d e = let same : c ≡ d = cc in ap Some same
 
 -- the same, with the value
 pub required_value : {X : Type 0} (means : Data → Option X) (key : KeyName) (e : EntryData) (x : X) → required means key e ≡ Ok x → (d : Data) × (value_at key e ≡ Some d) × (means d ≡ Some x)
-unfolding required present
+unfolding required
 required_value means key e x h =
     let b = bound (present key e) (λ d. good (place key e) (means d)) x h in
     (b.0, present_is (place key e) (value_at key e) b.0 b.1, good_is (place key e) (means b.0) x b.2)

@@ -16,4 +16,5 @@ pub mod TableLaws
 pub mod OrderLaws
 pub mod SoundLaws
 pub mod TrackLaws
+pub mod StagedLaws
 pub mod PlaceLaws

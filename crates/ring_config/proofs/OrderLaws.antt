@@ -14,7 +14,7 @@ use Rattle.ring_config.specs.declared.items.FloorItem.{FloorItem}
 use Rattle.ring_config.specs.declared.items.Approach.{Approach}
 use Rattle.sig_base.specs.Numbers.{has_number}
 use Rattle.ring_config.specs.Walk.{EachPair}
-use Rattle.ring_config.specs.Settings.{Layout, numbered, signal_channels, all_channels, coordination_channel, detectors, floor_of, floors_of, specs_from, kind_rank}
+use Rattle.ring_config.specs.Settings.{Layout, numbered, signal_channels, all_channels, coordination_channel, detectors, floor_of, floors_of, specs_from, spec_rank}
 use Rattle.ring_config.specs.Sound.{IsBefore, IsTimed}
 use Rattle.ring_config.proofs.ListLaws.{all_weaker, all_append, all_filter, pairs_append, pairs_filter}
 use Rattle.ring_config.proofs.TableLaws.{IsFloorOf}
@@ -49,36 +49,36 @@ numbered_kind kind most numbers = let le : 0 ≤ 1 = omega arith in all_filter (
 -- channels in order, of ranks up to r
 record Upto (r : ℕ) (cs : List Channel) : Type 0 where
   order : EachPair IsBefore cs
-  ranks : AllByRecursion (λ c. kind_rank c.kind ≤ r) cs
+  ranks : AllByRecursion (λ c. spec_rank c.kind ≤ r) cs
 
-all_later : (r : ℕ) (xs ys : List Channel) → AllByRecursion (λ c. kind_rank c.kind ≤ r) xs → AllByRecursion (λ c. r < kind_rank c.kind) ys → AllByRecursion (λ x. AllByRecursion (IsBefore x) ys) xs
+all_later : (r : ℕ) (xs ys : List Channel) → AllByRecursion (λ c. spec_rank c.kind ≤ r) xs → AllByRecursion (λ c. r < spec_rank c.kind) ys → AllByRecursion (λ x. AllByRecursion (IsBefore x) ys) xs
 all_later r [] ys h k = tt
 all_later r (x ∷ xs) ys h k =
-    let le : kind_rank x.kind ≤ r = h.0 in
-    let later : (c : Channel) → r < kind_rank c.kind → IsBefore x c = λ c lt. let below : kind_rank x.kind < kind_rank c.kind = omega arith in inl below in
-    (all_weaker (λ c. r < kind_rank c.kind) (IsBefore x) later ys k, all_later r xs ys h.1 k)
+    let le : spec_rank x.kind ≤ r = h.0 in
+    let later : (c : Channel) → r < spec_rank c.kind → IsBefore x c = λ c lt. let below : spec_rank x.kind < spec_rank c.kind = omega arith in inl below in
+    (all_weaker (λ c. r < spec_rank c.kind) (IsBefore x) later ys k, all_later r xs ys h.1 k)
 
-upto_more : (r s : ℕ) (xs ys : List Channel) → r < s → Upto r xs → EachPair IsBefore ys → AllByRecursion (λ c. kind_rank c.kind ≡ s) ys → Upto s (xs ++ ys)
+upto_more : (r s : ℕ) (xs ys : List Channel) → r < s → Upto r xs → EachPair IsBefore ys → AllByRecursion (λ c. spec_rank c.kind ≡ s) ys → Upto s (xs ++ ys)
 upto_more r s xs ys lt up order ranks =
-    let above : (c : Channel) → kind_rank c.kind ≡ s → r < kind_rank c.kind = λ c e. omega arith in
-    let low : (c : Channel) → kind_rank c.kind ≤ r → kind_rank c.kind ≤ s = λ c e. omega arith in
-    let same : (c : Channel) → kind_rank c.kind ≡ s → kind_rank c.kind ≤ s = λ c e. omega arith in
+    let above : (c : Channel) → spec_rank c.kind ≡ s → r < spec_rank c.kind = λ c e. omega arith in
+    let low : (c : Channel) → spec_rank c.kind ≤ r → spec_rank c.kind ≤ s = λ c e. omega arith in
+    let same : (c : Channel) → spec_rank c.kind ≡ s → spec_rank c.kind ≤ s = λ c e. omega arith in
     record {
-      order = pairs_append IsBefore xs ys up.order order (all_later r xs ys up.ranks (all_weaker (λ c. kind_rank c.kind ≡ s) (λ c. r < kind_rank c.kind) above ys ranks));
-      ranks = all_append (λ c. kind_rank c.kind ≤ s) xs ys (all_weaker (λ c. kind_rank c.kind ≤ r) (λ c. kind_rank c.kind ≤ s) low xs up.ranks) (all_weaker (λ c. kind_rank c.kind ≡ s) (λ c. kind_rank c.kind ≤ s) same ys ranks);
+      order = pairs_append IsBefore xs ys up.order order (all_later r xs ys up.ranks (all_weaker (λ c. spec_rank c.kind ≡ s) (λ c. r < spec_rank c.kind) above ys ranks));
+      ranks = all_append (λ c. spec_rank c.kind ≤ s) xs ys (all_weaker (λ c. spec_rank c.kind ≤ r) (λ c. spec_rank c.kind ≤ s) low xs up.ranks) (all_weaker (λ c. spec_rank c.kind ≡ s) (λ c. spec_rank c.kind ≤ s) same ys ranks);
     }
 
-upto_numbered : (r s : ℕ) (xs : List Channel) (kind : Kind) (most : ℕ) (numbers : List ℕ) → r < s → kind_rank kind ≡ s → Upto r xs → Upto s (xs ++ numbered kind most numbers)
+upto_numbered : (r s : ℕ) (xs : List Channel) (kind : Kind) (most : ℕ) (numbers : List ℕ) → r < s → spec_rank kind ≡ s → Upto r xs → Upto s (xs ++ numbered kind most numbers)
 upto_numbered r s xs kind most numbers lt e up =
-    let ranked : (c : Channel) → IsFrom kind 0 c → kind_rank c.kind ≡ s = λ c h. ap kind_rank h.0 ∙ e in
-    upto_more r s xs (numbered kind most numbers) lt up (numbered_ascending kind most numbers) (all_weaker (IsFrom kind 0) (λ c. kind_rank c.kind ≡ s) ranked (numbered kind most numbers) (numbered_kind kind most numbers))
+    let ranked : (c : Channel) → IsFrom kind 0 c → spec_rank c.kind ≡ s = λ c h. ap spec_rank h.0 ∙ e in
+    upto_more r s xs (numbered kind most numbers) lt up (numbered_ascending kind most numbers) (all_weaker (IsFrom kind 0) (λ c. spec_rank c.kind ≡ s) ranked (numbered kind most numbers) (numbered_kind kind most numbers))
 
 first_numbered : (most : ℕ) (numbers : List ℕ) → Upto 0 (numbered kinds.Phase most numbers)
 first_numbered most numbers =
-    let ranked : (c : Channel) → IsFrom kinds.Phase 0 c → kind_rank c.kind ≤ 0 = λ c h. let z : kind_rank c.kind ≡ 0 = ap kind_rank h.0 in omega arith in
+    let ranked : (c : Channel) → IsFrom kinds.Phase 0 c → spec_rank c.kind ≤ 0 = λ c h. let z : spec_rank c.kind ≡ 0 = ap spec_rank h.0 in omega arith in
     record {
       order = numbered_ascending kinds.Phase most numbers;
-      ranks = all_weaker (IsFrom kinds.Phase 0) (λ c. kind_rank c.kind ≤ 0) ranked (numbered kinds.Phase most numbers) (numbered_kind kinds.Phase most numbers);
+      ranks = all_weaker (IsFrom kinds.Phase 0) (λ c. spec_rank c.kind ≤ 0) ranked (numbered kinds.Phase most numbers) (numbered_kind kinds.Phase most numbers);
     }
 
 signal_upto : (l : Layout) → Upto 4 (signal_channels l)

@@ -1,5 +1,5 @@
 -- Each refusal of a table names a place: none of them is that the text isn't TOML.
-use Rattle.std.proofs.Common.{◌≡◌, ℕ, ◌+◌, Bool, true, false, if◌then◌else◌, nat_lt, List, [], ◌∷◌, ◌++◌, length, Option, Some, None, Result, Ok, Err, refl, subst}
+use Rattle.std.proofs.Common.{◌≡◌, ℕ, ◌+◌, Bool, true, false, if◌then◌else◌, nat_lt, List, [], ◌∷◌, ◌++◌, length, Option, Some, None, Result, Ok, Err, refl, subst, sym}
 use Rattle.std.specs.List.{list_any}
 use Rattle.toml.specs.Data.{Data, Members}
 use Rattle.event_codes.specs.declared.channels.Channel.{Channel}
@@ -15,7 +15,8 @@ use Rattle.ring_config.specs.Values as values
 use Rattle.ring_config.specs.Values.{whole, configured}
 use Rattle.ring_config.specs.Walk.{Rules, entry_at, unrepeated, read_entry, entries_from, entries_of}
 use Rattle.ring_config.specs.Tables.{LayoutArrays, DetailArrays, top_keys, top_of, layout_arrays_of, detail_arrays_of, phase_values, overlap_values, pair_values, floor_values, bound_of, bound_at, interval_values, numerator, high_of, high_at, approach_values, phase_rules, ped_rules, overlap_rules, preempt_rules, conflict_rules, allow_rules, floor_rules, interval_rules, approach_rules, travel_with}
-use Rattle.ring_config.specs.Settings.{Settings, Layout, signal_channels, layout_of, details_of, parts_of, config_at, config_in, config_of, document, document_of}
+use Rattle.ring_config.specs.Settings.{Settings, Layout, signal_channels, layout_of, details_of, parts_of, config_at, staged_at, config_in, config_of, document, document_of}
+use Rattle.ring_config.proofs.StagedLaws.{config_stages}
 
 abbrev HasPlace : ConfigError → Type 0
 HasPlace NotToml = ⊥
@@ -48,7 +49,7 @@ default_placed x means at None = tt
 default_placed x means at (Some d) = good_placed at (means d)
 
 required_placed : {X : Type 0} (means : Data → Option X) (key : KeyName) (e : EntryData) → Placed (required means key e)
-unfolding required present
+unfolding required
 required_placed means key e = then_placed (present key e) (λ d. good (place key e) (means d)) (missing_placed (place key e) (value_at key e)) (λ d. good_placed (place key e) (means d))
 
 defaulted_placed : {X : Type 0} (x : X) (means : Data → Option X) (key : KeyName) (e : EntryData) → Placed (defaulted x means key e)
@@ -112,7 +113,6 @@ bound_of_placed e (Some d) None = then_placed (good (place keys.AtLeast e) (whol
 bound_of_placed e (Some d) (Some m) = then_placed (good (place keys.AtLeast e) (whole 1 36000 d)) _ (good_placed (place keys.AtLeast e) (whole 1 36000 d)) (λ n. tt)
 
 bound_placed : (e : EntryData) → Placed (bound_at e)
-unfolding bound_at
 bound_placed e = bound_of_placed e (value_at keys.AtLeast e) (value_at keys.AtMost e)
 
 interval_placed : (channels : List Channel) (e : EntryData) → Placed (interval_values channels e)
@@ -128,7 +128,6 @@ high_of_placed e (Some d) den = then_placed (good (place keys.HighNum e) (numera
     then_placed (required (whole 1 1000) keys.HighDen e) _ (required_placed (whole 1 1000) keys.HighDen e) (λ m. tt))
 
 high_placed : (e : EntryData) → Placed (high_at e)
-unfolding high_at
 high_placed e = high_of_placed e (value_at keys.HighNum e) (value_at keys.HighDen e)
 
 approach_placed : (phases : List PhaseItem) (e : EntryData) → Placed (approach_values phases e)
@@ -182,9 +181,9 @@ details_placed l x = then_placed (entries_of (conflict_rules l.phases) x.conflic
     then_placed (entries_of (interval_rules (signal_channels l)) x.interval) _ (entries_placed (interval_rules (signal_channels l)) (interval_placed (signal_channels l)) x.interval) (λ i.
     then_placed (entries_of (approach_rules l.phases) x.approach) _ (entries_placed (approach_rules l.phases) (approach_placed l.phases) x.approach) (λ p. tt)))))
 
-config_placed : (ms : Members) → Placed (config_at ms)
-unfolding config_at parts_of
-config_placed ms =
+staged_placed : (ms : Members) → Placed (staged_at ms)
+unfolding parts_of
+staged_placed ms =
     let e : EntryData = document ms in
     then_placed (parts_of e) _ (then_placed (only top_keys e) _ (only_placed top_keys e) (λ _.
     then_placed (top_of e) _ (top_placed e) (λ t.
@@ -192,6 +191,9 @@ config_placed ms =
     then_placed (detail_arrays_of e) _ (detail_arrays_placed e) (λ y.
     then_placed (layout_of x) _ (layout_placed x) (λ l.
     then_placed (details_of l y) _ (details_placed l y) (λ d. tt))))))) (λ p. tt)
+
+config_placed : (ms : Members) → Placed (config_at ms)
+config_placed ms = subst Placed (sym (config_stages ms)) (staged_placed ms)
 
 no_document : (bytes : List ℕ) (d : Option Members) → document_of bytes ≡ d → config_in d ≡ Err NotToml → document_of bytes ≡ None
 no_document bytes None e r = e

@@ -133,7 +133,7 @@ pub record IsUnbarred (phases : List PhaseItem) (barred : List Pair) (p : Pair) 
   pub unbarred : has_pair barred p.a p.b ≡ false
 
 pub pair_is : (phases : List PhaseItem) (barred : List Pair) (e : EntryData) (p : Pair) → pair_values phases barred e ≡ Ok p → IsUnbarred phases barred p
-unfolding pair_values partner
+unfolding pair_values
 pair_is phases barred e p h =
     let a = bound (required (configured phases) keys.A e) (λ x. required (partner phases barred x) keys.B e >>= λ y. Ok (record { a = x; b = y })) p h in
     let b = bound (required (partner phases barred a.0) keys.B e) (λ y. Ok (record { a = a.0; b = y })) p a.2 in
@@ -192,7 +192,7 @@ channel_is channels e x h =
     subst (λ (k : ℕ). IsNamedAt channels k x.kind) same n.2
 
 pub colour_is : (kind : Kind) (e : EntryData) (c : ℕ) → required (colour kind) keys.Colour e ≡ Ok c → c < length (table_of kind).names
-unfolding colour colour_of
+unfolding colour
 colour_is kind e c h =
     let r = required_means (colour kind) keys.Colour e c h in
     let a = and_then_is (colour_of kind) (as_str r.0) c r.1 in
@@ -235,7 +235,7 @@ pub record IsRuleOf (channels : List Channel) (r : IntervalItem) : Type 0 where
   pub bound : IsBound r.bound
 
 pub interval_is : (channels : List Channel) (e : EntryData) (r : IntervalItem) → interval_values channels e ≡ Ok r → IsRuleOf channels r
-unfolding interval_values bound_at
+unfolding interval_values
 interval_is channels e r h =
     let a = bound (required (channel channels) keys.Channel e) (λ x. required (colour x.kind) keys.Colour e >>= λ c. bound_at e >>= λ b. Ok (record { spec = x.spec; colour = c; bound = b })) r h in
     let b = bound (required (colour a.0.kind) keys.Colour e) (λ c. bound_at e >>= λ b. Ok (record { spec = a.0.spec; colour = c; bound = b })) r a.2 in
@@ -288,7 +288,7 @@ unfolding defaulted
 travel_is advance e n h = travel_at advance (place keys.Travel e) (value_at keys.Travel e) n h
 
 pub approach_is : (phases : List PhaseItem) (e : EntryData) (a : Approach) → approach_values phases e ≡ Ok a → IsApproach phases a
-unfolding approach_values high_at name
+unfolding approach_values name
 approach_is phases e x h =
     let a = bound (required name keys.Name e) (λ n. required (configured phases) keys.Phase e >>= λ p. optional (whole 1 128) keys.Advance e >>= λ v. optional (whole 1 128) keys.StopBar e >>= λ s. defaulted 0 (travel_with v) keys.Travel e >>= λ t. high_at e >>= λ f. Ok (record { name = n; phase = p; advance = v; stop_bar = s; travel = t; high = f })) x h in
     let b = bound (required (configured phases) keys.Phase e) (λ p. optional (whole 1 128) keys.Advance e >>= λ v. optional (whole 1 128) keys.StopBar e >>= λ s. defaulted 0 (travel_with v) keys.Travel e >>= λ t. high_at e >>= λ f. Ok (record { name = a.0; phase = p; advance = v; stop_bar = s; travel = t; high = f })) x a.2 in

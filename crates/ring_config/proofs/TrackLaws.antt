@@ -276,7 +276,7 @@ module _ (s : Settings) (l : Layout) (are : AreNumbered l s.approaches) (phases 
       (coordination_tracked s.coordination refl)
 
 kind_of : ℕ → Kind
-kind_of n = cond (n == 0) kinds.Phase (cond (n == 1) kinds.Ped (cond (n == 2) kinds.Overlap (cond (n == 3) kinds.PreemptInput (cond (n == 4) kinds.PreemptService (cond (n == 5) kinds.PedDetector (cond (n == 6) kinds.Detector kinds.Coordination))))))
+kind_of n = cond (n == 0) kinds.Phase (cond (n == 1) kinds.Ped (cond (n == 2) kinds.Overlap (cond (n == 3) kinds.Detector (cond (n == 4) kinds.PedDetector (cond (n == 5) kinds.PreemptInput (cond (n == 6) kinds.PreemptService kinds.Coordination))))))
 
 ranked : (a : Kind) → kind_of (kind_rank a) ≡ a
 unfolding kind_of
@@ -289,7 +289,7 @@ ranked kinds.PedDetector = refl
 ranked kinds.Detector = refl
 ranked kinds.Coordination = refl
 
-same_kind : (a b : Kind) → (kind_rank a == kind_rank b) ≡ true → a ≡ b
+pub same_kind : (a b : Kind) → (kind_rank a == kind_rank b) ≡ true → a ≡ b
 same_kind a b e = sym (ranked a) ∙ ap kind_of (eqb-true (kind_rank a) (kind_rank b) e) ∙ ranked b
 
 pub same_both : (a b : Bool) → (a ≡ true → b ≡ true) → (b ≡ true → a ≡ true) → a ≡ b

@@ -1,5 +1,5 @@
 -- Reading that may be refused: an entry of a table, its keys, and what stands at them.
-use Rattle.std.specs.Prelude.{◌≡◌, ℕ, ◌&&◌, Bool, true, if◌then◌else◌, List, codes, Option, Some, None, option_map, Result, Ok, Err}
+use Rattle.std.specs.Prelude.{◌≡◌, ℕ, ◌&&◌, Bool, true, if◌then◌else◌, List, codes, Option, Some, None, option_map, unwrap_or, ok_or, Result, Ok, Err}
 use Rattle.std.specs.List.{list_any}
 use Rattle.std.specs.Str.{bytes_eq}
 use Rattle.toml.specs.Data.{Data, Members, no_members, member, get_member}
@@ -76,14 +76,10 @@ key_text keys.HighNum = codes "high_num"
 key_text keys.HighDen = codes "high_den"
 key_text keys.Other = codes "?"
 
--- the text is one of the keys
-abbrev pub is_among : List KeyName → List ℕ → Bool
-is_among listed text = list_any (λ key. bytes_eq (key_text key) text) listed
-
 -- all keys of an entry are among those listed
 abbrev pub all_among : List KeyName → Members → Bool
 all_among listed no_members = true
-all_among listed (member text d ms) = is_among listed text && all_among listed ms
+all_among listed (member text d ms) = list_any (λ key. bytes_eq (key_text key) text) listed && all_among listed ms
 
 -- the entry has no key but those listed; else one is unknown
 unfoldable pub only : List KeyName → EntryData → Read (Unit {0})
@@ -95,33 +91,36 @@ only listed e = if all_among listed e.members then Ok tt else Err (Unknown (plac
 abbrev pub value_at : KeyName → EntryData → Option Data
 value_at key e = get_member (key_text key) e.members
 
--- what a value stands for; where it stands for nothing it is bad
-abbrev pub good : {X : Type 0} → KeyAt → Option X → Read X
-good at None = Err (BadValue at)
-good at (Some x) = Ok x
-
--- a value that has to be there
-abbrev pub or_missing : KeyAt → Option Data → Read Data
-or_missing at None = Err (Missing at)
-or_missing at (Some d) = Ok d
-
--- the value at a key that every entry has
-unfoldable pub present : KeyName → EntryData → Read Data
-present key e = or_missing (place key e) (value_at key e)
-
--- what the value at a key stands for that every entry has
+-- what the value at a key stands for that every entry has: it is missing where the key isn't there, and bad where it stands for nothing
 unfoldable pub required : {X : Type 0} → (Data → Option X) → KeyName → EntryData → Read X
-required means key e = present key e >>= λ d. good (place key e) (means d)
+required means key e = ok_or (value_at key e) (Missing (place key e)) >>= λ d. ok_or (means d) (BadValue (place key e))
 
--- what a value stands for, or x where there is none
-abbrev pub or_default : {X : Type 0} → X → (Data → Option X) → KeyAt → Option Data → Read X
-or_default x means at None = Ok x
-or_default x means at (Some d) = good at (means d)
-
--- what the value at a key stands for that is x where the entry has no such key
+-- what the value at a key stands for, x where the entry has no such key; it is bad where it stands for nothing
 unfoldable pub defaulted : {X : Type 0} → X → (Data → Option X) → KeyName → EntryData → Read X
-defaulted x means key e = or_default x means (place key e) (value_at key e)
+defaulted x means key e = unwrap_or (option_map (λ d. ok_or (means d) (BadValue (place key e))) (value_at key e)) (Ok x)
 
 -- what the value at a key stands for that an entry may do without
 abbrev pub optional : {X : Type 0} → (Data → Option X) → KeyName → EntryData → Read (Option X)
 optional means key e = defaulted None (λ d. option_map Some (means d)) key e
+
+-- ---- For contracts alone: the parts of what is read at a key
+
+-- the text is one of the keys
+abbrev pub is_among : List KeyName → List ℕ → Bool
+is_among listed text = list_any (λ key. bytes_eq (key_text key) text) listed
+
+-- what a value stands for; where it stands for nothing it is bad
+abbrev pub good : {X : Type 0} → KeyAt → Option X → Read X
+good at x = ok_or x (BadValue at)
+
+-- a value that has to be there
+abbrev pub or_missing : KeyAt → Option Data → Read Data
+or_missing at d = ok_or d (Missing at)
+
+-- the value at a key that every entry has
+abbrev pub present : KeyName → EntryData → Read Data
+present key e = or_missing (place key e) (value_at key e)
+
+-- what a value stands for, or x where there is none
+abbrev pub or_default : {X : Type 0} → X → (Data → Option X) → KeyAt → Option Data → Read X
+or_default x means at d = unwrap_or (option_map (λ y. good at (means y)) d) (Ok x)

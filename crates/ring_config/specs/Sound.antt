@@ -17,7 +17,7 @@ use Rattle.ring_config.specs.declared.items.IntervalItem.{IntervalItem}
 use Rattle.ring_config.specs.declared.items.Approach.{Approach}
 use Rattle.row_reader.specs.Signal.{is_signal}
 use Rattle.ring_config.specs.Values.{has_pair, is_name_byte, is_short_text, phases_in}
-use Rattle.ring_config.specs.Settings.{Settings, kind_rank, is_tracked, spec_place}
+use Rattle.ring_config.specs.Settings.{Settings, spec_rank, is_tracked, spec_place}
 
 abbrev pub IsBetween : ℕ → ℕ → ℕ → Type 0
 IsBetween low high n = (low ≤ n) × (n ≤ high)
@@ -79,7 +79,7 @@ pub record IsApproach (phases : List PhaseItem) (a : Approach) : Type 0 where
 
 -- the order of specs: by kind, and within a kind by number
 abbrev pub IsBefore : Channel → Channel → Type 0
-IsBefore a b = (kind_rank a.kind < kind_rank b.kind) ⊎ ((a.kind ≡ b.kind) × (a.number < b.number))
+IsBefore a b = (spec_rank a.kind < spec_rank b.kind) ⊎ ((a.kind ≡ b.kind) × (a.number < b.number))
 
 pub record IsSound (c : Settings) : Type 0 where
   pub signal : is_signal c.signal ≡ true

@@ -1,5 +1,5 @@
 -- The tables of a configuration, each as its keys in order and what their values are.
-use Rattle.std.specs.Prelude.{ℕ, ℤ, option_and_then, ◌&&◌, ◌==◌, not, Bool, false, int_lt, pos, List, [], ◌∷◌, Option, Some, None, Ok, Err}
+use Rattle.std.specs.Prelude.{ℕ, ℤ, option_and_then, ◌&&◌, ◌||◌, ◌==◌, not, Bool, false, int_lt, pos, List, [], ◌∷◌, Option, Some, None, option_map, unwrap_or, ok_or, Ok, Err}
 use Rattle.std.specs.Str.{bytes_eq}
 use Rattle.toml.specs.Data.{Data, Members, as_integer}
 use Rattle.sig_base.specs.Window.{Span}
@@ -18,12 +18,154 @@ use Rattle.ring_config.specs.declared.items.OverlapItem.{OverlapItem}
 use Rattle.ring_config.specs.declared.items.FloorItem.{FloorItem}
 use Rattle.ring_config.specs.declared.items.IntervalItem.{IntervalItem}
 use Rattle.ring_config.specs.declared.items.Approach.{Approach}
-use Rattle.ring_config.specs.Reading.{Read, ◌>>=◌, EntryData, place, value_at, good, required, defaulted, optional}
+use Rattle.ring_config.specs.Reading.{Read, ◌>>=◌, EntryData, place, value_at, required, defaulted, optional}
 use Rattle.ring_config.specs.Values as values
 use Rattle.ring_config.specs.Values.{whole, configured, has_pair, is_pair}
 use Rattle.ring_config.specs.Walk.{Rules}
 
--- ---- the document itself
+-- ---- phases, pedestrian signals, overlaps, preempts
+
+-- the rules of a table: its name, its limit, the keys of an entry, its values, when it repeats another, and the key that is then named
+abbrev pub rules : {X : Type 0} → TableName → ℕ → List KeyName → (EntryData → Read X) → (X → X → Bool) → KeyName → Rules X
+rules table limit listed values repeats repeated = record { table = table; limit = limit; listed = listed; values = values; repeats = repeats; repeated = repeated }
+
+-- an entry of the table of phases: its number, its ring and its side of the barrier
+unfoldable pub phase_values : EntryData → Read PhaseItem
+phase_values e = do
+  number ← required (whole 1 16) keys.Number e
+  ring ← required (whole 1 4) keys.Ring e
+  side ← required (whole 1 4) keys.Side e
+  Ok (record { number = number; ring = ring; side = side })
+
+-- the table of phases: at most 16, no number twice
+abbrev pub phase_rules : Rules PhaseItem
+phase_rules = rules tables.Phase 16 (keys.Number ∷ keys.Ring ∷ keys.Side ∷ []) phase_values (λ p q. p.number == q.number) keys.Number
+
+-- the table of pedestrian signals: at most 16, each at a configured phase of its number, none twice
+abbrev pub ped_rules : List PhaseItem → Rules ℕ
+ped_rules phases = rules tables.Ped 16 (keys.Number ∷ []) (required (configured phases) keys.Number) (λ p q. p == q) keys.Number
+
+-- an entry of the table of overlaps: its number, and the phases that are its parents
+unfoldable pub overlap_values : List PhaseItem → EntryData → Read OverlapItem
+overlap_values phases e = do
+  number ← required (whole 1 16) keys.Number e
+  parents ← required (values.parents phases) keys.Parents e
+  Ok (record { number = number; parents = parents })
+
+-- the table of overlaps: at most 16, no number twice
+abbrev pub overlap_rules : List PhaseItem → Rules OverlapItem
+overlap_rules phases = rules tables.Overlap 16 (keys.Number ∷ keys.Parents ∷ []) (overlap_values phases) (λ p q. p.number == q.number) keys.Number
+
+-- the table of preempts: at most 16, no number twice
+abbrev pub preempt_rules : Rules ℕ
+preempt_rules = rules tables.Preempt 16 (keys.Number ∷ []) (required (whole 1 16) keys.Number) (λ p q. p == q) keys.Number
+
+-- ---- pairs of phases
+
+-- an entry of a table of pairs: two configured phases that differ, and are no pair that is barred
+unfoldable pub pair_values : List PhaseItem → List Pair → EntryData → Read Pair
+pair_values phases barred e = do
+  a ← required (configured phases) keys.A e
+  b ← required (λ d. values.passing (λ b. not (b == a || has_pair barred a b)) (configured phases d)) keys.B e
+  Ok (record { a = a; b = b })
+
+-- one of the two tables of pairs of phases, that of conflicts (pairs that may not be served together) or that of pairs that are allowed: at most 120, no pair twice and none that is barred
+abbrev pub pair_rules : TableName → List PhaseItem → List Pair → Rules Pair
+pair_rules table phases barred = rules table 120 (keys.A ∷ keys.B ∷ []) (pair_values phases barred) (λ p q. is_pair p q.a q.b) keys.A
+
+-- ---- floors and intervals
+
+-- an entry of the table of floors: a channel, one of its colours, and how many tenths it lasts at least
+unfoldable pub floor_values : List Channel → EntryData → Read FloorItem
+floor_values channels e = do
+  channel ← required (values.channel channels) keys.Channel e
+  colour ← required (values.colour channel.kind) keys.Colour e
+  tenths ← required (whole 0 36000) keys.Tenths e
+  Ok (record { spec = channel.spec; colour = colour; tenths = tenths })
+
+-- the table of floors: at most 512, one for a colour of a channel
+abbrev pub floor_rules : List Channel → Rules FloorItem
+floor_rules channels = rules tables.Floor 512 (keys.Channel ∷ keys.Colour ∷ keys.Tenths ∷ []) (floor_values channels) (λ p q. p.spec == q.spec && p.colour == q.colour) keys.Channel
+
+-- the bound on a colour's age: exactly one of at_least and at_most
+abbrev pub bound_of : EntryData → Option Data → Option Data → Read AgeBound
+bound_of e None None = Err (Missing (place keys.AtLeast e))
+bound_of e None (Some most) = ok_or (whole 1 36000 most) (BadValue (place keys.AtMost e)) >>= λ n. Ok (AtMost n)
+bound_of e (Some least) None = ok_or (whole 1 36000 least) (BadValue (place keys.AtLeast e)) >>= λ n. Ok (AtLeast n)
+bound_of e (Some least) (Some most) = ok_or (whole 1 36000 least) (BadValue (place keys.AtLeast e)) >>= λ n. Err (BadValue (place keys.AtMost e))
+
+-- an entry of the table of intervals: a channel, one of its colours, and how long that has to last
+unfoldable pub interval_values : List Channel → EntryData → Read IntervalItem
+interval_values channels e = do
+  channel ← required (values.channel channels) keys.Channel e
+  colour ← required (values.colour channel.kind) keys.Colour e
+  bound ← bound_of e (value_at keys.AtLeast e) (value_at keys.AtMost e)
+  Ok (record { spec = channel.spec; colour = colour; bound = bound })
+
+-- the table of rules on durations: at most 256; an entry may repeat another
+abbrev pub interval_rules : List Channel → Rules IntervalItem
+interval_rules channels = rules tables.Interval 256 (keys.Channel ∷ keys.Colour ∷ keys.AtLeast ∷ keys.AtMost ∷ []) (interval_values channels) (λ p q. false) keys.Other
+
+-- ---- approaches
+
+-- the share of an approach from which on its stop bar detector was on long enough for a split failure: by both of its numbers, of which the first isn't over the second where that is a number; or 4/5 where neither is there
+abbrev pub high_of : EntryData → Option Data → Option Data → Read Frac
+high_of e None None = Ok (record { num = 4; den = 5 })
+high_of e None (Some den) = Err (Missing (place keys.HighNum e))
+high_of e (Some num) den = do
+  n ← ok_or (values.passing (λ n. not (unwrap_or (option_map (λ d. int_lt d (pos n)) (option_and_then as_integer (value_at keys.HighDen e))) false)) (whole 1 1000 num))
+      (BadValue (place keys.HighNum e))
+  d ← required (whole 1 1000) keys.HighDen e
+  Ok (record { num = n; den = d })
+
+-- an entry of the table of approaches: its name, its phase, its detectors, how many tenths a vehicle takes from the advance detector to the stop bar, which is said only where there is such a detector, and the share
+unfoldable pub approach_values : List PhaseItem → EntryData → Read Approach
+approach_values phases e = do
+  name ← required values.name keys.Name e
+  phase ← required (configured phases) keys.Phase e
+  advance ← optional (whole 1 128) keys.Advance e
+  stop_bar ← optional (whole 1 128) keys.StopBar e
+  travel ← defaulted 0 (λ d. option_and_then (λ _. whole 0 300 d) advance) keys.Travel e
+  high ← high_of e (value_at keys.HighNum e) (value_at keys.HighDen e)
+  Ok (record { name = name; phase = phase; advance = advance; stop_bar = stop_bar; travel = travel; high = high })
+
+-- the table of approaches: at most 64, no name twice
+abbrev pub approach_rules : List PhaseItem → Rules Approach
+approach_rules phases =
+    rules tables.Approach 64 (keys.Name ∷ keys.Phase ∷ keys.Advance ∷ keys.StopBar ∷ keys.Travel ∷ keys.HighNum ∷ keys.HighDen ∷ [])
+    (approach_values phases) (λ p q. bytes_eq p.name q.name) keys.Name
+
+-- ---- For contracts alone: parts of what the tables say
+
+-- the bound of an entry of the table of intervals
+abbrev pub bound_at : EntryData → Read AgeBound
+bound_at e = bound_of e (value_at keys.AtLeast e) (value_at keys.AtMost e)
+
+-- the number is greater than the other one, where there is one
+abbrev pub is_over : ℕ → Option ℤ → Bool
+is_over n other = unwrap_or (option_map (λ d. int_lt d (pos n)) other) false
+
+-- the first number of a share: not over the second one, where that is a number
+abbrev pub numerator : EntryData → Data → Option ℕ
+numerator e d = values.passing (λ n. not (is_over n (option_and_then as_integer (value_at keys.HighDen e)))) (whole 1 1000 d)
+
+-- the share of an approach
+abbrev pub high_at : EntryData → Read Frac
+high_at e = high_of e (value_at keys.HighNum e) (value_at keys.HighDen e)
+
+-- how many tenths a vehicle takes from the advance detector to the stop bar; only where there is such a detector
+abbrev pub travel_with : Option ℕ → Data → Option ℕ
+travel_with advance d = option_and_then (λ _. whole 0 300 d) advance
+
+-- the table of conflicts: pairs of phases that may not be served together
+abbrev pub conflict_rules : List PhaseItem → Rules Pair
+conflict_rules phases = pair_rules tables.Conflict phases []
+
+-- the table of pairs that are allowed: phases that may be served together; none is in conflict too
+abbrev pub allow_rules : List PhaseItem → List Pair → Rules Pair
+allow_rules phases conflicts = pair_rules tables.Allow phases conflicts
+
+-- ---- For contracts alone: the document by stages, as the code reads it
 
 -- the single values of a document
 pub record Top : Type 0 where
@@ -78,194 +220,3 @@ detail_arrays_of e = do
   interval ← defaulted [] values.tables keys.Interval e
   approach ← defaulted [] values.tables keys.Approach e
   Ok (record { conflict = conflict; allow = allow; floor = floor; interval = interval; approach = approach })
-
--- ---- phases, pedestrian signals, overlaps, preempts
-
--- an entry of the table of phases: its number, its ring and its side of the barrier
-unfoldable pub phase_values : EntryData → Read PhaseItem
-phase_values e = do
-  number ← required (whole 1 16) keys.Number e
-  ring ← required (whole 1 4) keys.Ring e
-  side ← required (whole 1 4) keys.Side e
-  Ok (record { number = number; ring = ring; side = side })
-
--- the table of phases: at most 16, no number twice
-abbrev pub phase_rules : Rules PhaseItem
-phase_rules = record {
-  table = tables.Phase;
-  limit = 16;
-  listed = keys.Number ∷ keys.Ring ∷ keys.Side ∷ [];
-  values = phase_values;
-  repeats = λ p q. p.number == q.number;
-  repeated = keys.Number;
-}
-
--- the table of pedestrian signals: at most 16, each at a configured phase of its number, none twice
-abbrev pub ped_rules : List PhaseItem → Rules ℕ
-ped_rules phases = record {
-  table = tables.Ped;
-  limit = 16;
-  listed = keys.Number ∷ [];
-  values = required (configured phases) keys.Number;
-  repeats = λ p q. p == q;
-  repeated = keys.Number;
-}
-
--- an entry of the table of overlaps: its number, and the phases that are its parents
-unfoldable pub overlap_values : List PhaseItem → EntryData → Read OverlapItem
-overlap_values phases e = do
-  number ← required (whole 1 16) keys.Number e
-  parents ← required (values.parents phases) keys.Parents e
-  Ok (record { number = number; parents = parents })
-
--- the table of overlaps: at most 16, no number twice
-abbrev pub overlap_rules : List PhaseItem → Rules OverlapItem
-overlap_rules phases = record {
-  table = tables.Overlap;
-  limit = 16;
-  listed = keys.Number ∷ keys.Parents ∷ [];
-  values = overlap_values phases;
-  repeats = λ p q. p.number == q.number;
-  repeated = keys.Number;
-}
-
--- the table of preempts: at most 16, no number twice
-abbrev pub preempt_rules : Rules ℕ
-preempt_rules = record {
-  table = tables.Preempt;
-  limit = 16;
-  listed = keys.Number ∷ [];
-  values = required (whole 1 16) keys.Number;
-  repeats = λ p q. p == q;
-  repeated = keys.Number;
-}
-
--- ---- pairs of phases
-
--- an entry of a table of pairs: two configured phases, which are no pair that is barred
-unfoldable pub pair_values : List PhaseItem → List Pair → EntryData → Read Pair
-pair_values phases barred e = do
-  a ← required (configured phases) keys.A e
-  b ← required (values.partner phases barred a) keys.B e
-  Ok (record { a = a; b = b })
-
--- one of the two tables of pairs of phases: at most 120, no pair twice and none that is barred
-abbrev pub pair_rules : TableName → List PhaseItem → List Pair → Rules Pair
-pair_rules table phases barred = record {
-  table = table;
-  limit = 120;
-  listed = keys.A ∷ keys.B ∷ [];
-  values = pair_values phases barred;
-  repeats = λ p q. is_pair p q.a q.b;
-  repeated = keys.A;
-}
-
--- the table of conflicts: pairs of phases that may not be served together
-abbrev pub conflict_rules : List PhaseItem → Rules Pair
-conflict_rules phases = pair_rules tables.Conflict phases []
-
--- the table of pairs that are allowed: phases that may be served together; none is in conflict too
-abbrev pub allow_rules : List PhaseItem → List Pair → Rules Pair
-allow_rules phases conflicts = pair_rules tables.Allow phases conflicts
-
--- ---- floors and intervals
-
--- an entry of the table of floors: a channel, one of its colours, and how many tenths it lasts at least
-unfoldable pub floor_values : List Channel → EntryData → Read FloorItem
-floor_values channels e = do
-  channel ← required (values.channel channels) keys.Channel e
-  colour ← required (values.colour channel.kind) keys.Colour e
-  tenths ← required (whole 0 36000) keys.Tenths e
-  Ok (record { spec = channel.spec; colour = colour; tenths = tenths })
-
--- the table of floors: at most 512, one for a colour of a channel
-abbrev pub floor_rules : List Channel → Rules FloorItem
-floor_rules channels = record {
-  table = tables.Floor;
-  limit = 512;
-  listed = keys.Channel ∷ keys.Colour ∷ keys.Tenths ∷ [];
-  values = floor_values channels;
-  repeats = λ p q. p.spec == q.spec && p.colour == q.colour;
-  repeated = keys.Channel;
-}
-
--- the bound on a colour's age: exactly one of at_least and at_most
-abbrev pub bound_of : EntryData → Option Data → Option Data → Read AgeBound
-bound_of e None None = Err (Missing (place keys.AtLeast e))
-bound_of e None (Some most) = good (place keys.AtMost e) (whole 1 36000 most) >>= λ n. Ok (AtMost n)
-bound_of e (Some least) None = good (place keys.AtLeast e) (whole 1 36000 least) >>= λ n. Ok (AtLeast n)
-bound_of e (Some least) (Some most) = good (place keys.AtLeast e) (whole 1 36000 least) >>= λ n. Err (BadValue (place keys.AtMost e))
-
--- the bound of an entry of the table of intervals
-unfoldable pub bound_at : EntryData → Read AgeBound
-bound_at e = bound_of e (value_at keys.AtLeast e) (value_at keys.AtMost e)
-
--- an entry of the table of intervals: a channel, one of its colours, and how long that has to last
-unfoldable pub interval_values : List Channel → EntryData → Read IntervalItem
-interval_values channels e = do
-  channel ← required (values.channel channels) keys.Channel e
-  colour ← required (values.colour channel.kind) keys.Colour e
-  bound ← bound_at e
-  Ok (record { spec = channel.spec; colour = colour; bound = bound })
-
--- the table of rules on durations: at most 256; an entry may repeat another
-abbrev pub interval_rules : List Channel → Rules IntervalItem
-interval_rules channels = record {
-  table = tables.Interval;
-  limit = 256;
-  listed = keys.Channel ∷ keys.Colour ∷ keys.AtLeast ∷ keys.AtMost ∷ [];
-  values = interval_values channels;
-  repeats = λ p q. false;
-  repeated = keys.Other;
-}
-
--- ---- approaches
-
--- the number is greater than the other one, where there is one
-abbrev pub is_over : ℕ → Option ℤ → Bool
-is_over n None = false
-is_over n (Some d) = int_lt d (pos n)
-
--- the first number of a share: not over the second one, where that is a number
-abbrev pub numerator : EntryData → Data → Option ℕ
-numerator e d = values.passing (λ n. not (is_over n (option_and_then as_integer (value_at keys.HighDen e)))) (whole 1 1000 d)
-
--- a share by both of its numbers, or 4/5 where neither is there
-abbrev pub high_of : EntryData → Option Data → Option Data → Read Frac
-high_of e None None = Ok (record { num = 4; den = 5 })
-high_of e None (Some den) = Err (Missing (place keys.HighNum e))
-high_of e (Some num) den = do
-  n ← good (place keys.HighNum e) (numerator e num)
-  d ← required (whole 1 1000) keys.HighDen e
-  Ok (record { num = n; den = d })
-
--- the share of an approach from which on its stop bar detector was on long enough for a split failure
-unfoldable pub high_at : EntryData → Read Frac
-high_at e = high_of e (value_at keys.HighNum e) (value_at keys.HighDen e)
-
--- how many tenths a vehicle takes from the advance detector to the stop bar; only where there is such a detector
-abbrev pub travel_with : Option ℕ → Data → Option ℕ
-travel_with None d = None
-travel_with (Some v) d = whole 0 300 d
-
--- an entry of the table of approaches: its name, its phase, its detectors, the way between them and the share
-unfoldable pub approach_values : List PhaseItem → EntryData → Read Approach
-approach_values phases e = do
-  name ← required values.name keys.Name e
-  phase ← required (configured phases) keys.Phase e
-  advance ← optional (whole 1 128) keys.Advance e
-  stop_bar ← optional (whole 1 128) keys.StopBar e
-  travel ← defaulted 0 (travel_with advance) keys.Travel e
-  high ← high_at e
-  Ok (record { name = name; phase = phase; advance = advance; stop_bar = stop_bar; travel = travel; high = high })
-
--- the table of approaches: at most 64, no name twice
-abbrev pub approach_rules : List PhaseItem → Rules Approach
-approach_rules phases = record {
-  table = tables.Approach;
-  limit = 64;
-  listed = keys.Name ∷ keys.Phase ∷ keys.Advance ∷ keys.StopBar ∷ keys.Travel ∷ keys.HighNum ∷ keys.HighDen ∷ [];
-  values = approach_values phases;
-  repeats = λ p q. bytes_eq p.name q.name;
-  repeated = keys.Name;
-}

@@ -17,6 +17,27 @@ pub record Rules (X : Type 0) : Type 0 where
   pub repeats : X → X → Bool
   pub repeated : KeyName
 
+-- an entry after earlier ones: no key but the table's, good values, and none of the earlier ones again
+unfoldable pub read_entry : {X : Type 0} → Rules X → List X → EntryData → Read X
+read_entry rules earlier e = do
+  _ ← only rules.listed e
+  x ← rules.values e
+  if list_any (λ y. rules.repeats y x) earlier then Err (Repeated (place rules.repeated e)) else Ok x
+
+-- the entries of a table from number i on, counted from 0, with the earlier ones
+unfoldable pub entries_from : {X : Type 0} → Rules X → ℕ → List X → List Members → Read (List X)
+entries_from rules i earlier [] = Ok earlier
+entries_from rules i earlier (ms ∷ mss) =
+    read_entry rules earlier (record { table = rules.table; index = i; members = ms }) >>= λ x. entries_from rules (i + 1) (earlier ++ x ∷ []) mss
+
+-- the entries of a table: not more than its limit, and each as it has to be
+unfoldable pub entries_of : {X : Type 0} → Rules X → List Members → Read (List X)
+entries_of rules mss =
+    if nat_lt rules.limit (length mss) then Err (TooMany (record { table = rules.table; entry = rules.limit; key = keys.Other }))
+    else entries_from rules 0 [] mss
+
+-- ---- For contracts alone
+
 -- the entry of a table at this place, from 0
 abbrev pub entry_at : {X : Type 0} → Rules X → ℕ → Members → EntryData
 entry_at rules i ms = record { table = rules.table; index = i; members = ms }
@@ -24,24 +45,6 @@ entry_at rules i ms = record { table = rules.table; index = i; members = ms }
 -- the entry repeats none of the earlier ones
 abbrev pub unrepeated : {X : Type 0} → Rules X → EntryData → List X → X → Read X
 unrepeated rules e earlier x = if list_any (λ y. rules.repeats y x) earlier then Err (Repeated (place rules.repeated e)) else Ok x
-
--- an entry after earlier ones: no key but the table's, good values, and none of the earlier ones again
-unfoldable pub read_entry : {X : Type 0} → Rules X → List X → EntryData → Read X
-read_entry rules earlier e = do
-  _ ← only rules.listed e
-  x ← rules.values e
-  unrepeated rules e earlier x
-
--- the entries of a table from number i on, with the earlier ones
-unfoldable pub entries_from : {X : Type 0} → Rules X → ℕ → List X → List Members → Read (List X)
-entries_from rules i earlier [] = Ok earlier
-entries_from rules i earlier (ms ∷ mss) = read_entry rules earlier (entry_at rules i ms) >>= λ x. entries_from rules (i + 1) (earlier ++ x ∷ []) mss
-
--- the entries of a table: not more than its limit, and each as it has to be
-unfoldable pub entries_of : {X : Type 0} → Rules X → List Members → Read (List X)
-entries_of rules mss =
-    if nat_lt rules.limit (length mss) then Err (TooMany (record { table = rules.table; entry = rules.limit; key = keys.Other }))
-    else entries_from rules 0 [] mss
 
 -- R holds of each entry and each later one
 abbrev pub EachPair : {X : Type 0} → (X → X → Type 0) → List X → Type 0

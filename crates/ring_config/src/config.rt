@@ -3,7 +3,7 @@ ghost use Rattle.std.specs.Prelude.{is_some, true, ◌≡◌, ◌≢◌, ◌≤�
 ghost use Rattle.std.specs.Str.{bytes_eq};
 ghost use Rattle.row_reader.specs.Signal.{is_signal};
 ghost use Rattle.channel_tables.specs.Spec.{IsSpec};
-ghost use Rattle.ring_config.specs.Settings.{Settings, settings_of, approach_place, clash, conflict_by, in_conflict, is_same_channel, is_tracked, kind_rank, phase_of, spec_place};
+ghost use Rattle.ring_config.specs.Settings.{Settings, settings_of, approach_place, clash, conflict_by, in_conflict, is_same_channel, is_tracked, phase_of, spec_place, spec_rank};
 ghost use Rattle.ring_config.specs.Sound.{IsApproach, IsBefore, IsConfigured, IsIntervalOf, IsOverlap, IsPhase, IsSound};
 ghost use Rattle.ring_config.specs.Seen.{parts_seen};
 ghost use Rattle.ring_config.specs.Walk.{NoneRepeats};
@@ -49,7 +49,7 @@ impl Model for Config {
 }
 
 fn rank(kind: Kind) -> u8
-    ensures { result ≡ kind_rank kind }
+    ensures { result ≡ spec_rank kind }
 {
     match kind {
         Kind::Phase => 0,

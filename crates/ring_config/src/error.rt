@@ -130,7 +130,7 @@ pub enum ConfigError {
     /// The table has more entries than it may have.
     #[error("too many entries: {0:?}")]
     TooMany(KeyAt),
-    /// Memory ran out.
+    /// Memory ran out. No transcript has it: such a run ends with `Memory`.
     #[error("out of memory")]
     Memory,
 }

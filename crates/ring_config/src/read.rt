@@ -2,7 +2,7 @@
 ghost use Rattle.std.specs.Prelude.{◌≡◌, Ok, Err, None};
 ghost use Rattle.toml.specs.View.{table_view};
 ghost use Rattle.ring_config.specs.Reading.{Gives};
-ghost use Rattle.ring_config.specs.Settings.{config_at, config_of, document_of};
+ghost use Rattle.ring_config.specs.Settings.{config_of, document_of, staged_at};
 
 use crate::config::Config;
 use crate::error::{ConfigError, TableName};
@@ -13,7 +13,7 @@ use toml::Table;
 
 #[tactic(auto, unfolding(crate::specs::Settings::config_at))]
 fn config_from(alloc: Global, table: &Table) -> Result<Config, ConfigError>
-    ensures { Gives (λ c. c) result (config_at (table_view table.now)) }
+    ensures { Gives (λ c. c) result (staged_at (table_view table.now)) }
 {
     let document = Entry {
         table: TableName::Top,

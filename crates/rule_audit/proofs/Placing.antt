@@ -17,10 +17,11 @@ use Rattle.board.specs.Logs.{no_spec}
 use Rattle.board.specs.Verdicts.{AreApart, AreClause, AreWithin, NotOf}
 use Rattle.ring_config.specs.declared.items.IntervalItem.{IntervalItem}
 use Rattle.ring_config.specs.declared.items.OverlapItem.{OverlapItem}
-use Rattle.ring_config.specs.Settings.{Settings, in_conflict, is_same_channel, is_tracked_as, kind_rank, spec_place}
+use Rattle.ring_config.specs.Settings.{Settings, in_conflict, is_same_channel, is_tracked_as, kind_rank, spec_place, spec_rank}
 use Rattle.ring_config.specs.Sound.{IsBefore, IsConfigured, IsIntervalOf, IsOverlap, IsSound}
 use Rattle.sig_base.specs.Numbers.{has_number, has_phase}
 use Rattle.sig_base.proofs.Common.{clash}
+use Rattle.ring_config.proofs.TrackLaws.{same_kind}
 use Rattle.ring_config.specs.Values.{phases_in}
 use Rattle.rule_audit.specs.declared.rules.Rule.{Rule}
 use Rattle.rule_audit.specs.declared.rules.Rule.TheVariants.{Interval, Conflict, Companion, Parents}
@@ -50,7 +51,7 @@ some_is (Some j) i h k = ap Some (k j refl)
 not_before : (a b : Channel) → is_same_channel a b ≡ true → IsBefore a b → ⊥
 not_before a b e h =
     let p = and_parts (kind_rank a.kind == kind_rank b.kind) (a.number == b.number) e in
-    let rank = eqb-true (kind_rank a.kind) (kind_rank b.kind) p.0 in
+    let rank : spec_rank a.kind ≡ spec_rank b.kind = ap spec_rank (same_kind a.kind b.kind p.0) in
     let number = eqb-true a.number b.number p.1 in
     elim h [ inl lt ↦ absurd (omega arith) | inr (same, lt) ↦ absurd (omega arith) ]
 

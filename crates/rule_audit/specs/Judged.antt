@@ -17,20 +17,16 @@ use Rattle.board.specs.History.{Agreeing, events_at}
 use Rattle.board.specs.Logs.{HourLog, first_tenth, end_tenth, no_spec, no_row}
 use Rattle.board.specs.Verdicts.{IsVerdict, Keeps, MayPassRow, PassStates}
 use Rattle.rule_audit.specs.declared.rules.Rule.{Rule}
-use Rattle.rule_audit.specs.declared.rules.Rule.TheVariants.{Interval, Conflict, Companion, Parents}
+use Rattle.rule_audit.specs.declared.rules.Rule.TheVariants.{Interval}
 use Rattle.rule_audit.specs.declared.lines.Place.{Place}
 use Rattle.rule_audit.specs.declared.lines.Place.TheVariants.{BeforeRow, EndOfTenth}
-use Rattle.rule_audit.specs.Obligations.{Obligation}
+use Rattle.rule_audit.specs.Obligations.{Obligation, terms_of}
 
 -- ---- interval rules
 
--- the row, which is one of the channel, changes its colour away from this one
-abbrev pub Leaves : Spec → Row → ℕ → Type 0
-Leaves s r colour = (l : ℕ) × (letter_in_table r.code r.param ≡ Some l) × ((d : ℕ) × ((rules_of s).next colour l ≡ Some d) × (d ≢ colour))
-
--- before the row the channel has the rule's colour, and with the row it leaves it: an interval ends there
+-- before the row the channel has the rule's colour, and the row, which is one of the channel, changes it to another one: an interval ends there
 abbrev pub Closes : Spec → Row → IntervalItem → State → Type 0
-Closes s r item v = (v.colour ≡ item.colour) × Leaves s r item.colour
+Closes s r item v = (v.colour ≡ item.colour) × ((l : ℕ) × (letter_in_table r.code r.param ≡ Some l) × ((d : ℕ) × ((rules_of s).next item.colour l ≡ Some d) × (d ≢ item.colour)))
 
 -- where the interval ends with the row, the colour's age then meets the rule's bound
 abbrev pub KeepsInterval : Spec → Row → IntervalItem → State → Type 0
@@ -43,6 +39,10 @@ IsIntervalVerdict Kept P C K = ((v : State) × P v × C v) × ((v : State) → P
 IsIntervalVerdict Broken P C K = ((v : State) × P v × C v) × ((v : State) → P v → K v → ⊥)
 IsIntervalVerdict Undecided P C K = ((v : State) × P v × K v) × ((v : State) × P v × (K v → ⊥))
 
+-- For contracts alone: the row, which is one of the channel, changes its colour away from this one
+abbrev pub Leaves : Spec → Row → ℕ → Type 0
+Leaves s r colour = (l : ℕ) × (letter_in_table r.code r.param ≡ Some l) × ((d : ℕ) × ((rules_of s).next colour l ≡ Some d) × (d ≢ colour))
+
 -- ---- any rule
 
 -- which states the histories that agree may have: of one channel before a row, and of all channels together at the end of a tenth
@@ -52,11 +52,12 @@ pub record States : Type 1 where
 
 -- the verdict on a rule at a place of a tenth; an interval rule is judged before rows alone, and a clause at the end of tenths alone
 abbrev pub IsRuleVerdict : States → List Spec → List Row → ℕ → Place → Rule → Verdict → Type 0
-IsRuleVerdict states specs rows t (BeforeRow n) (Interval item) x = IsIntervalVerdict x (states.before_row n item.spec) (Closes (slice_index_or specs item.spec no_spec) (slice_index_or rows n no_row) item) (KeepsInterval (slice_index_or specs item.spec no_spec) (slice_index_or rows n no_row) item)
-IsRuleVerdict states specs rows t EndOfTenth (Conflict a b terms) x = IsVerdict x (states.at_end t) (Keeps terms)
-IsRuleVerdict states specs rows t EndOfTenth (Companion p terms) x = IsVerdict x (states.at_end t) (Keeps terms)
-IsRuleVerdict states specs rows t EndOfTenth (Parents o terms) x = IsVerdict x (states.at_end t) (Keeps terms)
-IsRuleVerdict states specs rows t place rule x = ⊥
+IsRuleVerdict states specs rows t (BeforeRow n) (Interval item) x =
+    IsIntervalVerdict x (states.before_row n item.spec) (Closes (slice_index_or specs item.spec no_spec) (slice_index_or rows n no_row) item)
+    (KeepsInterval (slice_index_or specs item.spec no_spec) (slice_index_or rows n no_row) item)
+IsRuleVerdict states specs rows t (BeforeRow n) rule x = ⊥
+IsRuleVerdict states specs rows t EndOfTenth (Interval item) x = ⊥
+IsRuleVerdict states specs rows t EndOfTenth rule x = IsVerdict x (states.at_end t) (Keeps (terms_of rule))
 
 -- the states of the histories of an hour that agree with it
 abbrev pub states_of : HourLog → States

@@ -13,21 +13,19 @@ use Rattle.rule_audit.specs.declared.lines.AuditLine.{AuditLine}
 use Rattle.rule_audit.specs.Obligations.{Obligation, obligations_from}
 use Rattle.rule_audit.specs.Judged.{HasRuns, HasVerdict}
 
--- the line of an obligation with its verdict, without a window
-abbrev pub line_of : Obligation → Verdict → AuditLine
-line_of o x = record { rule = o.number; at = o.at; place = o.place; verdict = x; window = None }
-
--- the line of an obligation with its verdict; an idle one has none
+-- the line of an obligation with its verdict, without a window; an idle one has none
 abbrev pub lines_of : Obligation → Verdict → List AuditLine
 lines_of o verdicts.Idle = []
-lines_of o verdicts.Kept = line_of o verdicts.Kept ∷ []
-lines_of o verdicts.Broken = line_of o verdicts.Broken ∷ []
-lines_of o verdicts.Undecided = line_of o verdicts.Undecided ∷ []
+lines_of o x = record { rule = o.number; at = o.at; place = o.place; verdict = x; window = None } ∷ []
 
 -- the lines of these obligations in order, each with a verdict that it has
 abbrev pub AreLinesOf : (Obligation → Verdict → Type 0) → List Obligation → List AuditLine → Type 0
 AreLinesOf Has [] lines = lines ≡ []
 AreLinesOf Has (o ∷ os) lines = (x : Verdict) × Has o x × ((rest : List AuditLine) × AreLinesOf Has os rest × (lines ≡ lines_of o x ++ rest))
+
+-- For contracts alone: the line of an obligation with its verdict, without a window
+abbrev pub line_of : Obligation → Verdict → AuditLine
+line_of o x = record { rule = o.number; at = o.at; place = o.place; verdict = x; window = None }
 
 -- the obligations of an hour, where `before` says whether the tenth before it is known
 unfoldable pub hour_obligations : HourLog → List Rule → Bool → List Obligation

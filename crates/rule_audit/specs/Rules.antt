@@ -42,19 +42,38 @@ is_in_none specs kind n cs = is_in specs kind n (others kind cs)
 abbrev pub served : List ℕ
 served = phase.on ∷ phase.green ∷ phase.term ∷ phase.yellow ∷ phase.clear ∷ []
 
--- phase p is served, as a term of a rule
-abbrev pub is_served : List Spec → ℕ → Term
-is_served specs p = is_in specs kinds.Phase p served
-
--- phase p isn't served, as a term of a rule
-abbrev pub is_not_served : List Spec → ℕ → Term
-is_not_served specs p = is_in_none specs kinds.Phase p served
-
 -- ---- rules
+
+-- the rules that phases a and b aren't both served, where they are configured, a < b, and conflict: by the first phase, and then by the second
+abbrev pub conflict_rules : Settings → List Rule
+conflict_rules c = each_number (λ a. each_number (λ b.
+    if (nat_lt a b && has_phase c.phases a) && (has_phase c.phases b && in_conflict c a b)
+    then Conflict a b (is_in_none c.specs kinds.Phase a served ∷ is_in_none c.specs kinds.Phase b served ∷ []) ∷ [] else []))
+
+-- the rules that a pedestrian signal doesn't show walk, or its phase is on or green: by number
+abbrev pub companion_rules : Settings → List Rule
+companion_rules c = each_number (λ p. if has_number c.peds p
+    then Companion p (is_in_none c.specs kinds.Ped p (ped.walk ∷ []) ∷ is_in c.specs kinds.Phase p (phase.on ∷ phase.green ∷ []) ∷ []) ∷ [] else [])
+
+-- that an overlap isn't green, or one of its parents is served
+abbrev pub parents_terms : List Spec → OverlapItem → List Term
+parents_terms specs o =
+    is_in_none specs kinds.Overlap o.number (overlap.green ∷ [])
+    ∷ each_number (λ p. if bit_at o.parents (p - 1) == 1 then is_in specs kinds.Phase p served ∷ [] else [])
+
+-- the rules on overlaps and their parents, by the overlap's number
+abbrev pub parents_rules : Settings → List Rule
+parents_rules c = each_number (λ n. flat_map (λ o. if o.number == n then Parents n (parents_terms c.specs o) ∷ [] else []) c.overlaps)
+
+-- all rules: interval rules in file order, conflicts, companions, parents; the first has number 1
+unfoldable pub rules_for : Settings → List Rule
+rules_for c = ((map Interval c.intervals ++ conflict_rules c) ++ companion_rules c) ++ parents_rules c
+
+-- ---- For contracts alone: one rule, and its terms
 
 -- phase a isn't served, or phase b isn't
 abbrev pub conflict_terms : List Spec → ℕ → ℕ → List Term
-conflict_terms specs a b = is_not_served specs a ∷ is_not_served specs b ∷ []
+conflict_terms specs a b = is_in_none specs kinds.Phase a served ∷ is_in_none specs kinds.Phase b served ∷ []
 
 -- pedestrian signal p doesn't show walk, or its phase is on or green
 abbrev pub companion_terms : List Spec → ℕ → List Term
@@ -66,11 +85,7 @@ is_parent o p = bit_at o.parents (p - 1) == 1
 
 -- phase p is served, as a term, where it is a parent of the overlap
 abbrev pub parent_term : List Spec → OverlapItem → ℕ → List Term
-parent_term specs o p = if is_parent o p then is_served specs p ∷ [] else []
-
--- the overlap isn't green, or one of its parents is served
-abbrev pub parents_terms : List Spec → OverlapItem → List Term
-parents_terms specs o = is_in_none specs kinds.Overlap o.number (overlap.green ∷ []) ∷ each_number (parent_term specs o)
+parent_term specs o p = if is_parent o p then is_in specs kinds.Phase p served ∷ [] else []
 
 -- a and b are configured phases, a < b, that conflict
 abbrev pub is_conflict : Settings → ℕ → ℕ → Bool
@@ -80,17 +95,9 @@ is_conflict c a b = (nat_lt a b && has_phase c.phases a) && (has_phase c.phases 
 abbrev pub conflict_rule : Settings → ℕ → ℕ → List Rule
 conflict_rule c a b = if is_conflict c a b then Conflict a b (conflict_terms c.specs a b) ∷ [] else []
 
--- the rules on phases in conflict, by the first phase, and then by the second
-abbrev pub conflict_rules : Settings → List Rule
-conflict_rules c = each_number (λ a. each_number (conflict_rule c a))
-
 -- the rule that pedestrian signal p shows walk only while its phase is on or green, where there is one
 abbrev pub companion_rule : Settings → ℕ → List Rule
 companion_rule c p = if has_number c.peds p then Companion p (companion_terms c.specs p) ∷ [] else []
-
--- the rules on pedestrian signals and their phases, by number
-abbrev pub companion_rules : Settings → List Rule
-companion_rules c = each_number (companion_rule c)
 
 -- the rule on an overlap and its parents, where the overlap has this number
 abbrev pub parents_rule_of : Settings → ℕ → OverlapItem → List Rule
@@ -99,11 +106,3 @@ parents_rule_of c n o = if o.number == n then Parents n (parents_terms c.specs o
 -- the rule that overlap n is green only while one of its parents is served, where there is one
 abbrev pub parents_rule : Settings → ℕ → List Rule
 parents_rule c n = flat_map (parents_rule_of c n) c.overlaps
-
--- the rules on overlaps and their parents, by number
-abbrev pub parents_rules : Settings → List Rule
-parents_rules c = each_number (parents_rule c)
-
--- all rules: interval rules in file order, conflicts, companions, parents; the first has number 1
-unfoldable pub rules_for : Settings → List Rule
-rules_for c = ((map Interval c.intervals ++ conflict_rules c) ++ companion_rules c) ++ parents_rules c

@@ -13,8 +13,9 @@ use std::alloc::Global;
 /// An audit rule. The numbers are those of the phases, the pedestrian signal or the overlap.
 #[derive(Drop)]
 pub enum Rule {
-    /// How long a colour of a channel is to last: judged before each row that ends the colour. One
-    /// that ends at no known tenth of the window isn't judged, however long it lasts.
+    /// How long a colour of a channel is to last: judged at each known row of the channel, which may
+    /// end the colour, by the states just before it. A colour that ends at no known tenth of the
+    /// window isn't judged, however long it lasts.
     Interval(IntervalItem),
     /// Two phases that aren't served together, the lower number first.
     Conflict(u8, u8, Clause),

@@ -17,13 +17,13 @@ abbrev pub count_within : ℕ → ℕ → List Row → ℕ
 count_within a b [] = 0
 count_within a b (r ∷ rs) = if nat_le a r.at && nat_lt r.at b then suc (count_within a b rs) else count_within a b rs
 
--- all tenths from a up to b are unknown
-abbrev pub NoneKnown : (ℕ → Bool) → ℕ → ℕ → Type 0
-NoneKnown known a b = (y : ℕ) → a ≤ y → y < b → known y ≡ false
-
 -- at most sixteen of the rows stand in any one run of unknown tenths of an hour
 abbrev pub AreFew : (ℕ → Bool) → List Row → Type 0
-AreFew known rs = (hour a b : ℕ) → first_tenth hour ≤ a → b ≤ end_tenth hour → NoneKnown known a b → count_within a b rs ≤ 16
+AreFew known rs = (hour a b : ℕ) → first_tenth hour ≤ a → b ≤ end_tenth hour → ((y : ℕ) → a ≤ y → y < b → known y ≡ false) → count_within a b rs ≤ 16
+
+-- for contracts alone: all tenths from a up to b are unknown
+abbrev pub NoneKnown : (ℕ → Bool) → ℕ → ℕ → Type 0
+NoneKnown known a b = (y : ℕ) → a ≤ y → y < b → known y ≡ false
 
 -- what was added to the rows is these letters of the channel
 abbrev pub AddsLetters : Track → List Fill → List Row → List Row → Type 0

@@ -191,7 +191,7 @@ fn word_of(kind: Kind) -> Option<&'static str>
     }
 }
 
-// Whether the text is the front and then the back.
+// Whether the text is the prefix and then the rest.
 fn is_joined(text: &[u8], front: &[u8], back: &[u8]) -> bool
     ensures { result ≡ bytes_eq text.now (front.now ++ back.now) }
 {

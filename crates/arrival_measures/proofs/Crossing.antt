@@ -1,6 +1,6 @@
 -- The cycles of an hour, and what had begun of them before it.
 use Rattle.std.proofs.Common.{◌≡◌, ◌≢◌, ℕ, zero, suc, ◌+◌, ◌<◌, ◌≤◌, Bool, true, false, cond, eqb, List, [], ◌∷◌, ◌++◌, Option, Some, None, map, refl, ap, sym, subst, ◌∙◌, append_assoc, arith, inl, inr}
-use Rattle.std.specs.Prelude.{All, IfSome, find, filter_map}
+use Rattle.std.specs.Prelude.{All, IfSome, find, filter_map, option_map}
 use Rattle.std.specs.List.{cons_option, range_with_len}
 use Rattle.std.proofs.lemmas.Bool.{cases_Bool, cases_eq, le-leb, eq-eqb, ne_eqb}
 use Rattle.std.proofs.lemmas.List.{append-nil}
@@ -166,8 +166,13 @@ cycles_of_hour known phases before seen first end early or = outs_all (IsOfHour 
 
 -- what had begun is at hand
 
+-- by the open cycle of a phase, and by what has begun of it, the same has been given
+pub open_same : (p d t : ℕ) (rows : List Row) (o : Option CycleBegun) → open_since p d t rows (open_cycle_of p o) ≡ option_map (λ s. open_at p d s.from.at t rows) o
+open_same p d t rows None = refl
+open_same p d t rows (Some s) = refl
+
 begun_open : (known : ℕ → Bool) (a : Approach) (d first : ℕ) (before : List Row) (begun : Option Open) (u : CycleBegun) (from : ℕ) → begun ≡ open_with known first before a (Some d) → cycle_begun_of known first a.phase before ≡ Some u → u.from.at ≡ from → begun ≡ Some (open_at a.phase d from first (told known a.phase d a.travel before))
-begun_open known a d first before begun u from e is at = e ∙ ap (λ o. open_since a.phase d first (told known a.phase d a.travel before) (open_cycle_of a.phase o)) is ∙ ap (λ n. Some (open_at a.phase d n first (told known a.phase d a.travel before))) at
+begun_open known a d first before begun u from e is at = e ∙ ap (λ (o : Option CycleBegun). option_map (λ s. open_at a.phase d s.from.at first (told known a.phase d a.travel before)) o) is ∙ ap (λ n. Some (open_at a.phase d n first (told known a.phase d a.travel before))) at
 
 pub are_cycles_of : (known : ℕ → Bool) (c : Settings) (a : Approach) (d : ℕ) (before : List Row) (hour : ℕ) (rows : List Row) (cuts : CutLists) (begun : Option Open) → All (λ x. x.at < point hour) before → AreOrdered (point hour) (point hour + 36000) rows → IsCut known c.phases before hour rows cuts → begun ≡ open_with known (point hour) before a (Some d) → All (λ z. z.phase ≡ a.phase → IsCycleOf known a.phase d (point hour) (told known a.phase d a.travel before) begun z.from z.to) cuts.cycles
 are_cycles_of known c a d before hour rows cuts begun early ordered cut e =

@@ -1,12 +1,11 @@
 -- What crosses a point between two hours.
-use Rattle.std.specs.Prelude.{ℕ, ◌≡◌, ◌<◌, nat_lt, ◌&&◌, Bool, List, [], Option, Some, None, All, map}
+use Rattle.std.specs.Prelude.{ℕ, ◌≡◌, ◌<◌, nat_lt, ◌&&◌, Bool, List, [], Option, Some, None, All, map, option_map, option_and_then, filter, nat_le}
 use Rattle.sig_base.specs.declared.values.Row.{Row}
 use Rattle.event_codes.specs.declared.channels.Kind.TheVariants.{Detector}
 use Rattle.hour_sweep.specs.Hours.{AreOrdered, point}
 use Rattle.hour_sweep.specs.Numbers.{table}
 use Rattle.service_cut.specs.declared.items.OpenCycle.{OpenCycle}
 use Rattle.service_cut.specs.Cycles.{cycle_begun_of}
-use Rattle.service_cut.specs.Parts.{open_cycle_of}
 use Rattle.ring_config.specs.Settings.{Settings, is_tracked_as}
 use Rattle.ring_config.specs.declared.items.Approach.{Approach}
 use Rattle.arrival_measures.specs.declared.open.Open.{Open}
@@ -14,27 +13,15 @@ use Rattle.arrival_measures.specs.Opens.{open_at}
 use Rattle.arrival_measures.specs.declared.carry.Crossing.{Crossing}
 use Rattle.arrival_measures.specs.declared.faults.Flag.{Flag}
 use Rattle.arrival_measures.specs.Faults.{faulty}
-use Rattle.arrival_measures.specs.Travel.{arrivals_at, from_tenth, told}
+use Rattle.arrival_measures.specs.Travel.{arrivals_at, told}
+use Rattle.std.specs.Option.{option_map_or}
 
--- what a cycle of phase p that is under way has given so far at detector d, by the rows up to t; nothing where none is under way
-abbrev pub open_since : ℕ → ℕ → ℕ → List Row → Option OpenCycle → Option Open
-open_since p d t told None = None
-open_since p d t told (Some s) = Some (open_at p d s.from t told)
-
--- what the cycle that an approach's phase has begun, and not ended by t, has given so far at its advance detector; nothing without such a detector
-abbrev pub open_with : (ℕ → Bool) → ℕ → List Row → Approach → Option ℕ → Option Open
-open_with known t before a None = None
-open_with known t before a (Some d) =
-    open_since a.phase d t (told known a.phase d a.travel before) (open_cycle_of a.phase (cycle_begun_of known t a.phase before))
-
--- the arrival tenths, at t or later, of vehicles that have passed an approach's advance detector before t; none without such a detector
-abbrev pub pending_with : (ℕ → Bool) → ℕ → List Row → Approach → Option ℕ → List ℕ
-pending_with known t before a None = []
-pending_with known t before a (Some d) = map (λ x. x.at) (from_tenth t (arrivals_at known d a.travel before))
-
--- what is under way of an approach at t that has an advance detector: the cycle that its phase has begun, where every tenth since is known, and the arrival tenths still to come
+-- what is under way at t of an approach that has an advance detector: what the cycle that its phase has begun has given so far at the detector, where every tenth since is known, and the arrival tenths still to come, at t or later, of vehicles that have passed it before t; nothing without such a detector
 abbrev pub crossing_of : (ℕ → Bool) → ℕ → List Row → Approach → Crossing
-crossing_of known t before a = record { begun = open_with known t before a a.advance; pending = pending_with known t before a a.advance }
+crossing_of known t before a = record {
+  begun = option_and_then (λ d. option_map (λ s. open_at a.phase d s.from.at t (told known a.phase d a.travel before)) (cycle_begun_of known t a.phase before)) a.advance;
+  pending = option_map_or (λ d. map (λ x. x.at) (filter (λ x. nat_le t x.at) (arrivals_at known d a.travel before))) a.advance [];
+}
 
 -- the detector is one of an approach
 abbrev pub has_detector : Settings → ℕ → Bool
@@ -59,3 +46,16 @@ pub record IsCarry (known : ℕ → Bool) (c : Settings) (before : List Row) (k 
   pub ordered : AreOrdered 0 (point k) before
   pub crossings_are : carry.crossings ≡ map (crossing_of known (point k) before) c.approaches
   pub flags_are : carry.flags ≡ flags_of known c (point k) before
+
+-- ---- For contracts alone: the same in parts.
+
+-- what a cycle of phase p that is under way has given so far at detector d, by the rows up to t; nothing where none is under way
+abbrev pub open_since : ℕ → ℕ → ℕ → List Row → Option OpenCycle → Option Open
+open_since p d t told None = None
+open_since p d t told (Some s) = Some (open_at p d s.from t told)
+
+abbrev pub open_with : (ℕ → Bool) → ℕ → List Row → Approach → Option ℕ → Option Open
+open_with known t before a advance = option_and_then (λ d. option_map (λ s. open_at a.phase d s.from.at t (told known a.phase d a.travel before)) (cycle_begun_of known t a.phase before)) advance
+
+abbrev pub pending_with : (ℕ → Bool) → ℕ → List Row → Approach → Option ℕ → List ℕ
+pending_with known t before a advance = option_map_or (λ d. map (λ x. x.at) (filter (λ x. nat_le t x.at) (arrivals_at known d a.travel before))) advance []

@@ -14,14 +14,10 @@ begins_green p x = x.param == p && x.code == 1
 abbrev pub ends_green : ℕ → Row → Bool
 ends_green p x = x.param == p && (x.code == 7 || x.code == 8)
 
--- whether the phase is green after a row, where it was or wasn't before
-abbrev pub green_after : ℕ → Row → Bool → Bool
-green_after p x g = if begins_green p x then true else (if ends_green p x then false else g)
-
 -- whether phase p is green after these rows, where g says whether it was before them
 abbrev pub greens : ℕ → Bool → List Row → Bool
 greens p g [] = g
-greens p g (x ∷ xs) = greens p (green_after p x g) xs
+greens p g (x ∷ xs) = greens p (if begins_green p x then true else (if ends_green p x then false else g)) xs
 
 -- whether phase p is green at the end of tenth t, in a cycle that begins at tenth a, by the rows since
 unfoldable pub shows_green : ℕ → ℕ → List Row → ℕ → Bool
@@ -43,3 +39,7 @@ green_arrivals_in p d a b rows = count_by (λ x. is_on d x && shows_green p a ro
 -- how many of the tenths from a up to b have phase p green at their end, in a cycle that begins at tenth a
 abbrev pub green_tenths_in : ℕ → ℕ → ℕ → List Row → ℕ
 green_tenths_in p a b rows = tenths_with (shows_green p a rows) a (b - a)
+
+-- For contracts alone: whether the phase is green after a row, where it was or wasn't before.
+abbrev pub green_after : ℕ → Row → Bool → Bool
+green_after p x g = if begins_green p x then true else (if ends_green p x then false else g)

@@ -23,7 +23,7 @@ AllPass test May = (v : State) → May v → test v.colour ≡ true
 abbrev pub NonePass : (ℕ → Bool) → (State → Type 0) → Type 0
 NonePass test May = (v : State) → May v → test v.colour ≡ false
 
--- the colour passes in some of the states that may be and not in others: neither all pass nor none does
+-- For contracts alone: the colour passes in some of the states that may be and not in others: neither all pass nor none does.
 abbrev pub OnlySomePass : (ℕ → Bool) → (State → Type 0) → Type 0
 OnlySomePass test May = (AllPass test May → ⊥) × (NonePass test May → ⊥)
 
@@ -32,14 +32,14 @@ unfoldable pub CountOf : {X : Type 0} → (X → Type 0) → List X → ℕ → 
 CountOf P [] n = n ≡ 0
 CountOf P (x ∷ xs) n = (P x × ((m : ℕ) × (n ≡ suc m) × CountOf P xs m)) ⊎ ((P x → ⊥) × CountOf P xs n)
 
--- the phase with this number, as a channel
+-- For contracts alone: the phase with this number, as a channel.
 abbrev pub phase_channel : ℕ → Channel
 phase_channel p = record { kind = Phase; number = p }
 
--- the counts of these actuations by what the phase shows when they come: the colour passes in all states that it may have then, in none, or only in some; May says which states a channel may have at the end of a tenth
+-- the counts of these actuations by what the phase shows at the end of the tenth of each: the colour passes in all states that it may have there, in none, or only in some; May says which states a channel may have at the end of a tenth
 pub record AreJudged (May : ℕ → ℕ → State → Type 0) (c : Settings) (p : ℕ) (test : ℕ → Bool) (ons : List Row) (all none some : ℕ) : Type 0 where
   pub place : ℕ
-  pub is_place : spec_place c.specs (phase_channel p) ≡ Some place
+  pub is_place : spec_place c.specs (record { kind = Phase; number = p }) ≡ Some place
   pub all_pass : CountOf (λ x. AllPass test (May place x.at)) ons all
   pub none_pass : CountOf (λ x. NonePass test (May place x.at)) ons none
-  pub some_pass : CountOf (λ x. OnlySomePass test (May place x.at)) ons some
+  pub some_pass : CountOf (λ x. (AllPass test (May place x.at) → ⊥) × (NonePass test (May place x.at) → ⊥)) ons some

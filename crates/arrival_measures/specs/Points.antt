@@ -1,5 +1,5 @@
 -- Points of a phase's diagram: when vehicles came in its cycles.
-use Rattle.std.specs.Prelude.{ℕ, zero, suc, ◌≡◌, ◌⊎◌, ◌+◌, ◌-◌, ◌==◌, ◌<◌, All, Bool, true, false, if◌then◌else◌, ◌&&◌, List, [], ◌∷◌, ◌++◌, Option, Some, None, map, filter, flat_map}
+use Rattle.std.specs.Prelude.{ℕ, zero, suc, ◌≡◌, ◌⊎◌, ◌+◌, ◌-◌, ◌==◌, ◌<◌, All, Bool, true, false, if◌then◌else◌, ◌&&◌, List, [], ◌∷◌, ◌++◌, Option, Some, map, filter, flat_map}
 use Rattle.std.specs.List.{list_any}
 use Rattle.std.specs.List.Sorted.{IsNonDecreasingBy}
 use Rattle.sig_base.specs.declared.values.Row.{Row}
@@ -18,24 +18,24 @@ use Rattle.arrival_measures.specs.Arrivals.{is_on}
 use Rattle.arrival_measures.specs.Faults.{arrivals_from}
 use Rattle.arrival_measures.specs.Hours.{cycles_of}
 use Rattle.arrival_measures.specs.Judged.{AllPass}
-
--- the row says that this detector goes on, where there is one
-abbrev pub is_on_at : Option ℕ → Row → Bool
-is_on_at None x = false
-is_on_at (Some d) x = is_on d x
+use Rattle.std.specs.Option.{option_map_or}
 
 -- the points of an arrival: one for each approach of phase p that has its detector ahead, of which the first has place i
 abbrev pub points_at : ℕ → ℕ → List Approach → Row → List Point
 points_at p i [] x = []
 points_at p i (a ∷ more) x =
-    if a.phase == p && is_on_at a.advance x then record { approach = i; offset = x.at + a.travel } ∷ points_at p (i + 1) more x
-    else points_at p (i + 1) more x
+    let rest = points_at p (i + 1) more x in
+    if a.phase == p && option_map_or (λ d. is_on d x) a.advance false then record { approach = i; offset = x.at + a.travel } ∷ rest else rest
 
 -- the points of the arrivals among the known rows, in row order, where the first rows stand before them; a point's offset is here its arrival tenth
 abbrev pub points_from : (ℕ → Bool) → Settings → ℕ → List Row → List Row → List Point
 points_from known c p before rows = flat_map (points_at p 0 c.approaches) (arrivals_from known before rows)
 
 -- ---- by the view of an hour
+
+-- the row says that this detector goes on, where there is one
+abbrev pub is_on_at : Option ℕ → Row → Bool
+is_on_at advance x = option_map_or (λ d. is_on d x) advance false
 
 -- the colour is Fault
 abbrev pub is_fault : ℕ → Bool
@@ -74,27 +74,27 @@ pub record ArePointsOf (c : Settings) (log : HourLog) (p : ℕ) (points : List P
 
 -- ---- diagrams
 
--- the points at this tenth
-abbrev pub at_tenth : ℕ → List Point → List Point
-at_tenth t points = filter (λ x. x.offset == t) points
-
 -- the points at so many tenths from this one on, tenth by tenth, and those of one tenth in their order
 unfoldable pub by_tenth : ℕ → ℕ → List Point → List Point
 by_tenth zero t points = []
-by_tenth (suc n) t points = at_tenth t points ++ by_tenth n (t + 1) points
+by_tenth (suc n) t points = filter (λ x. x.offset == t) points ++ by_tenth n (t + 1) points
+
+-- the points at this tenth
+abbrev pub at_tenth : ℕ → List Point → List Point
+at_tenth t points = filter (λ x. x.offset == t) points
 
 -- the list has these points by tenth
 pub record IsByTenth (points sorted : List Point) : Type 0 where
   pub rise : IsNonDecreasingBy (λ x. x.offset) sorted
   pub same : (t : ℕ) → at_tenth t sorted ≡ at_tenth t points
 
--- a point with its arrival told as tenths since the cycle's begin
+-- a cycle with its points, from its first tenth up to its last, each as tenths since the cycle's begin
+abbrev pub diagram_of : List Point → Cycle → Diagram
+diagram_of points cycle = record { cycle = cycle; points = map (λ (x : Point). record x { offset = x.offset - cycle.from }) (by_tenth (cycle.to - cycle.from) cycle.from points) }
+
+-- For proofs alone: a point with its arrival told as tenths since the cycle's begin.
 abbrev pub since_begin : Cycle → Point → Point
 since_begin cycle x = record { approach = x.approach; offset = x.offset - cycle.from }
-
--- a cycle with its points, from its first tenth up to its last, as tenths since its begin
-abbrev pub diagram_of : List Point → Cycle → Diagram
-diagram_of points cycle = record { cycle = cycle; points = map (since_begin cycle) (by_tenth (cycle.to - cycle.from) cycle.from points) }
 
 -- the diagrams of phase p in a log: of each whole cycle, in their order
 abbrev pub diagrams_of : (ℕ → Bool) → Settings → ℕ → List Row → List Diagram

@@ -7,8 +7,8 @@ ghost use Rattle.arrival_measures.specs.Opens.{open_at};
 use crate::in_tenth::InTenth;
 use sig_base::Row;
 
-/// What a cycle that has begun gives so far, of its phase and of one detector. Counts stand still
-/// at the last value of a u64.
+/// What a cycle that has begun gives so far, of its phase and of one detector. Counting stops at
+/// the last value of a u64, which no log reaches.
 #[derive(Clone, Copy, Debug, PartialEq, Eq)]
 pub struct Open {
     /// The tenth of the end of yellow with which it began, since the window's start.

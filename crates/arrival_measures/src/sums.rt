@@ -5,8 +5,8 @@ ghost use Rattle.arrival_measures.specs.Hours.{added};
 use hour_sweep::{Sum, total};
 
 /// The numbers of one approach. Those up to `cycle_tenths` are 0 where it has no advance detector,
-/// the others where it has no stop bar detector. Counts and sums stand still at the last value of a
-/// u64; times are in tenths of a second.
+/// the others where it has no stop bar detector. Times are in tenths of a second. Adding stops at
+/// the last value of a u64, which no report reaches.
 #[derive(Clone, Copy, Debug, PartialEq, Eq)]
 pub struct ArrivalSum {
     /// The arrivals whose arrival tenth is one of the hour; in the window's last hour also those at a

@@ -33,14 +33,14 @@ numbered has of p = if has p then Some (of p) else None
 abbrev pub table : {A : Type 0} → (ℕ → Bool) → ℕ → (ℕ → A) → List (Option A)
 table has n of = map (numbered has of) (range_with_len 0 n)
 
--- what a row gives for the number that is its parameter, where that is one of those that there are
-abbrev pub given : {O : Type 0} → (ℕ → List Row → Row → List Row → Option O) → (ℕ → Bool) → List Row → Row → List Row → Option O
-given out_at has before r rest = if has r.param then out_at r.param before r rest else None
-
--- what the rows give in a measure, in their order, each by the rows before it and those after it
+-- what the rows give in a measure, in their order: each for the number that is its parameter, where that is one of those that there are, by the rows before it and those after it
 abbrev pub outs_from : {O : Type 0} → (ℕ → List Row → Row → List Row → Option O) → (ℕ → Bool) → List Row → List Row → List O
 outs_from out_at has before [] = []
-outs_from out_at has before (r ∷ rs) = cons_option (given out_at has before r rs) (outs_from out_at has (before ++ r ∷ []) rs)
+outs_from out_at has before (r ∷ rs) = cons_option (if has r.param then out_at r.param before r rs else None) (outs_from out_at has (before ++ r ∷ []) rs)
+
+-- For proofs alone: what one row gives.
+abbrev pub given : {O : Type 0} → (ℕ → List Row → Row → List Row → Option O) → (ℕ → Bool) → List Row → Row → List Row → Option O
+given out_at has before r rest = if has r.param then out_at r.param before r rest else None
 
 -- what a measure owes for one number p, whose part at tenth t is of t before p, with these known rows before it:
 -- a row of the number takes one step, and a row of another one none; a further known tenth changes nothing, and an

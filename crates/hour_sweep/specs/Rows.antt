@@ -1,17 +1,17 @@
 -- Places in lists of rows, and what is known up to a tenth.
-use Rattle.std.specs.Prelude.{ℕ, zero, suc, nat_le, Bool, true, false, if◌then◌else◌, List, [], ◌∷◌, Option, Some, None, option_map, filter}
+use Rattle.std.specs.Prelude.{ℕ, zero, suc, nat_le, Bool, if◌then◌else◌, List, [], ◌∷◌, Option, Some, None, option_map, filter, option_and_then}
 use Rattle.sig_base.specs.declared.values.Row.{Row}
+use Rattle.std.specs.Option.{option_or}
 
--- the last find of the rest of a list, or else this element with the rest, where it passes
-abbrev pub kept_last : {X : Type 0} → Option (X × List X) → Bool → X → List X → Option (X × List X)
-kept_last (Some found) b x xs = Some found
-kept_last None true x xs = Some (x, xs)
-kept_last None false x xs = None
+infixl 10 ◌>>=◌
+-- what follows from a value, where there is one
+abbrev pub ◌>>=◌ : {A B : Type 0} → Option A → (A → Option B) → Option B
+◌>>=◌ o f = option_and_then f o
 
 -- the last element that passes, with those after it
 abbrev pub last_with : {X : Type 0} → (X → Bool) → List X → Option (X × List X)
 last_with p [] = None
-last_with p (x ∷ xs) = kept_last (last_with p xs) (p x) x xs
+last_with p (x ∷ xs) = option_or (last_with p xs) (if p x then Some (x, xs) else None)
 
 -- the last element that passes
 abbrev pub last : {X : Type 0} → (X → Bool) → List X → Option X
@@ -29,3 +29,7 @@ since known (suc t) = if known t then since known t else suc t
 -- each tenth from a up to t is known, so that nothing can have happened since a that isn't a row
 unfoldable pub live : (ℕ → Bool) → ℕ → ℕ → Bool
 live known a t = nat_le (since known t) a
+
+-- For proofs alone: what the last find of the rest of a list leaves to the element before it.
+abbrev pub kept_last : {X : Type 0} → Option (X × List X) → Bool → X → List X → Option (X × List X)
+kept_last found b x xs = option_or found (if b then Some (x, xs) else None)

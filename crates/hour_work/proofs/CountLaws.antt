@@ -8,10 +8,11 @@ use Rattle.gap_map.proofs.Cutting.{ends_within}
 use Rattle.hour_work.specs.Numbers.{count_from, count_in_hour}
 use Rattle.hour_sweep.specs.Sums.{one_if}
 use Rattle.hour_work.specs.Known.{known_len}
+use Rattle.arrival_measures.specs.Green.{tenths_with}
 
 -- two tests that agree on the tenths count the same
 pub count_same : (p q : ℕ → Bool) (from n : ℕ) → ((t : ℕ) → from ≤ t → t < from + n → p t ≡ q t) → count_from p from n ≡ count_from q from n
-unfolding count_from
+unfolding tenths_with
 count_same p q from zero e = refl
 count_same p q from (suc n) e =
     let here : p from ≡ q from = e from (omega arith) (omega arith) in
@@ -20,7 +21,7 @@ count_same p q from (suc n) e =
 
 -- first some tenths, then the others
 pub count_parts : (p : ℕ → Bool) (from m n : ℕ) → count_from p from (m + n) ≡ count_from p from m + count_from p (from + m) n
-unfolding count_from
+unfolding tenths_with
 count_parts p from zero n = let e : from + 0 ≡ from = omega arith in let z : 0 + n ≡ n = omega arith in rw (e, z) (omega arith)
 count_parts p from (suc m) n =
     let i = count_parts p (from + 1) m n in
@@ -30,14 +31,14 @@ count_parts p from (suc m) n =
     rw e (omega (arith, j))
 
 pub count_le : (p : ℕ → Bool) (from n : ℕ) → count_from p from n ≤ n
-unfolding count_from
+unfolding tenths_with
 count_le p from zero = omega arith
 count_le p from (suc n) =
     let i = count_le p (from + 1) n in
     elim (p from) as (λ b. one_if b + count_from p (from + 1) n ≤ suc n) [ true ↦ omega arith | false ↦ omega arith ]
 
 pub count_all : (p : ℕ → Bool) (from n : ℕ) (v : Bool) → ((t : ℕ) → from ≤ t → t < from + n → p t ≡ v) → count_from p from n ≡ (if v then n else 0)
-unfolding count_from
+unfolding tenths_with
 count_all p from zero true e = refl
 count_all p from zero false e = refl
 count_all p from (suc n) true e =
@@ -56,7 +57,7 @@ stretches_order known a b (s ∷ ss) p (suc k) d lt = stretches_order known s.to
 
 -- the known stretches have the known tenths
 pub stretches_count : (known : ℕ → Bool) (a b n : ℕ) (ss : List Stretch) → AreStretches known a b ss → a + n ≡ b → sum_by known_len ss ≡ count_from known a n
-unfolding count_from
+unfolding tenths_with
 stretches_count known a b n [] e m = let z : n ≡ 0 = omega arith in rw z refl
 stretches_count known a b n (s ∷ ss) p m =
     let e : s.from ≡ a = p.0 in

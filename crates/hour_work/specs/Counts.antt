@@ -2,31 +2,25 @@
 use Rattle.std.specs.Prelude.{◌≡◌, ℕ, ◌+◌, ◌&&◌, ◌==◌, Bool, true, false, List, map, count_by}
 use Rattle.std.specs.List.{range_with_len}
 use Rattle.sig_base.specs.declared.values.Verdict.{Verdict}
-use Rattle.sig_base.specs.declared.values.Verdict.TheVariants.{Idle, Kept, Broken, Undecided}
+use Rattle.sig_base.specs.declared.values.Verdict.TheVariants.{Kept, Broken, Undecided}
 use Rattle.rule_audit.specs.declared.lines.AuditLine.{AuditLine}
 use Rattle.hour_work.specs.declared.counts.RuleCount.{RuleCount}
 use Rattle.hour_sweep.specs.Sums.{one_if}
 
 -- the verdict is kept
 abbrev pub is_kept : Verdict → Bool
-is_kept Idle = false
 is_kept Kept = true
-is_kept Broken = false
-is_kept Undecided = false
+is_kept _ = false
 
 -- the verdict is broken
 abbrev pub is_broken : Verdict → Bool
-is_broken Idle = false
-is_broken Kept = false
 is_broken Broken = true
-is_broken Undecided = false
+is_broken _ = false
 
 -- the verdict is undecided
 abbrev pub is_undecided : Verdict → Bool
-is_undecided Idle = false
-is_undecided Kept = false
-is_undecided Broken = false
 is_undecided Undecided = true
+is_undecided _ = false
 
 -- how many of the lines are of the rule with this number, by their verdicts
 abbrev pub count_of_rule : ℕ → List AuditLine → RuleCount

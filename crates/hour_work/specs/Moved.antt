@@ -16,8 +16,9 @@ use Rattle.arrival_measures.specs.Crossing.{crossing_of}
 use Rattle.board.specs.Places.{AreSamePasts}
 use Rattle.ring_config.specs.Settings.{Settings}
 use Rattle.ring_config.specs.Sound.{IsSound}
-use Rattle.hour_work.specs.Points.{AreBarsAt, Carried, IsCarryAt, IsFutureAt, is_known_before}
+use Rattle.hour_work.specs.Points.{Carried, IsCarryAt, IsFutureAt, is_known_before}
 use Rattle.hour_work.specs.Rows.{earlier_rows}
+use Rattle.stop_bar.specs.All.{AreAtBars}
 
 -- both say the same of the hours before a point: the same states of each channel, and the same of all else
 pub record SaySame (a b : Carried) : Type 0 where
@@ -29,7 +30,7 @@ pub record SaySame (a b : Carried) : Type 0 where
   pub others : a.others ≡ b.others
   pub arrivals : a.arrivals ≡ b.arrivals
 
--- some run of the hours before point k that agrees with the store leads channel i to the state; entries that are older than an hour count as one
+-- some run of the hours before point k that agrees with the store leads channel i to the state; an entry more than an hour and a tenth before the point counts as one of just so long ago
 abbrev pub LeadsTo : Settings → Store → ℕ → ℕ → State → Type 0
 LeadsTo c s k i u = Clamped (pos (first_tenth k) -ℤ pos 36001) (IsReached (log_of c.specs s) i (first_tenth k)) u
 
@@ -41,13 +42,13 @@ CanGoOn c s k i u = (u.colour < (track_at (log_of c.specs s) i).rules.colours) �
 abbrev pub Agree : {X : Type 0} → Store → Store → (Store → X) → Type 0
 Agree s t of = of s ≡ of t
 
--- both stores say the same at point k of what came before: each channel can have come to the same states, where entries older than an hour count as one; the tenth before is known or isn't; and under way are the same service, yellow and cycle of each phase, the same services whose red window isn't over, the same at stop bars, of each pedestrian signal the same last walk with the first call since, of each preempt the same waiting call and the same last entry or exit with the first dwell since, and of each approach the same cycle so far and the same arrivals still to come
+-- both stores say the same at point k of what came before: each channel can have come to the same states, where entries more than an hour and a tenth before the point count as one; the tenth before is known or isn't; and under way are the same service, yellow and cycle of each phase, the same services whose red window isn't over, the same at stop bars, of each pedestrian signal the same last walk with the first call since, of each preempt the same waiting call and the same last entry or exit with the first dwell since, and of each approach the same cycle so far and the same arrivals still to come
 pub record IsSameCarry (c : Settings) (s t : Store) (k : ℕ) : Type 0 where
   pub states : (i : ℕ) (u : State) → i < length c.specs → LeadsTo c s k i u ↔ LeadsTo c t k i u
   pub known : Agree s t (λ x. is_known_before (is_known x) (first_tenth k))
   pub phases : (p : ℕ) → has_phase c.phases p ≡ true → Agree s t (λ x. part_of (is_known x) (first_tenth k) (earlier_rows x k) p)
   pub closing : Agree s t (λ x. closing_at (first_tenth k) (served_from (is_known x) c.phases [] (earlier_rows x k)))
-  pub bars : (ats : List AtBar) × AreBarsAt c s k ats × AreBarsAt c t k ats
+  pub bars : (ats : List AtBar) × AreAtBars (log_of c.specs s) c (earlier_rows s k) k ats × AreAtBars (log_of c.specs t) c (earlier_rows t k) k ats
   pub peds : (p : ℕ) → has_number c.peds p ≡ true → Agree s t (λ x. ped_of (is_known x) (first_tenth k) (earlier_rows x k) p)
   pub preempts : (p : ℕ) → has_number c.preempts p ≡ true → Agree s t (λ x. preempt_of (is_known x) (first_tenth k) (earlier_rows x k) p)
   pub approaches : Agree s t (λ x. map (crossing_of (is_known x) (first_tenth k) (earlier_rows x k)) c.approaches)

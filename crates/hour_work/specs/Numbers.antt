@@ -1,7 +1,7 @@
 -- What is counted of one hour, and the sums over hours.
-use Rattle.std.specs.Prelude.{◌≡◌, ◌≤◌, ◌<◌, ◌⊎◌, ◌+◌, ◌*◌, ◌++◌, ℕ, zero, suc, Bool, List, [], length, take, drop, map, slice_index_or, sum_by, All}
+use Rattle.std.specs.Prelude.{◌≡◌, ◌≤◌, ◌<◌, ◌⊎◌, ◌+◌, ◌*◌, ◌++◌, ℕ, Bool, List, [], length, take, drop, map, slice_index_or, sum_by, All}
 use Rattle.std.specs.List.{fold}
-use Rattle.hour_sweep.specs.Sums.{merged, one_if}
+use Rattle.hour_sweep.specs.Sums.{merged}
 use Rattle.split_measures.specs.declared.sums.PhaseSum.{PhaseSum}
 use Rattle.split_measures.specs.declared.failures.SplitSum.{SplitSum}
 use Rattle.split_measures.specs.Phases.{added}
@@ -10,6 +10,7 @@ use Rattle.other_measures.specs.Hours.{OtherNumbers, no_numbers, others_added}
 use Rattle.arrival_measures.specs.declared.sums.ArrivalSum.{ArrivalSum}
 use Rattle.arrival_measures.specs.Hours.{added as arrivals_added}
 use Rattle.hour_work.specs.declared.counts.RuleCount.{RuleCount}
+use Rattle.arrival_measures.specs.Green.{tenths_with}
 
 -- the numbers of one hour, or of several together; the rules stand by their numbers, from 1, and the phases by theirs; the approaches in file order
 pub record Numbers : Type 0 where
@@ -22,10 +23,9 @@ pub record Numbers : Type 0 where
   pub others : OtherNumbers
   pub arrivals : List ArrivalSum
 
--- how many of the n tenths from `from` on pass the test
-unfoldable pub count_from : (ℕ → Bool) → ℕ → ℕ → ℕ
-count_from test from zero = 0
-count_from test from (suc n) = one_if (test from) + count_from test (from + 1) n
+-- For contracts alone: how many of the n tenths from `from` on pass the test.
+abbrev pub count_from : (ℕ → Bool) → ℕ → ℕ → ℕ
+count_from test from n = tenths_with test from n
 
 -- how many of the tenths of an hour pass the test
 abbrev pub count_in_hour : (ℕ → Bool) → ℕ → ℕ

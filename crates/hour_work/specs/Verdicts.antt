@@ -26,10 +26,10 @@ states_in c s rows = record {
 unfoldable pub obligations_in : Settings → Store → ℕ → List Obligation
 obligations_in c s hour = obligations_from (is_known s) c.specs (rules_for c) (hour_rows s hour) (is_known_before (is_known s) (first_tenth hour)) (first_tenth hour) 36000
 
--- the verdict on an obligation over all histories that agree with the store
+-- the audit lines of an hour of the store: its obligations in order, each with its verdict over all histories that agree with the store, those that are idle left out
+abbrev pub AreAuditLines : Settings → Store → ℕ → List AuditLine → Type 0
+AreAuditLines c s hour lines = AreLinesOf (λ o x. IsRuleVerdict (states_in c s (hour_rows s hour)) c.specs (hour_rows s hour) o.at o.place o.rule x) (obligations_in c s hour) lines
+
+-- For proofs alone: the verdict on an obligation over all histories that agree with the store.
 abbrev pub HasStoreVerdict : Settings → Store → ℕ → Obligation → Verdict → Type 0
 HasStoreVerdict c s hour o x = IsRuleVerdict (states_in c s (hour_rows s hour)) c.specs (hour_rows s hour) o.at o.place o.rule x
-
--- the audit lines of an hour of the store: its obligations in order, each with its verdict, those that are idle left out
-abbrev pub AreAuditLines : Settings → Store → ℕ → List AuditLine → Type 0
-AreAuditLines c s hour lines = AreLinesOf (HasStoreVerdict c s hour) (obligations_in c s hour) lines

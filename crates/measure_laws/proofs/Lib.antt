@@ -1,3 +1,5 @@
+pub mod Said
+pub mod Counted
 pub mod Totals
 pub mod Adding
 pub mod Splits

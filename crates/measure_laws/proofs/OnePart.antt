@@ -35,8 +35,6 @@ use Rattle.other_measures.specs.declared.sums.PreemptSum.{PreemptSum}
 use Rattle.other_measures.specs.Hours.{OtherNumbers}
 use Rattle.other_measures.specs.States.{EachOf, coordination, input, ped_detector, service}
 use Rattle.arrival_measures.specs.declared.sums.ArrivalSum.{ArrivalSum}
-use Rattle.arrival_measures.specs.Cycles.{CycleNumbers}
-use Rattle.arrival_measures.specs.Hours.{cycle_part}
 use Rattle.arrival_measures.specs.Judged.{AllPass, AreJudged, CountOf, NonePass, OnlySomePass, is_green, is_red}
 use Rattle.arrival_measures.proofs.Counting.{count_one}
 use Rattle.arrival_measures.proofs.OneSum.{IsOne}
@@ -44,8 +42,11 @@ use Rattle.hour_work.specs.Counts.{counts_of}
 use Rattle.hour_work.specs.Measures.{MayBeIn, MeetsIn}
 use Rattle.hour_work.specs.Numbers.{Numbers}
 use Rattle.hour_work.proofs.OneLaws.{one_lines}
-use Rattle.measure_laws.specs.Plain.{AreLinesFrom, ArePlainVerdicts, HasPlainRows, HavePlainActuations, HavePlainArrivals, HavePlainCycles, HavePlainVerdicts, IsApproachPart, IsPart, IsPlainPed, IsPlainPhase, IsPlainPreempt, PartsAreOne, open_by}
+use Rattle.measure_laws.specs.Plain.{AreLinesFrom, ArePlainVerdicts, HasPlainRows, HavePlainVerdicts, IsApproachPart, IsPart, IsPlainPed, IsPlainPhase, IsPlainPreempt, PartsAreOne}
+use Rattle.measure_laws.proofs.Said.{HavePlainActuations, HavePlainArrivals, HavePlainCycles, open_by}
 use Rattle.measure_laws.specs.States.{HasCoordinationBetween, HasDetectorBetween, HasStatesBetween, HasTenthsBetween}
+use Rattle.hour_sweep.specs.Sums.{own}
+use Rattle.service_cut.specs.declared.items.Termination.TheVariants.{ForceOff, GapOut, MaxOut, Unlogged}
 
 -- ---- lists of what is one
 
@@ -86,6 +87,10 @@ both_said has Is As (suc n) xs (inr (e, rest)) (inr (f, more)) = inr (e, both_sa
 
 phase_one : (ss : List Service) (cs : List Cycle) (p : ℕ) (x z : PhaseSum) → IsPlainPhase ss cs p x → IsPlainPhase ss cs p z → x ≡ z
 phase_one ss cs p x z h g =
+    let gap_out = count_one (λ (s : Service). s.end ≡ GapOut) (own (λ s. s.phase) p ss) x.gap_out z.gap_out h.gap_out g.gap_out in
+    let max_out = count_one (λ (s : Service). s.end ≡ MaxOut) (own (λ s. s.phase) p ss) x.max_out z.max_out h.max_out g.max_out in
+    let force_off = count_one (λ (s : Service). s.end ≡ ForceOff) (own (λ s. s.phase) p ss) x.force_off z.force_off h.force_off g.force_off in
+    let unlogged = count_one (λ (s : Service). s.end ≡ Unlogged) (own (λ s. s.phase) p ss) x.unlogged z.unlogged h.unlogged g.unlogged in
     let one : PhaseSum = record { services = x.services; least = x.least; greatest = x.greatest; sum = x.sum; gap_out = x.gap_out; max_out = x.max_out; force_off = x.force_off; unlogged = x.unlogged; cycles = x.cycles; cycle_sum = x.cycle_sum } in
     let other : PhaseSum = record { services = z.services; least = z.least; greatest = z.greatest; sum = z.sum; gap_out = z.gap_out; max_out = z.max_out; force_off = z.force_off; unlogged = z.unlogged; cycles = z.cycles; cycle_sum = z.cycle_sum } in
     let same : one ≡ other = cc in
@@ -199,6 +204,10 @@ module _ (log : Log) (has : HasHistory log) where
   sum_one : (i : ℕ) (b : StopBar) (judged waiting : List Service) (x z : SplitSum) → ArePlainVerdicts log i b judged waiting x → ArePlainVerdicts log i b judged waiting z → x ≡ z
   sum_one i b judged waiting x z h g =
       let verdicts : h.verdicts ≡ g.verdicts = each_one (λ s v. IsVerdict log i b.high s v) judged h.verdicts g.verdicts (verdict_one i b.high) h.each g.each in
+      let fail = count_one (λ (v : SplitVerdict). v ≡ Fail) h.verdicts x.fail z.fail h.fail (subst (λ (vs : List SplitVerdict). CountOf (λ v. v ≡ Fail) vs z.fail) (sym verdicts) g.fail) in
+      let pass = count_one (λ (v : SplitVerdict). v ≡ Pass) h.verdicts x.pass z.pass h.pass (subst (λ (vs : List SplitVerdict). CountOf (λ v. v ≡ Pass) vs z.pass) (sym verdicts) g.pass) in
+      let undecided = count_one (λ (v : SplitVerdict). v ≡ Undecided) h.verdicts x.undecided z.undecided h.undecided (subst (λ (vs : List SplitVerdict). CountOf (λ v. v ≡ Undecided) vs z.undecided) (sym verdicts) g.undecided) in
+      let fault = count_one (λ (v : SplitVerdict). v ≡ Fault) h.verdicts x.fault z.fault h.fault (subst (λ (vs : List SplitVerdict). CountOf (λ v. v ≡ Fault) vs z.fault) (sym verdicts) g.fault) in
       let one : SplitSum = record { fail = x.fail; pass = x.pass; undecided = x.undecided; left_open = x.left_open; fault = x.fault } in
       let other : SplitSum = record { fail = z.fail; pass = z.pass; undecided = z.undecided; left_open = z.left_open; fault = z.fault } in
       let same : one ≡ other = cc in
@@ -244,23 +253,22 @@ module _ (c : Settings) (s : Store) (before rows : List Row) (a : Approach) (x z
   actuations_one None h g = record { actuations = h.0 ∙ sym g.0; judged = record { all = h.1 ∙ sym g.1; none = h.2 ∙ sym g.2; some = h.3 ∙ sym g.3 }; fault = h.4 ∙ sym g.4 }
   actuations_one (Some d) h g = record { actuations = h.actuations ∙ sym g.actuations; judged = judged_one (MayBeIn c s) c a.phase is_red _ _ _ _ _ _ _ h.judged g.judged; fault = h.fault ∙ sym g.fault }
 
-cycles_one : (known : ℕ → Bool) (c : Settings) (before rows : List Row) (a : Approach) (m n : CycleNumbers) (o : Option ℕ) → HavePlainCycles known c before rows a m o → HavePlainCycles known c before rows a n o → m ≡ n
-cycles_one known c before rows a m n None h g = h ∙ sym g
-cycles_one known c before rows a m n (Some d) h g =
-    let one : CycleNumbers = record { arrivals = m.arrivals; green = m.green; green_tenths = m.green_tenths; tenths = m.tenths } in
-    let other : CycleNumbers = record { arrivals = n.arrivals; green = n.green; green_tenths = n.green_tenths; tenths = n.tenths } in
-    let same : one ≡ other = cc in
-    same
+-- those of the cycles
+record AreOneOver (x z : ArrivalSum) : Type 0 where
+  arrivals : x.cycle_arrivals ≡ z.cycle_arrivals
+  green : x.cycle_green ≡ z.cycle_green
+  green_tenths : x.green_tenths ≡ z.green_tenths
+  tenths : x.cycle_tenths ≡ z.cycle_tenths
+
+cycles_one : (known : ℕ → Bool) (c : Settings) (before rows : List Row) (a : Approach) (x z : ArrivalSum) (o : Option ℕ) → HavePlainCycles known c before rows a x o → HavePlainCycles known c before rows a z o → AreOneOver x z
+cycles_one known c before rows a x z None h g = record { arrivals = h.0 ∙ sym g.0; green = h.1 ∙ sym g.1; green_tenths = h.2 ∙ sym g.2; tenths = h.3 ∙ sym g.3 }
+cycles_one known c before rows a x z (Some d) h g = record { arrivals = h.arrivals ∙ sym g.arrivals; green = h.green ∙ sym g.green; green_tenths = h.green_tenths ∙ sym g.green_tenths; tenths = h.tenths ∙ sym g.tenths }
 
 approach_one : (c : Settings) (s : Store) (first last : ℕ) (before rows : List Row) (a : Approach) (x z : ArrivalSum) → IsApproachPart c s first last before rows a x → IsApproachPart c s first last before rows a z → x ≡ z
 approach_one c s first last before rows a x z h g =
     let ahead = arrivals_one c s before rows a x z _ _ a.advance h.arrivals g.arrivals in
-    let cycles = cycles_one (is_known s) c before rows a (cycle_part x) (cycle_part z) a.advance h.cycles g.cycles in
+    let cycles = cycles_one (is_known s) c before rows a x z a.advance h.cycles g.cycles in
     let bar = actuations_one c s before rows a x z a.stop_bar h.actuations g.actuations in
-    let cycle_arrivals = ap (λ (n : CycleNumbers). n.arrivals) cycles in
-    let cycle_green = ap (λ (n : CycleNumbers). n.green) cycles in
-    let green_tenths = ap (λ (n : CycleNumbers). n.green_tenths) cycles in
-    let cycle_tenths = ap (λ (n : CycleNumbers). n.tenths) cycles in
     let one : ArrivalSum = record { arrivals = x.arrivals; green = x.green; not_green = x.not_green; undecided = x.undecided; unseen = x.unseen; fault = x.fault; cycle_arrivals = x.cycle_arrivals; cycle_green = x.cycle_green; green_tenths = x.green_tenths; cycle_tenths = x.cycle_tenths; actuations = x.actuations; red = x.red; not_red = x.not_red; red_undecided = x.red_undecided; red_fault = x.red_fault } in
     let other : ArrivalSum = record { arrivals = z.arrivals; green = z.green; not_green = z.not_green; undecided = z.undecided; unseen = z.unseen; fault = z.fault; cycle_arrivals = z.cycle_arrivals; cycle_green = z.cycle_green; green_tenths = z.green_tenths; cycle_tenths = z.cycle_tenths; actuations = z.actuations; red = z.red; not_red = z.not_red; red_undecided = z.red_undecided; red_fault = z.red_fault } in
     let same : one ≡ other = cc in

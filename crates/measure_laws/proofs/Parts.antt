@@ -17,7 +17,8 @@ use Rattle.hour_work.specs.Numbers.{Numbers, count_from, count_sum, total_of}
 use Rattle.hour_work.specs.Reports.{IsHourPart, IsReport}
 use Rattle.hour_work.specs.Verdicts.{AreAuditLines}
 use Rattle.hour_work.proofs.CountLaws.{count_parts}
-use Rattle.measure_laws.specs.Plain.{AreLinesFrom, held_between}
+use Rattle.measure_laws.specs.Plain.{AreLinesFrom}
+use Rattle.measure_laws.proofs.Said.{held_between}
 use Rattle.measure_laws.proofs.Rules.{counts_both}
 use Rattle.measure_laws.proofs.Totals.{all_sums}
 

@@ -71,7 +71,8 @@ use Rattle.hour_work.specs.Numbers.{Numbers, count_from, total_of}
 use Rattle.hour_work.specs.Reports.{IsReport}
 use Rattle.hour_work.proofs.Totals.{log_total}
 use Rattle.hour_work.proofs.WholeLog.{all_rows, earlier_ordered, hour_within, own_ordered}
-use Rattle.measure_laws.specs.Plain.{ArePlainArrivals, ArePlainCycles, ArePlainVerdicts, HasPlainRows, HavePlainActuations, HavePlainArrivals, HavePlainCycles, HavePlainVerdicts, IsApproachPart, IsHourOf, IsPlainPed, IsPlainPhase, IsPlainPreempt, IsWindowOf, SumsArePlain, counts_between, is_seen_by, no_verdicts, open_by}
+use Rattle.measure_laws.specs.Plain.{ArePlainArrivals, ArePlainVerdicts, HasPlainRows, HavePlainVerdicts, IsApproachPart, IsHourOf, IsPlainPed, IsPlainPhase, IsPlainPreempt, IsWindowOf, SumsArePlain}
+use Rattle.measure_laws.proofs.Said.{HavePlainActuations, HavePlainArrivals, HavePlainCycles, counts_between, is_seen_by, no_verdicts, open_by, AreCycleNumbers}
 use Rattle.measure_laws.specs.States.{AreStatesBetween}
 use Rattle.measure_laws.specs.Totals.{AreTotalsOf, HaveTotals, IsApproachTotal}
 use Rattle.measure_laws.proofs.Adding.{all_few, arrivals_few, cons_few, open_few, outs_few, two_few}
@@ -80,6 +81,7 @@ use Rattle.measure_laws.proofs.States.{hour_states, state_totals}
 use Rattle.measure_laws.proofs.Arrivals.{arrival_totals, ons_few, past_unknown}
 use Rattle.measure_laws.proofs.Splits.{split_totals}
 use Rattle.measure_laws.proofs.Totals.{each_as as each_of, each_of_places, filter_all, known_few}
+use Rattle.measure_laws.proofs.Counted.{counted_at, ends_counted, greatest_is, least_is, verdicts_counted}
 
 -- ---- how many rows a store has, and at which tenths
 
@@ -186,13 +188,13 @@ phase_plain ss cs p few some short_ss short_cs =
     let few_its : length its ≤ 297600000 = omega (arith, b, some) in
     record {
       services = length_plain own few_own;
-      least = refl;
-      greatest = refl;
+      least = least_is (map split own);
+      greatest = greatest_is (map split own);
       sum = sum_plain split own few_own (All-filter is_own (λ (x : Service). split x ≤ 600000000) ss short_ss);
-      gap_out = count_plain (λ (s : Service). is_end GapOut s.end) own few_own;
-      max_out = count_plain (λ (s : Service). is_end MaxOut s.end) own few_own;
-      force_off = count_plain (λ (s : Service). is_end ForceOff s.end) own few_own;
-      unlogged = count_plain (λ (s : Service). is_end Unlogged s.end) own few_own;
+      gap_out = counted_at _ _ (count_plain (λ (s : Service). is_end GapOut s.end) own few_own) (ends_counted GapOut own);
+      max_out = counted_at _ _ (count_plain (λ (s : Service). is_end MaxOut s.end) own few_own) (ends_counted MaxOut own);
+      force_off = counted_at _ _ (count_plain (λ (s : Service). is_end ForceOff s.end) own few_own) (ends_counted ForceOff own);
+      unlogged = counted_at _ _ (count_plain (λ (s : Service). is_end Unlogged s.end) own few_own) (ends_counted Unlogged own);
       cycles = length_plain its few_its;
       cycle_sum = sum_plain cycle_length its few_its (All-filter is_its (λ (x : Cycle). cycle_length x ≤ 600000000) cs short_cs);
     }
@@ -294,7 +296,7 @@ ped_plain known c before rows p n part e =
       walks = ap (λ (x : PedSum). x.walks) e ∙ own_length ds p few (λ d. d.ped);
       delays = ap (λ (x : PedSum). x.delays) e ∙ own_kept ds p few (λ d. d.ped) (λ d. ran d.wait);
       sum = ap (λ (x : PedSum). x.sum) e ∙ own_sum ds p few (λ d. d.ped) (λ d. ran d.wait) short;
-      greatest = ap (λ (x : PedSum). x.greatest) e;
+      greatest = ap (λ (x : PedSum). x.greatest) e ∙ greatest_is (filter_map (λ d. ran d.wait) (own (λ d. d.ped) p ds));
       uncalled = ap (λ (x : PedSum). x.uncalled) e ∙ own_count ds p few (λ d. d.ped) (λ d. is_not_begun d.wait);
       partial = ap (λ (x : PedSum). x.partial) e ∙ own_count ds p few (λ d. d.ped) (λ d. is_partial d.wait);
     }
@@ -376,7 +378,7 @@ within_green p d a b rows =
     let y = length_filter (λ (r : Row). nat_le a r.at && nat_lt r.at b) rows in
     omega (arith, x, y)
 
-cycles_plain : (p d : ℕ) (rows : List Row) (cs : List Cycle) → length rows ≤ 595200000 → length cs ≤ 297600000 → All (λ (x : Cycle). cycle_length x ≤ 600000000) cs → ArePlainCycles p d rows cs (numbers_of p d rows cs)
+cycles_plain : (p d : ℕ) (rows : List Row) (cs : List Cycle) → length rows ≤ 595200000 → length cs ≤ 297600000 → All (λ (x : Cycle). cycle_length x ≤ 600000000) cs → AreCycleNumbers p d rows cs (numbers_of p d rows cs)
 unfolding numbers_of
 cycles_plain p d rows cs few some short = record {
   arrivals = sum_plain (λ (x : Cycle). arrivals_in d x.from x.to rows) cs some (λ k e lt. let x = get_or cs k e in let most = within_few d x.from x.to rows in omega (arith, most, few));
@@ -385,8 +387,8 @@ cycles_plain p d rows cs few some short = record {
   tenths = sum_plain cycle_tenths cs some short;
 }
 
-have_plain : (known : ℕ → Bool) (c : Settings) (before rows : List Row) (a : Approach) (n : CycleNumbers) (o : Option ℕ) → AreOfLog before rows → n ≡ cycle_numbers known c before rows a o → HavePlainCycles known c before rows a n o
-have_plain known c before rows a n None part e = e
+have_plain : (known : ℕ → Bool) (c : Settings) (before rows : List Row) (a : Approach) (n : ArrivalSum) (o : Option ℕ) → AreOfLog before rows → cycle_part n ≡ cycle_numbers known c before rows a o → HavePlainCycles known c before rows a n o
+have_plain known c before rows a n None part e = (ap (λ (m : CycleNumbers). m.arrivals) e, ap (λ (m : CycleNumbers). m.green) e, ap (λ (m : CycleNumbers). m.green_tenths) e, ap (λ (m : CycleNumbers). m.tenths) e)
 have_plain known c before rows a n (Some d) part e =
     let seen = told known a.phase d a.travel (before ++ rows) in
     let all = cycles_from known c.phases before rows in
@@ -397,18 +399,19 @@ have_plain known c before rows a n (Some d) part e =
     let few = part_few before rows part in
     let outs = outs_few (λ p earlier r rest. cycle_at known p earlier r) (has_phase c.phases) before rows in
     let kept = length_filter is_its all in
-    subst (λ (m : CycleNumbers). ArePlainCycles a.phase d seen its m) (sym e)
-    (cycles_plain a.phase d seen its (omega (arith, less, most)) (omega (arith, outs, kept, few)) (All-filter is_its (λ (x : Cycle). cycle_length x ≤ 600000000) all (cycles_short known c before rows part)))
+    let so : AreCycleNumbers a.phase d seen its (cycle_part n) = subst (λ (m : CycleNumbers). AreCycleNumbers a.phase d seen its m) (sym e)
+    (cycles_plain a.phase d seen its (omega (arith, less, most)) (omega (arith, outs, kept, few)) (All-filter is_its (λ (x : Cycle). cycle_length x ≤ 600000000) all (cycles_short known c before rows part))) in
+    record { arrivals = so.arrivals; green = so.green; green_tenths = so.green_tenths; tenths = so.tenths }
 
-each_cycles : (known : ℕ → Bool) (c : Settings) (before rows : List Row) (sums : List ArrivalSum) → AreOfLog before rows → HaveCycles known c before rows sums → Each (λ a x. HavePlainCycles known c before rows a (cycle_part x) a.advance) c.approaches sums
+each_cycles : (known : ℕ → Bool) (c : Settings) (before rows : List Row) (sums : List ArrivalSum) → AreOfLog before rows → HaveCycles known c before rows sums → Each (λ a x. HavePlainCycles known c before rows a x a.advance) c.approaches sums
 each_cycles known c before rows sums part e =
     let f = λ (a : Approach). cycle_numbers known c before rows a a.advance in
     let size : length sums ≡ length c.approaches = sym (length-map sums cycle_part) ∙ (ap (λ (zs : List CycleNumbers). length zs) e ∙ length-map c.approaches f) in
-    each_of_places (λ a x. HavePlainCycles known c before rows a (cycle_part x) a.advance) c.approaches sums size (λ j a x lt.
+    each_of_places (λ a x. HavePlainCycles known c before rows a x a.advance) c.approaches sums size (λ j a x lt.
     let here = get_or c.approaches j a in
     let within : j < length sums = omega arith in
     let is : cycle_part (get_or sums j x) ≡ f here = sym (get_or-map cycle_part sums j x (cycle_part x) within) ∙ (ap (λ (zs : List CycleNumbers). get_or zs j (cycle_part x)) e ∙ get_or-map f c.approaches j a (cycle_part x) lt) in
-    have_plain known c before rows here (cycle_part (get_or sums j x)) here.advance part is)
+    have_plain known c before rows here (get_or sums j x) here.advance part is)
 
 -- ---- services at stop bars
 
@@ -453,10 +456,10 @@ verdicts_plain log i b judged waiting n vs few each e =
     record {
       verdicts = vs;
       each = each;
-      fail = ap (λ (x : SplitSum). x.fail) e ∙ judged_counted vs waiting low Fail refl;
-      pass = ap (λ (x : SplitSum). x.pass) e ∙ judged_counted vs waiting low Pass refl;
-      undecided = ap (λ (x : SplitSum). x.undecided) e ∙ judged_counted vs waiting low Undecided refl;
-      fault = ap (λ (x : SplitSum). x.fault) e ∙ judged_counted vs waiting low Fault refl;
+      fail = counted_at _ _ (ap (λ (x : SplitSum). x.fail) e ∙ judged_counted vs waiting low Fail refl) (verdicts_counted Fail vs);
+      pass = counted_at _ _ (ap (λ (x : SplitSum). x.pass) e ∙ judged_counted vs waiting low Pass refl) (verdicts_counted Pass vs);
+      undecided = counted_at _ _ (ap (λ (x : SplitSum). x.undecided) e ∙ judged_counted vs waiting low Undecided refl) (verdicts_counted Undecided vs);
+      fault = counted_at _ _ (ap (λ (x : SplitSum). x.fault) e ∙ judged_counted vs waiting low Fault refl) (verdicts_counted Fault vs);
       left_open = ap (λ (x : SplitSum). x.left_open) e ∙ kept;
     }
 
@@ -609,7 +612,7 @@ hour_plain c s all hour z store is lt =
       states = hour_states (MeetsIn c s) c (first_tenth hour) (first_tenth (hour + 1)) next n.others measures.states;
       verdicts = each_of (λ a x. IsApproachSum (log_of c.specs s) c hour (before ++ rows) x (bar_with a a.stop_bar)) (λ a x. HavePlainVerdicts (log_of c.specs s) c (ending (first_tenth hour) (first_tenth (hour + 1))) (open_by c (hour + 1)) (before ++ rows) x (bar_with a a.stop_bar)) c.approaches n.failures
           (λ a x so. hour_verdicts c s hour x (bar_with a a.stop_bar) part so) measures.verdicts;
-      approaches = each_pair (λ a x. HasJudged May known c before rows hour a x) (λ a x. HavePlainCycles known c before rows a (cycle_part x) a.advance) (λ a x. IsApproachPart c s hour (hour + 1) before rows a x) c.approaches n.arrivals
+      approaches = each_pair (λ a x. HasJudged May known c before rows hour a x) (λ a x. HavePlainCycles known c before rows a x a.advance) (λ a x. IsApproachPart c s hour (hour + 1) before rows a x) c.approaches n.arrivals
           (λ a x so whole. record { arrivals = hour_arrivals c s hour a x a.advance part so.arrivals; cycles = whole; actuations = acted_plain c s before rows a x a.stop_bar part so.actuations }) judged (each_cycles known c before rows n.arrivals part measures.whole_cycles);
     }
 
@@ -637,7 +640,7 @@ total_plain c s all store size is =
       states = subst (λ (k : ℕ). AreStatesBetween (MeetsIn c s) 0 (first_tenth k) c n.others) size (state_totals c s all store is);
       verdicts = each_of (λ a x. IsApproachTotal (log_of c.specs s) c x (bar_with a a.stop_bar)) (λ a x. HavePlainVerdicts (log_of c.specs s) c (ending 0 (first_tenth hours)) (open_by c hours) rows x (bar_with a a.stop_bar)) c.approaches n.failures
           (λ a x so. log_verdicts c s x (bar_with a a.stop_bar) store size so) (split_totals c s all store size is);
-      approaches = each_pair (AreTotalsOf c s) (λ a x. HavePlainCycles known c [] rows a (cycle_part x) a.advance) (λ a x. IsApproachPart c s 0 hours [] rows a x) c.approaches n.arrivals
+      approaches = each_pair (AreTotalsOf c s) (λ a x. HavePlainCycles known c [] rows a x a.advance) (λ a x. IsApproachPart c s 0 hours [] rows a x) c.approaches n.arrivals
           (λ a x so whole. record { arrivals = log_arrivals c s a x a.advance size so.arrivals; cycles = whole; actuations = acted_plain c s [] rows a x a.stop_bar part so.actuations }) (arrival_totals c s all store size is) (each_cycles known c [] rows n.arrivals part total.arrivals);
     }
 

@@ -1,7 +1,7 @@
 -- Preempt delays and dwells, among the known rows in row order.
-use Rattle.std.specs.Prelude.{ℕ, ◌-◌, ◌==◌, Bool, if◌then◌else◌, ◌&&◌, ◌||◌, List, Option, Some, None}
+use Rattle.std.specs.Prelude.{ℕ, ◌-◌, ◌==◌, Bool, if◌then◌else◌, ◌&&◌, ◌||◌, List, Option, Some, None, option_map}
 use Rattle.sig_base.specs.declared.values.Row.{Row}
-use Rattle.hour_sweep.specs.Rows.{last, live}
+use Rattle.hour_sweep.specs.Rows.{last, live, ◌>>=◌}
 use Rattle.other_measures.specs.declared.preempts.Event.TheVariants.{Entry, Exit}
 use Rattle.other_measures.specs.declared.preempts.PreemptEvent.{PreemptEvent}
 use Rattle.other_measures.specs.declared.preempts.PreemptPart.{PreemptPart}
@@ -24,14 +24,9 @@ is_dwell p x = (x.param == p) && (x.code == 107)
 unfoldable pub is_exit : ℕ → Row → Bool
 is_exit p x = (x.param == p) && (x.code == 111)
 
--- a row that was found, where it is a row 102 and every tenth since is known; whether the input has gone off since (104) isn't asked
-abbrev pub call_in : (ℕ → Bool) → ℕ → ℕ → Option Row → Option Row
-call_in known t p None = None
-call_in known t p (Some x) = if live known x.at t && is_input p x then Some x else None
-
--- the call of preempt p that waits at tenth t: the last of its calls and entries, where that is a call and every tenth since is known
+-- the call of preempt p that waits at tenth t: the last of its calls and entries, where that is a call and every tenth since is known; whether the input has gone off since (104) isn't asked
 unfoldable pub call_of : (ℕ → Bool) → ℕ → ℕ → List Row → Option Row
-call_of known t p before = call_in known t p (last (λ z. is_input p z || is_entry p z) before)
+call_of known t p before = do x ← last (λ z. is_input p z || is_entry p z) before; if live known x.at t && is_input p x then Some x else None
 
 -- the last entry or exit of preempt p, where every tenth from it up to t is known, with the first begin of dwell after it
 abbrev pub service_of : (ℕ → Bool) → ℕ → ℕ → List Row → Option LastRow
@@ -41,13 +36,16 @@ service_of known t p before = last_row_of (λ z. is_entry p z || is_exit p z) (i
 abbrev pub preempt_of : (ℕ → Bool) → ℕ → List Row → ℕ → PreemptPart
 preempt_of known t before p = record { number = p; call = call_of known t p before; service = service_of known t p before }
 
--- the tenths from the call up to t, where there was one
-abbrev pub delay_of : ℕ → Option Row → Option ℕ
-delay_of t None = None
-delay_of t (Some x) = Some (t - x.at)
-
 -- the entry or the exit of p that row r is, where these rows stand before it: an entry with what ran since the call, an exit with what ran since the first row 107
 unfoldable pub event_at : (ℕ → Bool) → ℕ → List Row → Row → List Row → Option PreemptEvent
 event_at known p before r rest =
-    if is_entry p r then Some (record { preempt = p; event = Entry (delay_of r.at (call_of known r.at p before)) }) else
+    if is_entry p r then Some (record { preempt = p; event = Entry (option_map (λ x. r.at - x.at) (call_of known r.at p before)) }) else
     if is_exit p r then Some (record { preempt = p; event = Exit (lapse_of r.at (service_of known r.at p before)) }) else None
+
+-- ---- For contracts alone: the same in parts.
+
+abbrev pub call_in : (ℕ → Bool) → ℕ → ℕ → Option Row → Option Row
+call_in known t p found = do x ← found; if live known x.at t && is_input p x then Some x else None
+
+abbrev pub delay_of : ℕ → Option Row → Option ℕ
+delay_of t call = option_map (λ x. t - x.at) call

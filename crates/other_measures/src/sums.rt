@@ -5,7 +5,8 @@ ghost use Rattle.other_measures.specs.Sums.{coord_added, ped_added, preempt_adde
 
 use hour_sweep::{Sum, greatest_of, total};
 
-/// The numbers of one pedestrian signal. Counts and sums stand still at the last value of a u64.
+/// The numbers of one pedestrian signal. Adding stops at the last value of a u64, which no report
+/// reaches.
 #[derive(Clone, Copy, Debug, PartialEq, Eq)]
 pub struct PedSum {
     pub walks: u64,
@@ -25,8 +26,8 @@ pub struct PedSum {
     pub detector_undecided: u64,
 }
 
-/// The numbers of one preempt. Times are in tenths of a second; counts and sums stand still at the
-/// last value of a u64.
+/// The numbers of one preempt. Times are in tenths of a second. Adding stops at the last value of a
+/// u64, which no report reaches.
 #[derive(Clone, Copy, Debug, PartialEq, Eq)]
 pub struct PreemptSum {
     pub entries: u64,
@@ -51,8 +52,8 @@ pub struct PreemptSum {
     pub undecided: u64,
 }
 
-/// The numbers of the coordination, all 0 where it isn't on. Counts stand still at the last value
-/// of a u64.
+/// The numbers of the coordination, all 0 where it isn't on. Adding stops at the last value of a
+/// u64, which no report reaches.
 #[derive(Clone, Copy, Debug, PartialEq, Eq)]
 pub struct CoordSum {
     /// The known tenths at whose end it is in each state in all histories.

@@ -43,8 +43,7 @@ open_service (Some a) = open_service_of a.phase a.service
 
 -- an open cycle by its tenth
 abbrev pub open_cycle_of : ℕ → Option CycleBegun → Option OpenCycle
-open_cycle_of p None = None
-open_cycle_of p (Some s) = Some (record { phase = p; from = s.from.at })
+open_cycle_of p begun = option_map (λ s. record { phase = p; from = s.from.at }) begun
 
 -- the live last yellow end of a part
 unfoldable pub open_cycle : Option Part → Option OpenCycle

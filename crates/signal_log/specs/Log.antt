@@ -46,7 +46,7 @@ HasHistory log = (h : History) × AgreesWith log h
 abbrev pub first_rows : ℕ → Log → Log
 first_rows n log = record log { rows = take n log.rows }
 
--- the first known row with which, the later rows left out, no history agrees
+-- the first known row such that no history agrees with the rows up to it, were the known tenths without any row after it
 pub record IsContradiction (log : Log) (row : Row) : Type 0 where
   pub place : ℕ
   pub within : place < length log.rows

@@ -6,7 +6,7 @@ use Rattle.board.specs.Channels.{AreSpecs}
 use Rattle.board.specs.History.{History}
 use Rattle.signal_log.specs.Log.{AgreesWith, HasHistory, Log, window_end}
 use Rattle.detector_state.specs.Ranges.{Counts}
-use Rattle.detector_state.specs.Tells.{AllHave, HasColour, IsColourReached, IsSure}
+use Rattle.detector_state.specs.Tells.{HasColour, IsColourReached, IsSure}
 use Rattle.detector_state.specs.Switches.{IsChannelOf, IsSwitch}
 use Rattle.service_cut.specs.declared.items.Service.{Service}
 use Rattle.stop_bar.specs.declared.windows.Windows.{Windows}
@@ -31,7 +31,7 @@ abbrev pub verdicts_by : Frac → List Windows → List SplitVerdict
 verdicts_by high [] = []
 verdicts_by high (w ∷ ws) = verdict_by high w ∷ verdicts_by high ws
 
--- the service is a split failure in the history: the stop bar's detector is on long enough in its green and in its red window; in a green without a tenth it always is
+-- the service is a split failure in the history: of the tenths of its green, and of the 50 tenths from the end of yellow on, the stop bar's detector is on at the end of at least the share `high`; in a green without a tenth it always is
 pub record FailsIn (log : Log) (i : ℕ) (high : Frac) (s : Service) (h : History) : Type 0 where
   pub green : ℕ
   pub red : ℕ
@@ -40,13 +40,9 @@ pub record FailsIn (log : Log) (i : ℕ) (high : Frac) (s : Service) (h : Histor
   pub in_green : high.num * (s.g - s.b) ≤ green * high.den
   pub in_red : high.num * 50 ≤ red * high.den
 
--- the tenth is in the green of the service or in its red window
-abbrev pub IsInWindows : Service → ℕ → Type 0
-IsInWindows s x = ((s.b ≤ x) × (x < s.g)) ⊎ ((s.r ≤ x) × (x < s.r + 50))
-
--- at some tenth of them the detector has a fault in all histories that agree
+-- at some tenth of the service's green or of its red window the detector has a fault, colour 2, in all histories that agree
 abbrev pub HasFault : Log → ℕ → Service → Type 0
-HasFault log i s = (x : ℕ) × IsInWindows s x × AllHave log i 2 x
+HasFault log i s = (x : ℕ) × (((s.b ≤ x) × (x < s.g)) ⊎ ((s.r ≤ x) × (x < s.r + 50))) × ((h : History) → AgreesWith log h → HasColour log h i 2 x)
 
 -- the verdict on a service, over all histories that agree: a fault of the detector; else it fails in all, in none, or only in some
 abbrev pub IsVerdict : Log → ℕ → Frac → Service → SplitVerdict → Type 0

@@ -9,8 +9,8 @@ use hour_sweep::{Sum, total};
 use sig_base::Frac;
 use stop_bar::Windows;
 
-/// How many services of an approach's phase have which verdict at its stop bar's detector. The
-/// numbers stand still at the last value of a u64.
+/// How many services of an approach's phase have which verdict at its stop bar's detector. Adding
+/// stops at the last value of a u64, which no report reaches.
 #[derive(Clone, Copy, Debug, PartialEq, Eq)]
 pub struct SplitSum {
     pub fail: u64,

@@ -5,8 +5,8 @@ ghost use Rattle.split_measures.specs.Phases.{added, ends_by, phase_sum_of};
 use hour_sweep::{Sum, greatest_of, least_of, total};
 use service_cut::{Cycle, Service, Termination};
 
-/// What the whole services and the whole cycles of one phase give. Numbers of services and cycles
-/// stand still at the last value of a u64, and so do the sums, which are in tenths of a second.
+/// What the whole services and the whole cycles of one phase give. Sums are in tenths of a second.
+/// Adding stops at the last value of a u64, which no report reaches.
 #[derive(Clone, Copy, Debug, PartialEq, Eq)]
 pub struct PhaseSum {
     pub services: u64,

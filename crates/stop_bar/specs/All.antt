@@ -1,5 +1,5 @@
 -- The stop bars of a configuration, in an hour and at a point.
-use Rattle.std.specs.Prelude.{ℕ, ◌≡◌, ◌+◌, ◌++◌, true, All, Option, Some, None, List, filter_map, is_some}
+use Rattle.std.specs.Prelude.{ℕ, ◌≡◌, ◌+◌, ◌++◌, true, All, Option, Some, List, filter_map, is_some, option_map}
 use Rattle.sig_base.specs.declared.values.PhaseItem.{PhaseItem}
 use Rattle.sig_base.specs.HourRows.{AreRowsOf}
 use Rattle.sig_base.specs.declared.values.Row.{Row}
@@ -25,13 +25,13 @@ use Rattle.stop_bar.specs.declared.bars.StopBar.{StopBar}
 use Rattle.stop_bar.specs.Crossing.{Crossing}
 use Rattle.stop_bar.specs.Bars.{AreOver, IsAtBar}
 use Rattle.stop_bar.specs.Lists.{Each}
+use Rattle.std.specs.List.{AllZip}
 
 -- the stop bar of an approach, where it has a detector there
 abbrev pub bar_with : Approach → Option ℕ → Option StopBar
-bar_with a None = None
-bar_with a (Some d) = Some (record { phase = a.phase; detector = d; high = a.high })
+bar_with a detector = option_map (λ d. record { phase = a.phase; detector = d; high = a.high }) detector
 
--- the stop bars of the approaches that have a detector there, in file order
+-- For contracts alone: the stop bars of the approaches that have a detector there, in file order.
 abbrev pub bars_of : List Approach → List StopBar
 bars_of approaches = filter_map (λ a. bar_with a a.stop_bar) approaches
 
@@ -43,9 +43,9 @@ AreServed phases bars = All (λ b. has_phase phases b.phase ≡ true) bars
 abbrev pub IsPlaceOf : Settings → StopBar → ℕ → Type 0
 IsPlaceOf c b i = spec_place c.specs (record { kind = kinds.Detector; number = b.detector }) ≡ Some i
 
--- these are what is under way at the stop bars at point k
+-- these are what is under way at point k at the stop bars of the approaches that have a detector there, in file order
 abbrev pub AreAtBars : Log → Settings → List Row → ℕ → List Crossing → Type 0
-AreAtBars log c before k ats = Each (λ b at. (i : ℕ) → IsPlaceOf c b i → IsAtBar log i c.phases b.phase before k at) (bars_of c.approaches) ats
+AreAtBars log c before k ats = AllZip (λ b at. (i : ℕ) → IsPlaceOf c b i → IsAtBar log i c.phases b.phase before k at) (filter_map (λ a. bar_with a a.stop_bar) c.approaches) ats
 
 -- these are the colours of their detectors in the hour
 abbrev pub AreTold : Log → Settings → ℕ → List (List Part) → Type 0

@@ -13,24 +13,25 @@ use Rattle.service_cut.specs.declared.items.Termination.TheVariants.{Unlogged}
 use Rattle.service_cut.specs.Cut.{CutLists, IsCut, services_from}
 use Rattle.service_cut.specs.Services.{service_begun_of}
 use Rattle.detector_state.specs.declared.part.Part.{Part}
-use Rattle.detector_state.specs.Hours.{IsSwitched}
+use Rattle.detector_state.specs.Hours.{IsSwitched, AreTenths}
 use Rattle.stop_bar.specs.declared.windows.Windows.{Windows}
-use Rattle.stop_bar.specs.Going.{AreRowsAbout, IsGreenAt, of_phase}
+use Rattle.stop_bar.specs.Going.{AreRowsAbout, IsGreenAt}
 use Rattle.stop_bar.specs.Windows.{AreEnded, ArePending, IsOpen, left, services_of}
 use Rattle.stop_bar.specs.Crossing.{Crossing}
 use Rattle.stop_bar.specs.declared.windows.OpenGreen.{OpenGreen}
+use Rattle.hour_sweep.specs.Sums.{own}
+use Rattle.std.specs.Option.{IfSome}
 
--- a service without its termination, which is no more under way once its end of yellow has come
+-- the whole services of phase p that end among the rows, without their terminations, which are no more under way once an end of yellow has come
+abbrev pub services_upto : (ℕ → Bool) → List PhaseItem → ℕ → List Row → List Service
+services_upto known phases p rows = map (λ (s : Service). record s { end = Unlogged }) (own (λ s. s.phase) p (services_from known phases [] rows))
+
+-- For contracts alone: a service without its termination, and each of some.
 abbrev pub without_end : Service → Service
 without_end s = record s { end = Unlogged }
 
--- these services without their terminations
 abbrev pub without_ends : List Service → List Service
 without_ends ss = map without_end ss
-
--- the whole services of phase p that end among the rows, without their terminations
-abbrev pub services_upto : (ℕ → Bool) → List PhaseItem → ℕ → List Row → List Service
-services_upto known phases p rows = without_ends (of_phase p (services_from known phases [] rows))
 
 -- the open service of phase p among these
 abbrev pub open_with : ℕ → List OpenService → Option OpenService
@@ -43,8 +44,8 @@ ending a b ss = filter (λ s. nat_lt a (s.r + 50) && nat_le (s.r + 50) b) ss
 -- this is what is under way at a stop bar of phase p, whose detector has place i, at point k, where these are the known rows before it: the green that is open there and the services whose red window isn't over, with how long the detector was on
 pub record IsAtBar (log : Log) (i : ℕ) (phases : List PhaseItem) (p : ℕ) (before : List Row) (k : ℕ) (at : Crossing) : Type 0 where
   pub green : IsGreenAt (first_tenth k) (service_begun_of log.known (first_tenth k) p before) at.green
-  pub tenths : IsOpen log i at.green
-  pub waiting : services_of at.pending ≡ left (first_tenth k) (services_upto log.known phases p before)
+  pub tenths : IfSome at.green (λ o. AreTenths log i o.b o.to o.tenths)
+  pub waiting : map (λ w. w.service) at.pending ≡ left (first_tenth k) (services_upto log.known phases p before)
   pub numbers : ArePending log i (first_tenth k) at.pending
 
 -- an hour of the log with these rows, where these are the known rows before it: what service_cut lists of it, and the colours of the detector

@@ -12,24 +12,23 @@ use Rattle.service_cut.specs.Cut.{services_from}
 use Rattle.service_cut.specs.Services.{service_at, service_begun_of}
 use Rattle.stop_bar.specs.declared.windows.OpenGreen.{OpenGreen}
 use Rattle.stop_bar.specs.Windows.{AreServicesOf, IsOpened}
+use Rattle.std.specs.Option.{option_map_or}
 
--- the tenth of the row, or this one where it hasn't come
+-- For contracts alone: the tenth of the row, or this one where it hasn't come.
 abbrev pub tenth_or : ℕ → Option Row → ℕ
-tenth_or t None = t
-tenth_or t (Some x) = x.at
+tenth_or t row = option_map_or (λ x. x.at) row t
 
 -- the service of phase p that ends with row r, after the rows before tenth t and those from it on, was open at t, with the end of its green where that had come
 abbrev pub ServicesGoOn : Type 0
 ServicesGoOn = (known : ℕ → Bool) (p t : ℕ) (before front : List Row) (r : Row) (later : List Row) (s : Service) → All (λ z. z.at < t) before → All (λ z. t ≤ z.at) front → t ≤ r.at → service_at known p (before ++ front) r later ≡ Some s → s.b < t → (o : ServiceBegun) × (service_begun_of known t p before ≡ Some o) × (o.b.at ≡ s.b) × (tenth_or t o.g ≡ min s.g t)
 
--- what crosses tenth t is the green of the service that is open there, where one is
+-- what crosses tenth t is the green of the service that is open there, where one is: from its begin up to its end, or to t where that hasn't come
 abbrev pub IsGreenAt : ℕ → Option ServiceBegun → Option OpenGreen → Type 0
 IsGreenAt t None None = Unit {0}
-IsGreenAt t None (Some g) = ⊥
-IsGreenAt t (Some o) None = ⊥
-IsGreenAt t (Some o) (Some g) = (g.b ≡ o.b.at) × (g.to ≡ tenth_or t o.g)
+IsGreenAt t (Some o) (Some g) = (g.b ≡ o.b.at) × (g.to ≡ option_map_or (λ x. x.at) o.g t)
+IsGreenAt t _ _ = ⊥
 
--- the services of phase p
+-- For contracts alone: the services of phase p.
 abbrev pub of_phase : ℕ → List Service → List Service
 of_phase p ss = filter (λ s. s.phase == p) ss
 

@@ -1,6 +1,6 @@
 -- The windows of services, which may cross the points between hours.
-use Rattle.std.specs.Prelude.{ℕ, ◌≡◌, ◌<◌, ◌≤◌, ◌+◌, ◌++◌, min, not, nat_le, Option, Some, None, List, [], ◌∷◌}
-use Rattle.std.specs.List.{filter}
+use Rattle.std.specs.Prelude.{ℕ, ◌≡◌, ◌<◌, ◌≤◌, ◌+◌, ◌++◌, min, not, nat_le, Option, Some, None, List, [], ◌∷◌, map}
+use Rattle.std.specs.List.{filter, AllByRecursion}
 use Rattle.board.specs.Logs.{end_tenth, first_tenth}
 use Rattle.signal_log.specs.Log.{Log}
 use Rattle.service_cut.specs.declared.items.Service.{Service}
@@ -8,11 +8,11 @@ use Rattle.detector_state.specs.declared.part.Part.{Part}
 use Rattle.detector_state.specs.Hours.{AreTenths, IsSwitched, TellsEach}
 use Rattle.stop_bar.specs.declared.windows.OpenGreen.{OpenGreen}
 use Rattle.stop_bar.specs.declared.windows.Windows.{Windows}
+use Rattle.std.specs.Option.{IfSome}
 
--- how long the detector was on in the green that is open, where one is
+-- For contracts alone: how long the detector was on in the green that is open, where one is.
 abbrev pub IsOpen : Log → ℕ → Option OpenGreen → Type 0
-IsOpen log i None = Unit {0}
-IsOpen log i (Some o) = AreTenths log i o.b o.to o.tenths
+IsOpen log i green = IfSome green (λ o. AreTenths log i o.b o.to o.tenths)
 
 -- a green from b to g that began before tenth `first` is the one that was open there
 abbrev pub IsOpened : ℕ → ℕ → ℕ → Option OpenGreen → Type 0
@@ -30,8 +30,7 @@ IsEnded log i w = IsPending log i (w.service.r + 50) w
 
 -- these are the numbers of services whose red windows have come to tenth t
 abbrev pub ArePending : Log → ℕ → ℕ → List Windows → Type 0
-ArePending log i t [] = Unit {0}
-ArePending log i t (w ∷ ws) = IsPending log i t w × ArePending log i t ws
+ArePending log i t ws = AllByRecursion (IsPending log i t) ws
 
 abbrev pub AreEnded : Log → ℕ → List Windows → Type 0
 AreEnded log i [] = Unit {0}
@@ -65,10 +64,9 @@ due end ss = filter (λ s. nat_le (s.r + 50) end) ss
 abbrev pub left : ℕ → List Service → List Service
 left end ss = filter (λ s. not (nat_le (s.r + 50) end)) ss
 
--- the services of these windows
+-- For contracts alone: the services of these windows.
 abbrev pub services_of : List Windows → List Service
-services_of [] = []
-services_of (w ∷ ws) = w.service ∷ services_of ws
+services_of ws = map (λ w. w.service) ws
 
 -- whatever log has these tenths of the detector in the hour, with the open green and the services that wait before it, has these numbers of the windows that end in it, and these at its end; the services are such as an hour has
 abbrev pub AreWindows : ℕ → Option OpenGreen → List Windows → List Service → List Part → List Windows → List Windows → Type 0

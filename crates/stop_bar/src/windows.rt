@@ -2,7 +2,7 @@
 use detector_state::OnTenths;
 use service_cut::Service;
 
-/// A whole service of a phase, with how often a detector was on in its two windows: in its green,
+/// A whole service of a phase, with the tenths at which a detector was on in its two windows: in its green,
 /// from the begin up to the end of green, and in the 50 tenths from the end of yellow on.
 #[derive(Clone, Copy, Debug, PartialEq, Eq)]
 pub struct Windows {

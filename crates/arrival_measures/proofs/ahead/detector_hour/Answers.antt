@@ -15,12 +15,13 @@ use Rattle.arrival_measures.specs.Hours.{cycle_numbers}
 use Rattle.arrival_measures.specs.Travel.{arrivals_at, from_tenth, told}
 use Rattle.arrival_measures.specs.Steps.{AreUnderWay, GiveSame, IsOpenUnderWay, arriving_with, merged}
 use Rattle.arrival_measures.proofs.Arriving.{arriving_is, open_given, open_under_way}
-use Rattle.arrival_measures.proofs.Crossing.{are_cycles_of, cycle_with, open_found, open_is_cycle}
+use Rattle.arrival_measures.proofs.Crossing.{are_cycles_of, cycle_with, open_found, open_is_cycle, open_same}
 use Rattle.arrival_measures.proofs.Hours.{has_some, hour_ordered}
 use Rattle.arrival_measures.proofs.Own.{turns_kept}
 use Rattle.arrival_measures.proofs.Telling.{are_under_way, early, give_same, in_order, late, own}
 use Rattle.arrival_measures.proofs.Travels.{late_late}
 use Rattle.arrival_measures.proofs.ahead.detector_hour.Goals as goal
+use Rattle.service_cut.specs.Cycles.{cycle_begun_of}
 
 pub returns : goal.returns
 returns c = λ known s before rows hour are cut of_it cross.
@@ -68,7 +69,8 @@ returns c = λ known s before rows hour are cut of_it cross.
     c.open_after-begun.ensures known E (t + 36300) to at_end open3
     ∙ ap (λ zs. open_since p d to (E ++ known_rows known zs) o) open_here
     ∙ open_given known p d v t before rows first or tr c.args.crossing.now.begun to o is_cycle
-    ∙ ap (λ q. open_since p d to T q) (open_found known s p before hour rows c.args.cuts.now cut of_it.phase) in
+    ∙ ap (λ q. open_since p d to T q) (open_found known s p before hour rows c.args.cuts.now cut of_it.phase)
+    ∙ open_same p d to T (cycle_begun_of known to p (before ++ seen)) in
     let end : c.saturating_add-end.result ≡ to = (let f = are.first in let e = c.saturating_add-end.ensures in omega arith) in
     let arriving_here = c.deref-6.ensures.value ∙ arrives in
     let ordered = subst (λ (zs : List Row). AreOrdered t (t + 36300) zs) (sym arriving_here) (in_order known p d v t before rows first or tr) in

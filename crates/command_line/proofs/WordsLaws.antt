@@ -1,5 +1,6 @@
 -- The command, and what its answers say of the words.
 use Rattle.std.proofs.Common.{◌≡◌, ◌∙◌, true, false, List, [], ◌∷◌, Option, None, refl, ap, sym, subst, arith, inl, inr, option_map, Bor, codes}
+use Rattle.std.specs.Prelude.{if◌then◌else◌}
 use Rattle.std.proofs.lemmas.Bool.Decides.{nat_tests}
 use Rattle.clap.specs.Walk.{Text, Row, is_empty, first_of, rows_of}
 use Rattle.clap.specs.Matches.{found_of, first_value}
@@ -15,7 +16,7 @@ use Rattle.clap.specs.Values.{kind_of}
 use Rattle.clap.specs.declared.error.Error.{Error}
 use Rattle.clap.specs.declared.error.kind.ErrorKind.TheVariants.{OutOfMemory}
 use Rattle.clap.proofs.OnLiterals.{clap_on_literals}
-use Rattle.command_line.specs.Words.{sigaudit, faults, rows, request_of, asked_for, given_by, Asked, text_of}
+use Rattle.command_line.specs.Words.{sigaudit, faults, rows, request_of, asked_for, asked_given, given_by, Asked, text_of}
 
 pub is_free : is_simple_and_free sigaudit ≡ true
 unfolding clap_on_literals
@@ -51,6 +52,10 @@ pub given_same : (a b c d e f g h i : Option Text) (found : List Row) → a ≡ 
     → record { config = a; script = b; rule = c; at = d; count = e; signal = f; hour = g; pack = h; demo = i } ≡ given_by found
 given_same a b c d e f g h i found p q r s t u v w x = rw (p, q, r, s, t, u, v, w, x) refl
 
-pub some_asked : (o : Option Asked) (found : List Row) (words : List Text) → faults words ≡ [] → found ≡ rows words → o ≡ asked_for (given_by found) → request_of words ≡ o
-unfolding request_of
-some_asked o found words none e asked = rw (none, ← e) (sym asked)
+-- the request by what stands in the contracts of the parts
+request_is : (words : List Text) → request_of words ≡ (if is_empty (faults words) then asked_given (given_by (rows words)) else None)
+unfolding request_of faults rows asked_for asked_given
+request_is words = refl
+
+pub some_asked : (o : Option Asked) (found : List Row) (words : List Text) → faults words ≡ [] → found ≡ rows words → o ≡ asked_given (given_by found) → request_of words ≡ o
+some_asked o found words none e asked = rw (request_is words, none, ← e) (sym asked)

@@ -1,5 +1,5 @@
 -- What the words of the command line ask for.
-use Rattle.std.specs.Prelude.{◌≡◌, ℕ, ℤ, ◌<◌, ◌≤◌, ◌==◌, ◌&&◌, not, true, Bool, List, [], codes, Option, Some, None, is_none, is_some, Result, Ok, Err, option_map, if◌then◌else◌}
+use Rattle.std.specs.Prelude.{◌≡◌, ℕ, ℤ, ◌<◌, ◌≤◌, ◌==◌, ◌&&◌, not, true, Bool, List, [], ◌∷◌, codes, Option, Some, None, is_none, is_some, Result, Ok, Err, option_map, option_and_then, fold, if◌then◌else◌}
 use Rattle.std.specs.List.{list_any}
 use Rattle.std.specs.Borrow.{Bor}
 use Rattle.clap.specs.Walk.{Text, Rule, Row, first_of, is_empty, rows_of}
@@ -13,22 +13,18 @@ use Rattle.sig_base.specs.Window.{IsDay}
 use Rattle.row_reader.specs.Number.{number_of}
 use Rattle.row_reader.specs.Signal.{is_signal}
 use Rattle.row_reader.specs.Stamp.{hour_stamp_of, stamp_of}
+use Prim.Native.String.{String}
 use Rattle.command_line.specs.declared.Options.{Options}
 use Rattle.command_line.specs.declared.Request.{Request}
 use Rattle.command_line.specs.declared.Request.TheVariants as code
 use Rattle.command_line.specs.declared.Refused.{Refused}
 use Rattle.command_line.specs.declared.Refused.TheVariants.{Usage, Memory}
 
--- an option that takes one value
-abbrev pub option_rule : Text → Rule
-option_rule name = record (new_rule name) { long = Some name; action = Some Set }
-
--- the command: nine options, none of them required
+-- the command: nine options, each of which takes one value, none of them required
 abbrev pub sigaudit : App
 sigaudit =
-    with_rule (with_rule (with_rule (with_rule (with_rule (with_rule (with_rule (with_rule (with_rule (new_app (codes "sigaudit"))
-    (option_rule (codes "config"))) (option_rule (codes "script"))) (option_rule (codes "rule"))) (option_rule (codes "at"))) (option_rule (codes "count")))
-    (option_rule (codes "signal"))) (option_rule (codes "hour"))) (option_rule (codes "pack"))) (option_rule (codes "demo"))
+    fold (λ (app : App) (name : Text). with_rule app (record (new_rule name) { long = Some name; action = Some Set })) (new_app (codes "sigaudit"))
+    (codes "config" ∷ codes "script" ∷ codes "rule" ∷ codes "at" ∷ codes "count" ∷ codes "signal" ∷ codes "hour" ∷ codes "pack" ∷ codes "demo" ∷ [])
 
 -- a run of a script over a configuration; the fillings of what a rule of this number leaves undecided at a stamp after such a run; of one file of this signal and this hour of a day, a count of the codes or its packed bytes; the demonstration of so many hours
 pub data Asked : Type 0 where
@@ -37,6 +33,53 @@ pub data Asked : Type 0 where
   for_count : Text → Text → ℤ → ℕ → Asked
   for_pack : Text → Text → ℤ → ℕ → Asked
   for_demo : ℕ → Asked
+
+-- a stamp with the letter `T`, and no space, between its date and its time
+abbrev pub is_stamp : Text → Bool
+is_stamp text = not (list_any (λ b. b == 32) text) && is_some (stamp_of text)
+
+-- the day and the hour that the words name for a signal, where both are readable
+abbrev pub hour_asked : Text → Text → Option (ℤ × ℕ)
+hour_asked signal hour = if is_signal signal then hour_stamp_of hour else None
+
+-- the request of exactly these options of a script: the configuration, the script, a rule of one to six digits and a stamp, where both are readable
+abbrev pub script_asked : Option Text → Option Text → Option Text → Option Text → Option Asked
+script_asked (Some c) (Some s) None None = Some (for_run c s)
+script_asked (Some c) (Some s) (Some rule) (Some at) = if is_stamp at then option_map (λ k. for_pairs c s k at) (number_of 1 6 999999 rule) else None
+script_asked _ _ _ _ = None
+
+-- the request of exactly these options without a script: the counted file, the signal, the hour, the file to be packed, where signal and hour are readable, and the demonstration's hours, one to three digits that say 1 to 168
+abbrev pub file_asked : Option Text → Option Text → Option Text → Option Text → Option Text → Option Asked
+file_asked (Some f) (Some i) (Some h) None None = option_map (λ at. for_count f i at.0 at.1) (hour_asked i h)
+file_asked None (Some i) (Some h) (Some f) None = option_map (λ at. for_pack f i at.0 at.1) (hour_asked i h)
+file_asked None None None None (Some n) = option_and_then (λ hours. if hours == 0 then None else Some (for_demo hours)) (number_of 1 3 168 n)
+file_asked _ _ _ _ _ = None
+
+-- the request of exactly the options that have values, by the value of each: those of a script and none of the others, or none of a script
+unfoldable pub asked_for : (String → Option Text) → Option Asked
+asked_for value =
+    if is_none (value "count") && is_none (value "signal") && is_none (value "hour") && is_none (value "pack") && is_none (value "demo")
+    then script_asked (value "config") (value "script") (value "rule") (value "at")
+    else (if is_none (value "config") && is_none (value "script") && is_none (value "rule") && is_none (value "at")
+    then file_asked (value "count") (value "signal") (value "hour") (value "pack") (value "demo") else None)
+
+-- the request of the words, the program's own name first: none where the command refuses them or the options are no request
+unfoldable pub request_of : List Text → Option Asked
+request_of words = if is_empty (fault_of sigaudit words) then asked_for (λ name. first_of (codes name) (matches_of sigaudit words)) else None
+
+-- ---- For contracts alone
+
+-- an option that takes one value
+abbrev pub option_rule : Text → Rule
+option_rule name = record (new_rule name) { long = Some name; action = Some Set }
+
+-- the errors that the command finds in the words
+unfoldable pub faults : List Text → Kinds
+faults words = fault_of sigaudit words
+
+-- what the words match of the command's options
+unfoldable pub rows : List Text → List Row
+rows words = matches_of sigaudit words
 
 -- the values of the nine options
 pub record Given : Type 0 where
@@ -64,18 +107,10 @@ given_by found = record {
   demo = first_of (codes "demo") found;
 }
 
--- a stamp with the letter `T`, and no space, between its date and its time
-abbrev pub is_stamp : Text → Bool
-is_stamp text = not (list_any (λ b. b == 32) text) && is_some (stamp_of text)
-
--- the fillings at a rule of one to six digits and at a stamp, where both are readable
+-- the fillings at a rule and at a stamp, where both are readable
 abbrev pub pairs_asked : Text → Text → Text → Text → Option Asked
 pairs_asked config script rule at =
     if is_stamp at then option_map (λ k. for_pairs config script k at) (number_of 1 6 999999 rule) else None
-
--- the day and the hour that the words name for a signal, where both are readable
-abbrev pub hour_asked : Text → Text → Option (ℤ × ℕ)
-hour_asked signal hour = if is_signal signal then hour_stamp_of hour else None
 
 -- the count of this file, signal and hour, where the last two are readable
 abbrev pub count_asked : Text → Text → Text → Option Asked
@@ -85,27 +120,9 @@ count_asked file signal hour = option_map (λ at. for_count file signal at.0 at.
 abbrev pub pack_asked : Text → Text → Text → Option Asked
 pack_asked file signal hour = option_map (λ at. for_pack file signal at.0 at.1) (hour_asked signal hour)
 
--- a number of hours, at least one
-abbrev pub some_hours : Option ℕ → Option ℕ
-some_hours None = None
-some_hours (Some n) = if n == 0 then None else Some n
-
--- the demonstration of so many hours, where the text is one to three digits that say 1 to 168
+-- the demonstration of so many hours, where the text says 1 to 168
 abbrev pub demo_asked : Text → Option Asked
-demo_asked hours = option_map for_demo (some_hours (number_of 1 3 168 hours))
-
--- the request of exactly these options of a script: the configuration, the script, the rule and the stamp
-abbrev pub script_asked : Option Text → Option Text → Option Text → Option Text → Option Asked
-script_asked (Some c) (Some s) None None = Some (for_run c s)
-script_asked (Some c) (Some s) (Some k) (Some t) = pairs_asked c s k t
-script_asked _ _ _ _ = None
-
--- the request of exactly these options without a script: the counted file, the signal, the hour, the file to be packed and the demonstration's hours
-abbrev pub file_asked : Option Text → Option Text → Option Text → Option Text → Option Text → Option Asked
-file_asked (Some f) (Some i) (Some h) None None = count_asked f i h
-file_asked None (Some i) (Some h) (Some f) None = pack_asked f i h
-file_asked None None None None (Some n) = demo_asked n
-file_asked _ _ _ _ _ = None
+demo_asked text = option_and_then (λ hours. if hours == 0 then None else Some (for_demo hours)) (number_of 1 3 168 text)
 
 -- none of the options that go with one file, or with the demonstration, has a value
 abbrev pub is_of_script : Given → Bool
@@ -116,23 +133,12 @@ abbrev pub is_of_file : Given → Bool
 is_of_file g = is_none g.config && is_none g.script && is_none g.rule && is_none g.at
 
 -- the request of exactly the options that have values
-unfoldable pub asked_for : Given → Option Asked
-asked_for g =
+unfoldable pub asked_given : Given → Option Asked
+asked_given g =
     if is_of_script g then script_asked g.config g.script g.rule g.at
     else (if is_of_file g then file_asked g.count g.signal g.hour g.pack g.demo else None)
 
--- the errors that the command finds in the words
-unfoldable pub faults : List Text → Kinds
-faults words = fault_of sigaudit words
-
--- what the words match of the command's options
-unfoldable pub rows : List Text → List Row
-rows words = matches_of sigaudit words
-
--- the request of the words, the program's own name first: none where the command refuses them or the options are no request
-unfoldable pub request_of : List Text → Option Asked
-request_of words = if is_empty (faults words) then asked_for (given_by (rows words)) else None
-
+-- what the code's request asks for
 abbrev pub seen : Request → Asked
 seen (code.Run config script) = for_run config.now script.now
 seen (code.Pairs config script rule at) = for_pairs config.now script.now rule at.now

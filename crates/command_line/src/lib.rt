@@ -7,7 +7,7 @@ ghost use Rattle.std.specs.Prelude.{◌≡◌, ◌<◌, ◌≤◌, true, false, 
 ghost use Rattle.sig_base.specs.Window.{IsDay};
 ghost use Rattle.row_reader.specs.Signal.{is_signal};
 ghost use Rattle.clap.specs.Words.{app_of, rule_of, found_of, rows_of};
-ghost use Rattle.command_line.specs.Words.{count_asked, demo_asked, file_asked, hour_asked, is_of_file, is_of_script, is_stamp, pack_asked, pairs_asked, script_asked, text_of, option_rule, sigaudit, request_of, Answers, IsReadable, Parses, asked_for, given_by, given_in, seen};
+ghost use Rattle.command_line.specs.Words.{count_asked, demo_asked, file_asked, hour_asked, is_of_file, is_of_script, is_stamp, pack_asked, pairs_asked, script_asked, text_of, option_rule, sigaudit, request_of, Answers, IsReadable, Parses, asked_given, given_by, given_in, seen};
 ghost use Rattle.command_line.specs.declared.Refused.TheVariants.{Memory};
 
 use clap::error::ErrorKind;
@@ -212,9 +212,9 @@ fn is_of_file(given: Options<'_>) -> bool
 }
 
 // The request of exactly the options that have values.
-#[tactic(auto, unfolding(crate::specs::Words::asked_for))]
+#[tactic(auto, unfolding(crate::specs::Words::asked_given))]
 fn choose<'a>(given: Options<'a>) -> Option<Request<'a>>
-    ensures value { option_map seen result ≡ asked_for (given_in given.entry) }
+    ensures value { option_map seen result ≡ asked_given (given_in given.entry) }
     ensures readable { IfSome result IsReadable }
 {
     if is_of_script(given) {
@@ -248,7 +248,7 @@ fn parse<'a>(alloc: Global, words: &'a [&'a str]) -> Result<ArgMatches<'a>, Refu
 
 // What the options that were given ask for.
 fn asked<'a>(matches: &ArgMatches<'a>) -> Option<Request<'a>>
-    ensures value { option_map seen result ≡ asked_for (given_by (rows_of (found_of matches.now))) }
+    ensures value { option_map seen result ≡ asked_given (given_by (rows_of (found_of matches.now))) }
     ensures readable { IfSome result IsReadable }
 {
     choose(Options {

@@ -3,6 +3,17 @@ use Rattle.std.specs.Prelude.{ℕ, ◌+◌, ◌*◌, ◌/◌, ◌%◌, ◌≤◌
 use Rattle.std.specs.List.{range_with_len}
 use Rattle.offset_search.specs.declared.arrival.Arrival.{Arrival}
 
+-- the vehicle meets green when it comes j seconds later, by the tenth of its cycle at which it comes then
+unfoldable pub meets_green : Arrival → ℕ → Bool
+meets_green a j = nat_le a.green ((a.offset + 10 * j) % a.length) && nat_lt ((a.offset + 10 * j) % a.length) a.yellow
+
+-- for each shift j with 10 * j below the longest cycle's length, how many of the vehicles meet green when each comes j seconds later
+unfoldable pub counts_of : List Arrival → List ℕ
+counts_of arrivals =
+    map (λ j. count_by (λ a. meets_green a j) arrivals) (range_with_len 0 ((fold (λ m a. max m a.length) 0 arrivals + 9) / 10))
+
+-- ---- For contracts alone
+
 -- the cycle is 1 to 3000 tenths long, and the vehicle, green and yellow have their places in it
 pub record IsInCycle (a : Arrival) : Type 0 where
   pub some : 1 ≤ a.length
@@ -15,10 +26,6 @@ pub record IsInCycle (a : Arrival) : Type 0 where
 abbrev pub tenth_after : Arrival → ℕ → ℕ
 tenth_after a j = (a.offset + 10 * j) % a.length
 
--- the vehicle meets green when it comes j seconds later
-unfoldable pub meets_green : Arrival → ℕ → Bool
-meets_green a j = nat_le a.green (tenth_after a j) && nat_lt (tenth_after a j) a.yellow
-
 -- how many of the vehicles meet green when each comes j seconds later
 abbrev pub count_after : List Arrival → ℕ → ℕ
 count_after arrivals j = count_by (λ a. meets_green a j) arrivals
@@ -26,7 +33,3 @@ count_after arrivals j = count_by (λ a. meets_green a j) arrivals
 -- the length of the longest cycle, 0 without arrivals
 abbrev pub longest : List Arrival → ℕ
 longest arrivals = fold (λ m a. max m a.length) 0 arrivals
-
--- the counts of all shifts j with 10 * j below the longest cycle's length
-unfoldable pub counts_of : List Arrival → List ℕ
-counts_of arrivals = map (count_after arrivals) (range_with_len 0 ((longest arrivals + 9) / 10))

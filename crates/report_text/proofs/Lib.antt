@@ -1,4 +1,5 @@
 mod Tallies
+pub mod LineParts
 pub mod RuleLines
 pub mod NumberLines
 pub mod ApproachLines

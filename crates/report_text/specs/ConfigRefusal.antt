@@ -1,6 +1,7 @@
 -- The line of a refused configuration.
 use Rattle.std.specs.Prelude.{◌++◌, ℕ, Bool, true, false, if◌then◌else◌, List, [], ◌∷◌, codes, decimal}
-use Rattle.report_text.specs.Line.{line_of}
+use Rattle.report_text.specs.Line.{line_of, num}
+use Rattle.report_text.specs.Rules.{joined}
 use Rattle.ring_config.specs.declared.error.ConfigError.{ConfigError}
 use Rattle.ring_config.specs.declared.error.ConfigError.TheVariants.{NotToml, Missing, BadValue, Unknown, Repeated, TooMany, Memory}
 use Rattle.ring_config.specs.declared.error.KeyAt.{KeyAt}
@@ -25,29 +26,13 @@ table_text tables.Approach = codes "approach"
 -- the table is the file itself
 abbrev pub is_top : TableName → Bool
 is_top tables.Top = true
-is_top tables.Phase = false
-is_top tables.Ped = false
-is_top tables.Overlap = false
-is_top tables.Preempt = false
-is_top tables.Conflict = false
-is_top tables.Allow = false
-is_top tables.Floor = false
-is_top tables.Interval = false
-is_top tables.Approach = false
+is_top _ = false
 
--- the place of a key of the file itself, or of the entry of a table that has this number
-abbrev pub place_text : TableName → ℕ → KeyName → List ℕ
-place_text table entry key =
-    if is_top table then line_of (codes "top." ∷ key_text key ∷ [])
-    else line_of (table_text table ∷ codes "[" ∷ decimal entry ∷ codes "]." ∷ key_text key ∷ [])
-
--- what stands before the place of a refusal
-abbrev pub fault_head : List ℕ → List ℕ
-fault_head fault = codes "config refused: " ++ (fault ++ [])
-
--- the line of a fault at a key
+-- the line of a fault at a key of the file itself, or of the entry of a table that has this number
 abbrev pub fault_text : List ℕ → KeyAt → List ℕ
-fault_text fault at = fault_head fault ++ place_text at.table at.entry at.key
+fault_text fault at =
+    joined (codes "config refused: " ∷ fault ∷ []) ++ (if is_top at.table then line_of (codes "top." ∷ key_text at.key ∷ [])
+    else line_of (table_text at.table ∷ num "[" at.entry ∷ codes "]." ∷ key_text at.key ∷ []))
 
 -- the line of a refused configuration; out of memory has none
 abbrev pub config_text : ConfigError → List ℕ
@@ -59,12 +44,19 @@ config_text (Repeated at) = fault_text (codes "repeated ") at
 config_text (TooMany at) = fault_text (codes "too many ") at
 config_text Memory = []
 
+-- ---- For contracts alone: parts of these texts as the code writes them, and what they need
+
+-- the place of a key of the file itself, or of the entry of a table that has this number
+abbrev pub place_text : TableName → ℕ → KeyName → List ℕ
+place_text table entry key =
+    if is_top table then line_of (codes "top." ∷ key_text key ∷ [])
+    else line_of (table_text table ∷ codes "[" ∷ decimal entry ∷ codes "]." ∷ key_text key ∷ [])
+
+-- what stands before the place of a refusal
+abbrev pub fault_head : List ℕ → List ℕ
+fault_head fault = codes "config refused: " ++ (fault ++ [])
+
 -- this is out of memory, which no definition gives
 abbrev pub is_config_memory : ConfigError → Bool
-is_config_memory NotToml = false
-is_config_memory (Missing at) = false
-is_config_memory (BadValue at) = false
-is_config_memory (Unknown at) = false
-is_config_memory (Repeated at) = false
-is_config_memory (TooMany at) = false
 is_config_memory Memory = true
+is_config_memory _ = false

@@ -1,4 +1,4 @@
--- The lines before answers of several lines.
+-- For contracts alone: the lines before answers of several lines.
 use Rattle.std.specs.Prelude.{ℕ, List, [], ◌∷◌, codes, decimal}
 use Rattle.report_text.specs.Line.{line_of}
 

@@ -1,5 +1,6 @@
 -- The names of audit rules.
-use Rattle.std.specs.Prelude.{◌++◌, ℕ, List, [], ◌∷◌, codes, decimal, Option, Some, None, slice_get, unwrap_or}
+use Rattle.std.specs.Prelude.{◌++◌, ℕ, List, [], ◌∷◌, codes, decimal, Option, slice_get, unwrap_or}
+use Rattle.std.specs.Option.{option_map_or}
 use Rattle.event_codes.specs.declared.channels.Channel.{Channel}
 use Rattle.event_codes.specs.declared.channels.Kind.{Kind}
 use Rattle.event_codes.specs.declared.channels.Kind.TheVariants.{Phase, Ped, Overlap, Detector, PedDetector, PreemptInput, PreemptService, Coordination}
@@ -8,6 +9,7 @@ use Rattle.reach.specs.declared.seen.AgeBound.TheVariants.{Any, AtLeast, AtMost}
 use Rattle.channel_tables.specs.declared.spec.Spec.{Spec}
 use Rattle.channel_tables.specs.Tables.{table_of}
 use Rattle.ring_config.specs.declared.items.IntervalItem.{IntervalItem}
+use Rattle.report_text.specs.Line.{num}
 use Rattle.rule_audit.specs.declared.rules.Rule.{Rule}
 use Rattle.rule_audit.specs.declared.rules.Rule.TheVariants.{Interval, Conflict, Companion, Parents}
 
@@ -34,8 +36,19 @@ colour_text kind colour = unwrap_or (slice_get (table_of kind).names colour) []
 -- the bound of a rule on durations, in tenths
 abbrev pub bound_text : AgeBound → List ℕ
 bound_text Any = []
-bound_text (AtLeast n) = joined (codes " at least " ∷ decimal n ∷ [])
-bound_text (AtMost n) = joined (codes " at most " ∷ decimal n ∷ [])
+bound_text (AtLeast n) = joined (num " at least " n ∷ [])
+bound_text (AtMost n) = joined (num " at most " n ∷ [])
+
+-- what a rule is called: one on durations by its channel, if that is tracked, its colour and its bound; every other by the numbers of its phases, its pedestrian signal or its overlap
+abbrev pub rule_name : List Spec → Rule → List ℕ
+rule_name specs (Interval item) =
+    option_map_or (λ spec. joined (kind_text spec.channel.kind ∷ num " " spec.channel.number ∷ codes " " ∷ colour_text spec.channel.kind item.colour ∷ []) ++ bound_text item.bound)
+    (slice_get specs item.spec) []
+rule_name specs (Conflict a b terms) = joined (num "conflict " a ∷ num " " b ∷ [])
+rule_name specs (Companion p terms) = joined (num "companion " p ∷ [])
+rule_name specs (Parents o terms) = joined (num "parents " o ∷ [])
+
+-- ---- For contracts alone
 
 -- a channel and its colour
 abbrev pub coloured_text : Channel → ℕ → List ℕ
@@ -43,12 +56,4 @@ coloured_text channel colour = joined (kind_text channel.kind ∷ codes " " ∷ 
 
 -- the name of a rule on durations, if its channel is tracked
 abbrev pub interval_text : Option Spec → IntervalItem → List ℕ
-interval_text None item = []
-interval_text (Some spec) item = coloured_text spec.channel item.colour ++ bound_text item.bound
-
--- what a rule is called, by its channel, colour and age, or by the numbers of its phases, its pedestrian signal or its overlap
-abbrev pub rule_name : List Spec → Rule → List ℕ
-rule_name specs (Interval item) = interval_text (slice_get specs item.spec) item
-rule_name specs (Conflict a b terms) = joined (codes "conflict " ∷ decimal a ∷ codes " " ∷ decimal b ∷ [])
-rule_name specs (Companion p terms) = joined (codes "companion " ∷ decimal p ∷ [])
-rule_name specs (Parents o terms) = joined (codes "parents " ∷ decimal o ∷ [])
+interval_text o item = option_map_or (λ spec. coloured_text spec.channel item.colour ++ bound_text item.bound) o []

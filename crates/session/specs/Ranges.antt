@@ -8,7 +8,7 @@ use Rattle.hour_store.specs.Store.{Store}
 use Rattle.session.specs.declared.blanks.RangeEdit.{RangeEdit}
 use Rattle.session.specs.declared.blanks.RangeEdit.TheVariants as range
 
--- tenth t put in front of ranges that all begin after it
+-- ranges that all begin after tenth t, and before them that tenth, as a range of its own or joined with the first of them
 abbrev pub with_first : ℕ → List Span → List Span
 with_first t [] = record { from = pos t; to = pos (t + 1) } ∷ []
 with_first t (s ∷ ss) =
@@ -21,6 +21,12 @@ ranges_from test from zero = []
 ranges_from test from (suc n) =
     if test from then with_first from (ranges_from test (from + 1) n) else ranges_from test (from + 1) n
 
+-- the tenth t is from `from` on, but before `to`
+abbrev pub is_between : ℤ → ℤ → ℕ → Bool
+is_between from to t = int_le from (pos t) && int_lt (pos t) to
+
+-- ---- For contracts alone
+
 -- the ranges of those tenths of a window of so many hours that pass the test
 abbrev pub ranges_of : ℕ → (ℕ → Bool) → List Span
 ranges_of hours test = ranges_from test 0 (36000 * hours)
@@ -28,10 +34,6 @@ ranges_of hours test = ranges_from test 0 (36000 * hours)
 -- tenth t is blanked in the store
 abbrev pub is_blanked : Store → ℕ → Bool
 is_blanked s t = is_member s.blanks (pos t)
-
--- the tenth t is from `from` on, but before `to`
-abbrev pub is_between : ℤ → ℤ → ℕ → Bool
-is_between from to t = int_le from (pos t) && int_lt (pos t) to
 
 -- the blanked tenths and those of the range
 abbrev pub blanked_with : Store → ℤ → ℤ → ℕ → Bool

@@ -17,20 +17,21 @@ abbrev pub HasWindow : Log → List Rule → List Row → AuditLine → Option (
 HasWindow log rules rows l None = is_broken l.verdict ≡ false
 HasWindow log rules rows l (Some w) = (is_broken l.verdict ≡ true) × IsDecisive log rows (obligation_of rules l) w.0 w.1
 
--- the line with this window
-abbrev pub with_window : AuditLine → Option (ℕ × ℕ) → AuditLine
-with_window l w = record l { window = w }
-
 -- the second lines are the first ones, each broken one with its decisive window
 abbrev pub AreWithWindows : Log → List Rule → List Row → List AuditLine → List AuditLine → Type 0
 AreWithWindows log rules rows [] [] = ⊤
-AreWithWindows log rules rows [] (l ∷ ls) = ⊥
-AreWithWindows log rules rows (p ∷ ps) [] = ⊥
 AreWithWindows log rules rows (p ∷ ps) (l ∷ ls) =
-    ((w : Option (ℕ × ℕ)) × HasWindow log rules rows p w × (l ≡ with_window p w)) × AreWithWindows log rules rows ps ls
+    ((w : Option (ℕ × ℕ)) × HasWindow log rules rows p w × (l ≡ record p { window = w })) × AreWithWindows log rules rows ps ls
+AreWithWindows log rules rows _ _ = ⊥
 
 -- the lines of the audit of an hour of the store: where windows are wanted each broken one has its decisive window, else none has one
 abbrev pub AreHourLines : Settings → Store → ℕ → Bool → List AuditLine → Type 0
 AreHourLines c s hour false lines = AreAuditLines c s hour lines
 AreHourLines c s hour true lines =
     (plain : List AuditLine) × AreAuditLines c s hour plain × AreWithWindows (log_of c.specs s) (rules_for c) (hour_rows s hour) plain lines
+
+-- ---- For contracts alone
+
+-- the line with this window
+abbrev pub with_window : AuditLine → Option (ℕ × ℕ) → AuditLine
+with_window l w = record l { window = w }

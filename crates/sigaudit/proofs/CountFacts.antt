@@ -3,6 +3,7 @@ use Rattle.std.proofs.Common.{◌≡◌, ◌<◌, ◌≤◌, ◌+◌, ◌*◌, �
 use Rattle.std.specs.Prelude.{OnOk, slice_index}
 use Rattle.std.proofs.lemmas.Bool.{cases_lt, lt-ltb, le-ltb}
 use Rattle.std.proofs.lemmas.List.{length-append}
+use Rattle.std.proofs.lemmas.List.Elements.{All-head, All-tail}
 use Rattle.outside.specs.Shelf.{Files}
 use Rattle.sig_base.specs.HourRows.{Shown}
 use Rattle.sig_base.specs.Window.{Span}
@@ -278,8 +279,8 @@ counted_start files c lines s n old e = record {
 
 -- a line of plain ones is plain
 plain_at : (c : Settings) (done : List (List ℕ)) (l : List ℕ) (rest : List (List ℕ)) → ArePlain c (done ++ l ∷ rest) → IsPlain c (said c.window l)
-plain_at c [] l rest (here, more) = here
-plain_at c (x ∷ xs) l rest (here, more) = plain_at c xs l rest more
+plain_at c [] l rest all = All-head (λ (y : List ℕ). IsPlain c (said c.window y)) l rest all
+plain_at c (x ∷ xs) l rest all = plain_at c xs l rest (All-tail (λ (y : List ℕ). IsPlain c (said c.window y)) x (xs ++ l ∷ rest) all)
 
 pub line_plain : (files : Files) (c : Settings) (lines : List (List ℕ)) (s0 s : Store) (n : ℕ) (text line : List ℕ) (old now : List ℕ) → 0 < length text → line ≡ first_line text → ArePlain c lines
     → IsCountedOn files c lines s0 n (lines_of text) s old now → IsPlain c (said c.window line)

@@ -1,5 +1,7 @@
 -- How a run goes on from its parts.
 use Rattle.std.proofs.Common.{◌≡◌, ◌≤◌, ◌++◌, ◌^◌, ◌*◌, ℕ, List, [], length, Option, Some, None, Result, Ok, Err, refl, sym, ap, subst, ◌∙◌, inl, inr, arith, IfSome, Bool, true, false}
+use Rattle.std.specs.Prelude.{nat_le}
+use Rattle.std.proofs.lemmas.Bool.Decides.{nat_tests}
 use Rattle.std.specs.Io.KnownBytes.{Appends}
 use Rattle.outside.specs.Sink.{Taken}
 use Rattle.outside.specs.Shelf.{Counts, Files}
@@ -18,12 +20,13 @@ use Rattle.command_line.specs.Words.{Asked, for_run, for_pairs, for_count, for_p
 use Rattle.demonstration.specs.Files.{config_name, demo_files, script_name}
 use Rattle.sigaudit.specs.declared.file.Task.{Task}
 use Rattle.sigaudit.specs.declared.file.Task.TheVariants.{Count, Pack}
-use Rattle.sigaudit.specs.Asked.{HourAsked, hour_asked, asked_of}
+use Rattle.row_reader.specs.Rows.{Wanted}
+use Rattle.sigaudit.specs.Asked.{asked_of}
 use Rattle.sigaudit.specs.Status.{status_of_run}
 use Rattle.report_text.specs.ConfigRefusal.{config_text, is_config_memory}
 use Rattle.report_text.specs.Usage.{usage_text}
 use Rattle.sigaudit.specs.Aims.{Aim, for_lines, for_rule}
-use Rattle.sigaudit.specs.Transcript.{Outcome, outcome, file_outcome, outcome_of, first_lines, told_outcome, ended_by, limited, asks_pairs, IsAimOutcome, IsAnswer, IsConfigOutcome, IsFileOutcome, IsScriptOutcome}
+use Rattle.sigaudit.specs.Transcript.{Outcome, outcome, file_outcome, outcome_of, wanted_by, first_lines, told_outcome, ended_by, limited, asks_pairs, IsAimOutcome, IsAnswer, IsConfigOutcome, IsFileOutcome, IsScriptOutcome}
 use Rattle.sigaudit.specs.Run.{World, world, RunsAs, CountsText, IsPairsRun, IsRun, HasCause, NeedsWords, IsCaused, TellsAll, ScriptCause, PutsOutcome, WritesBeginning, WritesPrefix, IsCutOff}
 use Rattle.sigaudit.specs.Script.{nothing_told}
 use Rattle.sigaudit.proofs.ScriptFacts.{told_nothing}
@@ -50,9 +53,11 @@ run-of_put Is o k k' w w' (Err stopped.Fault) e is h = (inr h.rose, inr (0, o, i
 run-of_put Is o k k' w w' (Err stopped.Memory) e is h = inl (still w w' h)
 
 -- a file that is there and not too long
-file-there : (task : Task) (a : HourAsked) (file : Option (List ℕ)) (there bytes : List ℕ)
-    → file ≡ Some there → length there ≤ 33554432 → bytes ≡ [] ++ there → file_outcome task a file ≡ outcome_of task a bytes
-file-there task a file there bytes e short b = grind arith
+file-there : (task : Task) (a : Wanted) (file : Option (List ℕ)) (there bytes : List ℕ)
+    → file ≡ Some there → length there ≤ 33554432 → bytes ≡ [] ++ there → file_outcome task a (limited 33554432 file) ≡ outcome_of task a bytes
+file-there task a file there bytes e short b =
+    let test : nat_le (length there) 33554432 ≡ true = grind (arith, nat_tests) in
+    rw (e, test, b) refl
 
 pub if_some-each : {A : Type 0} (o : Option A) (P : A → Type 0) → ((x : A) → P x) → IfSome o P
 if_some-each None P h = tt
@@ -63,13 +68,13 @@ if_some-weaker None P Q h p = tt
 if_some-weaker (Some x) P Q h p = h x p
 
 -- the file of a run
-pub run-of_file : (task : Task) (a : HourAsked) (file : Option (List ℕ)) (bytes old new : List ℕ) (k k' : Counts) (w w' : Taken) (r : Result Ended Stopped)
+pub run-of_file : (task : Task) (a : Wanted) (file : Option (List ℕ)) (bytes old new : List ℕ) (k k' : Counts) (w w' : Taken) (r : Result Ended Stopped)
     → k' ≡ k → PutsOutcome (outcome_of task a bytes) w w' r
     → bytes ≡ new → old ≡ [] → (there : List ℕ) × (file ≡ Some there) × (length there ≤ 33554432) × (new ≡ old ++ there)
-    → RunsAs (λ lines o. o ≡ file_outcome task a file) (world k w) (world k' w') (status_of_run r)
+    → RunsAs (λ lines o. o ≡ file_outcome task a (limited 33554432 file)) (world k w) (world k' w') (status_of_run r)
 run-of_file task a file bytes old new k k' w w' r e put b o h =
     let q : bytes ≡ [] ++ h.0 = b ∙ (rw o at h.3) in
-    run-of_put (λ lines o. o ≡ file_outcome task a file) (outcome_of task a bytes) k k' w w' r e (λ lines. sym (file-there task a file h.0 bytes h.1 h.2 q)) put
+    run-of_put (λ lines o. o ≡ file_outcome task a (limited 33554432 file)) (outcome_of task a bytes) k k' w w' r e (λ lines. sym (file-there task a file h.0 bytes h.1 h.2 q)) put
 
 -- ---- a script
 
@@ -111,8 +116,8 @@ unfolding IsAnswer
 answer_begun None files e = (outcome usage_text ended.Usage, refl)
 answer_begun (Some (for_run config script)) files e = file_begun files script (limited (2 ^ 20) (files config))
 answer_begun (Some (for_pairs config script rule at)) files e = absurd (cc)
-answer_begun (Some (for_count file signal day hour)) files e = (file_outcome Count (hour_asked file signal day hour) (files file), refl)
-answer_begun (Some (for_pack file signal day hour)) files e = (file_outcome Pack (hour_asked file signal day hour) (files file), refl)
+answer_begun (Some (for_count file signal day hour)) files e = (file_outcome Count (wanted_by signal day hour) (limited 33554432 (files file)), refl)
+answer_begun (Some (for_pack file signal day hour)) files e = (file_outcome Pack (wanted_by signal day hour) (limited 33554432 (files file)), refl)
 answer_begun (Some (for_demo hours)) files e = file_begun (demo_files hours) script_name (limited (2 ^ 20) (demo_files hours config_name))
 
 -- a run that stopped before it wrote anything
@@ -203,12 +208,12 @@ answer_pairs : (config script : List ℕ) (rule : ℕ) (at : List ℕ) (files : 
 unfolding IsAnswer
 answer_pairs config script rule at files lines o h = h
 
-answer_count : (file signal : List ℕ) (day : ℤ) (hour : ℕ) (files : Files) (lines : List ℕ → List (List ℕ)) (o : Outcome) → o ≡ file_outcome Count (hour_asked file signal day hour) (files file)
+answer_count : (file signal : List ℕ) (day : ℤ) (hour : ℕ) (files : Files) (lines : List ℕ → List (List ℕ)) (o : Outcome) → o ≡ file_outcome Count (wanted_by signal day hour) (limited 33554432 (files file))
     → IsAnswer (Some (for_count file signal day hour)) files lines o
 unfolding IsAnswer
 answer_count file signal day hour files lines o h = h
 
-answer_pack : (file signal : List ℕ) (day : ℤ) (hour : ℕ) (files : Files) (lines : List ℕ → List (List ℕ)) (o : Outcome) → o ≡ file_outcome Pack (hour_asked file signal day hour) (files file)
+answer_pack : (file signal : List ℕ) (day : ℤ) (hour : ℕ) (files : Files) (lines : List ℕ → List (List ℕ)) (o : Outcome) → o ≡ file_outcome Pack (wanted_by signal day hour) (limited 33554432 (files file))
     → IsAnswer (Some (for_pack file signal day hour)) files lines o
 unfolding IsAnswer
 answer_pack file signal day hour files lines o h = h
@@ -228,14 +233,14 @@ request_pairs files x config script rule at old new st e h =
     rw e (run_as (IsFileOutcome files (for_rule rule at) script (limited 1048576 (files config))) (IsAnswer (Some (for_pairs config script rule at)) files) old new st (answer_pairs config script rule at files) h)
 
 pub request_count : (files : Files) (x : Asked) (file signal : List ℕ) (day : ℤ) (hour : ℕ) (old new : World) (st : Status) → x ≡ for_count file signal day hour
-    → RunsAs (λ lines o. o ≡ file_outcome Count (hour_asked file signal day hour) (files file)) old new st → RunsAs (IsAnswer (Some x) files) old new st
+    → RunsAs (λ lines o. o ≡ file_outcome Count (wanted_by signal day hour) (limited 33554432 (files file))) old new st → RunsAs (IsAnswer (Some x) files) old new st
 request_count files x file signal day hour old new st e h =
-    rw e (run_as (λ lines o. o ≡ file_outcome Count (hour_asked file signal day hour) (files file)) (IsAnswer (Some (for_count file signal day hour)) files) old new st (answer_count file signal day hour files) h)
+    rw e (run_as (λ lines o. o ≡ file_outcome Count (wanted_by signal day hour) (limited 33554432 (files file))) (IsAnswer (Some (for_count file signal day hour)) files) old new st (answer_count file signal day hour files) h)
 
 pub request_pack : (files : Files) (x : Asked) (file signal : List ℕ) (day : ℤ) (hour : ℕ) (old new : World) (st : Status) → x ≡ for_pack file signal day hour
-    → RunsAs (λ lines o. o ≡ file_outcome Pack (hour_asked file signal day hour) (files file)) old new st → RunsAs (IsAnswer (Some x) files) old new st
+    → RunsAs (λ lines o. o ≡ file_outcome Pack (wanted_by signal day hour) (limited 33554432 (files file))) old new st → RunsAs (IsAnswer (Some x) files) old new st
 request_pack files x file signal day hour old new st e h =
-    rw e (run_as (λ lines o. o ≡ file_outcome Pack (hour_asked file signal day hour) (files file)) (IsAnswer (Some (for_pack file signal day hour)) files) old new st (answer_pack file signal day hour files) h)
+    rw e (run_as (λ lines o. o ≡ file_outcome Pack (wanted_by signal day hour) (limited 33554432 (files file))) (IsAnswer (Some (for_pack file signal day hour)) files) old new st (answer_pack file signal day hour files) h)
 
 -- a day of the years 0000 to 9999 as an i64 keeps it
 pub day_back : (day : ℤ) → IsDay day → to_z w64 (of_z w64 day) ≡ day
@@ -309,9 +314,13 @@ run-of_answer words told old new s t e h =
 -- ---- words that ask for what a rule leaves undecided
 
 -- which of a script's lines are taken doesn't matter to them
+rule_aim : (files : Files) (c : Settings) (rule : ℕ) (at : List ℕ) (script : Option (List ℕ)) (lines lines' : List ℕ → List (List ℕ)) (o : Outcome) → IsAimOutcome files c (for_rule rule at) script lines o → IsAimOutcome files c (for_rule rule at) script lines' o
+rule_aim files c rule at None lines lines' o h = h
+rule_aim files c rule at (Some text) lines lines' o h = h
+
 rule_config : (files : Files) (rule : ℕ) (at script : List ℕ) (said : Read Settings) (lines lines' : List ℕ → List (List ℕ)) (o : Outcome) → IsConfigOutcome files (for_rule rule at) script said lines o → IsConfigOutcome files (for_rule rule at) script said lines' o
 rule_config files rule at script (Err e) lines lines' o h = h
-rule_config files rule at script (Ok c) lines lines' o h = h
+rule_config files rule at script (Ok c) lines lines' o h = rule_aim files c rule at (limited 4194304 (files script)) lines lines' o h
 
 rule_file : (files : Files) (rule : ℕ) (at script : List ℕ) (bytes : Option (List ℕ)) (lines lines' : List ℕ → List (List ℕ)) (o : Outcome) → IsFileOutcome files (for_rule rule at) script bytes lines o → IsFileOutcome files (for_rule rule at) script bytes lines' o
 rule_file files rule at script None lines lines' o h = h

@@ -1,5 +1,5 @@
 -- How often a script opens each hour.
-use Rattle.std.specs.Prelude.{◌≡◌, ◌⊎◌, ◌<◌, ◌+◌, ◌*◌, ◌/◌, ◌^◌, ℕ, nat_lt, if◌then◌else◌, List, [], ◌∷◌, length, slice_index, Option, Some, None, Result, Ok, Err, true, false, ⊤}
+use Rattle.std.specs.Prelude.{◌≡◌, ◌⊎◌, ◌<◌, ◌+◌, ◌*◌, ◌/◌, ◌^◌, ℕ, nat_lt, if◌then◌else◌, List, [], ◌∷◌, length, slice_index, Option, Some, None, Result, Ok, Err, false, All, ⊤}
 use Rattle.outside.specs.Shelf.{Files}
 use Rattle.sig_base.specs.HourRows.{Shown}
 use Rattle.sig_base.specs.Numbers.{has_phase}
@@ -14,7 +14,7 @@ use Rattle.session.specs.Edits.{Change, hour_change, step_of}
 use Rattle.session.specs.Edits as change
 use Rattle.session.specs.Moved.{Moves, Touches}
 use Rattle.session.specs.Opens.{IsOpened}
-use Rattle.command_line.specs.Words.{Asked, for_run, for_pairs, for_count, for_pack, for_demo}
+use Rattle.command_line.specs.Words.{Asked, for_run}
 use Rattle.script_lines.specs.Lines.{lines_of}
 use Rattle.script_lines.specs.Words.{Said, said}
 use Rattle.script_lines.specs.Words as line
@@ -22,7 +22,7 @@ use Rattle.report_text.specs.declared.refusal.Refusal.{Refusal}
 use Rattle.sigaudit.specs.declared.hour_file.Unread.{Unread}
 use Rattle.sigaudit.specs.declared.script.LoadLine.{LoadLine}
 use Rattle.sigaudit.specs.declared.status.Status.{Status}
-use Rattle.sigaudit.specs.declared.status.Status.TheVariants.{Done, SomeRefused, Usage, BadConfig, Fault, Memory, NoFile}
+use Rattle.sigaudit.specs.declared.status.Status.TheVariants.{Done, SomeRefused}
 use Rattle.sigaudit.specs.Aims.{Aim, for_lines, for_rule}
 use Rattle.sigaudit.specs.HourFile.{hour_said}
 use Rattle.sigaudit.specs.Offsets.{advance_of}
@@ -39,7 +39,8 @@ abbrev pub MadeTally : Settings → Store → Change → Result Store EditError 
 MadeTally c s ch (Err e) h m k = (m ≡ 0) × (k ≡ 0)
 MadeTally c s ch (Ok new) h m k =
     (HasHistory (log_of c.specs new) × (moved : Applied) × Moves c s new ch moved × (m ≡ within moved.from moved.to h) × (k ≡ 0))
-    ⊎ ((row : Row) × (first : ℕ) × (last : ℕ) × IsContradiction (log_of c.specs new) row × (HasHistory (log_of c.specs new) → ⊥) × Touches ch first last × (m ≡ 0) × (k ≡ within first (row.at / 36000 + 1) h))
+    ⊎ ((row : Row) × (first : ℕ) × (last : ℕ) × IsContradiction (log_of c.specs new) row × (HasHistory (log_of c.specs new) → ⊥) × Touches ch first last
+    × (m ≡ 0) × (k ≡ within first (row.at / 36000 + 1) h))
 
 -- how often an hour moves, and how often it lies on the way to a contradiction, by an edit
 abbrev pub EditTally : Settings → Store → Change → ℕ → ℕ → ℕ → Type 0
@@ -55,14 +56,6 @@ abbrev pub FetchTally : Settings → ℕ → (Shown → Change) → Store → Re
 FetchTally c hour make s (Ok bytes) h m k = ReadTally c make s (hour_said (wanted_for c hour) bytes) h m k
 FetchTally c hour make s (Err refusal) h m k = (m ≡ 0) × (k ≡ 0)
 
--- by the line of a load or a replacement, where these are the bytes of its file
-abbrev pub BytesTally : Settings → LoadLine → Store → List ℕ → ℕ → ℕ → ℕ → Type 0
-BytesTally c load s bytes h m k = ReadTally c (hour_change load.replaces) s (hour_said (wanted_for c load.hour) bytes) h m k
-
--- by the line of a load or a replacement, where this is at its name
-abbrev pub LoadTally : Settings → LoadLine → Store → Result (List ℕ) Refusal → ℕ → ℕ → ℕ → Type 0
-LoadTally c load s want h m k = FetchTally c load.hour (hour_change load.replaces) s want h m k
-
 -- the line can be counted: it is an edit, asks for measures, is bad or is skipped; one that asks for the diagrams of a phase is bad where the phase isn't configured, and one that asks for the shifts of an approach where no approach of this name has an advance detector
 abbrev pub IsPlain : Settings → Said → Type 0
 IsPlain c line.audit = ⊥
@@ -73,8 +66,8 @@ IsPlain c _ = ⊤
 
 -- how often an hour moves and lies so by one line of a script
 unfoldable pub LineTally : Files → Settings → Said → Store → ℕ → ℕ → ℕ → Type 0
-LineTally files c (line.load hour name) s h m k = FetchTally c hour (hour_change false) s (hour_bytes files c hour name) h m k
-LineTally files c (line.replace hour name) s h m k = FetchTally c hour (hour_change true) s (hour_bytes files c hour name) h m k
+LineTally files c (line.load hour name) s h m k = FetchTally c hour change.load s (hour_bytes files c hour name) h m k
+LineTally files c (line.replace hour name) s h m k = FetchTally c hour change.replace s (hour_bytes files c hour name) h m k
 LineTally files c (line.withdraw hour) s h m k = EditTally c s (change.withdraw hour) h m k
 LineTally files c (line.blank from to) s h m k = EditTally c s (change.blank from to) h m k
 LineTally files c (line.unblank from to) s h m k = EditTally c s (change.unblank from to) h m k
@@ -87,19 +80,41 @@ AreTallied files c n (l ∷ ls) s last h m k =
     (t : Turn) × IsTurn files c n (said c.window l) s t
     × ((m1 : ℕ) × (k1 : ℕ) × (m2 : ℕ) × (k2 : ℕ) × LineTally files c (said c.window l) s h m1 k1 × AreTallied files c (n + 1) ls t.store last h m2 k2 × (m ≡ m1 + m2) × (k ≡ k1 + k2))
 
--- each of the lines can be counted
-abbrev pub ArePlain : Settings → List (List ℕ) → Type 0
-ArePlain c [] = ⊤
-ArePlain c (l ∷ ls) = IsPlain c (said c.window l) × ArePlain c ls
-
--- how often an hour moves and lies so by the lines of a script over a store
-abbrev pub ScriptTally : Files → Settings → List (List ℕ) → Store → ℕ → ℕ → ℕ → Type 0
-ScriptTally files c lines s h m k = (last : Store) × AreTallied files c 1 lines s last h m k
-
 -- each hour that has a count was opened at least as often as it moves by accepted edits, and at most three times as often as it moves or lies on the way to a contradiction
 abbrev pub AreCounted : (ℕ → ℕ → ℕ → Type 0) → List ℕ → List ℕ → Type 0
 AreCounted Tally old new =
     (length new ≡ length old) × ((h : ℕ) → h < length old → (m : ℕ) × (k : ℕ) × Tally h m k × IsOpened m (3 * (m + k)) (slice_index old h) (slice_index new h))
+
+-- where the words ask for a script over a configuration, both files are there and within their limits, the configuration is accepted, and each line of the script can be counted: each hour is opened as often as `AreCounted` says; of demonstrations, of fillings and of scripts with audits nothing is said
+abbrev pub OpensAnswer : Files → List ℕ → List ℕ → Option Asked → Type 0
+OpensAnswer files old new asked =
+    (config script bytes text : List ℕ) (c : Settings) → asked ≡ Some (for_run config script) → limited (2 ^ 20) (files config) ≡ Some bytes → config_of bytes ≡ Ok c
+    → limited (4 * 2 ^ 20) (files script) ≡ Some text → All (λ l. IsPlain c (said c.window l)) (lines_of text)
+    → AreCounted (λ h m k. (last : Store) × AreTallied files c 1 (lines_of text) (nothing_held c.window.hours) last h m k) old new
+
+-- P holds where the run ended with all lines of its script taken
+abbrev pub WhereTaken : Status → Type 0 → Type 0
+WhereTaken Done P = P
+WhereTaken SomeRefused P = P
+WhereTaken _ P = ⊤
+
+-- ---- For contracts alone
+
+-- each of the lines can be counted
+abbrev pub ArePlain : Settings → List (List ℕ) → Type 0
+ArePlain c lines = All (λ l. IsPlain c (said c.window l)) lines
+
+-- by the line of a load or a replacement, where these are the bytes of its file
+abbrev pub BytesTally : Settings → LoadLine → Store → List ℕ → ℕ → ℕ → ℕ → Type 0
+BytesTally c load s bytes h m k = ReadTally c (hour_change load.replaces) s (hour_said (wanted_for c load.hour) bytes) h m k
+
+-- by the line of a load or a replacement, where this is at its name
+abbrev pub LoadTally : Settings → LoadLine → Store → Result (List ℕ) Refusal → ℕ → ℕ → ℕ → Type 0
+LoadTally c load s want h m k = FetchTally c load.hour (hour_change load.replaces) s want h m k
+
+-- how often an hour moves and lies so by the lines of a script over a store
+abbrev pub ScriptTally : Files → Settings → List (List ℕ) → Store → ℕ → ℕ → ℕ → Type 0
+ScriptTally files c lines s h m k = (last : Store) × AreTallied files c 1 lines s last h m k
 
 -- where each line of a script can be counted, and it is carried out for their texts, each hour is opened as often as said; nothing is said where there is no script
 abbrev pub OpensText : Files → Settings → Aim → List ℕ → List ℕ → Option (List ℕ) → Type 0
@@ -121,15 +136,3 @@ OpensFile files aim script old new (Some bytes) = OpensConfig files aim script o
 abbrev pub OpensAsked : Files → List ℕ → List ℕ → Option Asked → Type 0
 OpensAsked files old new (Some (for_run config script)) = OpensFile files for_lines script old new (limited (2 ^ 20) (files config))
 OpensAsked files old new _ = ⊤
-
--- where the words ask for a script over a configuration, both files are there and within their limits, the configuration is accepted, and each line of the script can be counted: each hour is opened as often as `AreCounted` says; of demonstrations, of fillings and of scripts with audits nothing is said
-abbrev pub OpensAnswer : Files → List ℕ → List ℕ → Option Asked → Type 0
-OpensAnswer files old new asked =
-    (config script bytes text : List ℕ) (c : Settings) → asked ≡ Some (for_run config script) → limited (2 ^ 20) (files config) ≡ Some bytes → config_of bytes ≡ Ok c → limited (4 * 2 ^ 20) (files script) ≡ Some text
-    → ArePlain c (lines_of text) → AreCounted (ScriptTally files c (lines_of text) (nothing_held c.window.hours)) old new
-
--- P holds where the run ended with all lines of its script taken
-abbrev pub WhereTaken : Status → Type 0 → Type 0
-WhereTaken Done P = P
-WhereTaken SomeRefused P = P
-WhereTaken _ P = ⊤

@@ -8,7 +8,7 @@ use Rattle.hour_store.specs.Store.{Store, nothing_held}
 use Rattle.sig_base.specs.Window.{Span}
 use Rattle.report_text.specs.declared.refusal.Refusal.{Refusal}
 use Rattle.report_text.specs.Refusals.{IsOfWindow}
-use Rattle.command_line.specs.Words.{Asked, for_run, for_pairs, for_count, for_pack, for_demo}
+use Rattle.command_line.specs.Words.{Asked, for_run, for_pairs, for_demo}
 use Rattle.ring_config.specs.Settings.{Settings}
 use Rattle.session.specs.Sessions.{Kept}
 use Rattle.script_lines.specs.Lines.{lines_of}
@@ -44,16 +44,85 @@ NoFault old new = (new.counts.failed ≡ old.counts.failed) × (new.faults ≡ o
 abbrev pub HasFault : World → World → Type 0
 HasFault old new = Rose old.counts.failed new.counts.failed ⊎ Rose old.faults new.faults
 
--- all the bytes were written and no fault came
-abbrev pub WritesAll : List ℕ → World → World → Type 0
-WritesAll bytes old new = Appends old.written new.written bytes × NoFault old new
-
 -- the words ask for a script over a configuration: their own, for its texts or for what a rule leaves undecided, or that of a demonstration
 abbrev pub AsksRun : Option Asked → Type 0
 AsksRun (Some (for_run config script)) = ⊤
 AsksRun (Some (for_pairs config script rule at)) = ⊤
 AsksRun (Some (for_demo hours)) = ⊤
 AsksRun _ = ⊥
+
+-- some bytes are the transcript of the words and the files with this end, and exactly these were written, without a fault
+abbrev pub WritesTranscript : List (List ℕ) → Files → Ended → World → World → Type 0
+WritesTranscript words files e old new = (bytes : List ℕ) × IsTranscript words files bytes e × (Appends old.written new.written bytes × NoFault old new)
+
+-- a prefix was written of what the transcript begins with, up to some line of a script
+abbrev pub WritesBeginning : List (List ℕ) → Files → World → World → Type 0
+WritesBeginning words files old new = (k : ℕ) × (bytes : List ℕ) × IsBeginning k words files bytes × AppendsPrefix old.written new.written bytes
+
+-- the run ended as a transcript of the words and the files does and wrote exactly its bytes; or it was cut off, by a counted fault or out of memory, and IsShort holds
+abbrev pub EndsOr : Type 0 → List (List ℕ) → Files → World → World → Status → Type 0
+EndsOr IsShort words files old new Done = WritesTranscript words files ended.Done old new
+EndsOr IsShort words files old new SomeRefused = WritesTranscript words files ended.SomeRefused old new
+EndsOr IsShort words files old new Usage = WritesTranscript words files ended.Usage old new
+EndsOr IsShort words files old new BadConfig = WritesTranscript words files ended.BadConfig old new
+EndsOr IsShort words files old new NoFile = WritesTranscript words files ended.NoFile old new
+EndsOr IsShort words files old new Fault = HasFault old new × IsShort
+EndsOr IsShort words files old new Memory = IsShort
+
+-- the headline: the run ended as the transcript of the words and the files does and wrote exactly its bytes; or it was cut off, by a counted fault or out of memory, after a prefix of what the transcript begins with
+abbrev pub IsRun : List (List ℕ) → Files → World → World → Status → Type 0
+IsRun words files old new status = EndsOr (WritesBeginning words files old new) words files old new status
+
+-- nothing was written, or a prefix of some bytes that are a transcript of the words and the files
+abbrev pub WritesPrefix : List (List ℕ) → Files → World → World → Type 0
+WritesPrefix words files old new =
+    Appends old.written new.written [] ⊎ ((bytes : List ℕ) × (e : Ended) × IsTranscript words files bytes e × AppendsPrefix old.written new.written bytes)
+
+-- the headline where the words ask for what a rule leaves undecided, so that more than one transcript is right: the run ended as one of them does and wrote exactly its bytes; or it was cut off, by a counted fault or out of memory, after a prefix of one, maybe before anything was written
+abbrev pub IsPairsRun : List (List ℕ) → Files → World → World → Status → Type 0
+IsPairsRun words files old new Usage = ⊥
+IsPairsRun words files old new status = EndsOr (WritesPrefix words files old new) words files old new status
+
+-- what holds where a run that was asked for this ended so, whether or not the files and the bytes are revealed; of `Memory` nothing is said
+abbrev pub HasCause : Option Asked → World → World → Status → Type 0
+HasCause asked old new Usage = (asked ≡ None) × (new.counts ≡ old.counts) × NoFault old new
+HasCause asked old new BadConfig = AsksRun asked × (new.counts ≡ old.counts) × NoFault old new
+HasCause asked old new NoFile =
+    IsSome asked × (Rose old.counts.missing new.counts.missing ⊎ Rose old.counts.long new.counts.long) × Appends old.written new.written [] × NoFault old new
+HasCause asked old new Fault = HasFault old new
+HasCause asked old new Memory = ⊤
+HasCause asked old new _ = IsSome asked × NoFault old new
+
+-- where the words ask for nothing that can be done, a fault is one of the sink
+abbrev pub NeedsWords : Option Asked → World → World → Status → Type 0
+NeedsWords None old new Fault = Rose old.faults new.faults
+NeedsWords _ old new status = ⊤
+
+-- no count has fallen
+pub record NeverFall (old new : World) : Type 0 where
+  pub missing : old.counts.missing ≤ new.counts.missing
+  pub failed : old.counts.failed ≤ new.counts.failed
+  pub long : old.counts.long ≤ new.counts.long
+  pub faults : old.faults ≤ new.faults
+
+-- why a demonstration ended so, by the sink's counts of faults
+abbrev pub DemoCause : ℕ → ℕ → Status → Type 0
+DemoCause before now Usage = ⊥
+DemoCause before now NoFile = ⊥
+DemoCause before now Fault = Rose before now
+DemoCause before now Memory = ⊤
+DemoCause before now _ = now ≡ before
+
+-- a demonstration leaves the shelf alone, misses no file of its own, and stops at a fault of the sink alone
+abbrev pub LeavesShelf : Option Asked → World → World → Status → Type 0
+LeavesShelf (Some (for_demo hours)) old new status = (new.counts ≡ old.counts) × DemoCause old.faults new.faults status
+LeavesShelf _ old new status = ⊤
+
+-- ---- For contracts alone
+
+-- all the bytes were written and no fault came
+abbrev pub WritesAll : List ℕ → World → World → Type 0
+WritesAll bytes old new = Appends old.written new.written bytes × NoFault old new
 
 -- the run wrote all of what the words and the files give where the run ends so, and no fault came
 abbrev pub Ends : ((List ℕ → List (List ℕ)) → Outcome → Type 0) → Ended → World → World → Type 0
@@ -73,62 +142,6 @@ RunsAs Is old new BadConfig = Ends Is ended.BadConfig old new
 RunsAs Is old new NoFile = Ends Is ended.NoFile old new
 RunsAs Is old new Fault = HasFault old new × IsCutOff Is old new
 RunsAs Is old new Memory = IsCutOff Is old new
-
--- some bytes are the transcript of the words and the files with this end, and exactly these were written, without a fault
-abbrev pub WritesTranscript : List (List ℕ) → Files → Ended → World → World → Type 0
-WritesTranscript words files e old new = (bytes : List ℕ) × IsTranscript words files bytes e × WritesAll bytes old new
-
--- a prefix was written of what the transcript begins with, up to some line of a script
-abbrev pub WritesBeginning : List (List ℕ) → Files → World → World → Type 0
-WritesBeginning words files old new = (k : ℕ) × (bytes : List ℕ) × IsBeginning k words files bytes × AppendsPrefix old.written new.written bytes
-
--- the headline: the run ended as the transcript of the words and the files does and wrote exactly its bytes; or it was cut off, by a counted fault or out of memory, after a prefix of what the transcript begins with
-abbrev pub IsRun : List (List ℕ) → Files → World → World → Status → Type 0
-IsRun words files old new Done = WritesTranscript words files ended.Done old new
-IsRun words files old new SomeRefused = WritesTranscript words files ended.SomeRefused old new
-IsRun words files old new Usage = WritesTranscript words files ended.Usage old new
-IsRun words files old new BadConfig = WritesTranscript words files ended.BadConfig old new
-IsRun words files old new NoFile = WritesTranscript words files ended.NoFile old new
-IsRun words files old new Fault = HasFault old new × WritesBeginning words files old new
-IsRun words files old new Memory = WritesBeginning words files old new
-
--- nothing was written, or a prefix of some bytes that are a transcript of the words and the files
-abbrev pub WritesPrefix : List (List ℕ) → Files → World → World → Type 0
-WritesPrefix words files old new =
-    Appends old.written new.written [] ⊎ ((bytes : List ℕ) × (e : Ended) × IsTranscript words files bytes e × AppendsPrefix old.written new.written bytes)
-
--- the headline where the words ask for what a rule leaves undecided, so that more than one transcript is right: the run ended as one of them does and wrote exactly its bytes; or it was cut off, by a counted fault or out of memory, after a prefix of one, maybe before anything was written
-abbrev pub IsPairsRun : List (List ℕ) → Files → World → World → Status → Type 0
-IsPairsRun words files old new Done = WritesTranscript words files ended.Done old new
-IsPairsRun words files old new SomeRefused = WritesTranscript words files ended.SomeRefused old new
-IsPairsRun words files old new Usage = ⊥
-IsPairsRun words files old new BadConfig = WritesTranscript words files ended.BadConfig old new
-IsPairsRun words files old new NoFile = WritesTranscript words files ended.NoFile old new
-IsPairsRun words files old new Fault = HasFault old new × WritesPrefix words files old new
-IsPairsRun words files old new Memory = WritesPrefix words files old new
-
--- what holds where a run that was asked for this ended so, whether or not the files and the bytes are revealed; of `Memory` nothing is said
-abbrev pub HasCause : Option Asked → World → World → Status → Type 0
-HasCause asked old new Done = IsSome asked × NoFault old new
-HasCause asked old new SomeRefused = IsSome asked × NoFault old new
-HasCause asked old new Usage = (asked ≡ None) × (new.counts ≡ old.counts) × NoFault old new
-HasCause asked old new BadConfig = AsksRun asked × (new.counts ≡ old.counts) × NoFault old new
-HasCause asked old new NoFile =
-    IsSome asked × (Rose old.counts.missing new.counts.missing ⊎ Rose old.counts.long new.counts.long) × Appends old.written new.written [] × NoFault old new
-HasCause asked old new Fault = HasFault old new
-HasCause asked old new Memory = ⊤
-
--- where the words ask for nothing that can be done, a fault is one of the sink
-abbrev pub NeedsWords : Option Asked → World → World → Status → Type 0
-NeedsWords None old new Fault = Rose old.faults new.faults
-NeedsWords _ old new status = ⊤
-
--- no count has fallen
-pub record NeverFall (old new : World) : Type 0 where
-  pub missing : old.counts.missing ≤ new.counts.missing
-  pub failed : old.counts.failed ≤ new.counts.failed
-  pub long : old.counts.long ≤ new.counts.long
-  pub faults : old.faults ≤ new.faults
 
 -- a call that writes an outcome ends as it says, or stops in it by a counted fault, or runs out of memory before it writes anything
 abbrev pub PutsOutcome : Outcome → Taken → Taken → Result Ended Stopped → Type 0
@@ -246,16 +259,3 @@ FileCause old new Memory = ⊤
 abbrev pub ScriptCause : World → World → Status → Type 0
 ScriptCause old new BadConfig = (new.counts ≡ old.counts) × NoFault old new
 ScriptCause old new status = FileCause old new status
-
--- why a demonstration ended so, by the sink's counts of faults
-abbrev pub DemoCause : ℕ → ℕ → Status → Type 0
-DemoCause before now Usage = ⊥
-DemoCause before now NoFile = ⊥
-DemoCause before now Fault = Rose before now
-DemoCause before now Memory = ⊤
-DemoCause before now _ = now ≡ before
-
--- a demonstration leaves the shelf alone, misses no file of its own, and stops at a fault of the sink alone
-abbrev pub LeavesShelf : Option Asked → World → World → Status → Type 0
-LeavesShelf (Some (for_demo hours)) old new status = (new.counts ≡ old.counts) × DemoCause old.faults new.faults status
-LeavesShelf _ old new status = ⊤

@@ -1,5 +1,5 @@
 -- What a run writes and how it ends, of the words and the files alone.
-use Rattle.std.specs.Prelude.{◌≡◌, ◌++◌, ◌*◌, ◌^◌, nat_le, if◌then◌else◌, ℕ, List, [], length, take, Option, Some, None, Result, Ok, Err, Bool, true, false}
+use Rattle.std.specs.Prelude.{◌≡◌, ◌++◌, ◌*◌, ◌^◌, nat_le, if◌then◌else◌, ℕ, ℤ, List, [], length, take, Option, Some, None, Result, Ok, Err, Bool, true, false}
 use Rattle.outside.specs.Shelf.{Files}
 use Rattle.sig_base.specs.HourRows.{Shown}
 use Rattle.sig_base.specs.Window.{Span}
@@ -19,13 +19,14 @@ use Rattle.command_line.specs.Words.{Asked, for_run, for_pairs, for_count, for_p
 use Rattle.demonstration.specs.Files.{config_name, demo_files, script_name}
 use Rattle.script_lines.specs.Lines.{lines_of}
 use Rattle.sigaudit.specs.Aims.{Aim, for_lines, for_rule}
-use Rattle.sigaudit.specs.Asked.{HourAsked, hour_asked, asked_of}
+use Rattle.sigaudit.specs.Asked.{asked_of}
 use Rattle.sigaudit.specs.declared.file.Task.{Task}
 use Rattle.sigaudit.specs.declared.file.Task.TheVariants.{Count, Pack}
 use Rattle.sigaudit.specs.declared.hour_file.Unread.{Unread}
 use Rattle.sigaudit.specs.HourFile.{hour_said, unread_text}
 use Rattle.sigaudit.specs.Pairs.{AreFound, place_of}
-use Rattle.sigaudit.specs.Script.{Told, IsTold}
+use Rattle.sigaudit.specs.Script.{IsTold}
+use Rattle.sigaudit.specs.Turns.{Turn}
 use Rattle.sigaudit.specs.declared.status.Ended.{Ended}
 use Rattle.sigaudit.specs.declared.status.Ended.TheVariants as ended
 
@@ -38,33 +39,25 @@ pub record Outcome : Type 0 where
 abbrev pub outcome : List ℕ → Ended → Outcome
 outcome bytes ended = record { bytes = bytes; ended = ended }
 
--- a window of the one hour that is asked for
-abbrev pub window_of : HourAsked → Span
-window_of a = record { day = a.day; hour = a.hour; hours = 1 }
-
--- the rows that are wanted: those of the first hour of this window
-abbrev pub wanted_by : HourAsked → Wanted
-wanted_by a = record { signal = a.signal; hour = 0; window = window_of a }
+-- the rows that are wanted of one file: those of this signal and this hour of a day
+abbrev pub wanted_by : List ℕ → ℤ → ℕ → Wanted
+wanted_by signal day hour = record { signal = signal; hour = 0; window = record { day = day; hour = hour; hours = 1 } }
 
 -- the outcome of a count: the file's rows by their codes, or its first refusal
-abbrev pub count_outcome : HourAsked → Result Shown RowError → Outcome
-count_outcome a (Ok shown) = outcome (count_text shown.rows shown.repeats) ended.Done
-count_outcome a (Err e) = outcome (refusal_text (window_of a) None (File e)) ended.SomeRefused
+abbrev pub count_outcome : Wanted → Result Shown RowError → Outcome
+count_outcome w (Ok shown) = outcome (count_text shown.rows shown.repeats) ended.Done
+count_outcome w (Err e) = outcome (refusal_text w.window None (File e)) ended.SomeRefused
 
 -- the outcome of packing: the packed hour of the file's rows, or its first refusal
-abbrev pub pack_outcome : HourAsked → Result Shown Unread → Outcome
-pack_outcome a (Ok shown) = outcome (packed a.signal (window_of a) 0 shown.rows) ended.Done
-pack_outcome a (Err e) = outcome (unread_text (window_of a) None e) ended.SomeRefused
+abbrev pub pack_outcome : Wanted → Result Shown Unread → Outcome
+pack_outcome w (Ok shown) = outcome (packed w.signal w.window 0 shown.rows) ended.Done
+pack_outcome w (Err e) = outcome (unread_text w.window None e) ended.SomeRefused
 
--- the outcome for the bytes of a file, by what is asked of it
-abbrev pub outcome_of : Task → HourAsked → List ℕ → Outcome
-outcome_of Count a bytes = count_outcome a (rows_of (wanted_by a) bytes)
-outcome_of Pack a bytes = pack_outcome a (hour_said (wanted_by a) bytes)
-
--- the outcome for what is at the name of one file, which has a limit of 32 MiB
-abbrev pub file_outcome : Task → HourAsked → Option (List ℕ) → Outcome
-file_outcome task a None = outcome [] ended.NoFile
-file_outcome task a (Some bytes) = if nat_le (length bytes) (32 * 2 ^ 20) then outcome_of task a bytes else outcome [] ended.NoFile
+-- the outcome for one file's bytes, if it is there and within its limit, by what is asked of it
+abbrev pub file_outcome : Task → Wanted → Option (List ℕ) → Outcome
+file_outcome task w None = outcome [] ended.NoFile
+file_outcome Count w (Some bytes) = count_outcome w (rows_of w bytes)
+file_outcome Pack w (Some bytes) = pack_outcome w (hour_said w bytes)
 
 -- the bytes of a file that is there and within a limit
 abbrev pub limited : ℕ → Option (List ℕ) → Option (List ℕ)
@@ -76,27 +69,14 @@ abbrev pub ended_by : Bool → Ended
 ended_by true = ended.SomeRefused
 ended_by false = ended.Done
 
--- the outcome of a script's lines: their texts, and whether one was refused
-abbrev pub told_outcome : Told → Outcome
-told_outcome told = outcome told.text (ended_by told.refused)
-
--- the outcome of a script, of which these lines are taken over a store that holds and blanks nothing
-abbrev pub IsScriptOutcome : Files → Settings → Option (List ℕ) → (List ℕ → List (List ℕ)) → Outcome → Type 0
-IsScriptOutcome files c None lines o = o ≡ outcome [] ended.NoFile
-IsScriptOutcome files c (Some script) lines o =
-    (told : Told) × IsTold files c 1 (lines script) (nothing_held c.window.hours) told × (o ≡ told_outcome told)
-
--- the outcome where a script's lines write nothing: what a rule leaves undecided at a stamp in the store that all of its lines leave
-abbrev pub IsRuleOutcome : Files → Settings → ℕ → List ℕ → Option (List ℕ) → Outcome → Type 0
-IsRuleOutcome files c rule at None o = o ≡ outcome [] ended.NoFile
-IsRuleOutcome files c rule at (Some script) o =
-    (told : Told) × IsTold files c 1 (lines_of script) (nothing_held c.window.hours) told
-    × ((text : List ℕ) × AreFound c told.store (place_of c rule (stamp_in c.window at)) text × (o ≡ outcome text (ended_by told.refused)))
-
--- the outcome of a script, by what it is carried out for
+-- the outcome of a script over a store that holds and blanks nothing, by what it is carried out for: the texts of the lines that are taken of it, and whether one was refused; or, where lines write nothing, what a rule leaves undecided at a stamp in the store that all of its lines leave
 abbrev pub IsAimOutcome : Files → Settings → Aim → Option (List ℕ) → (List ℕ → List (List ℕ)) → Outcome → Type 0
-IsAimOutcome files c for_lines script lines o = IsScriptOutcome files c script lines o
-IsAimOutcome files c (for_rule rule at) script lines o = IsRuleOutcome files c rule at script o
+IsAimOutcome files c for_lines (Some script) lines o =
+    (told : Turn) × IsTold files c 1 (lines script) (nothing_held c.window.hours) told × (o ≡ outcome told.text (ended_by told.refused))
+IsAimOutcome files c (for_rule rule at) (Some script) lines o =
+    (told : Turn) × IsTold files c 1 (lines_of script) (nothing_held c.window.hours) told
+    × ((text : List ℕ) × AreFound c told.store (place_of c rule (stamp_in c.window at)) text × (o ≡ outcome text (ended_by told.refused)))
+IsAimOutcome files c _ None lines o = o ≡ outcome [] ended.NoFile
 
 -- the outcome under what the configuration says; a refused one ends the run, and the script has a limit of 4 MiB
 abbrev pub IsConfigOutcome : Files → Aim → List ℕ → Read Settings → (List ℕ → List (List ℕ)) → Outcome → Type 0
@@ -108,36 +88,54 @@ abbrev pub IsFileOutcome : Files → Aim → List ℕ → Option (List ℕ) → 
 IsFileOutcome files aim script None lines o = o ≡ outcome [] ended.NoFile
 IsFileOutcome files aim script (Some bytes) lines o = IsConfigOutcome files aim script (config_of bytes) lines o
 
--- the outcome of a demonstration of so many hours: that of its script over its configuration, both among its own files
-abbrev pub IsDemoOutcome : ℕ → (List ℕ → List (List ℕ)) → Outcome → Type 0
-IsDemoOutcome hours lines o =
-    IsFileOutcome (demo_files hours) for_lines script_name (limited (2 ^ 20) (demo_files hours config_name)) lines o
-
--- the outcome of what the words ask for, where these lines are taken of a script
+-- the outcome of what the words ask for, where these lines are taken of a script: a configuration has a limit of 1 MiB and one file of 32 MiB, and a demonstration is its script over its configuration, both among its own files
 unfoldable pub IsAnswer : Option Asked → Files → (List ℕ → List (List ℕ)) → Outcome → Type 0
 IsAnswer None files lines o = o ≡ outcome usage_text ended.Usage
 IsAnswer (Some (for_run config script)) files lines o = IsFileOutcome files for_lines script (limited (2 ^ 20) (files config)) lines o
 IsAnswer (Some (for_pairs config script rule at)) files lines o = IsFileOutcome files (for_rule rule at) script (limited (2 ^ 20) (files config)) lines o
-IsAnswer (Some (for_count file signal day hour)) files lines o = o ≡ file_outcome Count (hour_asked file signal day hour) (files file)
-IsAnswer (Some (for_pack file signal day hour)) files lines o = o ≡ file_outcome Pack (hour_asked file signal day hour) (files file)
-IsAnswer (Some (for_demo hours)) files lines o = IsDemoOutcome hours lines o
+IsAnswer (Some (for_count file signal day hour)) files lines o = o ≡ file_outcome Count (wanted_by signal day hour) (limited (32 * 2 ^ 20) (files file))
+IsAnswer (Some (for_pack file signal day hour)) files lines o = o ≡ file_outcome Pack (wanted_by signal day hour) (limited (32 * 2 ^ 20) (files file))
+IsAnswer (Some (for_demo hours)) files lines o = IsFileOutcome (demo_files hours) for_lines script_name (limited (2 ^ 20) (demo_files hours config_name)) lines o
 
 -- these bytes and this end are the transcript of the words and the files
 abbrev pub IsTranscript : List (List ℕ) → Files → List ℕ → Ended → Type 0
 IsTranscript words files bytes ended = IsAnswer (asked_of words) files lines_of (outcome bytes ended)
 
--- the first k lines of a script
-abbrev pub first_lines : ℕ → List ℕ → List (List ℕ)
-first_lines k script = take k (lines_of script)
-
 -- these bytes are what the transcript begins with: they are the transcript where a script ends after its first k lines
 abbrev pub IsBeginning : ℕ → List (List ℕ) → Files → List ℕ → Type 0
-IsBeginning k words files bytes = (ended : Ended) × IsAnswer (asked_of words) files (first_lines k) (outcome bytes ended)
+IsBeginning k words files bytes = (ended : Ended) × IsAnswer (asked_of words) files (λ script. take k (lines_of script)) (outcome bytes ended)
 
 -- the words ask for what a rule leaves undecided, of which the pairs that are printed aren't fixed
 abbrev pub asks_pairs : Option Asked → Bool
 asks_pairs (Some (for_pairs config script rule at)) = true
 asks_pairs _ = false
+
+-- ---- For contracts alone
+
+-- the first k lines of a script
+abbrev pub first_lines : ℕ → List ℕ → List (List ℕ)
+first_lines k script = take k (lines_of script)
+
+-- the window of the hour whose rows are wanted
+abbrev pub window_of : Wanted → Span
+window_of w = w.window
+
+-- the outcome for the bytes of a file, by what is asked of it
+abbrev pub outcome_of : Task → Wanted → List ℕ → Outcome
+outcome_of task w bytes = file_outcome task w (Some bytes)
+
+-- the outcome of a script's lines: their texts, and whether one was refused
+abbrev pub told_outcome : Turn → Outcome
+told_outcome told = outcome told.text (ended_by told.refused)
+
+-- the outcome of a script, of which these lines are taken over a store that holds and blanks nothing
+abbrev pub IsScriptOutcome : Files → Settings → Option (List ℕ) → (List ℕ → List (List ℕ)) → Outcome → Type 0
+IsScriptOutcome files c script lines o = IsAimOutcome files c for_lines script lines o
+
+-- the outcome of a demonstration of so many hours: that of its script over its configuration, both among its own files
+abbrev pub IsDemoOutcome : ℕ → (List ℕ → List (List ℕ)) → Outcome → Type 0
+IsDemoOutcome hours lines o =
+    IsFileOutcome (demo_files hours) for_lines script_name (limited (2 ^ 20) (demo_files hours config_name)) lines o
 
 -- the words, unless they ask for pairs, and the files have one transcript
 abbrev pub HaveOneTranscript : Type 0

@@ -21,10 +21,12 @@ passes s = record { text = []; store = s; refused = false }
 abbrev pub refuses : Settings → ℕ → Refusal → Store → Turn
 refuses c n refusal s = record { text = refusal_text c.window (Some n) refusal; store = s; refused = true }
 
--- the turn of a line whose file is refused
-abbrev pub refuses_file : Settings → ℕ → Unread → Store → Turn
-refuses_file c n e s = record { text = unread_text c.window (Some n) e; store = s; refused = true }
-
 -- the turn of a line that writes a text and changes nothing
 abbrev pub writes : List ℕ → Store → Turn
 writes text s = record { text = text; store = s; refused = false }
+
+-- ---- For contracts alone
+
+-- the turn of a line whose file is refused
+abbrev pub refuses_file : Settings → ℕ → Unread → Store → Turn
+refuses_file c n e s = record { text = unread_text c.window (Some n) e; store = s; refused = true }

@@ -6,7 +6,7 @@ ghost use Rattle.row_reader.specs.Repeats.{HasNoRepeat};
 ghost use Rattle.row_reader.specs.Signal.{is_signal};
 ghost use Rattle.sigaudit.specs.Status.{status_of_run};
 ghost use Rattle.sigaudit.specs.Request.{plain_asked};
-ghost use Rattle.sigaudit.specs.Transcript.{file_outcome, outcome, outcome_of, pack_outcome, window_of};
+ghost use Rattle.sigaudit.specs.Transcript.{file_outcome, limited, outcome, outcome_of, pack_outcome, window_of};
 ghost use Rattle.sigaudit.specs.Run.{world, RunsAs, FileCause, NeverFall, PutsOutcome};
 ghost use Rattle.report_text.specs.Counts.{count_text};
 ghost use Rattle.report_text.specs.Packed.{packed_text};
@@ -179,7 +179,7 @@ pub fn put_file<L, S: Shelf, K: Sink>(
     requires signal { is_signal asked.now.signal.now ≡ true }
     ensures told { IfSome (S.files shelf.old) (λ files. RunsAs
         (λ lines o. o ≡ file_outcome asked.now.task (plain_asked asked.now)
-        (files asked.now.file.now)) (world (S.counts shelf.old) (K.taken sink.old))
+        (limited 33554432 (files asked.now.file.now))) (world (S.counts shelf.old) (K.taken sink.old))
         (world (S.counts shelf.new) (K.taken sink.new)) (status_of_run result)) }
     ensures cause { FileCause (world (S.counts shelf.old) (K.taken sink.old))
         (world (S.counts shelf.new) (K.taken sink.new)) (status_of_run result) }

@@ -1,5 +1,5 @@
 -- A configuration that is read is sound, and its window has 1 to 744 hours.
-use Rattle.std.proofs.Common.{◌≡◌, ℕ, ℤ, pos, ◌≤◌, Bool, true, false, if◌then◌else◌, List, Option, Some, None, Ok, subst}
+use Rattle.std.proofs.Common.{◌≡◌, ℕ, ℤ, pos, ◌≤◌, Bool, true, false, if◌then◌else◌, List, Option, Some, None, Ok, subst, sym, ◌∙◌}
 use Rattle.std.specs.Prelude.{int_le}
 use Rattle.toml.specs.Data.{Data, Members}
 use Rattle.sig_base.specs.Window.{Span}
@@ -12,6 +12,7 @@ use Rattle.ring_config.specs.Values.{last_day, whole, window_from}
 use Rattle.ring_config.specs.declared.error.KeyName.TheVariants as keys
 use Rattle.ring_config.proofs.DoLaws.{and_then_is, bound, ok_is, required_means, whole_between}
 use Rattle.ring_config.proofs.SoundLaws.{parts_are}
+use Rattle.ring_config.proofs.StagedLaws.{config_stages}
 
 some_is : {X : Type 0} (P : X → Type 0) (x y : X) → Some x ≡ Some y → P x → P y
 some_is P x y e p = let same : x ≡ y = cc in subst P same p
@@ -57,9 +58,8 @@ pub record IsReadable (c : Settings) : Type 0 where
   pub few : c.window.hours ≤ 744
 
 at_members : (ms : Members) (c : Settings) → config_at ms ≡ Ok c → IsReadable c
-unfolding config_at
 at_members ms c h =
-    let a = bound (parts_of (document ms)) (λ p. Ok (settings_of p.top p.layout p.details)) c h in
+    let a = bound (parts_of (document ms)) (λ p. Ok (settings_of p.top p.layout p.details)) c (sym (config_stages ms) ∙ h) in
     let hours = parts_hours (document ms) a.0 a.1 in
     ok_is IsReadable (settings_of a.0.top a.0.layout a.0.details) c a.2 (record { sound = (parts_are (document ms) a.0 a.1).sound; some = hours.0; few = hours.1 })
 

@@ -38,7 +38,7 @@ use Rattle.script_lines.specs.Lines.{lines_of}
 use Rattle.script_lines.specs.Words.{Said, said}
 use Rattle.script_lines.specs.Words as line
 use Rattle.sigaudit.specs.Aims.{for_lines}
-use Rattle.sigaudit.specs.Asked.{asked_of, hour_asked}
+use Rattle.sigaudit.specs.Asked.{asked_of}
 use Rattle.sigaudit.specs.Audit.{AreFailing, AreVerdicts, IsAudited, failing_of}
 use Rattle.sigaudit.specs.declared.file.Task.TheVariants.{Count, Pack}
 use Rattle.sigaudit.specs.declared.hour_file.Unread.{Unread}
@@ -47,7 +47,7 @@ use Rattle.sigaudit.specs.HourFile.{hour_said, of_packed, of_records}
 use Rattle.sigaudit.specs.Offsets.{advance_of, offsets_turn}
 use Rattle.sigaudit.specs.Points.{points_turn}
 use Rattle.sigaudit.specs.Script.{IsEdited, IsFetched, IsMade, IsMeasured, IsMeasuredOf, IsRead, IsTold, IsTurn, Told, accepts, followed, hour_bytes, hour_file, nothing_told, wanted_for}
-use Rattle.sigaudit.specs.Transcript.{BeginsWithFirstLines, IsAnswer, IsConfigOutcome, IsFileOutcome, IsScriptOutcome, Outcome, asks_pairs, file_outcome, limited, outcome, told_outcome}
+use Rattle.sigaudit.specs.Transcript.{BeginsWithFirstLines, IsAnswer, IsConfigOutcome, IsFileOutcome, IsScriptOutcome, Outcome, asks_pairs, file_outcome, limited, outcome, told_outcome, wanted_by}
 use Rattle.sigaudit.specs.Turns.{Turn, passes, refuses, refuses_file, writes}
 use Rattle.transcript_laws.specs.Exists.{PrefixesAreOfTranscripts, NotNone, TranscriptsExist}
 use Rattle.transcript_laws.proofs.Chance.{some, then as after, with}
@@ -221,8 +221,8 @@ unfolding IsAnswer
 answer_exists None files lines e = some (outcome usage_text ended.Usage, refl)
 answer_exists (Some (for_run config script)) files lines e = config_file_exists files script (limited 1048576 (files config)) lines
 answer_exists (Some (for_pairs config script rule at)) files lines e = absurd (cc)
-answer_exists (Some (for_count file signal day hour)) files lines e = some (file_outcome Count (hour_asked file signal day hour) (files file), refl)
-answer_exists (Some (for_pack file signal day hour)) files lines e = some (file_outcome Pack (hour_asked file signal day hour) (files file), refl)
+answer_exists (Some (for_count file signal day hour)) files lines e = some (file_outcome Count (wanted_by signal day hour) (limited 33554432 (files file)), refl)
+answer_exists (Some (for_pack file signal day hour)) files lines e = some (file_outcome Pack (wanted_by signal day hour) (limited 33554432 (files file)), refl)
 answer_exists (Some (for_demo hours)) files lines e = config_file_exists (demo_files hours) script_name (limited 1048576 (demo_files hours config_name)) lines
 
 -- it can't be that there is no transcript

@@ -76,6 +76,17 @@ def bound_in(lines):
     return found
 
 
+def case_of(lines, word):
+    """Of a definition by cases the lines of the one with this word: its first line and those set in below it."""
+    found, is_in = [], False
+    for line in lines:
+        if not line[0].isspace():
+            is_in = bool(re.search(r"\b%s\b" % word, line))
+        if is_in:
+            found.append(line)
+    return found
+
+
 def is_plain_record(each):
     """A record of values alone, without arguments: it says nothing, and what cites it needs its fields."""
     is_record = re.match(r"pub record %s : Type 0 where" % NAME, each.lines[0])
@@ -119,7 +130,7 @@ class Believed:
         return found
 
     def under_cases(self, roots, cases):
-        """All definitions that these lead to. Of those that `cases` names by key, the lines with its word alone count:
+        """All definitions that these lead to. Of those that `cases` names by key, the case with its word alone counts:
         these are functions by what the words ask for."""
         reached, wanted = set(), [self.by_key[key] for key in roots]
         while wanted:
@@ -128,7 +139,7 @@ class Believed:
                 continue
             reached.add(each)
             word = cases.get(key_of(each))
-            lines = None if word is None else [line for line in each.lines if re.search(r"\b%s\b" % word, line)]
+            lines = None if word is None else case_of(each.lines, word)
             wanted += [other for other in self.cited_by(each, lines) if isinstance(other, Definition)]
         return reached
 

@@ -8,25 +8,30 @@ what these scores are worth together by telling gaps that it cuts into the log i
 1. Channels. The phases of a ring are one channel, since they follow one another; a pedestrian signal, an overlap, a
    detector, a preempt, the coordination, the calls of a phase are one each, and every other code is one by itself.
 2. A channel's score. Its last row before the gap is x, the first after it y. Without a hole, the row after an x that
-   hadn't come up to the gap was y and came when it did: the share of it is counted among the log's own times from an
-   x to the next row, most of all those at this time of day. With a hole, y is the first row of a channel that goes on
+   hadn't come up to the gap was y and came when it did: the share of it is counted among the log's own times from an x
+   to the next row, most of all those at this time of day. With a hole, y is the first row of a channel that goes on
    unseen: counted are the times before a y that last longer than the silence behind the gap. The second share over the
    first is a likelihood ratio of renewal processes with marks, by empirical distributions (D. R. Cox and P. A. W.
    Lewis, The Statistical Analysis of Series of Events, 1966). The gap's own time is left out of what it is compared
    with. If x and y are odd together, the hole may be in any gap between them: so each has its part of the ratio, by
    their number. And a hole that took no row of a channel leaves x and y as they are: so the ratio counts by the chance
    that the next row would have come within the gap, as it seldom does on a button in ten seconds; and the score is the
-   logarithm of 1 and that part together, so that a channel that goes on as ever says nothing. Lengths of yellow, least
-   greens, walks, and that a detector goes on and off in turns come out of the counts; none stands here as a rule.
-3. What scores are worth together. Channels depend on one another, so their scores don't just add. CUTS stretches are
-   cut out of the log at random places with lengths from SHORTEST to LONGEST, of those that leave no contradiction
-   (the others are found without a model), and a logistic regression over the numbers of `vector` tells the gaps that
-   so come from the log's own, but those where the log contradicts itself. These may hide holes too: the regression is
-   fitted again without those that look like cuts (the case of learning from positive and unlabelled examples: C. Elkan
-   and K. Noto, Learning Classifiers from Only Positive and Unlabeled Data, 2008). What speaks for a hole never counts
-   against one: without that bound a gap in which all channels are odder than in any cut could be told from a hole.
-   Where the log contradicts itself, all is learned again with these holes known, since what follows a row over a hole
-   isn't usual, and gaps beside it look odd.
+   logarithm of 1 and that part together, so that a channel that goes on as ever says nothing. A time longer than all
+   that were seen is as rare as one row in those around, and no rarer: quiet nights have some. It is judged alike
+   without a hole and behind one, by a tail from the mean of those around on. Lengths of yellow, least greens, walks,
+   and that a detector goes on and off in turns come out of the counts; none stands here as a rule.
+3. What scores are worth together. Channels depend on one another, so their scores don't just add. Rows of one tenth
+   have one cause, as a vehicle on its loop and its call, or both rings at the barrier: of channels whose last rows
+   before the gap stand in one tenth, or whose first ones after it, that which fits worst counts alone. CUTS stretches
+   are cut out of the log at random places with lengths from SHORTEST to LONGEST, of those that leave no contradiction
+   (the others are found without a model), and a logistic regression over the numbers of `vector` tells the gaps that so
+   come from the log's own, but those where the log contradicts itself. These may hide holes too: the regression is
+   fitted again without those that would be blanked, and no others, since what is left out has nothing against it any
+   more (the case of learning from positive and unlabelled examples: C. Elkan and K. Noto, Learning Classifiers
+   from Only Positive and Unlabeled Data, 2008). What speaks for a hole never counts against one: without that bound a
+   gap in which all channels are odder than in any cut could be told from a hole. Where the log contradicts itself, all
+   is learned again with these holes known, since what follows a row over a hole isn't usual, and gaps beside it look
+   odd.
 4. Best first. The likeliest gap is taken as a hole, and rows on both sides of it count together no longer; so it
    explains its neighbours away. Then the next.
 5. Other cuts, which the regression hasn't seen, tell which outages are found in this log, and which aren't.
@@ -54,8 +59,9 @@ ENOUGH_GAPS = 200     # gaps around a time of day, to rank a silence among them
 CUTS = 500            # for learning: 25 and more for each number of a vector
 SHORTEST, LONGEST = 50, 18000   # tenths: their lengths, five seconds to half an hour
 FAR = 30000           # no channel's ratio is more: a day has some 30,000 tenths with rows, and shows nothing rarer
+NOTHING = 0.01        # a channel's score that isn't told: one in a hundred likelier
 FULL = 40.0           # no number of a vector is more: what ten channels say that fit worst is enough
-ROUNDS = 4            # of learning without the gaps that look like cuts
+ROUNDS = 4            # of learning without the gaps that would be blanked
 RIDGE = 0.01          # of the regression: before the log is seen, a number of spread 1 is held to weigh some 10 or less.
                       # Of cuts of 5 to 15 s by day, fresh ones in seven logs of four signals, 69, 70 and 71 in 100 are
                       # found with 1, 0.1 and 0.01, and of longer ones no fewer; the log's own stand out as seldom
@@ -142,15 +148,16 @@ class Channel:
         return next((w for w in WIDTHS if sum(counts[b] for b in around(place, w)) >= least), WIDTHS[-1])
 
     def table(self, x, y, place):
-        """What a score counts in: the times after x and from x to y, of the whole day and around; those before y."""
+        """What a score counts in: the times after x and from x to y, of the whole day and around; those before y; and
+        the sums of those around."""
         found = self.tables.get((x, y, place))
         if found is None:
             after, before = self.width("after", x, place), self.width("before", y, place)
+            near_x, near_y = self.times("after", x, place, after), self.times("before", y, place, before)
             found = self.tables[x, y, place] = (
                 self.times("after", x, place, WIDTHS[-1]), self.times("pair", (x, y), place, WIDTHS[-1]),
-                self.times("after", x, place, after), self.times("pair", (x, y), place, after), after,
-                self.times("before", y, place, before), sum(self.known_of_bin[b] for b in around(place, before)) or 1,
-                before)
+                near_x, self.times("pair", (x, y), place, after), after, sum(near_x),
+                near_y, sum(self.known_of_bin[b] for b in around(place, before)) or 1, before, sum(near_y))
         return found
 
     def sides(self, begin, end):
@@ -169,22 +176,26 @@ class Channel:
         if holes and self.across(holes, before, after, (begin, end)):
             return 0.0
         place = bin_of(begin)
-        all_x, all_xy, near_x, near_xy, width_x, near_y, known, width_y = (
+        all_x, all_xy, near_x, near_xy, width_x, sum_x, near_y, known, width_y, sum_y = (
             self.tables.get((x, y, place)) or self.table(x, y, place))
         own = self.counted[i] if j == i + 1 else 0    # in a cut the rows between are there yet
         own_x = 1 if own and distance(bin_of(before), place) <= width_x else 0
         own_y = 1 if own and distance(bin_of(after), place) <= width_y else 0
         time, age, silence = after - before, begin - before, after - end
-        spans = spans_around(time, age)
-        # Without a hole. Times that never came have a heavy tail: 1 in 20 rows does what none did before.
-        tail = (1.0 if len(all_xy) > own else 0.05) * (age + 10.0) / (time + 10.0) ** 2
+        spans, seen = spans_around(time, age), len(all_xy) > own
+        mean_x = 10 + (sum_x - own_x * time) / max(1, len(near_x) - own_x)
+        mean_y = 10 + (sum_y - own_y * time) / max(1, len(near_y) - own_y)
+        # Without a hole. A time that none had is one row's more, of those around as of all, with a tail from the mean
+        # on that never ends; and 1 in 20 such rows is another than all before.
+        tail = (age + mean_x) / (time + mean_x) ** 2
         alive, alive_near = longer(all_x, age, own) + 1, longer(near_x, age, own_x) + 4
-        share = (density(all_xy, spans, own) + tail) / alive
-        share = (density(near_xy, spans, own_x) + 4 * share) / alive_near
-        # With one that took a row, as it does where the next row would have come before the gap's end.
+        share = (density(all_xy, spans, own) + (tail if seen else 0.05 * tail)) / alive
+        share = (density(near_xy, spans, own_x) + (tail if seen else 0) + 4 * share) / (alive_near + seen)
+        # With one that took a row, as it does where the next row would have come before the gap's end. What is silent
+        # behind it for longer than all have been has the same tail.
         spared = (longer(all_x, end - before, own) + 0.5) / alive
         spared = (longer(near_x, end - before, own_x) + 4 * spared) / alive_near
-        fresh = (1 - spared) * (longer(near_y, silence, own_y) + 0.5) / known
+        fresh = (1 - spared) * (longer(near_y, silence, own_y) + 0.5 * mean_y / (silence + mean_y)) / known
         left = bisect.bisect_left
         others = left(begins, begin) - left(begins, before) + left(begins, after) - left(begins, end)
         return math.log1p(min(FAR, fresh / share) / (1 + others))
@@ -197,7 +208,7 @@ class Channel:
         i, j = sides
         names = {number: shown(mark) for mark, number in self.numbers.items()}
         x, y, time = self.marks[i], self.marks[j], self.tenths[j] - self.tenths[i]
-        _, _, after, pair, _, _, _, _ = self.table(x, y, bin_of(begin))
+        _, _, after, pair, *_ = self.table(x, y, bin_of(begin))
         own = 1 if j == i + 1 and time in after else 0
         told = "%s at %s then %s after %.1f s" % (names[x], logs.show(self.tenths[i]), names[y], time / 10)
         if len(after) <= own:
@@ -331,16 +342,29 @@ class Gaps:
     def scores(self, begin, end):
         return {group: channel.score(begin, end, self.holes, self.begins) for group, channel in self.channels.items()}
 
+    def apart(self, begin, end):
+        """The channels that say something, with their scores, the worst first; of those whose last rows stand in one
+        tenth, or whose next ones do, the first alone."""
+        told, seen = [(score, group) for group, score in self.scores(begin, end).items() if score > NOTHING], set()
+        for score, group in sorted(told, key=lambda entry: (-entry[0], entry[1])):
+            channel = self.channels[group]
+            i, j = channel.sides(begin, end)
+            sides = {channel.tenths[i], channel.tenths[j]}
+            if not sides & seen:
+                seen |= sides
+                yield group, score
+
     def vector(self, gap):
         """What the regression is told of a gap: RISING numbers that speak for a hole; then how long it is and how busy
         the signal, and products where one bends with another."""
         begin, end = gap
         sums = dict.fromkeys(SUMMED, 0.0)
-        each = self.scores(begin, end)
-        for group, score in each.items():
+        worst = []
+        for group, score in self.apart(begin, end):
             kind = "ring" if group[0] == "phase" else group[0]
             sums[kind if kind in sums else "other"] += score
-        worst = sorted(each.values(), reverse=True) + [0.0] * 3
+            worst.append(score)
+        worst += [0.0] * 3
         silent, length = self.silent(begin, end), math.log(end - begin)
         odd = min(FULL, sum(score - 3 for score in worst if score > 3))    # those that fit 20 times worse and more
         busy = self.busy(begin, end, logs.HOUR // 2)
@@ -367,8 +391,8 @@ class Gaps:
         return (*gap, length) if gap[1] - gap[0] >= self.least and not overlaps(gap, self.known) else None
 
     def learn(self, jobs=1):
-        """The weights: the log's own gaps against cuts, again without those of its own that look like cuts. False where
-        nearly all cuts contradict, so that there is nothing to learn."""
+        """The weights: the log's own gaps against cuts, again without those that would be blanked. False where nearly
+        all cuts contradict, so that there is nothing to learn."""
         rng = random.Random(1)
         draws = (self.draw(rng, SHORTEST, LONGEST) for _ in range(CUTS * 20))
         cuts = [cut for _, cut in zip(range(CUTS), (draw for draw in draws if draw and not self.contradicts(draw[:2])))]
@@ -377,11 +401,12 @@ class Gaps:
         made = [self.vector(cut[:2]) for cut in cuts]
         self.vectors = dict(zip(self.own, spread(self.vector, self.own, jobs)))
         step = max(1, len(self.examples) // 4000)
-        own = [self.vectors[gap] for gap in self.examples[::step]]
+        own = [(gap, self.vectors[gap]) for gap in self.examples[::step]]
         self.base = math.log(len(made) / self.days)
-        self.weights, kept = fits.regression(own, made, step, RIDGE, rising=RISING), own
+        kept = [vector for _, vector in own]
+        self.weights = fits.regression(kept, made, step, RIDGE, rising=RISING)
         for _ in range(ROUNDS):
-            before, kept = len(kept), [vector for vector in own if self.odds(vector) < 2 - self.base]
+            before, kept = len(kept), [vector for gap, vector in own if self.score(*gap, vector) < LIKELY]
             if len(kept) == before:
                 break
             self.weights = fits.regression(kept, made, step, RIDGE, self.weights, RISING)

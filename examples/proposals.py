@@ -18,6 +18,9 @@ EDGE = 9.0      # a silence at the log's begin or end is a hole where one in 8,0
 # A contradiction's hole is put over the likeliest gaps that have so much of the odds together. In the wrong gap it makes
 # false lines: with 0.95 three in eighteen days, with 0.99 none in 36, for a quarter more of blanked seconds.
 SHARE = 0.99
+# Where so many phases and more begin anew in one tenth, over a gap shorter than LEAST, which has no room for a yellow
+# and a red, the controller jumped, as at a restart.
+JUMPING, BEGINS = 2, (0, 1)
 BEFORE, BEHIND = 8, 8    # rows of a channel that tell its colour, and show whether it goes on from there: two services
 # So many contradictions by one code of a kind, and of so large a share of its rows, are the controller's way, no holes.
 MISFIT_LEAST, MISFIT_SHARE = 10, 0.05
@@ -287,6 +290,10 @@ def settle(log, config, found, model):
                 begin, end = span_of(low, high, tenths, blanks, model)
                 taken.append((begin, end))
                 why = "%s code %d at %s after %s" % (name_of(channel), code, logs.show(high), logs.show(low))
+                jumped = {entry[3] for entry in wrong
+                          if entry[2] == high and entry[3][0] == "phase" and entry[4] in BEGINS}
+                if end - begin < gaps.LEAST and len(jumped) >= JUMPING:
+                    why = "jump of %s: %s" % (", ".join(map(name_of, sorted(jumped))), why)
                 found.holes.append(Hole(begin, end, "certain", None, why))
 
 

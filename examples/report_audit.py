@@ -151,8 +151,9 @@ def why(words):
     if because == ["silence"]:
         return "no row of any channel for %s s" % words[1]
     if grade == "certain":
-        row = " ".join(because).split(" after ")[0].replace("T", " ")
-        return "certainly a hole: %s can’t follow the rows before it" % row
+        row = " ".join(because).split(" after ")[0].split(": ")[-1].replace("T", " ")
+        return "%s: %s can’t follow the rows before it" % (
+            "the controller began anew" if because[0] == "jump" else "certainly a hole", row)
     channels = [channel.rsplit(" ", 1)[0] for channel in " ".join(because).split(", ")]
     return "%s a hole: what stands before and after goes badly together (%s)" % (
         {"sure": "surely", "likely": "likely"}[grade], ", ".join(channels))

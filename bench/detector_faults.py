@@ -24,19 +24,24 @@ class Fault:
     def minutes(self):
         return (self.end - self.begin) / 600
 
-    def could_be_seen(self, log, length, a_day):
-        """Whether so long a silence of its channel, from its begin on, comes by chance at most so often a day.
+    def rows(self, log, length):
+        """How many rows its channel usually has in so long, from its begin on, and how many in all.
 
-        By the channel's own rows alone, as if they came independently of one another, at the rate from an hour before
-        the fault to an hour after it in the log without it. A detector that stays on shows at once.
+        At the rate from an hour before the fault to an hour after it in the log without it; of a detector those 82.
         """
-        if self.kind == "stuck-on":
-            return True
         comes = [tenth for tenth, key in zip(log.tenths, log.keys)
                  if key >> 16 in (82, 90, *silences.COORDINATION) and self.concerns(key)]
         low, high = self.begin - logs.HOUR, self.end + logs.HOUR
-        expected = sum(low <= tenth < high for tenth in comes) * length / (high - low)
-        return len(comes) * math.exp(-expected) <= a_day
+        return sum(low <= tenth < high for tenth in comes) * length / (high - low), len(comes)
+
+    def could_be_seen(self, log, length, a_day):
+        """Whether so long a silence of its channel, from its begin on, comes by chance at most so often a day.
+
+        By the channel's own rows alone, as if they came independently of one another. A detector that stays on shows
+        at once.
+        """
+        usual, count = self.rows(log, length)
+        return self.kind == "stuck-on" or count * math.exp(-usual) <= a_day
 
     def concerns(self, key):
         """Whether it takes rows with this code and parameter."""

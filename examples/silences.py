@@ -13,12 +13,14 @@ nothing: at night, and where the whole log is lost, the witnesses stand still to
 
 The witnesses of a channel are three of the other detectors and inputs; where most detectors are of the channel itself,
 of what the controller did. The second best of them counts, so that no fault of one detector accuses another; or the
-one that sees a silence soonest by the whole log, as far as a second bears it out. What is itself silent for a cause of
-its own tells nothing.
+one that sees a silence soonest by the whole log, say another loop of the lane, which is believed to have seen no more
+than the pace of one of the others bears out. What is itself silent for a cause of its own tells nothing.
 
-Some calls come only as the channel goes on: the log has no more silences in which one came unanswered than may be
-faults. So where the rows of a detector are lost and its calls aren't, each adds to the score the logarithm of how often
-such a call came answered, whatever other detectors see. So does each force-off for the coordination.
+Some calls, greens and walks come only as the channel goes on: the log has no more silences in which one came
+unanswered than may be faults, and ten times as many were it left to chance, had each come ten minutes to half an hour
+later. So where the rows of a detector are lost and its calls and services aren't, each adds to the score the logarithm
+of how much rarer than by chance such a one came unanswered, whatever other detectors see. So does each force-off for
+the coordination.
 
 The score of a silence is the decimal logarithm of the days that this signal would have to run until chance alone made
 such a one on any of its channels: 1 is ten days, 3 a thousand. What chance may do is shared out alike among the kinds
@@ -26,7 +28,8 @@ of channels, one detector, several, one input, several, the coordination, and th
 together fail no more rarely than a detector, and are one channel beside many.
 
 A detector chatters where in a minute, or in ten as a share of all, it goes on far more often than in the fullest
-minutes of other hours, or far more often within half a second of going off.
+minutes of other hours, or far more often within half a second of going off. Hours are left out of what is usual only
+where each of them is told by the others.
 """
 import array
 import bisect
@@ -44,6 +47,7 @@ WIDTH = 2 * logs.HOUR    # what is usual at a time is what is so from two hours 
 FEW = 20             # rows: with fewer in that time it is looked for in twice as long
 END = "end"          # where a stretch of the log ends
 BOTH = "on and off"  # with one stamp
+EVERY = "every"      # mark of a row
 MEASURED = 3         # times as many silences as the tail holds are measured
 MOST = 20            # natural logarithm: so much more than usual is never seen
 ENOUGH = 60          # silences: with fewer, a tail of twenty would be more than a third of all
@@ -53,9 +57,13 @@ CERTAINTY = 40       # silences: that a tail is geometric is no surer than so ma
 INPUTS = ("detector", "detectors", "ped_detector", "ped_detectors")
 CONTROLLER = ("call", "ped_call", "ped_calls", "green", "greens", "walk")
 WITNESSES = 3        # of a channel: where one of three is faulty, there is still one and a second
-CALLS = ("call", "ped_call", "ped_calls")
+ANSWERED = ("call", "ped_call", "ped_calls", "green", "walk")
+CAUSE = 10           # times as many would be unanswered by chance: a call that is worth less has other causes beside
+LATER = 6000, 18000  # tenths: what chance answers is tried so much later, at the same time of day all the same
+STRIDE = 7417        # tenths: the delay from one to the next grows by it in this span, so that no cycle is kept
+SAMPLE = 200         # calls of a log, or up to twice as many: by so many it is tried
 GRADES = (("sure", 3.0), ("likely", 1.0), ("weak", 0.5))
-SPARE = 1.5          # of the score: what a silence may lack and still belong to a common one, or bear a witness out
+SPARE = 1.5          # of the score: what a silence may lack and still belong to a common one
 COMMON = 0.5         # of their time: what two silences share that are told as one
 STEP = 600           # tenths: the mesh of time in which witnesses are chosen and chances told
 PATIENCE = 240       # steps: a silence that isn't seen by then isn't seen
@@ -71,7 +79,7 @@ MINUTE = 600
 TOO_MANY = 60        # actuations in a minute: vehicles that follow one another take 1.5 s or more each
 BOUNCE = 5           # tenths: vehicles don't follow one another that closely over one loop
 AROUND = 50          # actuations, added to those of the others, so that a share by night isn't one of five
-FAULTY_HOURS = 4     # a day: so many may be faulty, and tell nothing of the fullest minutes
+FAULTY_HOURS = 4     # a day: so many may be faulty, and the fullest of twice as many others tell what is usual
 APART = 1200         # tenths: chatter goes on over pauses of two minutes
 
 
@@ -278,7 +286,8 @@ class Watch:
         self.mesh = array.array("q", (tenth for begin, end in self.spans for tenth in range(begin, end, STEP)))
         self.columns = [array.array("l", (bisect.bisect_left(moments, tenth) for tenth in self.mesh))
                         for moments in self.moments]
-        self.channels, self.tracks, self.answers, self.learned, self.silences, self.open = [], [], [], {}, [], []
+        self.channels, self.tracks, self.answers, self.moved = [], [], [], {}
+        self.learned, self.silences, self.open = {}, [], []
         self.dark = {witness: self.flashes[:] for witness, (kind, _) in enumerate(self.witnesses) if kind not in INPUTS}
         present = {channel_of(key >> 16, key & 65535) for key in set(log.keys)} - {None}
         self.add(sorted(present) + list(groups))
@@ -359,7 +368,7 @@ class Watch:
         for mark, spans in counted.items():
             if len(spans) >= ENOUGH:
                 self.learned[which, mark] = self.usual(which, spans)
-            elif channel[0] == "coordination" and len(together) >= ENOUGH and self.answers[which]:
+            elif channel[0] == "coordination" and len(together) >= ENOUGH and any(self.answers[which].values()):
                 self.learned[which, mark] = Usual(len(self.witnesses), len(together), self.days)
 
     def usual(self, which, spans):
@@ -416,43 +425,72 @@ class Watch:
         return chosen
 
     def all_answers(self, which):
-        """The calls that answer a channel, or the force-offs, with what each adds to a score that comes unanswered.
+        """By mark what the channel answers: of a call, green or walk what it adds to a score where it comes unanswered
+        after such a row, and how many of a silence a row before it may have answered.
 
-        A call is answered where the channel goes on within half a second before it, a force-off where the coordination
-        has had a row since the one before. All but so few are as may be faults.
+        One is answered where the channel goes on within half a second before it, or is on, as it can't be after going
+        off; else where the channel has had a row since the one before, but for a loop that may just stay on. So is a
+        force-off by the coordination.
         """
         track, coordination = self.tracks[which], self.channels[which][0] == "coordination"
         goes_on = [tenth for tenth, mark in zip(track.tenths, track.marks) if mark not in (None, END, "off")]
-        most, found = max(1, round(FAULTS * self.days)), {}
+        marks = [EVERY] if coordination else sorted(set(track.marks) - {None, END}, key=str)
+        found = {mark: {} for mark in marks}
         for witness, (kind, _) in enumerate(self.witnesses):
-            moments = self.moments[witness]
-            if kind in (("force_off",) if coordination else CALLS) and len(moments) >= ENOUGH:
-                since = itertools.chain(moments[:1], moments) if coordination else (at - BOUNCE for at in moments)
-                alone = self.alone(goes_on, zip(since, moments), most)
-                if alone <= most:
-                    found[witness] = math.log10((len(moments) + 1) / (alone + 1))
-        return found
+            if kind in (("force_off",) if coordination else ANSWERED) and len(self.moments[witness]) >= ENOUGH:
+                for mark in marks:
+                    stays = mark == "on" and len(self.channels[which][1]) == 1
+                    for before in (1,) if coordination else (0,) if stays else (0, 1):
+                        worth = 0 if witness in found[mark] else self.worth(track, goes_on, mark, witness, before)
+                        if worth:
+                            found[mark][witness] = worth, before
+        return {mark: found[EVERY] for mark in set(track.marks)} if coordination else found
+
+    def worth(self, track, goes_on, mark, witness, before):
+        """What one that comes unanswered adds, or 0: where more do than may be faults, or where chance does as well.
+
+        In quiet hours chance answers few, so it is compared with chance and not with how often one is answered.
+        """
+        most, by_chance = max(1, round(FAULTS * self.days)), len(self.moments[witness])
+        if mark is not EVERY:
+            later = self.later(witness, before)
+            by_chance = min(by_chance, len(set(self.alone(track, goes_on, mark, later))) * by_chance // len(later))
+            most = min(most, by_chance // CAUSE - 1)
+        alone = set()
+        for row in self.alone(track, goes_on, mark, self.asked(witness, before)) if most >= 0 else ():
+            alone.add(row)
+            if len(alone) > most:
+                return 0
+        return math.log10((by_chance + 1) / (len(alone) + 1)) if most >= 0 else 0
+
+    def asked(self, witness, before):
+        """From when to when each has to be answered: within half a second, or since the one before."""
+        moments = self.moments[witness]
+        return itertools.pairwise(moments) if before else ((at - BOUNCE, at) for at in moments)
+
+    def later(self, witness, before):
+        """Some of these, each by another time later."""
+        if (witness, before) not in self.moved:
+            few = itertools.islice(self.asked(witness, before), 0, None, max(1, len(self.moments[witness]) // SAMPLE))
+            self.moved[witness, before] = [
+                (since + shift, at + shift) for number, (since, at) in enumerate(few)
+                for shift in [LATER[0] + number * STRIDE % (LATER[1] - LATER[0])]]
+        return self.moved[witness, before]
 
     @staticmethod
-    def alone(goes_on, moments, most):
-        """In how many silences there is a moment without a row since; it is counted up to one more than most."""
-        found = set()
-        for since, tenth in moments:
-            row = bisect.bisect_right(goes_on, tenth)
+    def alone(track, goes_on, mark, spans):
+        """The silences after such a row in which the channel hasn't gone on from one tenth to another."""
+        for since, at in spans:
+            row = bisect.bisect_right(goes_on, at)
             if row == 0 or goes_on[row - 1] < since:
-                found.add(row)
-                if len(found) > most:
-                    break
-        return len(found)
+                last = bisect.bisect_right(track.tenths, at)
+                if mark is EVERY or last and track.marks[last - 1] == mark:
+                    yield last
 
-    def unanswered(self, which, begin, until):
-        """What the answers add that come in a silence: the most that one of them does.
-
-        The first force-off has had a row since the one before.
-        """
-        first = self.channels[which][0] == "coordination"
-        return max((worth * max(0, self.seen(witness, begin + BOUNCE, until) - first)
-                    for witness, worth in self.answers[which].items()), default=0)
+    def unanswered(self, which, mark, begin, until):
+        """What the answers add that come in a silence: the most that one of them does."""
+        return max((worth * max(0, self.seen(witness, begin + BOUNCE, until) - before)
+                    for witness, (worth, before) in self.answers[which].get(mark, {}).items()), default=0)
 
     def others(self, channel):
         """Which witnesses can tell of a channel: other detectors and inputs; where most are its own, the controller."""
@@ -500,20 +538,26 @@ class Watch:
     def score(self, which, mark, span, until, counted, answers=True):
         """The score of a silence up to a tenth, and the witness that counts; counted where it is one of the usual.
 
-        It is the second best of its witnesses, or the best where that is the one chosen first, as far as the second
-        bears it out, and what answers add.
+        It is the second best of its witnesses, or that of the one chosen first, which is believed to have seen no more
+        than another bears out; and what answers add.
         """
         usual = self.learned.get((which, mark))
         if usual is None:
             return -math.inf, None
         score, counts = self.score_of(usual, math.log(usual.count + 1)), None
-        ranked = sorted(((self.score_of(usual, self.expected(which, usual, witness, span, until, counted)), witness)
+        amounts = {witness: self.amount(which, witness, span, until) for witness in usual.chosen}
+        ranked = sorted(((self.score_seen(usual, witness, amounts, amounts[witness], counted), witness)
                          for witness in usual.chosen), reverse=True)
         if len(ranked) > 1:
-            (best, witness), (score, counts) = ranked[:2]
-            if witness == usual.chosen[0]:
-                score, counts = min(best, score + SPARE), witness
-        return score + (self.unanswered(which, span[0], until) if answers else 0), counts
+            score, counts = ranked[1]
+            first, *others = usual.chosen
+            borne_out = max(amounts[other] / self.pace(which, other) for other in others)
+            believed = min(amounts[first], round(borne_out * self.pace(which, first)))
+            score, counts = max((score, counts), (self.score_seen(usual, first, amounts, believed, counted), first))
+        return score + (self.unanswered(which, mark, span[0], until) if answers else 0), counts
+
+    def score_seen(self, usual, witness, amounts, believed, counted):
+        return self.score_of(usual, usual.expected(witness, believed, amounts[witness] if counted else None))
 
     def score_of(self, usual, expected):
         return (math.log(self.days) - expected) / math.log(10) - usual.tests
@@ -561,10 +605,11 @@ class Watch:
     def seen_at(self, silence):
         """The tenth at which a silence had lasted long enough to be likely, to a minute, or None."""
         which = self.channels.index(silence.channel)
-        if (which, silence.mark) not in self.learned:
+        marks = [mark for mark in self.marks(silence) if (which, mark) in self.learned]
+        if not marks:
             return None
         span = self.tracks[which].span(silence.begin, silence.end)
-        return silence.begin + STEP * self.seen_after(which, silence.mark, span, True)
+        return silence.begin + STEP * max(self.seen_after(which, mark, span, True) for mark in marks)
 
     def seen_after(self, which, mark, span, answers):
         """The minutes from a silence's begin until it is likely, with answers or without: a score only grows."""
@@ -574,7 +619,7 @@ class Watch:
 
     def learned_channels(self):
         return {self.channels[which] for (which, _), usual in self.learned.items()
-                if len(usual.chosen) > 1 or self.answers[which]}
+                if len(usual.chosen) > 1 or any(self.answers[which].values())}
 
     def rows_of(self, channel):
         """How many rows a channel has."""
@@ -583,7 +628,7 @@ class Watch:
     def chances(self):
         """By channel and mark, for each hour of the day the minutes that a silence from then on has to last, or None.
 
-        The middle one of four beginnings in each hour of the log at that time of day, if no call comes unanswered.
+        The middle one of four beginnings in each hour of the log at that time of day, if nothing comes unanswered.
         """
         times = {}
         for tenth in self.mesh[::15]:
@@ -603,9 +648,10 @@ class Watch:
         which = self.channels.index(silence.channel)
         span = self.tracks[which].span(silence.begin, silence.end)
         counted = silence.mark is not None and silence.next is not None
-        answers = [(self.witnesses[witness], self.seen(witness, silence.begin + BOUNCE, silence.end), worth)
-                   for witness, worth in self.answers[which].items()]
         for mark in self.marks(silence):
+            answers = [(self.witnesses[witness],
+                        max(0, self.seen(witness, silence.begin + BOUNCE, silence.end) - before), worth)
+                       for witness, (worth, before) in self.answers[which].get(mark, {}).items()]
             usual = self.learned.get((which, mark))
             lines = []
             for witness in (usual.chosen if usual else ()):
@@ -681,18 +727,33 @@ def fullest(counts):
 
 
 def too_many(log, counts, tests, least):
-    """The windows with a count beyond what the fullest of each hour let expect, with their scores."""
-    usual, faulty = Usual(1, len(log.hours), log.days()), FAULTY_HOURS * math.ceil(log.days())
+    """The windows with a count beyond what the fullest of each hour let expect, with their scores.
+
+    Hours tell nothing of what is usual where each of them is beyond what the rest lets expect, and are so few as may be
+    faulty: a hundred rows in one minute do, and two vehicles in a minute don't, as a side street has each day.
+    """
+    most, faulty = sorted(fullest(counts).values(), reverse=True), FAULTY_HOURS * math.ceil(log.days())
     if len(log.hours) < 2 * faulty:
         return
-    usual.faults, usual.top = faulty, 3 * faulty
-    for count in fullest(counts).values():
-        usual.add([(0, count)])
-    for begin, count in counts.items():
-        expected = usual.expected(0, count)
-        score = math.log10(log.days()) - expected / math.log(10) - tests
+    for count in sorted(set(most)):
+        hidden = bisect.bisect_right(most, -count, key=lambda each: -each)
+        if hidden <= faulty:
+            usual = Usual(1, len(log.hours) - hidden, log.days())
+            usual.faults, usual.top = 0, 2 * faulty
+            for each in most[hidden:]:
+                usual.add([(0, each)])
+            if score_of_count(log, usual, count, tests) >= least:
+                break
+    else:
+        return
+    for begin, many in counts.items():
+        score = score_of_count(log, usual, many, tests)
         if score >= least:
             yield begin, score
+
+
+def score_of_count(log, usual, count, tests):
+    return (math.log(log.days()) - usual.expected(0, count)) / math.log(10) - tests
 
 
 def shares(tens, others, beyond):

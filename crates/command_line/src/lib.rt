@@ -248,7 +248,8 @@ fn parse<'a>(alloc: Global, words: &'a [&'a str]) -> Result<ArgMatches<'a>, Refu
 
 // What the options that were given ask for.
 fn asked<'a>(matches: &ArgMatches<'a>) -> Option<Request<'a>>
-    ensures value { option_map seen result ≡ asked_given (given_by (rows_of (found_of matches.now))) }
+    ensures value { option_map seen result
+        ≡ asked_given (given_by (rows_of (found_of matches.now))) }
     ensures readable { IfSome result IsReadable }
 {
     choose(Options {

@@ -1,10 +1,10 @@
 // The last row of each group.
 ghost use Rattle.std.specs.Prelude.{◌≡◌, ◌≤◌, ◌*◌, List, Option, Some, None, length, IfOk, OnOk, OnErr};
-ghost use Rattle.std.specs.BTreeMap.{get};
 ghost use Rattle.event_codes.specs.declared.channels.Group.{Group as Group_type};
 ghost use Rattle.sig_base.specs.declared.values.Row.{Row as Row_type};
 ghost use Rattle.row_reader.specs.Repeats.{group_of_row};
-ghost use Rattle.row_reader.specs.Last.{IsWithAll, IsWithLast, looked_up, pair_cmp};
+ghost use Rattle.row_reader.specs.Last.{IsWithAll, IsWithLast};
+ghost use Rattle.row_reader.specs.Noted.{look_up};
 
 use crate::repeats::group_of_row;
 use event_codes::Group;
@@ -26,7 +26,7 @@ pub(crate) struct Lasts {
 impl Lasts {
     /// No group has a row.
     pub fn none(alloc: Global) -> Lasts
-        ensures { (g : Group_type) → looked_up result.of.items (get pair_cmp result.alone) g ≡ None }
+        ensures { (g : Group_type) → look_up result g ≡ None }
     {
         Lasts {
             of: Vec::new(alloc),
@@ -36,7 +36,7 @@ impl Lasts {
 
     /// The last row of a group.
     pub fn last(&self, group: Group) -> Option<Row>
-        ensures { result ≡ looked_up self.now.of.items (get pair_cmp self.now.alone) group }
+        ensures { result ≡ look_up self.now group }
     {
         match group {
             Group::Of(channel) => match self.of.get(channel.cell()) {
@@ -50,8 +50,7 @@ impl Lasts {
     // Makes the table, where there is none yet.
     fn make_table(&mut self) -> Result<(), NoMemory>
         ensures full { OnOk result (2048 ≤ length self.new.of.items) }
-        ensures same { (g : Group_type) → looked_up self.new.of.items (get pair_cmp self.new.alone) g
-            ≡ looked_up self.old.of.items (get pair_cmp self.old.alone) g }
+        ensures same { (g : Group_type) → look_up self.new g ≡ look_up self.old g }
     {
         if self.of.len() < CELLS {
             self.of.resize(CELLS, None)?;
@@ -63,9 +62,7 @@ impl Lasts {
     fn put(&mut self, group: Group, row: Row) -> Result<(), NoMemory>
         requires full { 2048 ≤ length self.old.of.items }
         requires group { group ≡ group_of_row row }
-        ensures { OnOk result (IsWithLast row
-            (looked_up self.old.of.items (get pair_cmp self.old.alone))
-            (looked_up self.new.of.items (get pair_cmp self.new.alone))) }
+        ensures { OnOk result (IsWithLast row (look_up self.old) (look_up self.new)) }
     {
         match group {
             Group::Of(channel) => self.of[channel.cell()] = Some(row),
@@ -79,9 +76,7 @@ impl Lasts {
     /// Notes that this row is the last one of its group.
     #[inline(never)]
     pub fn note(&mut self, row: Row) -> Result<(), NoMemory>
-        ensures { OnOk result (IsWithLast row
-            (looked_up self.old.of.items (get pair_cmp self.old.alone))
-            (looked_up self.new.of.items (get pair_cmp self.new.alone))) }
+        ensures { OnOk result (IsWithLast row (look_up self.old) (look_up self.new)) }
     {
         self.make_table()?;
         self.put(group_of_row(row), row)
@@ -89,9 +84,7 @@ impl Lasts {
 
     /// Notes these rows, one after another.
     pub fn note_all(&mut self, rows: &[Row]) -> Result<(), NoMemory>
-        ensures { OnOk result (IsWithAll rows.now
-            (looked_up self.old.of.items (get pair_cmp self.old.alone))
-            (looked_up self.new.of.items (get pair_cmp self.new.alone))) }
+        ensures { OnOk result (IsWithAll rows.now (look_up self.old) (look_up self.new)) }
     {
         for row in rows {
             self.note(*row)?;

@@ -24,7 +24,8 @@ pub(crate) struct Noted {
 
 // The last few rows, where all rows of this tenth are among them and no others.
 fn few_rows(kept: &[Row], at: u32) -> Option<&[Row]>
-    ensures { IfSome result (λ run. (n : ℕ) × (run.now ≡ drop n kept.now) × StartsAt at n kept.now) }
+    ensures { IfSome result (λ run. (n : ℕ) × (run.now ≡ drop n kept.now)
+        × StartsAt at n kept.now) }
 {
     if kept.len() < FEW {
         return None;

@@ -41,7 +41,7 @@ service_at known p before r rest =
       y ← s.y
       Some (record { phase = p; b = s.b.at; g = g.at; y = y.at; r = r.at; end = termination (option_or (cause_in p (Some g) rest) s.cause) })) else None
 
--- its four rows
+-- the four rows of the whole service of phase p that ends with row r: those of the begin of green, of its end, of the begin of yellow, and r
 unfoldable pub served_at : (ℕ → Bool) → ℕ → List Row → Row → Option Served
 served_at known p before r =
     if is_end (sign p r) then (do s ← service_begun_of known r.at p before; g ← s.g; y ← s.y; Some (record { phase = p; b = s.b; g = g; y = y; r = r })) else None

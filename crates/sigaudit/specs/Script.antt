@@ -56,7 +56,7 @@ abbrev pub hour_file : Option (List ℕ) → Result (List ℕ) Refusal
 hour_file None = Err MissingFile
 hour_file (Some bytes) = if nat_lt (32 * 2 ^ 20) (length bytes) then Err FileTooLong else Ok bytes
 
--- the bytes of the file of an hour, or why there is nothing to read: the window hasn't the hour, or of its file
+-- the bytes at the name of an hour's file, or why nothing is read: the hour isn't one of the window, or what `hour_file` says
 abbrev pub hour_bytes : Files → Settings → ℕ → List ℕ → Result (List ℕ) Refusal
 hour_bytes files c hour name = if nat_lt hour c.window.hours then hour_file (files name) else Err (Edit OutOfWindow)
 

@@ -1,7 +1,6 @@
 -- What is seen at a place between two moves.
-use Rattle.std.proofs.Common.{◌≡◌, ap, sym, ◌∙◌, ℕ, ◌+◌, ◌-◌, ◌≤◌, ◌<◌, ℤ, pos, ◌≤ℤ◌, List, [], ◌∷◌, length, take, drop, get_or, arith, Option}
+use Rattle.std.proofs.Common.{◌≡◌, ap, ℕ, ◌+◌, ◌≤◌, ℤ, pos, ◌≤ℤ◌, List, [], ◌∷◌, take, drop, arith, Option}
 use Rattle.std.proofs.lemmas.Int.{ints}
-use Rattle.std.proofs.lemmas.List.{get_or_default}
 use Rattle.span_set.specs.declared.set.Span.{Span}
 use Rattle.colour_machine.specs.Rules.{Rules}
 use Rattle.reach.specs.Runs.{State}
@@ -11,10 +10,7 @@ use Rattle.reach.specs.declared.seen.Seen.{Seen}
 use Rattle.reach.proofs.Later.{then_iff}
 use Rattle.channel_path.specs.declared.moves.Move.{Move}
 use Rattle.channel_path.specs.Walks.{InOrder, EnteredBefore}
-use Rattle.channel_path.specs.declared.past.RunPasts.{RunPasts}
-use Rattle.channel_path.specs.declared.ahead.PlaceAheads.{PlaceAheads}
-use Rattle.channel_path.specs.Kept.{ArePasts, AreStandIns}
-use Rattle.channel_path.specs.Places.{EntersBefore, IsBetween, KeepsPlaces, PathLog, limit_of, TakesFrom, Passes, SeesPassing}
+use Rattle.channel_path.specs.Places.{EntersBefore, IsBetween, PathLog, limit_of, TakesFrom, Passes, SeesPassing}
 use Rattle.channel_path.proofs.Moving.{walk_early, order_take}
 
 begins_late : (at : ℕ) (t : ℤ) (xs : List Move) (s : State) → TakesFrom (at + 1) xs → t ≡ pos at → s.entry ≤ℤ t → EntersBefore xs s
@@ -35,44 +31,6 @@ sees_between m low at before after moves j past ahead test seen both early order
       some_true = then_iff sees.some_true ((λ (v, p, t). (v, to v p, t)), (λ (v, p, t). (v, from v p, t)));
       some_false = then_iff sees.some_false ((λ (v, p, t). (v, to v p, t)), (λ (v, p, t). (v, from v p, t)));
     }
-
--- what indexing the fields gives
-pub found : (m : Rules) (before : List (List Span)) (after : List (Option ℤ)) (moves : List Move) (pasts : List (List (List Span))) (runs : List ℕ) (aheads : List (List (Option ℤ))) (numbers : List ℕ) → KeepsPlaces m before after moves pasts runs aheads numbers → (place n run number : ℕ) → n ≡ length moves → place ≤ n → run ≡ get_or runs place run → number ≡ get_or numbers (n - place) number → (run < length pasts) × (number < length aheads) × ((past : List (List Span)) (ahead : List (Option ℤ)) → past ≡ get_or pasts run past → ahead ≡ get_or aheads number ahead → IsBetween m before after (take place moves) (drop place moves) past ahead)
-found m before after moves pasts runs aheads numbers keeps place n run number e h r q =
-    let a = keeps.0 in
-    let b = keeps.1 in
-    let k = keeps.2 place (n - place) (omega arith) in
-    let r2 : run ≡ get_or runs place 0 = r ∙ get_or_default runs place run 0 (omega arith) in
-    let q2 : number ≡ get_or numbers (n - place) 0 = q ∙ get_or_default numbers (n - place) number 0 (omega arith) in
-    let lt : run < length pasts = rw r2 k.0 in
-    let lt2 : number < length aheads = rw q2 k.1 in (
-      lt,
-      lt2,
-      λ past ahead p l.
-          let p2 : past ≡ get_or pasts (get_or runs place 0) [] = p ∙ (get_or_default pasts run past [] lt ∙ ap (λ i. get_or pasts i []) r2) in
-          let l2 : ahead ≡ get_or aheads (get_or numbers (n - place) 0) [] = l ∙ (get_or_default aheads number ahead [] lt2 ∙ ap (λ i. get_or aheads i []) q2) in
-          rw (p2, l2) k.2,
-    )
-
--- the Pasts of all places and the Aheads that stand for theirs have their states
-pub keeps_both : (m : Rules) (before : List (List Span)) (after : List (Option ℤ)) (moves : List Move) (pasts : RunPasts) (aheads : PlaceAheads) → length pasts.runs.items ≡ length moves + 1 → length aheads.numbers.items ≡ length moves + 1 → ArePasts m before moves pasts → AreStandIns m after moves pasts 0 aheads → KeepsPlaces m before after moves pasts.pasts.items pasts.runs.items aheads.aheads.items aheads.numbers.items
-keeps_both m before after moves pasts aheads r a ps bs = (
-  r,
-  a,
-  λ j k e.
-      let p = ps j (omega arith) in
-      let q = bs j k (omega arith) e in (
-        p.0,
-        q.0,
-        (
-          p.1.0 ∙ sym q.1,
-          λ v en. (
-            (λ (held, admits). ((p.1.1 v en).0 held, (q.2 v en held).0 admits)),
-            λ (aft, bef). let held = (p.1.1 v en).1 aft in (held, (q.2 v en held).1 bef),
-          ),
-        ),
-      ),
-)
 
 -- equal paths have equal parts
 pub same_moves : {M : Type 0} {a b : PathLog M} → a ≡ b → a.moves ≡ b.moves

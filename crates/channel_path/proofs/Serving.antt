@@ -14,7 +14,7 @@ use Rattle.channel_path.proofs.Legs.{slice_join, rest_join}
 use Rattle.channel_path.proofs.Moving.{ahead_over, enters_on, not_after, order_drop, order_take, walk_early, walk_join}
 
 -- from the states of a place's Past the moves lead to those of a later place's
-held_on : (m : Rules) (xs : List Move) (pasts : RunPasts) (j b : ℕ) (s v : State) → HavePasts m xs pasts → j ≤ b → b ≤ length xs → EntersBefore (drop j xs) s → Holds (past_of pasts j) s → Walk m (take (b - j) (drop j xs)) s v → EntersBefore (drop b xs) v × Holds (past_of pasts b) v
+pub held_on : (m : Rules) (xs : List Move) (pasts : RunPasts) (j b : ℕ) (s v : State) → HavePasts m xs pasts → j ≤ b → b ≤ length xs → EntersBefore (drop j xs) s → Holds (past_of pasts j) s → Walk m (take (b - j) (drop j xs)) s v → EntersBefore (drop b xs) v × Holds (past_of pasts b) v
 held_on m xs pasts j b s v (runs, (before, (low, early, order), are)) le h enters held walk =
     let ys = take (b - j) (drop j xs) in
     let rest = rest_join xs j b le in

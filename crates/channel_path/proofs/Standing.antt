@@ -151,7 +151,7 @@ stand_leg m after now xs pasts a b past old new have lt h leg own serves size st
           )
     ])
 
-enters_front : (ys zs : List Move) (s : State) → EntersBefore (ys ++ zs) s → EntersBefore ys s
+pub enters_front : (ys zs : List Move) (s : State) → EntersBefore (ys ++ zs) s → EntersBefore ys s
 enters_front [] zs s e = tt
 enters_front (y ∷ ys) zs s e = e
 

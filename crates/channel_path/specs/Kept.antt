@@ -1,5 +1,5 @@
 -- What is kept for the places of a path: Pasts for its runs of gaps, and Aheads with their numbers.
-use Rattle.std.specs.Prelude.{◌≡◌, ℕ, ℤ, ◌+◌, ◌<◌, ◌≤◌, ◌↔◌, List, [], ◌∷◌, ◌++◌, length, take, drop, Option, slice_index_or}
+use Rattle.std.specs.Prelude.{◌≡◌, ℕ, ℤ, ◌+◌, ◌-◌, ◌<◌, ◌≤◌, ◌↔◌, List, [], ◌∷◌, ◌++◌, length, take, drop, Option, slice_index_or}
 use Rattle.colour_machine.specs.Rules.{Rules}
 use Rattle.span_set.specs.declared.set.Span.{Span}
 use Rattle.reach.specs.Runs.{State}
@@ -34,6 +34,14 @@ HasPast pasts j = slice_index_or pasts.runs.items j 0 < length pasts.pasts.items
 -- the Past of the place's run
 abbrev pub past_of : RunPasts → ℕ → List (List Span)
 past_of pasts j = slice_index_or pasts.pasts.items (slice_index_or pasts.runs.items j 0) []
+
+-- the place has got a number, which is that of an Ahead
+abbrev pub HasAhead : PlaceAheads → ℕ → Type 0
+HasAhead aheads j = (j < length aheads.numbers.items) × (slice_index_or aheads.numbers.items (length aheads.numbers.items - 1 - j) 0 < length aheads.aheads.items)
+
+-- the Ahead with the place's number; the last number is that of the first place
+abbrev pub ahead_of : PlaceAheads → ℕ → List (Option ℤ)
+ahead_of aheads j = slice_index_or aheads.aheads.items (slice_index_or aheads.numbers.items (length aheads.numbers.items - 1 - j) 0) []
 
 -- of the states that enter early enough for the move after the first j, the Past holds exactly those after the first j
 abbrev pub IsPast : Rules → List (List Span) → List Move → ℕ → List (List Span) → Type 0

@@ -1,5 +1,5 @@
 -- The places between the moves of a channel, and what is seen there.
-use Rattle.std.specs.Prelude.{◌≡◌, ℕ, ℤ, pos, ◌+◌, ◌<◌, ◌≤◌, ◌<ℤ◌, ◌↔◌, IsTrue, List, [], ◌∷◌, length, take, drop, Option, slice_index_or}
+use Rattle.std.specs.Prelude.{◌≡◌, ℕ, ℤ, pos, ◌+◌, ◌≤◌, ◌<ℤ◌, ◌↔◌, IsTrue, List, [], ◌∷◌, length, take, drop, Option}
 use Rattle.colour_machine.specs.Rules.{Rules}
 use Rattle.span_set.specs.declared.set.Span.{Span}
 use Rattle.reach.specs.Runs.{State}
@@ -49,7 +49,3 @@ SeesPlace m before after moves place test seen = (low at : ℕ) → EnteredBefor
 -- of the states that enter early enough for the later moves, those that the Past holds and the Ahead admits are exactly those between the moves
 abbrev pub IsBetween : Rules → List (List Span) → List (Option ℤ) → List Move → List Move → List (List Span) → List (Option ℤ) → Type 0
 IsBetween m before after xs ys past ahead = (length past ≡ length ahead) × ((v : State) → EntersBefore ys v → (Holds past v × Admits ahead v) ↔ Passes m before after xs ys v)
-
--- each place between the moves has the numbers of a Past, that of its run, and of an Ahead, which together have the states there
-abbrev pub KeepsPlaces : Rules → List (List Span) → List (Option ℤ) → List Move → List (List (List Span)) → List ℕ → List (List (Option ℤ)) → List ℕ → Type 0
-KeepsPlaces m before after xs pasts runs aheads numbers = (length runs ≡ length xs + 1) × (length numbers ≡ length xs + 1) × ((j k : ℕ) → j + k ≡ length xs → (slice_index_or runs j 0 < length pasts) × (slice_index_or numbers k 0 < length aheads) × IsBetween m before after (take j xs) (drop j xs) (slice_index_or pasts (slice_index_or runs j 0) []) (slice_index_or aheads (slice_index_or numbers k 0) []))

@@ -7,7 +7,7 @@ ghost use Rattle.reach.specs.Holes.{AreHoles};
 ghost use Rattle.reach.specs.Last.{BeforeGaps};
 ghost use Rattle.channel_path.specs.Walks.{limit_before, IsMove, InOrder, BeforeMove, BeforeMoves};
 ghost use Rattle.channel_path.specs.Places.{EntersBefore};
-ghost use Rattle.channel_path.specs.Kept.{HavePasts, HaveAheads, AreMore, AdmitSame, IsAhead, AreStandIns, AddsPlaces};
+ghost use Rattle.channel_path.specs.Kept.{HasAhead, ahead_of, HavePasts, HaveAheads, AreMore, AdmitSame, IsAhead, AreStandIns, AddsPlaces};
 ghost use Rattle.channel_path.specs.Legs.{IsLeg};
 
 use crate::leg::{END, leg_begin, put_holes};
@@ -62,8 +62,17 @@ pub struct PlaceAheads {
     pub numbers: Vec<usize>,
 }
 
-// Later than every entry.
-const FAR: i64 = 500_000_000_000;
+/// Later than every entry.
+pub const FAR: i64 = 500_000_000_000;
+
+/// The Ahead of the place.
+pub fn ahead_at(places: &PlaceAheads, place: usize) -> &Ahead
+    requires { HasAhead places.now place }
+    ensures { result.now ≡ ahead_of places.now place }
+{
+    let number = places.numbers[places.numbers.len() - 1 - place];
+    &places.aheads[number]
+}
 
 /// An Ahead for the place before no move, before the last move, before the last two and so on.
 /// Where some run goes on after the moves, it goes through each place. So where a place has one

@@ -11,6 +11,8 @@ mod leg;
 mod moves;
 mod past;
 mod path;
+mod places;
+mod sure;
 
 pub use ahead::walk_ahead;
 pub use moves::{Move, runs_are_moves};

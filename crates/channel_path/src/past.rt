@@ -125,26 +125,35 @@ pub fn past_at(pasts: &RunPasts, place: usize) -> &Past
     &pasts.pasts[pasts.runs[place]]
 }
 
-/// One Past for each run of gaps, and the run of each place.
+// A gap mostly leaves several states up to the first or second letter after it.
+const SPARE: usize = 4;
+
+/// One Past for each run of gaps, and the run of each place, up to the place that is answered: the
+/// first from `from` on with one state alone, or that after the last move.
 pub fn pasts_of<M: Machine>(
     alloc: Global,
     machine: &M,
     before: &Past,
     moves: &[Move],
-) -> Result<RunPasts, NoMemory>
+    from: usize,
+) -> Result<(RunPasts, usize), NoMemory>
     requires order { (low : ℕ) × EnteredBefore before.now low
         × InOrder (M.rules machine.now) low moves.now }
     requires colours { length before.now ≡ (M.rules machine.now).colours }
-    ensures runs { IfOk result (λ v. AreRuns moves.now v.runs.items) }
-    ensures count { IfOk result (λ v. length v.pasts.items ≡ letters moves.now + 1) }
-    ensures pasts { IfOk result (ArePasts (M.rules machine.now) before.now moves.now) }
+    requires from { from ≤ length moves.now }
+    ensures late { IfOk result (λ r. from ≤ r.1) }
+    ensures within { IfOk result (λ r. r.1 ≤ length moves.now) }
+    ensures runs { IfOk result (λ r. AreRuns (take r.1 moves.now) r.0.runs.items) }
+    ensures count { IfOk result
+        (λ r. length r.0.pasts.items ≡ letters (take r.1 moves.now) + 1) }
+    ensures pasts { IfOk result
+        (λ r. ArePasts (M.rules machine.now) before.now (take r.1 moves.now) r.0) }
 {
-    let runs = runs_of(alloc, moves)?;
-    let mut pasts = Vec::with_capacity(alloc, runs[moves.len()].saturating_add(1))?;
+    let mut pasts = Vec::with_capacity(alloc, letters_in(&moves[..from]).saturating_add(SPARE))?;
     let mut past = before.copy()?;
     let mut holes = Vec::new(alloc);
     let mut place = 0;
-    while place < moves.len() {
+    while place < moves.len() && !may_end(&past, place, from) {
         match moves[place] {
             Move::Letter { at, letter, .. } => {
                 keep_past(&mut pasts, &past)?;
@@ -159,7 +168,39 @@ pub fn pasts_of<M: Machine>(
         }
     }
     pasts.push(past)?;
-    Ok(RunPasts { pasts, runs })
+    let runs = runs_of(alloc, &moves[..place])?;
+    Ok((RunPasts { pasts, runs }, place))
+}
+
+// Whether the walk may end at the place: it is `from` or one after it, and has one state alone.
+fn may_end(past: &Past, place: usize, from: usize) -> bool
+    ensures { IsTrue result → from ≤ place }
+{
+    from <= place && past.single().is_some()
+}
+
+// How many of the moves are letters.
+fn letters_in(moves: &[Move]) -> usize {
+    moves.iter().filter(|one| is_letter(**one)).count()
+}
+
+fn is_letter(one: Move) -> bool {
+    match one {
+        Move::Letter { .. } => true,
+        Move::Gap { .. } => false,
+    }
+}
+
+/// The place after the last gap, or the first place where there is none.
+pub fn gaps_end(moves: &[Move]) -> usize
+    ensures { result ≤ length moves.now }
+{
+    for place in (0..moves.len()).rev() {
+        if !is_letter(moves[place]) {
+            return place + 1;
+        }
+    }
+    0
 }
 
 // The number of each place's run: how many letters are before the place.

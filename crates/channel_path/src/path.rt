@@ -3,11 +3,12 @@ ghost use Rattle.std.specs.Prelude.{◌≡◌, ℕ, ◌^◌, negsuc, pos, ◌+�
 ghost use Rattle.channel_path.specs.Walks.{InOrder, EnteredBefore};
 ghost use Rattle.channel_path.specs.Places.{SeesPlace};
 
-use crate::ahead::{PlaceAheads, aheads_of};
+use crate::ahead::ahead_at;
 use crate::moves::Move;
-use crate::past::{RunPasts, pasts_of};
+use crate::past::past_at;
+use crate::places::{Places, places_of};
 use colour_machine::Machine;
-use reach::{Ahead, Past, Seen, Test, possible};
+use reach::{Ahead, Past, Seen, Test, possible, seen_alone};
 use sig_base::NoMemory;
 use std::alloc::Global;
 use std::marker::Model;
@@ -21,14 +22,12 @@ pub struct Path<M: Machine> {
     before: Snapshot<Past>,
     after: Snapshot<Ahead>,
     moves: Vec<Move>,
-    // One for each run of gaps between letters, and the run of each place.
-    pasts: RunPasts,
-    // One for each place where more than one state was possible, and the number of each place's.
-    aheads: PlaceAheads,
+    places: Places,
 }
 
 impl<M: Machine> Model for Path<M> {
-    ghost use Rattle.channel_path.specs.Places.{PathLog, KeepsPlaces};
+    ghost use Rattle.channel_path.specs.Places.{PathLog};
+    ghost use Rattle.channel_path.specs.Certain.{KeepsPlaces};
 
     ghost Value = { PathLog M };
 
@@ -40,8 +39,7 @@ impl<M: Machine> Model for Path<M> {
     } };
 
     ghost invariant = { λ l. KeepsPlaces (M.rules l.machine.value) l.before.value l.after.value
-        l.moves.items l.pasts.pasts.items l.pasts.runs.items l.aheads.aheads.items
-        l.aheads.numbers.items };
+        l.moves.items l.places };
 }
 
 impl<M: Machine> Path<M> {
@@ -64,15 +62,13 @@ impl<M: Machine> Path<M> {
           after = after.now;
         }) }
     {
-        let pasts = pasts_of(alloc, machine, before, moves.as_slice())?;
-        let aheads = aheads_of(alloc, machine, after, moves.as_slice(), &pasts)?;
+        let places = places_of(alloc, machine, before, moves.as_slice(), after)?;
         Ok(Path {
             machine: Snapshot::of(machine),
             before: Snapshot::of(before),
             after: Snapshot::of(after),
             moves,
-            pasts,
-            aheads,
+            places,
         })
     }
 
@@ -92,8 +88,11 @@ impl<M: Machine> Path<M> {
         ensures { SeesPlace (M.rules self.now.machine) self.now.before self.now.after
             self.now.moves place test.now result }
     {
-        let run = self.pasts.runs[place];
-        let number = self.aheads.numbers[self.moves.len() - place];
-        possible(&self.pasts.pasts[run], &self.aheads.aheads[number], test)
+        if place < self.places.first {
+            let past = past_at(&self.places.pasts, place);
+            let ahead = ahead_at(&self.places.aheads, place);
+            return possible(past, ahead, test);
+        }
+        seen_alone(self.places.sure[place - self.places.first], test)
     }
 }

@@ -18,6 +18,7 @@ mod row;
 mod run;
 mod seen;
 mod sets;
+mod sure;
 
 pub use ahead::Ahead;
 pub use before_gap::ahead_gap;
@@ -26,7 +27,8 @@ pub use before_row::ahead_row;
 pub use gap::{arrivals, leaves, past_gap, relax};
 pub use holes::{holes_are_gaps, past_holes};
 pub use keep::{past_is_some, past_keep, past_only};
-pub use past::Past;
-pub use row::past_row;
+pub use past::{Past, Single};
+pub use row::{past_row, row_single};
 pub use run::past_run;
 pub use seen::{AgeBound, Seen, Test, is_sure, possible};
+pub use sure::{seen_alone, single_goes_on};

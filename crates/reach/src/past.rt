@@ -13,7 +13,7 @@ use std::marker::Model;
 
 /// One state of so many colours.
 #[derive(Clone, Copy)]
-pub(crate) struct Single {
+pub struct Single {
     pub(crate) colours: u8,
     pub(crate) colour: u8,
     pub(crate) entry: Tenth,

@@ -57,8 +57,8 @@ pub fn past_row<M: Machine>(
     }
 }
 
-// The one state that the letter leads to, where it leads to one.
-fn row_single<M: Machine>(machine: &M, one: Single, at: Tenth, letter: u8) -> Option<Single>
+/// The one state that the letter leads to, where it leads to one.
+pub fn row_single<M: Machine>(machine: &M, one: Single, at: Tenth, letter: u8) -> Option<Single>
     requires single { IsSingle one }
     requires low { negsuc (2 ^ 39) ≤ℤ at }
     requires high { at ≤ℤ pos (2 ^ 39) }

@@ -63,7 +63,7 @@ pub fn is_sure(past: &Past, ahead: &Ahead) -> bool
     }
 }
 
-fn sure_single(one: Single, latest: &[Option<Tenth>]) -> bool
+pub(crate) fn sure_single(one: Single, latest: &[Option<Tenth>]) -> bool
     requires single { IsSingle one }
     requires colours { one.colours ≡ length latest.now }
     ensures goes_on { IsTrue result → (s : State) → Holds (sets_of one) s → Admits latest.now s }
@@ -86,13 +86,13 @@ fn seen_single(one: Single, latest: &[Option<Tenth>], test: &Test) -> Seen
     }
 }
 
-fn both(a: bool, b: bool) -> bool
+pub(crate) fn both(a: bool, b: bool) -> bool
     ensures { IsTrue result ↔ (IsTrue a × IsTrue b) }
 {
     a && b
 }
 
-fn first_alone(a: bool, b: bool) -> bool
+pub(crate) fn first_alone(a: bool, b: bool) -> bool
     ensures { IsTrue result ↔ (IsTrue a × (IsTrue b → ⊥)) }
 {
     a && !b
@@ -107,7 +107,7 @@ fn is_there(latest: Option<Tenth>, entry: Tenth, at: Tenth) -> bool
     }
 }
 
-fn is_met(one: Single, test: &Test) -> bool
+pub(crate) fn is_met(one: Single, test: &Test) -> bool
     requires { IsSingle one }
     ensures { IsTrue result ↔ (Has test.now.colours one.colour
         × InBound test.now.bound test.now.at one.entry) }

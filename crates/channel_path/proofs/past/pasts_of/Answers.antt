@@ -1,9 +1,10 @@
-use Rattle.std.proofs.Common.{arith, ◌≡◌, ◌∙◌, ◌+◌, ◌∷◌, ◌++◌, [], length, get_or}
+use Rattle.std.proofs.Common.{arith, ◌≡◌, ◌∙◌, ◌+◌, ◌∷◌, ◌++◌, [], get_or}
 use Rattle.channel_path.specs.declared.moves.Move.TheVariants.{Letter}
 use Rattle.channel_path.specs.Kept.{kept_before}
 use Rattle.channel_path.proofs.Legs.{slice_leg, one_move}
 use Rattle.channel_path.proofs.Moving.{move_order, after_more, leg_order, after_leg}
-use Rattle.channel_path.proofs.Keeping.{kept_leg, pasts_stand}
+use Rattle.channel_path.proofs.Keeping.{kept_leg}
+use Rattle.channel_path.proofs.Certain.{pasts_front}
 use Rattle.channel_path.proofs.past.pasts_of.Goals as goal
 
 pub letter_past-requires-clause-fits : goal.letter_past-requires-clause-fits
@@ -55,7 +56,5 @@ returns-clause-pasts g c =
     let m = g.M.Machine.rules c.args.machine.now in
     let xs = c.args.moves.now in
     let i = c.loop-place.invariant in
-    let within = i.within in
-    let all : c.loop-place.place ≡ length xs = omega arith in
     let pasts : c.push.new.self.items ≡ c.loop-place.pasts.items ++ c.loop-place.past ∷ [] = c.in_ok-push.ensures.items in
-    rw pasts (pasts_stand m c.args.before.now xs c.loop-place.pasts.items c.loop-place.past c.in_ok-runs.runs.items c.requires.order c.in_ok-runs.ensures (rw all at i.kept) (rw all at i.after))
+    rw pasts (pasts_front m c.args.before.now xs c.loop-place.place c.loop-place.pasts.items c.loop-place.past c.in_ok-runs.runs.items i.within c.requires.order c.in_ok-runs.ensures i.kept i.after)

@@ -1,46 +1,26 @@
-use Rattle.std.proofs.Common.{rules, arith, ◌≡◌, ◌+◌, ◌≤◌, ◌<◌, length}
-use Rattle.channel_path.proofs.Seeing.{sees_between, found, same_moves}
+use Rattle.std.proofs.Common.{arith, sym, subst, ◌-◌, ◌≤◌, length, take, drop}
+use Rattle.reach.specs.declared.past.Single.{Single}
+use Rattle.channel_path.specs.Certain.{IsCertain}
+use Rattle.channel_path.proofs.Seeing.{sees_between, same_moves}
+use Rattle.channel_path.proofs.Certain.{certain_between}
 use Rattle.channel_path.proofs.path.Path.seen.Goals as goal
 
-pub index-number-requires : goal.index-number-requires
-index-number-requires g c =
+pub returns-then-place-self : goal.returns-then-place-self
+returns-then-place-self g c =
     let i = c.self.inside in
-    let n : c.len.result ≡ length i.moves.items = search rules in
-    let place : c.args.place ≤ c.len.result = rw (n, same_moves c.self.view_is) c.requires.place in
-    let many : length i.aheads.numbers.items ≡ length i.moves.items + 1 = c.self.invariant.1 in
-    omega arith
-
-pub index-requires : goal.index-requires
-index-requires g c =
-    let i = c.self.inside in
-    let n : c.len.result ≡ length i.moves.items = search rules in
-    let place : c.args.place ≤ c.len.result = rw (n, same_moves c.self.view_is) c.requires.place in
-    let k = found (g.M.Machine.rules i.machine.value) i.before.value i.after.value i.moves.items i.pasts.pasts.items i.pasts.runs.items i.aheads.aheads.items i.aheads.numbers.items c.self.invariant c.args.place c.len.result c.index-run.result.now c.index-number.result.now n place c.index-run.ensures c.index-number.ensures in
-    let lt : c.index-run.result.now < length i.pasts.pasts.items = k.0 in
-    search rules
-
-pub index-requires-2 : goal.index-requires-2
-index-requires-2 g c =
-    let i = c.self.inside in
-    let n : c.len.result ≡ length i.moves.items = search rules in
-    let place : c.args.place ≤ c.len.result = rw (n, same_moves c.self.view_is) c.requires.place in
-    let k = found (g.M.Machine.rules i.machine.value) i.before.value i.after.value i.moves.items i.pasts.pasts.items i.pasts.runs.items i.aheads.aheads.items i.aheads.numbers.items c.self.invariant c.args.place c.len.result c.index-run.result.now c.index-number.result.now n place c.index-run.ensures c.index-number.ensures in
-    let lt : c.index-number.result.now < length i.aheads.aheads.items = k.1 in
-    search rules
-
-pub possible-requires-clause-colours : goal.possible-requires-clause-colours
-possible-requires-clause-colours g c =
-    let i = c.self.inside in
-    let n : c.len.result ≡ length i.moves.items = search rules in
-    let place : c.args.place ≤ c.len.result = rw (n, same_moves c.self.view_is) c.requires.place in
-    let k = found (g.M.Machine.rules i.machine.value) i.before.value i.after.value i.moves.items i.pasts.pasts.items i.pasts.runs.items i.aheads.aheads.items i.aheads.numbers.items c.self.invariant c.args.place c.len.result c.index-run.result.now c.index-number.result.now n place c.index-run.ensures c.index-number.ensures in
-    (k.2 c.index.result.now c.index-2.result.now c.index.ensures c.index-2.ensures).0
+    let m = g.M.Machine.rules i.machine.value in
+    let both = (c.self.invariant.0.1 c.args.place c.if-place-self.true).2 in
+    let here = rw (← c.past_at-past.ensures, ← c.ahead_at-ahead.ensures) at both in
+    rw (← c.self.view_is) (λ low at early order e b same. sees_between m low at i.before.value i.after.value i.moves.items c.args.place c.past_at-past.result.now c.ahead_at-ahead.result.now c.args.test.now c.possible.result here early order e b same c.possible.ensures)
 
 pub returns : goal.returns
 returns g c =
     let i = c.self.inside in
-    let n : c.len.result ≡ length i.moves.items = search rules in
-    let place : c.args.place ≤ c.len.result = rw (n, same_moves c.self.view_is) c.requires.place in
-    let k = found (g.M.Machine.rules i.machine.value) i.before.value i.after.value i.moves.items i.pasts.pasts.items i.pasts.runs.items i.aheads.aheads.items i.aheads.numbers.items c.self.invariant c.args.place c.len.result c.index-run.result.now c.index-number.result.now n place c.index-run.ensures c.index-number.ensures in
-    let both = k.2 c.index.result.now c.index-2.result.now c.index.ensures c.index-2.ensures in
-    rw (← c.self.view_is) (λ low at early order e b same. sees_between (g.M.Machine.rules i.machine.value) low at i.before.value i.after.value i.moves.items c.args.place c.index.result.now c.index-2.result.now c.args.test.now c.possible.result both early order e b same c.possible.ensures)
+    let m = g.M.Machine.rules i.machine.value in
+    let o = c.index.result.now in
+    let place = c.args.place in
+    let le : c.args.place ≤ length i.moves.items = rw (same_moves c.self.view_is) c.requires.place in
+    let is = c.self.invariant.1.1 place (place - i.places.first) o (omega arith) le in
+    let certain = subst (λ (x : Single). IsCertain m i.before.value i.after.value (take place i.moves.items) (drop place i.moves.items) x) (sym c.index.ensures) is in
+    let (admits, both) = certain_between m i.before.value i.after.value (take place i.moves.items) (drop place i.moves.items) o certain in
+    rw (← c.self.view_is) (λ low at early order e b same. sees_between m low at i.before.value i.after.value i.moves.items place _ _ c.args.test.now c.seen_alone.result both early order e b same (c.seen_alone.ensures _ admits))

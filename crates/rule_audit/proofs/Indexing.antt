@@ -18,7 +18,7 @@ use Rattle.ring_config.proofs.TrackLaws.{or_true}
 use Rattle.rule_audit.specs.declared.rules.Rule.{Rule}
 use Rattle.rule_audit.specs.declared.rules.Rule.TheVariants.{Interval, Conflict, Companion, Parents}
 use Rattle.rule_audit.specs.Obligations.{has_row_at, is_clause, is_due, is_row_of_some, is_timed_by, terms_of, row_obligations, end_obligations}
-use Rattle.rule_audit.specs.Index.{is_clause_on, is_due_by, is_picked, is_timed_on, no_rule, AreSkips, HasNoRule, IsNext, IsNextDue, IsOwn, IsRuledPlace, IsSkips}
+use Rattle.rule_audit.specs.Index.{is_clause_on, is_due_by, is_picked, is_timed_on, no_rule, AreSkips, HasNoRule, IsNext, IsNextDue, IsOwn, IsOwnOf, IsRuledPlace, IsSkips}
 use Rattle.rule_audit.specs.Pass.{FitsRule, IsCutAt}
 use Rattle.rule_audit.proofs.Adding.{row_rules, row_rules_over, end_rules}
 
@@ -137,11 +137,11 @@ module _ (specs : List Spec) (rules : List Rule) (i : ℕ) (timed clauses : List
     b (is_picked specs rules true (get_or specs i no_spec).channel) (are_clauses.1 i lt) x less,
   )
 
--- the row of a channel with this place
-pub own_place : (specs : List Spec) (rules : List Rule) (r : Row) (i s : ℕ) → i < length specs → channel_in_table r.code r.param ≡ Some (get_or specs i no_spec).channel → IsRuledPlace specs rules i s → IsOwn specs rules r s
-own_place specs rules r i s lt e place = elim place [
+-- the channel with this place
+pub own_place : (specs : List Spec) (rules : List Rule) (o : Option Channel) (i s : ℕ) → i < length specs → o ≡ Some (get_or specs i no_spec).channel → IsRuledPlace specs rules i s → IsOwnOf specs rules o s
+own_place specs rules o i s lt e place = elim place [
   | inl same ↦ inl (omega arith, e ∙ ap (λ (k : ℕ). Some (get_or specs k no_spec).channel) (sym same))
-  | inr (last, none) ↦ inr (last, subst (λ (o : Option Channel). HasNoRule specs rules o) (sym e) none)
+  | inr (last, none) ↦ inr (last, subst (λ (p : Option Channel). HasNoRule specs rules p) (sym e) none)
 ]
 
 module _ (specs : List Spec) (rules : List Rule) (r : Row) (s : ℕ) (own : IsOwn specs rules r s) where
@@ -228,6 +228,17 @@ module _ (specs : List Spec) (rules : List Rule) (rows : List Row) (t f e : ℕ)
 module _ (specs : List Spec) (rules : List Rule) (rows : List Row) (f k : ℕ) where
   pub due_start : k ≤ length rules → IsNextDue specs rules rows f f k (length rules)
   due_start le = record { from = le; within = omega arith; none = λ x j a b c d. absurd (omega arith); passes = λ lt. absurd (omega arith) }
+
+  -- none can come before the first that is asked for
+  pub due_here : (e j m : ℕ) → f ≤ j → j < e → m ≡ k → IsNext (is_due_by specs rules (get_or rows j no_row)) (length rules) k m → IsNextDue specs rules rows f e k k
+  due_here e j m ft lt same next =
+      let top = next.within in
+      record {
+        from = omega arith;
+        within = omega arith;
+        none = λ x i a b. absurd (omega arith);
+        passes = λ few. (j, ft, lt, subst (λ (x : ℕ). is_due_by specs rules (get_or rows j no_row) x ≡ true) same (next.passes (omega arith)));
+      }
 
   one_more : (t j : ℕ) → j < t + 1 → (j < t) ⊎ (j ≡ t)
   one_more t j lt = elim (cases_lt j t) [ inl less ↦ inl less | inr ge ↦ inr (omega arith) ]

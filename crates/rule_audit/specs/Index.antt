@@ -59,9 +59,13 @@ IsRuledPlace specs rules i s = (s ≡ i) ⊎ ((s ≡ length specs) × HasNoRule 
 abbrev pub AreRuledPlaces : List Spec → List Rule → ℕ → List ℕ → Type 0
 AreRuledPlaces specs rules n places = (length places ≡ n) × ((i : ℕ) → i < n → IsRuledPlace specs rules i (slice_index_or places i 0))
 
+-- this is the channel with this place, or no rule is of it where that is the number of specs
+abbrev pub IsOwnOf : List Spec → List Rule → Option Channel → ℕ → Type 0
+IsOwnOf specs rules o s = ((s < length specs) × (o ≡ Some (slice_index_or specs s no_spec).channel)) ⊎ ((s ≡ length specs) × HasNoRule specs rules o)
+
 -- the row is of the channel with this place, or no rule is of its channel where that is the number of specs
 abbrev pub IsOwn : List Spec → List Rule → Row → ℕ → Type 0
-IsOwn specs rules r s = ((s < length specs) × (channel_in_table r.code r.param ≡ Some (slice_index_or specs s no_spec).channel)) ⊎ ((s ≡ length specs) × HasNoRule specs rules (channel_in_table r.code r.param))
+IsOwn specs rules r s = IsOwnOf specs rules (channel_in_table r.code r.param) s
 
 -- each of the first n rows
 abbrev pub AreOwn : List Spec → List Rule → List Row → ℕ → List ℕ → Type 0

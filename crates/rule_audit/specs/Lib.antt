@@ -5,3 +5,4 @@ pub mod Judged
 pub mod Lines
 pub mod Index
 pub mod Pass
+pub mod Owners

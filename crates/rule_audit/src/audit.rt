@@ -5,8 +5,9 @@ ghost use Rattle.rule_audit.specs.Rules.{rules_for};
 ghost use Rattle.rule_audit.specs.Lines.{AreLines, IsAudited};
 
 use crate::hour::AuditedHour;
-use crate::index::{all_skips, own_places};
+use crate::index::all_skips;
 use crate::lines::AuditLine;
+use crate::owners::own_places;
 use crate::rules::Rule;
 use crate::walk::judge_hour;
 use board::HourView;

@@ -1,19 +1,14 @@
-// The rules by channel, and of which channel each row is.
-ghost use Rattle.std.specs.Prelude.{◌≡◌, ◌↔◌, ◌+◌, ◌<◌, ◌≤◌, ℕ, Bool, true, false, Some, List, All, length, slice_index_or, IfOk};
-ghost use Rattle.sig_base.specs.declared.values.Row.{Row};
-ghost use Rattle.event_codes.specs.Channels.{channel_in_table};
-ghost use Rattle.board.specs.SpecPlaces.{IsTable};
+// The rules by channel.
+ghost use Rattle.std.specs.Prelude.{◌≡◌, ◌↔◌, ◌+◌, ◌<◌, ◌≤◌, ℕ, Bool, true, false, Some, All, length, slice_index_or, IfOk};
 ghost use Rattle.board.specs.Logs.{no_spec};
-ghost use Rattle.rule_audit.specs.declared.rules.Rule.{Rule};
 ghost use Rattle.rule_audit.specs.Pass.{FitsRule};
-ghost use Rattle.rule_audit.specs.Index.{is_clause_on, is_picked, is_timed_on, no_rule, AreOwn, AreRuledPlaces, AreSkips, IsNext, IsOwn, IsRuledPlace, IsSkips};
+ghost use Rattle.rule_audit.specs.Index.{is_clause_on, is_picked, is_timed_on, no_rule, AreSkips, IsNext, IsSkips};
 
 use crate::due::{is_of, is_of_some};
 use crate::rules::Rule;
-use board::SpecTable;
 use channel_tables::Spec;
-use event_codes::{Channel, channel_of};
-use sig_base::{NoMemory, Row};
+use event_codes::Channel;
+use sig_base::NoMemory;
 use std::alloc::Global;
 use std::marker::Model;
 
@@ -42,8 +37,8 @@ impl Skips {
         self.next[count - from] as usize
     }
 
-    // Whether no rule is picked, of so many rules.
-    fn is_empty(&self, count: usize) -> bool
+    /// Whether no rule is picked, of so many rules.
+    pub(crate) fn is_empty(&self, count: usize) -> bool
         requires { length self.now ≡ count + 1 }
         ensures { (p : ℕ → Bool) → IsSkips p count self.now
             → (result ≡ true ↔ ((x : ℕ) → x < count → p x ≡ false)) }
@@ -132,99 +127,4 @@ pub(crate) fn all_skips(
         lists.push(skips_of(alloc, specs, rules, clauses, specs[i].channel)?)?;
     }
     Ok(lists)
-}
-
-// The place, or the number of specs where no rule is of the channel with this place.
-fn ruled_place(
-    specs: &[Spec],
-    rules: &[Rule],
-    timed: &[Skips],
-    clauses: &[Skips],
-    place: usize,
-) -> u16
-    requires few { length specs.now ≤ 225 }
-    requires timed { AreSkips specs.now rules.now false (length specs.now) timed.now }
-    requires clauses { AreSkips specs.now rules.now true (length specs.now) clauses.now }
-    requires place { place < length specs.now }
-    ensures { IsRuledPlace specs.now rules.now place result }
-{
-    let count = rules.len();
-    if !timed[place].is_empty(count) {
-        return place as u16;
-    }
-    if !clauses[place].is_empty(count) {
-        return place as u16;
-    }
-    specs.len() as u16
-}
-
-// For each channel its place, or the number of specs where no rule is of it.
-fn ruled_places(
-    alloc: Global,
-    specs: &[Spec],
-    rules: &[Rule],
-    timed: &[Skips],
-    clauses: &[Skips],
-) -> Result<Vec<u16>, NoMemory>
-    requires few { length specs.now ≤ 225 }
-    requires timed { AreSkips specs.now rules.now false (length specs.now) timed.now }
-    requires clauses { AreSkips specs.now rules.now true (length specs.now) clauses.now }
-    ensures { IfOk result (λ v. AreRuledPlaces specs.now rules.now (length specs.now) v.items) }
-{
-    let mut places = Vec::with_capacity(alloc, specs.len())?;
-    for place in 0..specs.len() {
-        places.push(ruled_place(specs, rules, timed, clauses, place))?;
-    }
-    Ok(places)
-}
-
-// The place of the row's channel among the specs, or their number where no rule is of it.
-fn own_of(specs: &[Spec], table: &SpecTable, places: &[u16], row: Row) -> u16
-    requires table { IsTable specs.now table.now }
-    requires places { length places.now ≡ length specs.now }
-    ensures { (rules : List Rule) → AreRuledPlaces specs.now rules (length specs.now) places.now
-        → All (FitsRule specs.now) rules → IsOwn specs.now rules row result }
-{
-    match channel_of(row.code, row.param) {
-        Some(channel) => place_or_count(specs, table, places, channel),
-        None => specs.len() as u16,
-    }
-}
-
-fn place_or_count(specs: &[Spec], table: &SpecTable, places: &[u16], channel: Channel) -> u16
-    requires table { IsTable specs.now table.now }
-    requires places { length places.now ≡ length specs.now }
-    ensures { (rules : List Rule) (row : Row)
-        → AreRuledPlaces specs.now rules (length specs.now) places.now
-        → All (FitsRule specs.now) rules → channel_in_table row.code row.param ≡ Some channel
-        → IsOwn specs.now rules row result }
-{
-    match table.place_of(channel) {
-        Some(place) => places[place as usize],
-        None => specs.len() as u16,
-    }
-}
-
-/// For each row the place of its channel, or the number of specs where no rule is of it.
-pub(crate) fn own_places(
-    alloc: Global,
-    specs: &[Spec],
-    rules: &[Rule],
-    timed: &[Skips],
-    clauses: &[Skips],
-    rows: &[Row],
-) -> Result<Vec<u16>, NoMemory>
-    requires few { length specs.now ≤ 225 }
-    requires fit { All (FitsRule specs.now) rules.now }
-    requires timed { AreSkips specs.now rules.now false (length specs.now) timed.now }
-    requires clauses { AreSkips specs.now rules.now true (length specs.now) clauses.now }
-    ensures { IfOk result (λ v. AreOwn specs.now rules.now rows.now (length rows.now) v.items) }
-{
-    let table = SpecTable::new(alloc, specs)?;
-    let places = ruled_places(alloc, specs, rules, timed, clauses)?;
-    let mut own = Vec::with_capacity(alloc, rows.len())?;
-    for row in rows {
-        own.push(own_of(specs, &table, &places, *row))?;
-    }
-    Ok(own)
 }

@@ -11,7 +11,7 @@ ghost use Rattle.rule_audit.specs.Judged.{Closes, IsIntervalVerdict, KeepsInterv
 ghost use Rattle.rule_audit.specs.Pass.{log_of, row_at, spec_at, Ends, FitsItem, IsKnownRow, IsLogOf, IsReady, SeesColour};
 
 use crate::hour::AuditedHour;
-use channel_tables::{Spec, letter_of, machine_of};
+use channel_tables::{Spec, letter_of_kind, machine_of};
 use colour_machine::{Machine, Mask};
 use reach::{AgeBound, Seen, Test};
 use ring_config::IntervalItem;
@@ -39,7 +39,7 @@ fn leaves(spec: &Spec, row: Row, colour: u8) -> bool
     requires own { channel_in_table row.code row.param ≡ Some spec.now.channel }
     ensures { IsTrue result ↔ Leaves spec.now row colour }
 {
-    match letter_of(row.code, row.param) {
+    match letter_of_kind(spec.channel.kind, row.code, row.param) {
         Some(letter) => letter_leaves(spec, letter, colour),
         None => false,
     }

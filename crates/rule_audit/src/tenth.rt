@@ -214,6 +214,9 @@ fn next_due(hour: &AuditedHour<'_>, first: usize, end: usize, from: usize) -> us
     let mut least = hour.rules.len();
     for index in first..end {
         let next = next_of(hour, index, from);
+        if next == from {
+            return from;
+        }
         if next < least {
             least = next;
         }

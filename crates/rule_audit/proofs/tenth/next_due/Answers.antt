@@ -1,6 +1,6 @@
 use Rattle.std.proofs.Common.{arith, sym, subst, ◌+◌, ◌≡◌, ℕ}
 use Rattle.rule_audit.specs.Index.{IsNextDue}
-use Rattle.rule_audit.proofs.Indexing.{due_keep, due_less, due_start, due_over}
+use Rattle.rule_audit.proofs.Indexing.{due_here, due_keep, due_less, due_start, due_over}
 use Rattle.rule_audit.proofs.tenth.next_due.Goals as goal
 use Rattle.rule_audit.proofs.tenth.next_due.Goals.{then-next-least, else-next-least}
 
@@ -15,6 +15,11 @@ loop-index-preserved c =
       | then-next-least w ↦ subst Due (sym w.least-is) (due_less h.specs.now h.rules.now h.rows.now c.args.first c.args.from c.loop-index.index c.loop-index.least c.next_of-next.result c.loop-index.auto.index w.if-next-least.true c.loop-index.invariant c.next_of-next.ensures)
       | else-next-least w ↦ subst Due (sym w.least-is) (due_keep h.specs.now h.rules.now h.rows.now c.args.first c.args.from c.loop-index.index c.loop-index.least c.next_of-next.result c.loop-index.auto.index w.if-next-least.false c.loop-index.invariant c.next_of-next.ensures)
     ]
+
+pub returns-then-next-from : goal.returns-then-next-from
+returns-then-next-from c =
+    let h = c.args.hour.now in
+    due_here h.specs.now h.rules.now h.rows.now c.args.first c.args.from c.args.end c.loop-index.index c.next_of-next.result c.loop-index.auto.index c.loop-index-test.true c.if-next-from.true c.next_of-next.ensures
 
 pub returns : goal.returns
 returns c =

@@ -1,7 +1,7 @@
 use Rattle.std.proofs.Common.{ℕ, List, sym, subst, ◌+◌}
 use Rattle.rule_audit.specs.Index.{AreRuledPlaces, IsRuledPlace}
 use Rattle.rule_audit.proofs.Indexing.{each_more, length_more}
-use Rattle.rule_audit.proofs.index.ruled_places.Goals as goal
+use Rattle.rule_audit.proofs.owners.ruled_places.Goals as goal
 
 pub loop-place-preserved : goal.loop-place-preserved
 loop-place-preserved c =

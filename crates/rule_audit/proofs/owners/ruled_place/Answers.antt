@@ -2,7 +2,7 @@ use Rattle.std.proofs.Common.{arith, inr, refl, sym, subst, ◌∙◌, ◌<◌, 
 use Rattle.std.proofs.lemmas.List.{get_or_default}
 use Rattle.rule_audit.specs.Index.{IsSkips}
 use Rattle.rule_audit.proofs.Indexing.{none_listed}
-use Rattle.rule_audit.proofs.index.ruled_place.Goals as goal
+use Rattle.rule_audit.proofs.owners.ruled_place.Goals as goal
 
 pub returns : goal.returns
 returns c =

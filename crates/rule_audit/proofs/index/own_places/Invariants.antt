@@ -1,5 +1,0 @@
-use Rattle.rule_audit.specs.Index.{AreOwn}
-use Rattle.rule_audit.proofs.index.own_places.Given as goal
-
-abbrev pub invariant-loop-row : goal.invariant-loop-row
-invariant-loop-row l = AreOwn l.specs l.rules l.rows l.row-index l.own.items

@@ -1,11 +1,11 @@
 -- What an hour gives of an approach.
-use Rattle.std.proofs.Common.{◌≡◌, ℕ, ◌+◌, ◌^◌, ◌-◌, ◌<◌, ◌≤◌, Bool, true, eqb, leb, List, ◌++◌, Option, Some, None, map, refl, ap, sym, ◌∙◌, arith}
-use Rattle.std.specs.Prelude.{All, IfSome, min}
+use Rattle.std.proofs.Common.{◌≡◌, ℕ, ◌+◌, ◌^◌, ◌<◌, ◌≤◌, Bool, true, eqb, leb, List, ◌++◌, Option, Some, None, map, refl, ap, sym, ◌∙◌, arith}
+use Rattle.std.specs.Prelude.{All, IfSome}
 use Rattle.std.proofs.lemmas.Bool.{and_parts, eqb-true}
 use Rattle.std.proofs.lemmas.List.Elements.{All-filter}
 use Rattle.sig_base.specs.declared.values.Row.{Row}
 use Rattle.hour_sweep.specs.Rows.{known_rows}
-use Rattle.hour_sweep.specs.Hours.{AreOrdered, point}
+use Rattle.hour_sweep.specs.Hours.{AreOrdered}
 use Rattle.service_cut.specs.declared.items.OpenCycle.{OpenCycle}
 use Rattle.ring_config.specs.Settings.{Settings}
 use Rattle.arrival_measures.specs.declared.open.Open.{Open}
@@ -53,6 +53,3 @@ module _ (known : ℕ → Bool) (p d v t : ℕ) (before rows : List Row) (first 
   pub open_given : (begun : Option Open) (to : ℕ) (o : Option OpenCycle) → IfSome o (λ y. IsCycleOf known p d t (told known p d v before) begun y.from to) → open_since p d to (early known p d v t before rows first ordered travel ++ known_rows known (own known p d v t before rows first ordered travel)) o ≡ open_since p d to (told known p d v (before ++ known_rows known rows)) o
   open_given begun to None h = refl
   open_given begun to (Some y) h = ap (λ z. Some z) (open_told known p d v t before rows first ordered travel y.from to h.order h.all_known)
-
-pub end_is : (hour first end : ℕ) → hour < 744 → first ≡ point hour → end ≡ min (first + 36000) (2 ^ 32 - 1) → end ≡ point (hour + 1)
-end_is hour first end lt f e = omega arith

@@ -1,16 +1,13 @@
 -- Rows in chains, and those that a chain passes over.
 use Rattle.std.proofs.Common.{◌≡◌, ◌≢◌, ℕ, zero, suc, ◌+◌, ◌-◌, ◌<◌, ◌≤◌, Bool, true, false, cond, List, [], ◌∷◌, ◌++◌, length, get_or, set, take, ap, sym, subst, ◌∙◌, arith, inl, inr}
-use Rattle.std.specs.Prelude.{min}
 use Rattle.std.specs.List.{filter}
 use Rattle.std.proofs.Math.ListN.{replicate}
-use Rattle.std.proofs.lemmas.Bool.{cases_Bool, cases_eq, or_from, or_left, or_right}
+use Rattle.std.proofs.lemmas.Bool.{cases_Bool, cases_eq}
 use Rattle.std.proofs.lemmas.List.{append-nil, get_or-replicate, get_or-set_same, get_or-set_other, length-set, length-replicate}
 use Rattle.std.proofs.lemmas.List.Elements.{filter_more}
 use Rattle.sig_base.specs.declared.values.Row.{Row}
 use Rattle.sig_base.proofs.Common.{clash}
 use Rattle.board.specs.Logs.{no_row}
-use Rattle.arrival_measures.specs.Arrivals.{is_on}
-use Rattle.arrival_measures.specs.Own.{turns_green, is_own, own_rows}
 use Rattle.arrival_measures.specs.declared.chains.Chain.{Chain}
 use Rattle.arrival_measures.specs.declared.chains.Chain.TheVariants.{Green, On}
 use Rattle.arrival_measures.specs.Chains.{AreChains, IsNext, IsOnlyIn, cell_of, is_in, number_of}
@@ -31,9 +28,6 @@ module _ (test : Row → Bool) (rows : List Row) where
 
   next_here : (k : ℕ) → k < length rows → test (get_or rows k no_row) ≡ true → IsNext test rows k k
   next_here k lt e = record { from = omega arith; within = omega arith; none = λ j a b. absurd (omega arith); passes = λ _. e }
-
-  next_later : (k n m : ℕ) → k ≤ n → n ≤ m → IsNext test rows k m → IsNext test rows n m
-  next_later k n m lo hi next = record { from = hi; within = next.within; none = λ j a b. next.none j (omega arith) b; passes = next.passes }
 
 -- ---- the chains, row by row from the last
 
@@ -144,39 +138,3 @@ one_kept test rows i lt e = filter_more test rows i no_row lt ∙ ap (λ v. filt
 -- and one that doesn't
 pub one_left : (test : Row → Bool) (rows : List Row) (i : ℕ) → i < length rows → test (get_or rows i no_row) ≡ false → filter test (take (i + 1) rows) ≡ filter test (take i rows)
 one_left test rows i lt e = filter_more test rows i no_row lt ∙ ap (λ v. filter test (take i rows) ++ cond v (get_or rows i no_row ∷ []) []) e ∙ append-nil (filter test (take i rows))
-
--- ---- two chains together
-
--- at a place: the next ones of both chains, and the rows of both up to it
-pub record AreMerged (p d : ℕ) (rows : List Row) (place green on : ℕ) (own : List Row) : Type 0 where
-  pub at : place ≡ min green on
-  pub green_next : IsNext (turns_green p) rows place green
-  pub on_next : IsNext (is_on d) rows place on
-  pub are_own : own ≡ own_rows p d (take place rows)
-
-pub merged_at : (p d : ℕ) (rows : List Row) (k place green on : ℕ) (own : List Row) → IsNext (turns_green p) rows k green → IsNext (is_on d) rows k on → place ≡ min green on → own ≡ own_rows p d (take k rows) → AreMerged p d rows place green on own
-merged_at p d rows k place green on own g o at e =
-    let a = g.from in
-    let b = o.from in
-    let top = g.within in
-    record {
-      at = at;
-      green_next = next_later (turns_green p) rows k place green (omega arith) (omega arith) g;
-      on_next = next_later (is_on d) rows k place on (omega arith) (omega arith) o;
-      are_own = e ∙ sym (passed_over (is_own p d) rows k place (omega arith) (omega arith) (λ j lo hi. or_from (turns_green p (get_or rows j no_row)) (is_on d (get_or rows j no_row)) (g.none j lo (omega arith)) (o.none j lo (omega arith))));
-    }
-
-merged_own : (p d : ℕ) (rows : List Row) (place green on : ℕ) (own : List Row) → place < length rows → AreMerged p d rows place green on own → is_own p d (get_or rows place no_row) ≡ true
-merged_own p d rows place green on own lt m = elim (cases_eq green place) [
-  | inl same ↦ or_left (turns_green p (get_or rows place no_row)) _ (subst (λ (i : ℕ). turns_green p (get_or rows i no_row) ≡ true) same (m.green_next.passes (omega arith)))
-  | inr ne ↦
-      let at = m.at in
-      let low = m.green_next.from in
-      let same : on ≡ place = omega arith in
-      or_right (turns_green p (get_or rows place no_row)) _ (subst (λ (i : ℕ). is_on d (get_or rows i no_row) ≡ true) same (m.on_next.passes (omega arith)))
-]
-
--- one row more
-pub merged_more : (p d : ℕ) (rows : List Row) (place green on : ℕ) (own new : List Row) → place < length rows → AreMerged p d rows place green on own → new ≡ own ++ get_or rows place no_row ∷ [] → new ≡ own_rows p d (take (place + 1) rows)
-merged_more p d rows place green on own new lt m e =
-    e ∙ ap (λ zs. zs ++ get_or rows place no_row ∷ []) m.are_own ∙ sym (one_kept (is_own p d) rows place lt (merged_own p d rows place green on own lt m))

@@ -1,11 +1,10 @@
 -- Lists cut by tests.
 use Rattle.std.proofs.Common.{◌≡◌, ℕ, zero, suc, ◌+◌, ◌<◌, ◌≤◌, Bool, true, false, not, ◌&&◌, List, [], ◌∷◌, ◌++◌, Option, get_or, length, take, drop, refl, ap, sym, ◌∙◌, arith}
-use Rattle.std.specs.Prelude.{All, count_by}
+use Rattle.std.specs.Prelude.{All}
 use Rattle.std.specs.List.{filter, filter_map, AllWithin}
 use Rattle.std.specs.List.Sorted.{IsPartitionPoint}
 use Rattle.std.proofs.lemmas.List.Elements.{All-head, All-tail, filter_map-append}
 use Rattle.std.proofs.lemmas.List.{take_more}
-use Rattle.std.proofs.lemmas.List.Sums.{length-filter}
 
 pub filter_same : {X : Type 0} (p q : X → Bool) (xs : List X) → All (λ x. p x ≡ q x) xs → filter p xs ≡ filter q xs
 filter_same p q [] h = refl
@@ -14,9 +13,6 @@ filter_same p q (x ∷ xs) h = rw (All-head (λ z. p z ≡ q z) x xs h, filter_s
 pub filter_none : {X : Type 0} (p : X → Bool) (xs : List X) → All (λ x. p x ≡ false) xs → filter p xs ≡ []
 filter_none p [] h = refl
 filter_none p (x ∷ xs) h = rw (All-head (λ z. p z ≡ false) x xs h) (filter_none p xs (All-tail (λ z. p z ≡ false) x xs h))
-
-pub count_same : {X : Type 0} (p q : X → Bool) (xs : List X) → All (λ x. p x ≡ q x) xs → count_by p xs ≡ count_by q xs
-count_same p q xs h = sym (length-filter p xs) ∙ ap (λ zs. length zs) (filter_same p q xs h) ∙ length-filter q xs
 
 pub and_same : (s k t : Bool) → (t ≡ true → s ≡ k) → (s && t) ≡ (k && t)
 and_same s k true h = ap (λ v. v && true) (h refl)

@@ -1,7 +1,6 @@
--- The rows on which a cycle depends: those of its phase and of its detector.
+-- The rows that begin or end green.
 use Rattle.std.specs.Prelude.{ℕ, Bool, ◌==◌, ◌||◌, List, filter}
 use Rattle.sig_base.specs.declared.values.Row.{Row}
-use Rattle.arrival_measures.specs.Arrivals.{is_on}
 use Rattle.arrival_measures.specs.Green.{begins_green, ends_green}
 
 -- the row begins or ends green of phase p
@@ -14,10 +13,3 @@ is_turn x = x.code == 1 || (x.code == 7 || x.code == 8)
 
 abbrev pub turns_of : List Row → List Row
 turns_of rows = filter is_turn rows
-
--- it begins or ends green of phase p, or detector d goes on
-abbrev pub is_own : ℕ → ℕ → Row → Bool
-is_own p d x = turns_green p x || is_on d x
-
-abbrev pub own_rows : ℕ → ℕ → List Row → List Row
-own_rows p d rows = filter (is_own p d) rows

@@ -90,12 +90,6 @@ AreHourSums c view rows ss carry cuts sums =
     (known : ℕ → Bool) (before : List Row) (hour : ℕ) (log : HourLog) → IsHour known hour rows ss → IsCarry known c before hour carry → IsCut known c.phases before hour rows cuts → IsSeen c view rows ss log
     → AreAllJudged (λ i t v. MayPass log t i v) known c before (known_rows known rows) hour sums
 
--- those of an hour without rows of which no tenth is known: of its arrivals nothing is seen
-abbrev pub AreUnheldSums : Settings → List Stretch → CarryParts → CutLists → List ArrivalSum → Type 0
-AreUnheldSums c ss carry cuts sums =
-    (known : ℕ → Bool) (before : List Row) (hour : ℕ) → IsHour known hour [] ss → IsUnheld known hour → IsCarry known c before hour carry → IsCut known c.phases before hour [] cuts
-    → AreAllJudged (λ _ _ _. ⊥) known c before [] hour sums
-
 -- those of either hour: by the view if there is one
 abbrev pub AreHourSumsBy : Settings → Option HourLog → List Row → List Stretch → CarryParts → CutLists → List ArrivalSum → Type 0
 AreHourSumsBy c view rows ss carry cuts sums =
@@ -113,8 +107,3 @@ abbrev pub IsCarriedOn : Settings → List Row → List Stretch → CutLists →
 IsCarriedOn c rows ss cuts old new =
     (known : ℕ → Bool) (before : List Row) (hour : ℕ) → IsHour known hour rows ss → IsCarry known c before hour old → IsCut known c.phases before hour rows cuts
     → IsCarry known c (before ++ known_rows known rows) (hour + 1) new
-
--- the same of an hour without rows
-abbrev pub IsCarriedOver : Settings → List Stretch → CutLists → CarryParts → CarryParts → Type 0
-IsCarriedOver c ss cuts old new =
-    (known : ℕ → Bool) (before : List Row) (hour : ℕ) → IsHour known hour [] ss → IsCarry known c before hour old → IsCut known c.phases before hour [] cuts → IsCarry known c before (hour + 1) new

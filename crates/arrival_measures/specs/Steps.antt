@@ -262,14 +262,6 @@ pub record IsCycleOf (known : ℕ → Bool) (p d first : ℕ) (told : List Row) 
   pub all_known : (t : ℕ) → a ≤ t → t < b → known t ≡ true
   pub is_begun : a < first → begun ≡ Some (open_at p d a first told)
 
--- an hour from tenth `first` on with these rows, these known rows before it and these cuts
-pub record IsCutHour (known : ℕ → Bool) (c : Settings) (before : List Row) (hour : ℕ) (rows : List Row) (first : ℕ) (cuts : CutLists) : Type 0 where
-  pub in_range : hour < 744
-  pub ordered : AreOrdered (point hour) (point hour + 36000) rows
-  pub earlier : All (λ x. x.at < point hour) before
-  pub cut : IsCut known c.phases before hour rows cuts
-  pub is_first : first ≡ point hour
-
 -- what an hour gives of an approach
 pub record IsHourOf (known : ℕ → Bool) (c : Settings) (before seen : List Row) (hour : ℕ) (a : Approach) (h : ApproachHour) : Type 0 where
   pub arriving : h.arriving.items ≡ arriving_with known (point hour) (before ++ seen) a a.advance

@@ -1,11 +1,11 @@
 // The numbers of an hour.
-ghost use Rattle.std.specs.Prelude.{◌≡◌, ◌+◌, ◌<◌, ℕ, length, option_copied, slice_index_or, IfOk, IfSome, OnOk, OnErr, []};
+ghost use Rattle.std.specs.Prelude.{◌≡◌, ◌+◌, ◌<◌, ℕ, None, length, option_copied, slice_index_or, IfOk, IfSome, OnOk, OnErr, []};
 ghost use Rattle.hour_sweep.specs.Sums.{capped, merged};
 ghost use Rattle.hour_sweep.specs.Hours.{point};
 ghost use Rattle.ring_config.specs.Settings.{Settings};
 ghost use Rattle.arrival_measures.specs.Hours.{added, cycle_part, is_last};
 ghost use Rattle.arrival_measures.specs.Steps.{IsOwnAt, IsOwnOf, numbers_in, rows_with, sum_of};
-ghost use Rattle.arrival_measures.specs.Results.{AreChained, AreHourSums, AreHourSumsBy, AreNextCrossings, AreSumsBy, AreUnheldSums, HaveGivenCycles, HaveHourCycles, IsCarriedOn, IsCarriedOver, IsSeenSum, IsSumBy, IsUnseenSum};
+ghost use Rattle.arrival_measures.specs.Results.{AreChained, AreHourSums, AreHourSumsBy, AreNextCrossings, AreSumsBy, HaveGivenCycles, HaveHourCycles, IsCarriedOn, IsSeenSum, IsSumBy, IsUnseenSum};
 
 use crate::ahead::{ApproachHour, approach_hour, due_of};
 use crate::approach::{approach_of, phase_spec};
@@ -282,24 +282,6 @@ fn over_hour(
     Ok(numbers.sums)
 }
 
-/// What crosses the point after an hour, in `carry`, in place of what crosses the point before it,
-/// without the hour's numbers. The cuts are those of the hour.
-pub fn arrivals_carried(
-    alloc: Global,
-    config: &Config,
-    carry: &mut ArrivalCarry,
-    cuts: &Cuts,
-    rows: &[Row],
-    stretches: &[Stretch],
-) -> Result<(), NoMemory>
-    ensures carry { OnOk result
-        (IsCarriedOn config.now rows.now stretches.now cuts.now carry.old carry.new) }
-    ensures err { OnErr result (carry.new ≡ carry.old) }
-{
-    over_hour(alloc, config, carry, cuts, None, rows, stretches)?;
-    Ok(())
-}
-
 /// The hour's numbers, and in `carry` what crosses the point after it in place of what crosses the
 /// point before it. The cuts are those of the hour; the view is one of it, with the configuration's
 /// channels.
@@ -325,21 +307,24 @@ pub fn arrivals_hour(
     Ok(ArrivalSums { approaches })
 }
 
-/// The same for an hour without rows of which no tenth is known: no view is needed, since of the
-/// arrivals whose tenth is one of the hour nothing is seen.
-pub fn arrivals_unheld(
+/// The same without a view: of the arrivals whose tenth is one of the hour nothing is seen. The
+/// judged ones are those of an hour without rows of which no tenth is known.
+pub fn arrivals_unseen(
     alloc: Global,
     config: &Config,
     carry: &mut ArrivalCarry,
     cuts: &Cuts,
+    rows: &[Row],
     stretches: &[Stretch],
 ) -> Result<ArrivalSums, NoMemory>
-    ensures judged { IfOk result (AreUnheldSums config.now stretches.now carry.old cuts.now) }
-    ensures cycles { IfOk result (HaveHourCycles config.now [] stretches.now carry.old cuts.now) }
+    ensures judged { IfOk result
+        (AreHourSumsBy config.now None rows.now stretches.now carry.old cuts.now) }
+    ensures cycles { IfOk result
+        (HaveHourCycles config.now rows.now stretches.now carry.old cuts.now) }
     ensures carry { IfOk result (λ _.
-        IsCarriedOver config.now stretches.now cuts.now carry.old carry.new) }
+        IsCarriedOn config.now rows.now stretches.now cuts.now carry.old carry.new) }
     ensures err { OnErr result (carry.new ≡ carry.old) }
 {
-    let approaches = over_hour(alloc, config, carry, cuts, None, &[], stretches)?;
+    let approaches = over_hour(alloc, config, carry, cuts, None, rows, stretches)?;
     Ok(ArrivalSums { approaches })
 }

@@ -88,19 +88,20 @@ impl Judged {
     }
 }
 
-// What is seen of the channel's colour at the end of the known tenth.
-fn seen(view: &HourView, spec: u16, at: u32, colours: Mask) -> Seen
+// What is seen of the channel's colour at the end of the known tenth, and how many of its moves come
+// before that: looked for from such a number on, which was answered for an earlier tenth.
+fn seen(view: &HourView, spec: u16, at: u32, colours: Mask, near: usize) -> (Seen, usize)
     requires { spec < length view.now.specs }
     ensures { (log : HourLog) (test : ℕ → Bool) → IsViewOf log view.now
         → known_at log.stretches at ≡ true → IsMaskOf test colours
-        → Says test (MayPass log at spec) result }
+        → Says test (MayPass log at spec) result.0 }
 {
     let test = Test {
         colours,
         bound: AgeBound::Any,
         at: i64::from(at),
     };
-    view.seen_at_end(spec, at, &test)
+    view.seen_from(spec, at, &test, near)
 }
 
 // The place of the stretch that has the tenth, or their number where none has it.
@@ -168,13 +169,16 @@ pub(crate) fn judged_rows(
 {
     let mut judged = nothing();
     let mut place = 0;
+    let mut moves = 0;
     for row in rows {
         place = place_near(stretches, place, row.at);
-        judged = if knows(stretches, place) {
-            judged.with(seen(view, spec, row.at, colours))
+        if knows(stretches, place) {
+            let (found, before) = seen(view, spec, row.at, colours, moves);
+            judged = judged.with(found);
+            moves = before;
         } else {
-            judged.with_unseen()
-        };
+            judged = judged.with_unseen();
+        }
     }
     judged
 }

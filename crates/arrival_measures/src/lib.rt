@@ -38,7 +38,7 @@ mod under_way;
 
 pub use arrivals::arrival_points;
 pub use carry::ArrivalCarry;
-pub use hour::{ArrivalSums, arrivals_carried, arrivals_hour, arrivals_unheld};
+pub use hour::{ArrivalSums, arrivals_hour, arrivals_unseen};
 pub use laws::diagrams_fit;
 pub use open::Open;
 pub use points::{Diagram, Point, Points, diagrams};

@@ -1,5 +1,5 @@
 -- What a view of an hour holds of each channel, and the search for a place among its moves.
-use Rattle.std.proofs.Common.{◌≡◌, ap, sym, ◌∙◌, inl, inr, ◌↔◌, ℕ, ◌+◌, ◌<◌, ◌≤◌, ℤ, pos, Bool, true, false, IsTrue, List, [], ◌∷◌, ◌++◌, length, take, drop, get_or, arith, Option, Some}
+use Rattle.std.proofs.Common.{◌≡◌, ap, subst, sym, ◌∙◌, inl, inr, ◌↔◌, ℕ, ◌+◌, ◌<◌, ◌≤◌, ℤ, pos, Bool, true, false, IsTrue, List, [], ◌∷◌, ◌++◌, length, take, drop, get_or, arith, Option, Some}
 use Rattle.std.proofs.lemmas.Bool.{cases_eq, cases_lt}
 use Rattle.std.proofs.lemmas.Grind.{common_steps}
 use Rattle.std.proofs.lemmas.List.{get_or_default}
@@ -10,7 +10,9 @@ use Rattle.channel_tables.specs.declared.any.AnyMachine.{AnyMachine}
 use Rattle.channel_tables.specs.Any.{any_rules}
 use Rattle.reach.specs.declared.seen.Test.{Test}
 use Rattle.reach.specs.declared.seen.Seen.{Seen}
-use Rattle.board.specs.Logs.{HourLog, first_tenth, no_spec}
+use Rattle.span_set.specs.declared.set.Span.{Span}
+use Rattle.board.specs.Courses.{AreCourses, CourseLog}
+use Rattle.board.specs.Logs.{HourLog, first_tenth, hour_log, no_spec}
 use Rattle.board.proofs.Hours.{moves_order}
 use Rattle.channel_tables.specs.declared.spec.Spec.{Spec}
 use Rattle.channel_path.specs.Walks.{InOrder, EnteredBefore}
@@ -28,6 +30,14 @@ some_le i n e = let same : i ≡ n = cc in omega arith
 
 pub element : {A : Type 0} → (xs ys : List A) (i : ℕ) (x d : A) → xs ≡ ys → i < length ys → x ≡ get_or xs i x → x ≡ get_or ys i d
 element xs ys i x d e lt is = is ∙ (ap (λ zs. get_or zs i x) e ∙ get_or_default ys i x d lt)
+
+-- the courses of what a value has inside are those of the value
+pub courses_as : (log own : CourseLog) (specs : List Spec) (list : List (List Move)) → own ≡ log → log.specs ≡ specs → AreCourses own.specs own.rows own.stretches list → AreCourses specs log.rows log.stretches list
+courses_as log own specs list e same are = subst (λ (ds : List Spec). AreCourses ds log.rows log.stretches list) same (subst (λ (x : CourseLog). AreCourses x.specs x.rows x.stretches list) e are)
+
+-- and so is the log of the hour
+pub log_as : (hour : ℕ) (log own : CourseLog) (specs : List Spec) (before : List (List (List Span))) (after : List (List (Option ℤ))) → own ≡ log → log.specs ≡ specs → hour_log hour own.specs own.rows own.stretches before after ≡ hour_log hour specs log.rows log.stretches before after
+log_as hour log own specs before after e same = ap (λ (x : CourseLog). hour_log hour x.specs x.rows x.stretches before after) e ∙ ap (λ (ds : List Spec). hour_log hour ds log.rows log.stretches before after) same
 
 -- one path more
 pub paths_more : (log : HourLog) (n : ℕ) (paths : List (PathLog AnyMachine)) (path : PathLog AnyMachine) → length paths ≡ n → ArePaths log n paths → ((d : Spec) → IsPathOf log n d path) → ArePaths log (n + 1) (paths ++ path ∷ [])

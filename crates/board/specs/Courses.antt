@@ -15,6 +15,15 @@ AreAdded old new more = (length new ≡ length old) × ((i : ℕ) → i < length
 abbrev pub AreCourses : List Spec → List Row → List Stretch → List (List Move) → Type 0
 AreCourses specs rows ss courses = (length courses ≡ length specs) × ((i : ℕ) (d : Spec) → i < length specs → slice_index_or courses i [] ≡ own (track (slice_index_or specs i d)) 0 rows ss)
 
+-- the channels, the rows and the stretches that courses are cut out of
+pub record CourseLog : Type 0 where
+  pub specs : List Spec
+  pub rows : List Row
+  pub stretches : List Stretch
+
+abbrev pub course_log : List Spec → List Row → List Stretch → CourseLog
+course_log specs rows ss = record { specs = specs; rows = rows; stretches = ss }
+
 -- how many of the first n are true
 abbrev pub chosen_before : List Bool → ℕ → ℕ
 chosen_before wanted zero = 0

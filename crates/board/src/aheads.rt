@@ -14,7 +14,7 @@ ghost use Rattle.board.specs.Places.{AreAheadsOf, AreSameFor, SameFor};
 ghost use Rattle.board.specs.Stops.{AreBefore};
 ghost use Rattle.board.specs.Hours.{AreEnds, AreAheadsBefore};
 
-use crate::courses::courses_of;
+use crate::courses::Courses;
 use crate::pasts::Pasts;
 use channel_path::{Move, walk_ahead};
 use channel_tables::{AnyMachine, Spec, machine_of};
@@ -154,11 +154,32 @@ pub fn aheads_hour(
     ensures before { IfOk result (λ a. AreAheadsBefore specs.now rows.now stretches.now after.now
         a) }
 {
-    let courses = courses_of(alloc, specs, rows, stretches)?;
+    let courses = Courses::of(alloc, specs, rows, stretches)?;
+    aheads_along(alloc, specs, after, stretches, &courses)
+}
+
+/// The same, where these are the hour's courses.
+pub fn aheads_along(
+    alloc: Global,
+    specs: &[Spec],
+    after: &Aheads,
+    stretches: &[Stretch],
+    courses: &Courses,
+) -> Result<Aheads, NoMemory>
+    requires same_specs { courses.now.specs ≡ specs.now }
+    requires same_stretches { courses.now.stretches ≡ stretches.now }
+    requires specs { AreSpecs specs.now }
+    requires hour { (h : ℕ) × IsHour h courses.now.rows stretches.now }
+    requires after { AreAheadsOf specs.now after.now }
+    ensures shape { IfOk result (λ a. AreAheadsOf specs.now a) }
+    ensures before { IfOk result (λ a. AreAheadsBefore specs.now courses.now.rows stretches.now
+        after.now a) }
+{
+    let list = courses.list();
     let first = first_of(stretches);
     let mut aheads = Vec::new(alloc);
     for i in 0..specs.len() {
-        let ahead = ahead_before(&specs[i], &after.aheads[i], courses[i].moves(), first);
+        let ahead = ahead_before(&specs[i], &after.aheads[i], list[i].moves(), first);
         aheads.push(ahead)?;
     }
     Ok(Aheads { aheads, alloc })

@@ -5,10 +5,11 @@ ghost use Rattle.channel_path.specs.declared.moves.Move.{Move};
 ghost use Rattle.channel_path.specs.declared.moves.Move.TheVariants.{Letter, Gap};
 ghost use Rattle.board.specs.Channels.{letter_in, track, AreSpecs};
 ghost use Rattle.board.specs.Moves.{count_before, with_letter, letter_moves, stretch_moves};
-ghost use Rattle.board.specs.Courses.{AreAdded, AreCourses};
+ghost use Rattle.board.specs.Courses.{AreAdded, AreCourses, course_log};
 ghost use Rattle.board.specs.Finding.{IsFinder};
 
 use crate::finder::Finder;
+use crate::slice_view::SliceView;
 use channel_path::Move;
 use channel_tables::Spec;
 use gap_map::Stretch;
@@ -17,7 +18,7 @@ use std::alloc::Global;
 use std::marker::Model;
 
 // Up to so many moves a course has room for from the start.
-const MOST_ROOM: usize = 1_024;
+const MOST_ROOM: usize = 4_096;
 
 /// The moves of one channel.
 #[derive(Drop)]
@@ -65,6 +66,55 @@ impl Course {
     }
 }
 
+/// The courses of an hour's channels, made once and lent to all that goes over the hour channel by
+/// channel. A clause sees what they are cut out of.
+#[derive(Drop)]
+pub struct Courses {
+    pub(crate) specs: SliceView<Spec>,
+    pub(crate) rows: SliceView<Row>,
+    pub(crate) stretches: SliceView<Stretch>,
+    pub(crate) list: Vec<Course>,
+}
+
+impl Model for Courses {
+    ghost use Rattle.board.specs.Courses.{AreCourses, CourseLog, course_log};
+
+    ghost Value = { CourseLog };
+
+    ghost view = { λ c. course_log c.specs.items c.rows.items c.stretches.items };
+
+    ghost invariant = { λ c. AreCourses c.specs.items c.rows.items c.stretches.items c.list.items };
+}
+
+impl Courses {
+    /// Those of the hour that has these rows and stretches.
+    pub fn of(
+        alloc: Global,
+        specs: &[Spec],
+        rows: &[Row],
+        stretches: &[Stretch],
+    ) -> Result<Courses, NoMemory>
+        requires specs { AreSpecs specs.now }
+        requires few { length rows.now < 2 ^ 32 }
+        ensures { IfOk result (λ c. c ≡ course_log specs.now rows.now stretches.now) }
+    {
+        let list = courses_of(alloc, specs, rows, stretches)?;
+        Ok(Courses {
+            specs: SliceView::of(specs),
+            rows: SliceView::of(rows),
+            stretches: SliceView::of(stretches),
+            list,
+        })
+    }
+
+    /// They, in the order of the channels.
+    pub(crate) fn list(&self) -> &[Course]
+        ensures { AreCourses self.now.specs self.now.rows self.now.stretches result.now }
+    {
+        self.list.as_slice()
+    }
+}
+
 /// The moves of each channel over the stretches.
 pub fn courses_of(
     alloc: Global,
@@ -77,7 +127,7 @@ pub fn courses_of(
     ensures { IfOk result (λ v. AreCourses specs.now rows.now stretches.now v.items) }
 {
     let mut finder = Finder::new(alloc, specs, rows.len())?;
-    let mut courses = empty(alloc, specs.len(), (rows.len() / 64).min(MOST_ROOM))?;
+    let mut courses = empty(alloc, specs.len(), (rows.len() / 16).min(MOST_ROOM))?;
     let mut next: usize = 0;
     for stretch in stretches {
         next = add_stretch(

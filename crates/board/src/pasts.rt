@@ -9,12 +9,13 @@ ghost use Rattle.channel_path.specs.Walks.{InOrder, AfterMoves, EnteredBefore};
 ghost use Rattle.gap_map.specs.Stretches.{FollowOn};
 ghost use Rattle.board.specs.declared.pasts.PastsError.TheVariants.{Memory};
 ghost use Rattle.board.specs.Channels.{AreSpecs};
+ghost use Rattle.board.specs.Courses.{course_log};
 ghost use Rattle.board.specs.Logs.{IsHour, first_tenth, end_tenth};
 ghost use Rattle.board.specs.Stops.{number, IsEarlier, IsWalked, IsFirstStop, AreAfter, AreBefore, rules_at};
 ghost use Rattle.board.specs.Places.{AllEarly, AreSamePasts};
 ghost use Rattle.board.specs.Hours.{IsStart, AreStarts, AllClamped, ArePastsOf, NamesStop};
 
-use crate::courses::courses_of;
+use crate::courses::Courses;
 use channel_path::{Move, walk_past};
 use channel_tables::{AnyMachine, Spec, machine_of};
 use colour_machine::Machine;
@@ -156,7 +157,31 @@ pub fn pasts_hour(
     ensures early { IfOk result (λ p. (h : ℕ) → IsHour h rows.now stretches.now
         → AllEarly (end_tenth h) p) }
 {
-    let after = pasts_walked(alloc, specs, before, rows, stretches)?;
+    let courses = Courses::of(alloc, specs, rows, stretches)?;
+    pasts_along(alloc, specs, before, rows, stretches, &courses)
+}
+
+/// The same, where these are the hour's courses.
+pub fn pasts_along(
+    alloc: Global,
+    specs: &[Spec],
+    before: &Pasts,
+    rows: &[Row],
+    stretches: &[Stretch],
+    courses: &Courses,
+) -> Result<Pasts, PastsError>
+    requires courses { courses.now ≡ course_log specs.now rows.now stretches.now }
+    requires specs { AreSpecs specs.now }
+    requires hour { (h : ℕ) × IsHour h rows.now stretches.now
+        × AllEarly (first_tenth h) before.now }
+    requires before { AreBefore specs.now before.now }
+    ensures pasts { IfOk result (λ p. ArePastsOf specs.now rows.now stretches.now before.now p) }
+    ensures stop { IfErr result (NamesStop specs.now rows.now stretches.now before.now) }
+    ensures shape { IfOk result (λ p. AreBefore specs.now p) }
+    ensures early { IfOk result (λ p. (h : ℕ) → IsHour h rows.now stretches.now
+        → AllEarly (end_tenth h) p) }
+{
+    let after = pasts_walked(alloc, specs, before, courses)?;
     match after.stop {
         Some(stop) => Err(PastsError::NoState(rows[stop as usize])),
         None => {
@@ -197,32 +222,32 @@ pub struct After {
     pub stop: Option<u32>,
 }
 
-// The same by the moves of each channel.
+// The same without an end, by the moves of each channel.
 fn pasts_walked(
     alloc: Global,
     specs: &[Spec],
     before: &Pasts,
-    rows: &[Row],
-    stretches: &[Stretch],
+    courses: &Courses,
 ) -> Result<After, NoMemory>
+    requires same { courses.now.specs ≡ specs.now }
     requires specs { AreSpecs specs.now }
-    requires hour { (h : ℕ) × IsHour h rows.now stretches.now
+    requires hour { (h : ℕ) × IsHour h courses.now.rows courses.now.stretches
         × AllEarly (first_tenth h) before.now }
     requires before { AreBefore specs.now before.now }
     ensures count { IfOk result (λ a. length a.pasts ≡ length specs.now) }
     ensures colours { IfOk result (λ a. (i : ℕ) (d : Spec) → i < length specs.now
         → length (slice_index_or a.pasts i []) ≡ (rules_at specs.now i d).colours) }
-    ensures stop { IfOk result (λ a. IsFirstStop specs.now rows.now stretches.now before.now
-        (length specs.now) a.stop) }
-    ensures pasts { IfOk result (λ a. a.stop ≡ None → AreAfter specs.now rows.now stretches.now
-        before.now (length specs.now) a.pasts) }
+    ensures stop { IfOk result (λ a. IsFirstStop specs.now courses.now.rows courses.now.stretches
+        before.now (length specs.now) a.stop) }
+    ensures pasts { IfOk result (λ a. a.stop ≡ None → AreAfter specs.now courses.now.rows
+        courses.now.stretches before.now (length specs.now) a.pasts) }
 {
-    let courses = courses_of(alloc, specs, rows, stretches)?;
+    let list = courses.list();
     let mut pasts = Vec::new(alloc);
     let mut stop = None;
     for i in 0..specs.len() {
         let mut past = before.pasts[i].copy()?;
-        let next = walk_spec(alloc, &specs[i], &mut past, courses[i].moves())?;
+        let next = walk_spec(alloc, &specs[i], &mut past, list[i].moves())?;
         stop = earlier(stop, next);
         pasts.push(past)?;
     }

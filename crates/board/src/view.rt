@@ -12,7 +12,7 @@ ghost use Rattle.board.specs.Places.{IsBefore, IsSplit, IsLog, AreAheadsOf};
 ghost use Rattle.board.specs.Verdicts.{SeesRow, SeesEnd};
 
 use crate::aheads::Aheads;
-use crate::courses::courses_of;
+use crate::courses::Courses;
 use crate::marks::{Marks, marks_of};
 use crate::pasts::Pasts;
 use crate::slice_view::SliceView;
@@ -81,8 +81,31 @@ impl HourView {
             → let log = hour_log hour specs.now rows.now stretches.now before.now after.now in
             IsLog log → v ≡ log) }
     {
+        let courses = Courses::of(alloc, specs, rows, stretches)?;
+        HourView::along(alloc, specs, before, stretches, after, courses)
+    }
+
+    /// The same, where these are the courses of the hour that has these stretches.
+    pub fn along(
+        alloc: Global,
+        specs: &[Spec],
+        before: &Pasts,
+        stretches: &[Stretch],
+        after: &Aheads,
+        courses: Courses,
+    ) -> Result<HourView, NoMemory>
+        requires same_specs { courses.specs ≡ specs.now }
+        requires same_stretches { courses.stretches ≡ stretches.now }
+        requires log { (hour : ℕ) × IsLog (hour_log hour specs.now courses.rows stretches.now
+            before.now after.now) }
+        requires before { AreBefore specs.now before.now }
+        requires after { AreAheadsOf specs.now after.now }
+        ensures { IfOk result (λ v. (hour : ℕ)
+            → let log = hour_log hour specs.now courses.rows stretches.now before.now after.now in
+            IsLog log → v ≡ log) }
+    {
         let hour = hour_of(stretches);
-        HourView::of_hour(alloc, hour, specs, before, rows, stretches, after)
+        HourView::of_hour(alloc, hour, specs, before, after, courses)
     }
 
     // The same, of this hour.
@@ -91,20 +114,26 @@ impl HourView {
         hour: Hour,
         specs: &[Spec],
         before: &Pasts,
-        rows: &[Row],
-        stretches: &[Stretch],
         after: &Aheads,
+        courses: Courses,
     ) -> Result<HourView, NoMemory>
-        requires log { IsLog (hour_log hour specs.now rows.now stretches.now before.now after.now) }
+        requires same { courses.specs ≡ specs.now }
+        requires log { IsLog (hour_log hour specs.now courses.rows courses.stretches before.now
+            after.now) }
         requires before { AreBefore specs.now before.now }
         requires after { AreAheadsOf specs.now after.now }
-        ensures { IfOk result (λ v. v ≡ hour_log hour specs.now rows.now stretches.now before.now
-            after.now) }
+        ensures { IfOk result (λ v. v ≡ hour_log hour specs.now courses.rows courses.stretches
+            before.now after.now) }
     {
-        let courses = courses_of(alloc, specs, rows, stretches)?;
-        let marks = marks_of(alloc, courses.as_slice(), first_of(stretches))?;
-        let mut paths = Vec::with_capacity(alloc, courses.len())?;
-        for course in courses {
+        let Courses {
+            specs: channels,
+            rows,
+            stretches,
+            list,
+        } = courses;
+        let marks = marks_of(alloc, list.as_slice(), 36_000 * hour)?;
+        let mut paths = Vec::with_capacity(alloc, list.len())?;
+        for course in list {
             let i = paths.len();
             let moves = course.into_moves();
             let path = path_of(alloc, &specs[i], &before.pasts[i], moves, &after.aheads[i])?;
@@ -112,10 +141,10 @@ impl HourView {
         }
         Ok(HourView {
             hour,
-            specs: SliceView::of(specs),
+            specs: channels,
             before: Snapshot::of(before),
-            rows: SliceView::of(rows),
-            stretches: SliceView::of(stretches),
+            rows,
+            stretches,
             after: Snapshot::of(after),
             paths,
             marks,
@@ -163,10 +192,23 @@ impl HourView {
         requires tenth { test.now.at ≡ pos at }
         ensures { known_at self.now.stretches at ≡ true → SeesEnd self.now at spec test.now result }
     {
+        let (seen, _place) = self.seen_from(spec, at, test, 0);
+        seen
+    }
+
+    /// The same, with how many of the channel's moves come before it: looked for from such a number
+    /// on, which was answered for an earlier tenth, or from 0. That takes as long as the channel
+    /// has moves between the two tenths.
+    pub fn seen_from(&self, spec: u16, at: u32, test: &Test, near: usize) -> (Seen, usize)
+        requires spec { spec < length self.now.specs }
+        requires tenth { test.now.at ≡ pos at }
+        ensures { known_at self.now.stretches at ≡ true
+            → SeesEnd self.now at spec test.now result.0 }
+    {
         let path = &self.paths[spec as usize];
         let marks = &self.marks[spec as usize];
-        let place = place_of(path.moves(), marks, i64::from(at), None);
-        path.seen(place, test)
+        let place = place_from(path.moves(), marks, near, i64::from(at), None);
+        (path.seen(place, test), place)
     }
 }
 
@@ -209,6 +251,23 @@ fn place_of(moves: &[Move], marks: &Marks, at: Tenth, index: Option<u32>) -> usi
         left -= half;
     }
     low
+}
+
+// The same, step by step from a number of moves that come before the place, where these are some.
+fn place_from(moves: &[Move], marks: &Marks, near: usize, at: Tenth, index: Option<u32>) -> usize
+    ensures within { result ≤ length moves.now }
+    ensures place { (j : ℕ) → IsSplit at index moves.now j → result ≡ j }
+{
+    let low = low_of(moves, near, at, index);
+    if low == 0 {
+        return place_of(moves, marks, at, index);
+    }
+    for place in low..moves.len() {
+        if !is_before(moves[place], at, index) {
+            return place;
+        }
+    }
+    moves.len()
 }
 
 // The guess, where that many moves come before the place, and else none.

@@ -7,7 +7,7 @@ use crate::given::{WHOLE, free, row};
 use board::{Aheads, HourView, Pasts};
 use event_codes::Kind;
 use gap_map::Stretch;
-use other_measures::{OtherCarry, OtherSums, PedSum, others_carried, others_hour};
+use other_measures::{OtherCarry, OtherSums, PedSum, others_hour, others_unseen};
 use ring_config::{Config, read_config};
 use sig_base::{NoMemory, Row};
 use std::alloc::Global;
@@ -54,13 +54,21 @@ fn summed(alloc: Global, config: &Config, stretches: &[Stretch]) -> Result<Other
     Ok(sums)
 }
 
+const UNHELD: [Stretch; 1] = [Stretch {
+    from: 0,
+    to: 36_000,
+    known: false,
+}];
+
 // The same with an hour that isn't held added to them.
 fn totalled(alloc: Global, config: &Config, stretches: &[Stretch]) -> Result<OtherSums, Fail>
     requires specs { length config.now.specs ≡ 5 }
     requires stretches { FollowOn 0 36000 stretches.now }
 {
     let mut total = summed(alloc, config, stretches)?;
-    total.add(&OtherSums::none(alloc, config)?)?;
+    let mut carry = OtherCarry::start(alloc, config)?;
+    let unheld = others_unseen(alloc, config, &mut carry, &[], &UNHELD)?;
+    total.add(&unheld)?;
     Ok(total)
 }
 
@@ -127,7 +135,7 @@ fn no_delay_over_a_gap(rt: HostRuntime) -> Result<(), Fail> {
 fn is_as_at_the_start(alloc: Global, config: &Config) -> Result<bool, NoMemory> {
     let start = OtherCarry::start(alloc, config)?;
     let mut carry = start.copy()?;
-    others_carried(alloc, config, &mut carry, &two_walks(), &WHOLE)?;
+    others_unseen(alloc, config, &mut carry, &two_walks(), &WHOLE)?;
     Ok(carry.same(&start))
 }
 

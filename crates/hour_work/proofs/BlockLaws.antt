@@ -270,9 +270,6 @@ blocks_new old new kept s size are is =
       ];
     }
 
-pub room_for : (old new kept : List Numbers) (s : Summed) → AreBlocks old kept → AreNewSums old new s → s.first + length s.blocks ≤ length kept
-room_for old new kept s are is = let all = are.all in let within = is.within in omega arith
-
 -- ---- the sums of a block, hour by hour
 
 pub hour_fits : (xs : List Numbers) (k : ℕ) (part : Numbers) → All (FitHours 1) xs → k < length xs → ((d : Numbers) → part ≡ get_or xs k d) → FitHours 1 part

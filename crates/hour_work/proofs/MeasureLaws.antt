@@ -16,11 +16,6 @@ use Rattle.hour_sweep.specs.Hours.{IsHour}
 use Rattle.signal_log.specs.Points.{HasHour, rows_or_none}
 use Rattle.signal_log.specs.Views.{AreSameOrAlike}
 use Rattle.signal_log.proofs.Stored.{cut_known, rows_in, rows_in_is, rows_of_first}
-use Rattle.service_cut.specs.Cut.{CutLists, IsCut as IsCutOf}
-use Rattle.service_cut.specs.Parts.{IsCarry as IsCutCarry}
-use Rattle.service_cut.specs.declared.parts.Part.{Part}
-use Rattle.ring_config.specs.Settings.{Settings}
-use Rattle.arrival_measures.specs.Crossing.{CarryParts, IsCarry as AreOpen}
 use Rattle.detector_state.specs.declared.state_asked.Asked.{Asked}
 use Rattle.detector_state.specs.declared.state_asked.Asked.TheVariants.{Colour, NoneOf}
 use Rattle.detector_state.specs.States.{AllHave, Meets}
@@ -78,17 +73,3 @@ over_hour Is s hour rows blanks ss old first new e has are cut law is =
     let step = law (is_known s) (earlier_rows s hour) hour (hour_is s hour rows blanks ss has are cut) (subst (λ x. Is (is_known s) (earlier_rows s hour) hour x) (sym e) is) in
     let same : earlier_rows s hour ++ known_rows (is_known s) (rows_or_none rows) ≡ earlier_rows s (hour + 1) = ap (λ rs. earlier_rows s hour ++ rs) (own_known s hour rows has.held) ∙ sym (earlier_more s hour has.within) in
     subst (λ rs. Is (is_known s) rs (hour + 1) new) same step
-
--- the same of the cycles of approaches, which are told by what is cut of the hour
-pub opens_over : (c : Settings) (s : Store) (hour : ℕ) (rows : Option (List Row)) (blanks : List Span) (ss : List Stretch) (old cuts : List (Option Part)) (lists : CutLists) (past first new : CarryParts) → old ≡ cuts → past ≡ first → HasHour s hour rows blanks → AreRowsOf hour (rows_or_none rows) → IsCut (known_in (is_some rows) blanks) (36000 * hour) (36000 * hour + 36000) ss
-    → ((known : ℕ → Bool) (before : List Row) (h : ℕ) → IsHour known h (rows_or_none rows) ss → IsCutCarry known c.phases before h old → IsCutOf known c.phases before h (rows_or_none rows) lists)
-    → ((known : ℕ → Bool) (before : List Row) (h : ℕ) → IsHour known h (rows_or_none rows) ss → AreOpen known c before h past → IsCutOf known c.phases before h (rows_or_none rows) lists → AreOpen known c (before ++ known_rows known (rows_or_none rows)) (h + 1) new)
-    → IsCutCarry (is_known s) c.phases (earlier_rows s hour) hour cuts → AreOpen (is_known s) c (earlier_rows s hour) hour first → AreOpen (is_known s) c (earlier_rows s (hour + 1)) (hour + 1) new
-opens_over c s hour rows blanks ss old cuts lists past first new e f has are cut cutting law is opens =
-    let known = is_known s in
-    let before = earlier_rows s hour in
-    let here = hour_is s hour rows blanks ss has are cut in
-    let listed = cutting known before hour here (subst (λ ps. IsCutCarry known c.phases before hour ps) (sym e) is) in
-    let step = law known before hour here (subst (λ os. AreOpen known c before hour os) (sym f) opens) listed in
-    let same : before ++ known_rows known (rows_or_none rows) ≡ earlier_rows s (hour + 1) = ap (λ rs. before ++ rs) (own_known s hour rows has.held) ∙ sym (earlier_more s hour has.within) in
-    subst (λ rs. AreOpen known c rs (hour + 1) new) same step

@@ -44,17 +44,6 @@ total_push xs y =
     let a = mapped_push (merged arrivals_added) [] (λ (n : Numbers). n.arrivals) xs y in
     rw (h, r, k, c, p, f, o, a) refl
 
-fits_more : (m n : ℕ) (xs : List RuleCount) → m ≤ n → All (FitsCount m) xs → All (FitsCount n) xs
-fits_more m n xs le p k d lt = one_more m n (get_or xs k d) le (p k d lt)
-
-pub hours_more : (m n : ℕ) (a : Numbers) → m ≤ n → FitHours m a → FitHours n a
-hours_more m n a le p = let h = p.held_hours in let r = p.held_rows in let k = p.known_tenths in record {
-  held_hours = omega arith;
-  held_rows = omega arith;
-  known_tenths = omega arith;
-  rules = fits_more m n a.rules le p.rules;
-}
-
 pub numbers_fit : (m n : ℕ) (a b : Numbers) → FitHours m a → FitHours n b → FitHours (m + n) (numbers_sum a b)
 numbers_fit m n a b p q = let h1 = p.held_hours in let h2 = q.held_hours in let r1 = p.held_rows in let r2 = q.held_rows in let k1 = p.known_tenths in let k2 = q.known_tenths in record {
   held_hours = omega arith;

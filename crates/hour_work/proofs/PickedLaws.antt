@@ -298,7 +298,3 @@ module _ (c : Settings) (s : Store) (hour : ℕ) (carry : Carried) (rows : List 
       ∙ (ap (λ zs. points_from known c p earlier zs) (sym (seen_rows c s hour carry rows ss view seen))
       ∙ (points_same c p hour rows ss carry.arrivals seen.sound.approaches known (is_known other) earlier (earlier_rows other hour) own theirs seen.between.is_before.arrivals is.arrivals
       ∙ ap (λ zs. points_from (is_known other) c p (earlier_rows other hour) zs) (own_known other hour (Some rows) has.held)))
-
--- an hour that isn't held has none
-pub no_points : (c : Settings) (p : ℕ) (s : Store) (hour : ℕ) (blanks : List Span) → HasHour s hour None blanks → [] ≡ points_from (is_known s) c p (earlier_rows s hour) (own_rows s hour)
-no_points c p s hour blanks has = ap (λ zs. points_from (is_known s) c p (earlier_rows s hour) zs) (own_known s hour None has.held)

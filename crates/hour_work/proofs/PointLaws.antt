@@ -1,6 +1,7 @@
 -- What is kept at hour points, and what is known between two of them.
-use Rattle.std.proofs.Common.{◌≡◌, ◌∙◌, ℕ, ◌+◌, ◌*◌, ◌-◌, ◌<◌, ◌≤◌, ℤ, pos, Bool, true, false, nat_lt, List, [], ◌∷◌, length, take, Option, Some, None, refl, sym, ap, subst, arith}
+use Rattle.std.proofs.Common.{◌≡◌, ◌∙◌, ℕ, ◌+◌, ◌*◌, ◌-◌, ◌≤◌, ℤ, pos, Bool, true, false, nat_lt, List, [], ◌∷◌, length, take, Option, Some, None, refl, sym, ap, subst, arith}
 use Rattle.std.specs.Prelude.{is_some, option_map}
+use mir.Val.{bool_byte}
 use Rattle.std.specs.List.{All}
 use Rattle.std.proofs.lemmas.Bool.Decides.{nat_tests}
 use Rattle.span_set.specs.declared.set.Span.{Span}
@@ -18,7 +19,6 @@ use Rattle.other_measures.specs.Crossing.{Crossing, IsCarry as IsCrossing}
 use Rattle.stop_bar.specs.Crossing.{Crossing as AtBar}
 use Rattle.stop_bar.specs.All.{AreAtBars}
 use Rattle.arrival_measures.specs.Crossing.{CarryParts, IsCarry as AreOpen}
-use Rattle.arrival_measures.specs.declared.sums.ArrivalSum.{ArrivalSum}
 use Rattle.board.specs.Hours.{AreEnds, AreStarts}
 use Rattle.board.specs.Logs.{HourLog, first_tenth, hour_log}
 use Rattle.board.specs.Places.{AreAheadsOf, IsViewOf}
@@ -41,16 +41,11 @@ use Rattle.hour_work.specs.Points.{Carried, FitPoint, IsCarryAt, IsFutureAt, is_
 use Rattle.hour_work.specs.Verdicts.{AreAuditLines, HasStoreVerdict, obligations_in}
 use Rattle.hour_work.specs.Rows.{earlier_rows}
 use Rattle.signal_log.specs.Rows.{hour_rows}
-use Rattle.hour_work.specs.declared.counts.RuleCount.{RuleCount}
-use Rattle.split_measures.specs.declared.sums.PhaseSum.{PhaseSum}
-use Rattle.split_measures.specs.declared.failures.SplitSum.{SplitSum}
-use Rattle.other_measures.specs.Hours.{OtherNumbers}
-use Rattle.hour_work.specs.Measures.{AreMeasures}
-use Rattle.hour_work.specs.Reports.{IsHourBetween, IsHourPart}
-use Rattle.hour_work.proofs.CountLaws.{count_all, count_same}
+use Rattle.hour_work.specs.Reports.{IsHourBetween}
+use Rattle.hour_work.proofs.CountLaws.{count_same}
 use Rattle.rule_audit.proofs.Tracked.{channels_are}
 use Rattle.hour_work.proofs.PlacedLaws.{all_numbered, each_all}
-use Rattle.hour_work.proofs.TallyLaws.{counts_at, counts_fit, length-counts_of, lines_each}
+use Rattle.hour_work.proofs.TallyLaws.{counts_fit, lines_each}
 use Rattle.hour_work.proofs.VerdictLaws.{lines_in, no_lines, runs_are}
 
 -- ---- points
@@ -96,10 +91,6 @@ pub held_rows : (o : Option (List Row)) → is_some o ≡ true → o ≡ Some (r
 held_rows None e = absurd (let bad : true ≡ false = sym e in cc)
 held_rows (Some rows) e = refl
 
-pub no_held_rows : (o : Option (List Row)) → is_some o ≡ false → o ≡ None
-no_held_rows None e = refl
-no_held_rows (Some rows) e = absurd (let bad : true ≡ false = e in cc)
-
 module _ (c : Settings) (sound : IsSound c) (s : Store) (hour : ℕ) (before : Carried) (rows : List Row) (blanks : List Span) (after : List (List (Option ℤ))) (ss : List Stretch) (is : IsHourBetween c s hour before (Some rows) blanks after) (cut : IsStretched (known_in true blanks) (36000 * hour) (36000 * hour + 36000) ss) where
   pub between_hour : IsHourOf s (hour_log hour c.specs rows ss before.pasts after)
   between_hour = record {
@@ -137,8 +128,17 @@ count_rows : (o : Option Shown) → count_in o ≡ length (rows_or_none (option_
 count_rows None = refl
 count_rows (Some h) = refl
 
-pub held_one : (s : Store) (hour : ℕ) (rows : Option (List Row)) → rows_at s hour ≡ rows → one_if (is_some rows) ≡ one_if (is_some (held_at s hour))
-held_one s hour rows e = ap (λ (o : Option (List Row)). one_if (is_some o)) (sym e) ∙ ap one_if (sym (some_rows (held_at s hour)))
+-- a `bool` as a number
+byte_is : (b : Bool) → bool_byte b ≡ one_if b
+byte_is true = refl
+byte_is false = refl
+
+pub byte_fits : (b : Bool) → bool_byte b ≤ 1
+byte_fits true = omega arith
+byte_fits false = omega arith
+
+pub held_one : (s : Store) (hour : ℕ) (rows : Option (List Row)) → rows_at s hour ≡ rows → bool_byte (is_some rows) ≡ one_if (is_some (held_at s hour))
+held_one s hour rows e = byte_is (is_some rows) ∙ ap (λ (o : Option (List Row)). one_if (is_some o)) (sym e) ∙ ap one_if (sym (some_rows (held_at s hour)))
 
 pub held_count : (s : Store) (hour : ℕ) (rows : Option (List Row)) → rows_at s hour ≡ rows → length (rows_or_none rows) ≡ count_in (held_at s hour)
 held_count s hour rows e = ap (λ (o : Option (List Row)). length (rows_or_none o)) (sym e) ∙ sym (count_rows (held_at s hour))
@@ -160,20 +160,3 @@ unfolding obligations_in
 lines_fit c s hour n rows lines held few are =
     let own : length (hour_rows s hour) ≡ length (rows_or_none rows) = ap (λ (o : Option (List Row)). length (rows_or_none o)) held in
     counts_fit (HasStoreVerdict c s hour) (is_known s) c.specs (rules_for c) (hour_rows s hour) (is_known_before (is_known s) (first_tenth hour)) (first_tenth hour) n lines (omega arith) are
-
--- the numbers of an hour that isn't held
-pub unheld_part : (c : Settings) (s : Store) (hour n : ℕ) (rules : List RuleCount) (splits : List PhaseSum) (failures : List SplitSum) (others : OtherNumbers) (arrivals : List ArrivalSum) → rules ≡ counts_of n [] → AreMeasures c s hour splits failures others arrivals → rows_at s hour ≡ None → n ≡ length (rules_for c) → IsHourPart c s hour (record { held_hours = 0; held_rows = 0; known_tenths = 0; rules = rules; splits = splits; failures = failures; others = others; arrivals = arrivals })
-unheld_part c s hour n rules splits failures others arrivals e measures none m = record {
-  held_hours = held_one s hour None none;
-  held_rows = held_count s hour None none;
-  known_tenths = sym (count_all (is_known s) (36000 * hour) 36000 false (λ t low high. known_hour s hour t None none low (omega arith)));
-  lines = [];
-  are_lines = unheld_lines c s hour none;
-  rules = e ∙ ap (λ k. counts_of k []) m;
-  measures = measures;
-}
-
-pub none_fit : (n : ℕ) → All (FitsCount 1) (counts_of n [])
-none_fit n j d lt =
-    let within : j < n = subst (λ (m : ℕ). j < m) (length-counts_of n []) lt in
-    subst (λ (c : RuleCount). FitsCount 1 c) (sym (counts_at n [] j d within)) (record { kept = omega arith; broken = omega arith; undecided = omega arith })

@@ -21,7 +21,7 @@ use Rattle.stop_bar.specs.All.{AreAtBars}
 use Rattle.arrival_measures.specs.Crossing.{CarryParts, IsCarry as AreOpen}
 use Rattle.hour_work.specs.Rows.{earlier_rows}
 use Rattle.hour_work.specs.declared.steps.ForwardError.{ForwardError}
-use Rattle.hour_work.specs.declared.steps.UnderWay.{UnderWay}
+use Rattle.hour_work.specs.declared.measures.UnderWay.{UnderWay}
 use Rattle.hour_work.specs.declared.steps.ForwardError.TheVariants.{Contradiction, Memory}
 
 -- what a store says at a point between two hours of what came before: the states of each channel, whether the tenth before is known, what is under way of phases, the whole services whose red window isn't over, and what is under way at stop bars, of pedestrian signals and preempts, and of arrivals

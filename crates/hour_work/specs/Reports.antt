@@ -1,12 +1,12 @@
 -- The report of a store.
-use Rattle.std.specs.Prelude.{◌≡◌, ◌+◌, ◌*◌, ◌<◌, ℕ, ℤ, true, List, Option, Some, length, is_some, slice_index_or}
+use Rattle.std.specs.Prelude.{◌≡◌, ◌+◌, ◌*◌, ◌<◌, ℕ, ℤ, true, List, Option, None, Some, length, is_some, slice_index_or}
 use Rattle.sig_base.specs.declared.values.Row.{Row}
 use Rattle.span_set.specs.declared.set.Span.{Span}
 use Rattle.gap_map.specs.declared.stretch.Stretch.{Stretch}
 use Rattle.gap_map.specs.Stretches.{IsCut, known_in}
 use Rattle.board.specs.Logs.{HourLog, hour_log}
 use Rattle.board.specs.Places.{IsViewOf}
-use Rattle.hour_store.specs.Store.{Store, count_in, held_at, is_known}
+use Rattle.hour_store.specs.Store.{Store, count_in, held_at, is_known, rows_at}
 use Rattle.sig_base.specs.HourRows.{AreRowsOf}
 use Rattle.ring_config.specs.Settings.{Settings}
 use Rattle.ring_config.specs.Sound.{IsSound}
@@ -76,3 +76,8 @@ IsSeenAt c s o before view = IsHourSeen c s o.hour before (rows_or_none o.rows) 
 
 abbrev pub IsCutAtPlace : Settings → Store → Opened → Carried → CutLists → Type 0
 IsCutAtPlace c s o before cuts = IsHourCut c s o.hour before (rows_or_none o.rows) o.stretches cuts
+
+-- the view of an hour that is opened, where the store holds the hour; no view where it doesn't
+abbrev pub IsSeenBy : Settings → Store → Opened → Carried → Option HourLog → Type 0
+IsSeenBy c s o before (Some view) = IsSeenAt c s o before view
+IsSeenBy c s o before None = rows_at s o.hour ≡ None

@@ -1,11 +1,10 @@
 // The numbers of one hour, and the lines of its audit.
-ghost use Rattle.std.specs.Prelude.{◌≡◌, ◌<◌, ◌+◌, true, false, is_some, length, option_copied, IfOk, IfSome};
+ghost use Rattle.std.specs.Prelude.{◌≡◌, ◌<◌, ◌+◌, option_copied, IfOk, IfSome};
 ghost use Rattle.sig_base.specs.HourRows.{AreRowsOf};
 ghost use Rattle.hour_store.specs.Store.{Store};
-ghost use Rattle.board.specs.Stops.{AreBefore};
 ghost use Rattle.ring_config.specs.Sound.{IsSound};
-ghost use Rattle.signal_log.specs.Log.{HasHistory, log_of};
 ghost use Rattle.signal_log.specs.Opened.{HasPlace, IsOpened};
+ghost use Rattle.signal_log.specs.Over.{AreCoursesOver};
 ghost use Rattle.rule_audit.specs.Rules.{rules_for};
 ghost use Rattle.hour_work.specs.Numbers.{FitHours};
 ghost use Rattle.hour_work.specs.Points.{AreUnderWayAt, IsCarryAt};
@@ -13,15 +12,12 @@ ghost use Rattle.hour_work.specs.Verdicts.{AreAuditLines};
 ghost use Rattle.hour_work.specs.Reports.{IsBetweenAt, IsHourBetween, IsHourPart};
 
 use crate::counts::counts_of;
-use crate::seen::{audit_seen, cut_seen, known_in, others_seen, seen_hour};
-use crate::steps::UnderWay;
-use crate::stop_bars::splits_seen;
+use crate::measures::{Measured, UnderWay, measures_over};
+use crate::seen::{known_in, lines_over, view_over};
 use crate::{Between, Carry, Future, Partial};
-use arrival_measures::arrivals_unheld;
-use other_measures::OtherSums;
+use board::Courses;
 use ring_config::Config;
 use rule_audit::{AuditLine, Rule};
-use service_cut::cut_hour;
 use sig_base::{Hour, NoMemory, Row};
 use signal_log::Place;
 use span_set::SpanSet;
@@ -68,11 +64,8 @@ pub fn partial_over(
         → IsHourPart config.now s place.now.hour p) }
     ensures small { IfOk result (FitHours 1) }
 {
-    if place.is_held() {
-        let HeldHour { part, .. } = held_hour(alloc, config, rules, place, between)?;
-        return Ok(part);
-    }
-    unheld_part(alloc, config, rules.len(), place, between.before)
+    let HourDone { part, .. } = hour_done(alloc, config, rules, place, between, None)?;
+    Ok(part)
 }
 
 /// The lines of the audit of an hour, in their order: the verdicts that aren't idle, over all
@@ -115,62 +108,28 @@ pub fn audit_over(
         → IsBetweenAt config.now s place.now between.now.before.now between.now.after.now
         → AreAuditLines config.now s place.now.hour v.items) }
 {
-    if place.is_held() {
-        return held_lines(alloc, config, rules, place, between);
-    }
-    Ok(Vec::new(alloc))
+    let view = view_over(alloc, config, place, between, None)?;
+    lines_over(alloc, config, rules, place, between.before, view.as_ref())
 }
 
-// The numbers of an hour that isn't held, where there are so many rules: the services whose red
-// window ends in it have verdicts, the arrivals that come up in it aren't seen, and all else is
-// nothing.
-pub(crate) fn unheld_part(
-    alloc: Global,
-    config: &Config,
-    rules: usize,
-    place: &Place<'_>,
-    before: &Carry,
-) -> Result<Partial, NoMemory>
-    requires unheld { is_some place.now.rows ≡ false }
-    requires shape { AreBefore config.now.specs before.now.pasts }
-    ensures value { IfOk result (λ p. (s : Store) → rules ≡ length (rules_for config.now)
-        → HasHistory (log_of config.now.specs s) → HasPlace s place.now
-        → IsCarryAt config.now s place.now.hour before.now
-        → IsHourPart config.now s place.now.hour p) }
-    ensures small { IfOk result (FitHours 1) }
-{
-    let parts = place.stretches();
-    let mut carry = before.cuts.copy()?;
-    let cuts = cut_hour(alloc, config.phases(), &mut carry, place.rows(), parts)?;
-    let (splits, _) = splits_seen(alloc, config, place, before, &cuts)?;
-    let mut arrival_carry = before.arrivals.copy()?;
-    Ok(Partial {
-        held_hours: 0,
-        held_rows: 0,
-        known_tenths: 0,
-        rules: counts_of(alloc, rules, &[])?,
-        splits,
-        others: OtherSums::none(alloc, config)?,
-        arrivals: arrivals_unheld(alloc, config, &mut arrival_carry, &cuts, parts)?,
-    })
-}
-
-/// An hour that is held: its numbers, and what is under way of each measure at the point after it.
+/// An hour's numbers, and what is under way of each measure at the point after it.
 #[derive(Drop)]
-pub(crate) struct HeldHour {
+pub(crate) struct HourDone {
     pub(crate) part: Partial,
     pub(crate) way: UnderWay,
 }
 
-/// All of an hour that is held.
-pub(crate) fn held_hour(
+/// All of an hour, held or not. These are its courses, where they are made already.
+pub(crate) fn hour_done(
     alloc: Global,
     config: &Config,
     rules: &[Rule],
     place: &Place<'_>,
     between: &Between<'_>,
-) -> Result<HeldHour, NoMemory>
-    requires held { is_some place.now.rows ≡ true }
+    courses: Option<Courses>,
+) -> Result<HourDone, NoMemory>
+    requires courses { IfSome courses (AreCoursesOver config.now.specs place.now.hour place.now.rows
+        place.now.blanks) }
     requires rules { rules.now ≡ rules_for config.now }
     requires agrees { (s : Store)
         × IsBetweenAt config.now s place.now between.now.before.now between.now.after.now }
@@ -185,47 +144,23 @@ pub(crate) fn held_hour(
     ensures opened { IfOk result (λ _. IsOpened place.now) }
 {
     let before = between.before;
-    let parts = place.stretches();
-    let view = seen_hour(alloc, config, place, between)?;
-    let lines = audit_seen(alloc, config, rules, place, before, &view)?;
-    let counts = counts_of(alloc, rules.len(), &lines)?;
-    let cut = cut_seen(alloc, config, place, before, &view)?;
-    let (others, crossing) = others_seen(alloc, config, place, before, &view)?;
-    let part = Partial {
-        held_hours: 1,
-        held_rows: place.rows().len() as u64,
-        known_tenths: known_in(parts) as u64,
-        rules: counts,
-        splits: cut.splits,
+    let view = view_over(alloc, config, place, between, courses)?;
+    let lines = lines_over(alloc, config, rules, place, before, view.as_ref())?;
+    let measured = measures_over(alloc, config, place, before, view.as_ref())?;
+    let Measured {
+        splits,
         others,
-        arrivals: cut.arrivals,
+        arrivals,
+        way,
+    } = measured;
+    let part = Partial {
+        held_hours: u64::from(place.is_held()),
+        held_rows: place.rows().len() as u64,
+        known_tenths: known_in(place.stretches()) as u64,
+        rules: counts_of(alloc, rules.len(), &lines)?,
+        splits,
+        others,
+        arrivals,
     };
-    let way = UnderWay {
-        cuts: cut.cuts,
-        closing: cut.closing,
-        splits: cut.bars,
-        others: crossing,
-        arrivals: cut.opens,
-    };
-    Ok(HeldHour { part, way })
-}
-
-// The lines of an hour that is held.
-fn held_lines(
-    alloc: Global,
-    config: &Config,
-    rules: &[Rule],
-    place: &Place<'_>,
-    between: &Between<'_>,
-) -> Result<Vec<AuditLine>, NoMemory>
-    requires held { is_some place.now.rows ≡ true }
-    requires rules { rules.now ≡ rules_for config.now }
-    requires agrees { (s : Store)
-        × IsBetweenAt config.now s place.now between.now.before.now between.now.after.now }
-    ensures { IfOk result (λ v. (s : Store)
-        → IsBetweenAt config.now s place.now between.now.before.now between.now.after.now
-        → AreAuditLines config.now s place.now.hour v.items) }
-{
-    let view = seen_hour(alloc, config, place, between)?;
-    audit_seen(alloc, config, rules, place, between.before, &view)
+    Ok(HourDone { part, way })
 }

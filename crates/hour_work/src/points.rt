@@ -1,5 +1,5 @@
 // The cycles of a phase in one hour, and its arrivals.
-ghost use Rattle.std.specs.Prelude.{◌≡◌, ◌<◌, true, is_some, option_copied, IfOk, IfSome};
+ghost use Rattle.std.specs.Prelude.{◌≡◌, ◌<◌, option_copied, IfOk, IfSome};
 ghost use Rattle.sig_base.specs.HourRows.{AreRowsOf};
 ghost use Rattle.hour_store.specs.Store.{Store, is_known};
 ghost use Rattle.hour_sweep.specs.Sums.{own};
@@ -11,7 +11,7 @@ ghost use Rattle.hour_work.specs.Measures.{cycles_in};
 ghost use Rattle.hour_work.specs.Points.{IsCarryAt};
 ghost use Rattle.hour_work.specs.Reports.{IsBetweenAt, IsHourBetween};
 
-use crate::seen::seen_hour;
+use crate::seen::view_over;
 use crate::{Between, Carry, Future};
 use arrival_measures::{Points, arrival_points};
 use ring_config::Config;
@@ -62,31 +62,11 @@ pub fn points_over(
         → p ≡ points_from (is_known s) config.now phase (earlier_rows s place.now.hour)
         (own_rows s place.now.hour)) }
 {
-    if place.is_held() {
-        return held_points(alloc, config, phase, place, between);
-    }
-    Ok(Points::new(alloc))
-}
-
-// Those of an hour that is held.
-fn held_points(
-    alloc: Global,
-    config: &Config,
-    phase: u8,
-    place: &Place<'_>,
-    between: &Between<'_>,
-) -> Result<Points, NoMemory>
-    requires held { is_some place.now.rows ≡ true }
-    requires agrees { (s : Store)
-        × IsBetweenAt config.now s place.now between.now.before.now between.now.after.now }
-    ensures { IfOk result (λ p. (s : Store) → HasPlace s place.now
-        → IsCarryAt config.now s place.now.hour between.now.before.now
-        → p ≡ points_from (is_known s) config.now phase (earlier_rows s place.now.hour)
-        (own_rows s place.now.hour)) }
-{
-    let view = seen_hour(alloc, config, place, between)?;
     let parts = place.stretches();
-    arrival_points(alloc, config, phase, &view, place.rows(), parts)
+    match view_over(alloc, config, place, between, None)? {
+        Some(view) => arrival_points(alloc, config, phase, &view, place.rows(), parts),
+        None => Ok(Points::new(alloc)),
+    }
 }
 
 /// The whole cycles of a phase that end in an hour, 0 to 743, in their order, from what is kept at

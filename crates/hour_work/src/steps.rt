@@ -1,37 +1,28 @@
 // From one hour point to the next, and back.
-ghost use Rattle.std.specs.Prelude.{◌≡◌, ◌+◌, ◌<◌, ℕ, Bool, List, Option, option_copied, IfOk, IfErr, IfSome};
-ghost use Rattle.hour_sweep.specs.Hours.{IsHour};
-ghost use Rattle.service_cut.specs.Cut.{IsCut};
-ghost use Rattle.service_cut.specs.Parts.{IsCarry as IsCutCarry};
+ghost use Rattle.std.specs.Prelude.{◌≡◌, ◌+◌, ◌<◌, ℕ, List, Option, option_copied, IfOk, IfErr, IfSome};
 ghost use Rattle.span_set.specs.declared.set.Span.{Span};
 ghost use Rattle.sig_base.specs.declared.values.Row.{Row};
 ghost use Rattle.channel_tables.specs.declared.spec.Spec.{Spec};
 ghost use Rattle.sig_base.specs.HourRows.{AreRowsOf};
 ghost use Rattle.hour_store.specs.Store.{Store};
-ghost use Rattle.board.specs.Logs.{end_tenth, first_tenth};
+ghost use Rattle.board.specs.Logs.{first_tenth};
 ghost use Rattle.board.specs.Places.{AllEarly, AreAheadsOf};
 ghost use Rattle.board.specs.Stops.{AreBefore};
 ghost use Rattle.ring_config.specs.Settings.{Settings};
-ghost use Rattle.ring_config.specs.Sound.{IsSound};
 ghost use Rattle.signal_log.specs.Log.{Log, log_of};
-ghost use Rattle.signal_log.specs.Opened.{HasPlace, IsOpened};
-ghost use Rattle.signal_log.specs.Points.{ArePastsAt, HasHour, NamesContradiction, rows_or_none};
-ghost use Rattle.signal_log.specs.Over.{AreAheadsOver, ArePastsOver, NamesStopOver};
+ghost use Rattle.signal_log.specs.Opened.{HasPlace};
+ghost use Rattle.signal_log.specs.Points.{ArePastsAt, HasHour, NamesContradiction};
+ghost use Rattle.signal_log.specs.Over.{AreAheadsOver, AreCoursesOver, ArePastsOver, NamesStopOver};
 ghost use Rattle.hour_work.specs.declared.steps.ForwardError.TheVariants.{Memory};
-ghost use Rattle.hour_work.specs.Points.{AreCrossingAt, AreCutsAt, AreOpenAt, AreUnderWayAt, FitPoint, IsCarryAt, IsFutureAt, NamesRow, NamesStop};
-ghost use Rattle.hour_work.specs.Reports.{IsCutAtPlace};
+ghost use Rattle.hour_work.specs.Points.{AreUnderWayAt, FitPoint, IsCarryAt, IsFutureAt, NamesRow, NamesStop};
 
-use crate::stop_bars::splits_over;
+use crate::measures::{Measured, UnderWay, measures_over};
 use crate::{Carry, Future};
-use arrival_measures::{ArrivalCarry, arrivals_carried};
-use board::{Pasts, PastsError};
-use other_measures::{OtherCarry, others_carried};
+use board::{Courses, Pasts, PastsError};
 use ring_config::Config;
-use service_cut::{Closing, CutCarry, Cuts, cut_hour};
 use sig_base::{Hour, NoMemory, Row};
-use signal_log::{Place, aheads_over, pasts_over};
+use signal_log::{Place, aheads_over, aheads_through, pasts_over};
 use span_set::SpanSet;
-use split_measures::SplitCarry;
 use std::alloc::{AllocFailed, Global};
 
 /// Why nothing is carried over an hour.
@@ -110,33 +101,12 @@ fn forward_over(
         place.now.blanks before.now.pasts) }
 {
     let pasts = states_over(alloc, config, place, before)?;
-    Ok(carried(alloc, config, place, before, pasts)?)
-}
-
-// What is kept at the point after an hour, where these are the states of each channel there.
-pub(crate) fn carried(
-    alloc: Global,
-    config: &Config,
-    place: &Place<'_>,
-    before: &Carry,
-    pasts: Pasts,
-) -> Result<Carry, NoMemory>
-    requires before { AreBefore config.now.specs before.now.pasts }
-    requires over { ArePastsOver config.now.specs place.now.hour place.now.rows place.now.blanks
-        before.now.pasts pasts }
-    requires shape { AreBefore config.now.specs pasts }
-    requires early { AllEarly (first_tenth (place.now.hour + 1)) pasts }
-    ensures fit { IfOk result (FitPoint config.now (place.now.hour + 1)) }
-    ensures pasts { IfOk result (λ c. c.pasts ≡ pasts) }
-    ensures carry { IfOk result (λ c. (s : Store) → HasPlace s place.now
-        → IsCarryAt config.now s place.now.hour before.now
-        → IsCarryAt config.now s (place.now.hour + 1) c) }
-{
-    let way = under_way(alloc, config, place, before)?;
+    let Measured { way, .. } = measures_over(alloc, config, place, before, None)?;
     Ok(kept(place, pasts, way))
 }
 
-// The same, where this is under way there.
+/// What is kept at the point after an hour, where these are the states of each channel there, and
+/// this is under way.
 pub(crate) fn kept(place: &Place<'_>, pasts: Pasts, way: UnderWay) -> Carry
     ensures pasts { result.pasts ≡ pasts }
     ensures carry { (c : Settings) (s : Store) → HasPlace s place.now
@@ -185,112 +155,6 @@ fn states_over(
     }
 }
 
-// What is under way of each measure at a point.
-#[derive(Drop)]
-pub(crate) struct UnderWay {
-    pub(crate) cuts: CutCarry,
-    pub(crate) closing: Closing,
-    pub(crate) splits: SplitCarry,
-    pub(crate) others: OtherCarry,
-    pub(crate) arrivals: ArrivalCarry,
-}
-
-// The first tenth after an hour.
-pub(crate) fn end_of(place: &Place<'_>) -> u32
-    ensures { result ≡ end_tenth place.now.hour }
-{
-    36_000 * place.hour() + 36_000
-}
-
-// What is cut of an hour, and what is under way of phases at the point after it.
-pub(crate) fn cuts_over(
-    alloc: Global,
-    config: &Config,
-    place: &Place<'_>,
-    before: &Carry,
-) -> Result<(Cuts, CutCarry), NoMemory>
-    ensures cut { IfOk result (λ v. (known : ℕ → Bool) (b : List Row) (h : ℕ)
-        → IsHour known h (rows_or_none place.now.rows) place.now.stretches
-        → IsCutCarry known config.now.phases b h before.now.cuts
-        → IsCut known config.now.phases b h (rows_or_none place.now.rows) v.0) }
-    ensures cuts { IfOk result (λ v. (s : Store) → HasPlace s place.now
-        → IsCarryAt config.now s place.now.hour before.now
-        → AreCutsAt config.now s (place.now.hour + 1) v.1) }
-    ensures sound { IfOk result (λ _. IsSound config.now) }
-    ensures opened { IfOk result (λ _. IsOpened place.now) }
-{
-    let rows = place.rows();
-    let parts = place.stretches();
-    let mut cuts = before.cuts.copy()?;
-    let cut = cut_hour(alloc, config.phases(), &mut cuts, rows, parts)?;
-    Ok((cut, cuts))
-}
-
-// What is under way of arrivals there.
-fn arrivals_over(
-    alloc: Global,
-    config: &Config,
-    place: &Place<'_>,
-    before: &Carry,
-    cut: &Cuts,
-) -> Result<ArrivalCarry, NoMemory>
-    ensures { IfOk result (λ v. (s : Store)
-        → IsCutAtPlace config.now s place.now before.now cut.now
-        → AreOpenAt config.now s (place.now.hour + 1) v) }
-{
-    let rows = place.rows();
-    let parts = place.stretches();
-    let mut arrivals = before.arrivals.copy()?;
-    arrivals_carried(alloc, config, &mut arrivals, cut, rows, parts)?;
-    Ok(arrivals)
-}
-
-// What is under way of pedestrian signals and preempts there.
-fn others_over(
-    alloc: Global,
-    config: &Config,
-    place: &Place<'_>,
-    before: &Carry,
-) -> Result<OtherCarry, NoMemory>
-    ensures { IfOk result (λ v. (s : Store) → HasPlace s place.now
-        → IsCarryAt config.now s place.now.hour before.now
-        → AreCrossingAt config.now s (place.now.hour + 1) v) }
-{
-    let rows = place.rows();
-    let parts = place.stretches();
-    let mut others = before.others.copy()?;
-    others_carried(alloc, config, &mut others, rows, parts)?;
-    Ok(others)
-}
-
-// What is under way of each measure at the point after an hour.
-fn under_way(
-    alloc: Global,
-    config: &Config,
-    place: &Place<'_>,
-    before: &Carry,
-) -> Result<UnderWay, NoMemory>
-    requires shape { AreBefore config.now.specs before.now.pasts }
-    ensures way { IfOk result (λ u. (s : Store) → HasPlace s place.now
-        → IsCarryAt config.now s place.now.hour before.now
-        → AreUnderWayAt config.now s (place.now.hour + 1) u) }
-    ensures sound { IfOk result (λ _. IsSound config.now) }
-    ensures opened { IfOk result (λ _. IsOpened place.now) }
-{
-    let (cut, cuts) = cuts_over(alloc, config, place, before)?;
-    let closing = Closing::of(alloc, &cut, end_of(place))?;
-    let splits = splits_over(alloc, config, place, before, &cut)?;
-    let arrivals = arrivals_over(alloc, config, place, before, &cut)?;
-    let others = others_over(alloc, config, place, before)?;
-    Ok(UnderWay {
-        cuts,
-        closing,
-        splits,
-        others,
-        arrivals,
-    })
-}
-
 /// The same backward: what is kept at the point before an hour, from what is kept at the one after
 /// it.
 pub fn backward(
@@ -331,6 +195,28 @@ pub fn backward_over(
         place.now.blanks after.now) }
 {
     let aheads = aheads_over(alloc, config.specs(), place, &after.aheads)?;
+    Ok(Future { aheads })
+}
+
+/// The same, where these are the hour's courses.
+pub fn backward_through(
+    alloc: Global,
+    config: &Config,
+    place: &Place<'_>,
+    courses: &Courses,
+    after: &Future,
+) -> Result<Future, NoMemory>
+    requires courses { AreCoursesOver config.now.specs place.now.hour place.now.rows
+        place.now.blanks courses.now }
+    requires fit { AreAheadsOf config.now.specs after.now }
+    ensures fit { IfOk result (AreAheadsOf config.now.specs) }
+    ensures future { IfOk result (λ f. (s : Store) → HasPlace s place.now
+        → IsFutureAt config.now s (place.now.hour + 1) after.now
+        → IsFutureAt config.now s place.now.hour f) }
+    ensures over { IfOk result (AreAheadsOver config.now.specs place.now.hour place.now.rows
+        place.now.blanks after.now) }
+{
+    let aheads = aheads_through(alloc, config.specs(), place, courses, &after.aheads)?;
     Ok(Future { aheads })
 }
 

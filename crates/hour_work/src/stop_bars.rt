@@ -6,6 +6,7 @@ ghost use Rattle.signal_log.specs.Log.{HasHistory, log_of};
 ghost use Rattle.split_measures.specs.Phases.{phase_sums};
 ghost use Rattle.split_measures.specs.Hours.{AreSplitSums};
 ghost use Rattle.hour_work.specs.Rows.{earlier_rows, own_rows};
+ghost use Rattle.hour_work.specs.Measures.{cycles_in, services_in};
 ghost use Rattle.hour_work.specs.Points.{AreBarsAt};
 ghost use Rattle.hour_work.specs.Reports.{IsCutAtPlace};
 
@@ -14,13 +15,13 @@ use ring_config::Config;
 use service_cut::Cuts;
 use sig_base::NoMemory;
 use signal_log::Place;
-use split_measures::{SplitCarry, SplitSums, splits_carried, splits_hour};
+use split_measures::{SplitCarry, SplitSums, splits_hour};
 use std::alloc::Global;
 use stop_bar::detectors_hour;
 
 /// The numbers of the hour's phases, and of the services at the stop bars of approaches, and what
 /// crosses the point after the hour there.
-pub(crate) fn splits_seen(
+pub(crate) fn splits_over(
     alloc: Global,
     config: &Config,
     place: &Place<'_>,
@@ -28,8 +29,10 @@ pub(crate) fn splits_seen(
     cuts: &Cuts,
 ) -> Result<(SplitSums, SplitCarry), NoMemory>
     requires shape { AreBefore config.now.specs before.now.pasts }
-    ensures phases { IfOk result (λ v. v.0.phases
-        ≡ phase_sums config.now.phases cuts.now.services cuts.now.cycles) }
+    ensures phases { IfOk result (λ v. (s : Store)
+        → IsCutAtPlace config.now s place.now before.now cuts.now
+        → v.0.phases ≡ phase_sums config.now.phases (services_in config.now s place.now.hour)
+        (cycles_in config.now s place.now.hour)) }
     ensures verdicts { IfOk result (λ v. (s : Store) → HasHistory (log_of config.now.specs s)
         → IsCutAtPlace config.now s place.now before.now cuts.now
         → AreSplitSums (log_of config.now.specs s) config.now place.now.hour
@@ -43,24 +46,4 @@ pub(crate) fn splits_seen(
     let mut carry = before.splits.copy()?;
     let sums = splits_hour(alloc, config, &mut carry, cuts, &detectors, place.hour())?;
     Ok((sums, carry))
-}
-
-/// What crosses the point after the hour at stop bars.
-pub(crate) fn splits_over(
-    alloc: Global,
-    config: &Config,
-    place: &Place<'_>,
-    before: &Carry,
-    cuts: &Cuts,
-) -> Result<SplitCarry, NoMemory>
-    requires shape { AreBefore config.now.specs before.now.pasts }
-    ensures { IfOk result (λ v. (s : Store)
-        → IsCutAtPlace config.now s place.now before.now cuts.now
-        → AreBarsAt config.now s (place.now.hour + 1) v) }
-{
-    let parts = place.stretches();
-    let detectors = detectors_hour(alloc, config, &before.pasts, place.rows(), parts)?;
-    let mut carry = before.splits.copy()?;
-    splits_carried(alloc, config, &mut carry, cuts, &detectors, place.hour())?;
-    Ok(carry)
 }

@@ -1,20 +1,20 @@
 // All of one hour: what is kept at the point after it, and its numbers.
-ghost use Rattle.std.specs.Prelude.{◌≡◌, ◌+◌, IfOk};
+ghost use Rattle.std.specs.Prelude.{◌≡◌, ◌+◌, IfSome, IfOk};
 ghost use Rattle.hour_store.specs.Store.{Store};
 ghost use Rattle.board.specs.Logs.{first_tenth};
 ghost use Rattle.board.specs.Places.{AllEarly};
 ghost use Rattle.board.specs.Stops.{AreBefore};
 ghost use Rattle.rule_audit.specs.Rules.{rules_for};
 ghost use Rattle.signal_log.specs.Opened.{HasPlace};
-ghost use Rattle.signal_log.specs.Over.{ArePastsOver};
+ghost use Rattle.signal_log.specs.Over.{AreCoursesOver, ArePastsOver};
 ghost use Rattle.hour_work.specs.Numbers.{FitHours};
 ghost use Rattle.hour_work.specs.Points.{FitPoint, IsCarryAt};
 ghost use Rattle.hour_work.specs.Reports.{IsBetweenAt, IsHourPart};
 
-use crate::hour::{HeldHour, held_hour, unheld_part};
-use crate::steps::{carried, kept};
+use crate::hour::{HourDone, hour_done};
+use crate::steps::kept;
 use crate::{Between, Carry, Partial};
-use board::Pasts;
+use board::{Courses, Pasts};
 use ring_config::Config;
 use rule_audit::Rule;
 use sig_base::NoMemory;
@@ -28,25 +28,35 @@ pub struct Worked {
     pub part: Partial,
 }
 
-/// What is kept at the point after an hour that is opened, and the hour's numbers, where these are
-/// the states of each channel at that point. Some history agrees with the log.
+/// What is known of an hour before it is worked through: the states of each channel at the point
+/// after it, and its courses where they are made already.
+#[derive(Drop)]
+pub struct Known {
+    pub pasts: Pasts,
+    pub courses: Option<Courses>,
+}
+
+/// What is kept at the point after an hour that is opened, and the hour's numbers, where this is
+/// known of it. Some history agrees with the log.
 pub fn work_over(
     alloc: Global,
     config: &Config,
     rules: &[Rule],
     place: &Place<'_>,
     between: &Between<'_>,
-    pasts: Pasts,
+    known: Known,
 ) -> Result<Worked, NoMemory>
     requires rules { rules.now ≡ rules_for config.now }
     requires over { ArePastsOver config.now.specs place.now.hour place.now.rows place.now.blanks
-        between.now.before.now.pasts pasts }
-    requires shape { AreBefore config.now.specs pasts }
-    requires early { AllEarly (first_tenth (place.now.hour + 1)) pasts }
+        between.now.before.now.pasts known.pasts }
+    requires shape { AreBefore config.now.specs known.pasts }
+    requires early { AllEarly (first_tenth (place.now.hour + 1)) known.pasts }
+    requires courses { IfSome known.courses (AreCoursesOver config.now.specs place.now.hour
+        place.now.rows place.now.blanks) }
     requires agrees { (s : Store)
         × IsBetweenAt config.now s place.now between.now.before.now between.now.after.now }
     ensures fit { IfOk result (λ w. FitPoint config.now (place.now.hour + 1) w.carry) }
-    ensures pasts { IfOk result (λ w. w.carry.pasts ≡ pasts) }
+    ensures pasts { IfOk result (λ w. w.carry.pasts ≡ known.pasts) }
     ensures carry { IfOk result (λ w. (s : Store) → HasPlace s place.now
         → IsCarryAt config.now s place.now.hour between.now.before.now
         → IsCarryAt config.now s (place.now.hour + 1) w.carry) }
@@ -55,13 +65,8 @@ pub fn work_over(
         → IsHourPart config.now s place.now.hour w.part) }
     ensures small { IfOk result (λ w. FitHours 1 w.part) }
 {
-    let before = between.before;
-    if place.is_held() {
-        let HeldHour { part, way } = held_hour(alloc, config, rules, place, between)?;
-        let carry = kept(place, pasts, way);
-        return Ok(Worked { carry, part });
-    }
-    let part = unheld_part(alloc, config, rules.len(), place, before)?;
-    let carry = carried(alloc, config, place, before, pasts)?;
+    let Known { pasts, courses } = known;
+    let HourDone { part, way } = hour_done(alloc, config, rules, place, between, courses)?;
+    let carry = kept(place, pasts, way);
     Ok(Worked { carry, part })
 }

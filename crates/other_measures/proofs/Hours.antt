@@ -15,7 +15,6 @@ use Rattle.hour_sweep.proofs.Laws.{hour_tracked}
 use Rattle.hour_sweep.proofs.Counted.{outs_from-append}
 use Rattle.board.specs.Logs.{HourLog, first_tenth, end_tenth}
 use Rattle.hour_sweep.proofs.Common.{next_point}
-use Rattle.hour_sweep.proofs.SumCommon.{capped_zero}
 use Rattle.ring_config.specs.Settings.{Settings}
 use Rattle.other_measures.specs.declared.peds.Delay.{Delay}
 use Rattle.other_measures.specs.declared.peds.PedPart.{PedPart}
@@ -86,11 +85,6 @@ numbers_are known c before rows ds es peds preempts coordination ed ee p q r off
   coordination = r;
   off = off;
 }
-
--- of no row
-
-pub has_no_rows : (s : CoordSum) → s ≡ no_coordination → HasRows [] s
-has_no_rows s e = subst (λ (z : CoordSum). HasRows [] z) (sym e) (record { patterns = capped_zero; cycle_changes = capped_zero; yields = capped_zero; begins = capped_zero })
 
 -- the first tenth of the hour
 

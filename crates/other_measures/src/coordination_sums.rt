@@ -1,5 +1,5 @@
 // The numbers of the coordination.
-ghost use Rattle.std.specs.Prelude.{◌≡◌, ◌<◌, ℕ, Bool, true, false, length, List, Option, option_copied, slice_index_or, IfOk, IfSome, []};
+ghost use Rattle.std.specs.Prelude.{◌≡◌, ◌<◌, ℕ, Bool, true, false, length, List, Option, option_copied, slice_index_or, IfOk, IfSome};
 ghost use Rattle.sig_base.specs.declared.values.Row.{Row};
 ghost use Rattle.hour_sweep.specs.Rows.{known_rows};
 ghost use Rattle.hour_sweep.specs.Hours.{IsHour};
@@ -69,31 +69,19 @@ fn with_tenths(config: &Config, seen: Option<&Seen<'_>>, counted: CoordSum) -> C
     }
 }
 
-/// The numbers of the coordination in an hour without rows of which nothing is seen.
-pub(crate) fn coordination_unseen(config: &Config) -> CoordSum
-    ensures rows { config.now.coordination ≡ true → HasRows [] result }
-    ensures states { config.now.coordination ≡ true → (first : ℕ)
-        → HasCoordination (MetBy None) first config.now result }
-    ensures off { config.now.coordination ≡ false → result ≡ no_coordination }
-{
-    if !config.coordination() {
-        return no_coordination();
-    }
-    with_tenths(config, None, no_coordination())
-}
-
 /// The numbers of the coordination.
 pub(crate) fn coordination_of(
     config: &Config,
-    seen: &Seen<'_>,
+    seen: Option<&Seen<'_>>,
     rows: &[Row],
     stretches: &[Stretch],
 ) -> Result<CoordSum, NoMemory>
-    requires view { length seen.now.view.now.specs ≡ length config.now.specs }
+    requires view { IfSome seen (λ s. length s.now.view.now.specs ≡ length config.now.specs) }
     ensures rows { IfOk result (λ s. config.now.coordination ≡ true → (known : ℕ → Bool) (hour : ℕ)
         → IsHour known hour rows.now stretches.now → HasRows (known_rows known rows.now) s) }
     ensures states { IfOk result (λ s. config.now.coordination ≡ true
-        → (log : Option HourLog) (first : ℕ) → IsWhatIsSeen config.now (Some seen.now) log first
+        → (log : Option HourLog) (first : ℕ)
+        → IsWhatIsSeen config.now (option_copied seen.entry) log first
         → HasCoordination (MetBy log) first config.now s) }
     ensures off { IfOk result (λ s. config.now.coordination ≡ false → s ≡ no_coordination) }
 {
@@ -101,5 +89,5 @@ pub(crate) fn coordination_of(
         return Ok(no_coordination());
     }
     let counted = rows_counted(rows, stretches)?;
-    Ok(with_tenths(config, Some(seen), counted))
+    Ok(with_tenths(config, seen, counted))
 }

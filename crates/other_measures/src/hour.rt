@@ -1,5 +1,5 @@
 // The numbers of an hour.
-ghost use Rattle.std.specs.Prelude.{◌≡◌, ◌+◌, ◌++◌, ℕ, Bool, true, List, Option, length, option_copied, IfOk, IfSome, OnOk, OnErr, []};
+ghost use Rattle.std.specs.Prelude.{◌≡◌, ◌+◌, ◌++◌, ℕ, Bool, true, List, Option, length, option_copied, IfOk, IfSome, OnOk, OnErr};
 ghost use Rattle.sig_base.specs.declared.values.Row.{Row};
 ghost use Rattle.sig_base.specs.Numbers.{has_number};
 ghost use Rattle.hour_sweep.specs.Rows.{known_rows};
@@ -12,7 +12,7 @@ ghost use Rattle.other_measures.specs.States.{EachOf, HasDetector, HasStates, Is
 ghost use Rattle.detector_state.specs.States.{MeetsAt};
 
 use crate::carry::OtherCarry;
-use crate::coordination_sums::{coordination_of, coordination_unseen, no_coordination};
+use crate::coordination_sums::{coordination_of, no_coordination};
 use crate::ped_sums::ped_table;
 use crate::peds::Delay;
 use crate::preempt_sums::preempt_table;
@@ -59,22 +59,6 @@ impl OtherSums {
             preempts: Vec::new(alloc),
             coordination: no_coordination(),
         }
-    }
-
-    /// The numbers of an hour of which no tenth is known.
-    pub fn none(alloc: Global, config: &Config) -> Result<OtherSums, NoMemory>
-        ensures numbers { IfOk result (λ sums. (known : ℕ → Bool) (before : List Row)
-            → AreNumbers known config.now before [] sums) }
-        ensures states { IfOk result (λ sums. (from : ℕ)
-            → AreStates (λ _ _ _. ⊥) from config.now sums) }
-    {
-        let peds = ped_sums(alloc, config, None, &[])?;
-        let preempts = preempt_sums(alloc, config, None, &[])?;
-        Ok(OtherSums {
-            peds,
-            preempts,
-            coordination: coordination_unseen(config),
-        })
     }
 
     /// Adds the numbers of each pedestrian signal and each preempt to its own, and those of the
@@ -255,24 +239,43 @@ fn track_others(
     })
 }
 
-/// What crosses the point after an hour, in `carry`, in place of what crosses the point before it,
-/// without the hour's numbers.
-pub fn others_carried(
+// The hour's numbers, by what is seen of it if there is that, and in `carry` what crosses the point
+// after it in place of what crosses the point before it.
+fn over_hour(
     alloc: Global,
     config: &Config,
     carry: &mut OtherCarry,
+    seen: Option<&Seen<'_>>,
     rows: &[Row],
     stretches: &[Stretch],
-) -> Result<(), NoMemory>
-    ensures carry { OnOk result ((known : ℕ → Bool) (before : List Row) (hour : ℕ)
+) -> Result<OtherSums, NoMemory>
+    requires view { IfSome seen (λ s. length s.now.view.now.specs ≡ length config.now.specs) }
+    ensures numbers { IfOk result (λ sums. (known : ℕ → Bool) (before : List Row) (hour : ℕ)
+        → IsHour known hour rows.now stretches.now → IsCarry known config.now before hour carry.old
+        → AreNumbers known config.now before (known_rows known rows.now) sums) }
+    ensures states { IfOk result (λ sums. (log : Option HourLog) (first : ℕ)
+        → IsWhatIsSeen config.now (option_copied seen.entry) log first
+        → AreStates (MetBy log) first config.now sums) }
+    ensures carry { IfOk result (λ _. (known : ℕ → Bool) (before : List Row) (hour : ℕ)
         → IsHour known hour rows.now stretches.now → IsCarry known config.now before hour carry.old
         → IsCarry known config.now (before ++ known_rows known rows.now) (hour + 1) carry.new) }
     ensures err { OnErr result (carry.new ≡ carry.old) }
 {
     let tracked = track_others(alloc, carry, rows, stretches)?;
-    let Tracked { carry: next, .. } = tracked;
+    let Tracked {
+        carry: next,
+        delays,
+        events,
+    } = tracked;
+    let peds = ped_sums(alloc, config, seen, &delays)?;
+    let preempts = preempt_sums(alloc, config, seen, &events)?;
+    let coordination = coordination_of(config, seen, rows, stretches)?;
     *carry = next;
-    Ok(())
+    Ok(OtherSums {
+        peds,
+        preempts,
+        coordination,
+    })
 }
 
 /// The hour's numbers, and in `carry` what crosses the point after it in place of what crosses the
@@ -297,23 +300,30 @@ pub fn others_hour(
         → IsCarry known config.now (before ++ known_rows known rows.now) (hour + 1) carry.new) }
     ensures err { OnErr result (carry.new ≡ carry.old) }
 {
-    let tracked = track_others(alloc, carry, rows, stretches)?;
-    let Tracked {
-        carry: next,
-        delays,
-        events,
-    } = tracked;
     let seen = Seen {
         view,
         from: first_of(stretches),
     };
-    let peds = ped_sums(alloc, config, Some(&seen), &delays)?;
-    let preempts = preempt_sums(alloc, config, Some(&seen), &events)?;
-    let coordination = coordination_of(config, &seen, rows, stretches)?;
-    *carry = next;
-    Ok(OtherSums {
-        peds,
-        preempts,
-        coordination,
-    })
+    over_hour(alloc, config, carry, Some(&seen), rows, stretches)
+}
+
+/// The same without a view: of no channel a tenth of a state is seen.
+pub fn others_unseen(
+    alloc: Global,
+    config: &Config,
+    carry: &mut OtherCarry,
+    rows: &[Row],
+    stretches: &[Stretch],
+) -> Result<OtherSums, NoMemory>
+    ensures numbers { IfOk result (λ sums. (known : ℕ → Bool) (before : List Row) (hour : ℕ)
+        → IsHour known hour rows.now stretches.now → IsCarry known config.now before hour carry.old
+        → AreNumbers known config.now before (known_rows known rows.now) sums) }
+    ensures states { IfOk result (λ sums. (from : ℕ)
+        → AreStates (λ _ _ _. ⊥) from config.now sums) }
+    ensures carry { IfOk result (λ _. (known : ℕ → Bool) (before : List Row) (hour : ℕ)
+        → IsHour known hour rows.now stretches.now → IsCarry known config.now before hour carry.old
+        → IsCarry known config.now (before ++ known_rows known rows.now) (hour + 1) carry.new) }
+    ensures err { OnErr result (carry.new ≡ carry.old) }
+{
+    over_hour(alloc, config, carry, None, rows, stretches)
 }

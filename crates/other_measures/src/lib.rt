@@ -21,6 +21,6 @@ mod states;
 mod sums;
 
 pub use carry::OtherCarry;
-pub use hour::{OtherSums, others_carried, others_hour};
+pub use hour::{OtherSums, others_hour, others_unseen};
 pub use laws::{hours_add_up, numbers_add_up};
 pub use sums::{CoordSum, PedSum, PreemptSum};

@@ -3,11 +3,12 @@ use Rattle.std.specs.Prelude.{◌≡◌, ◌+◌, ◌≤◌, ◌<◌, ◌⊎◌,
 use Rattle.sig_base.specs.declared.values.Row.{Row}
 use Rattle.span_set.specs.declared.set.Span.{Span}
 use Rattle.hour_store.specs.Store.{Store, rows_at}
+use Rattle.board.specs.Courses.{CourseLog}
 use Rattle.board.specs.Logs.{first_tenth}
 use Rattle.board.specs.Places.{AllEarly, AreAheadsOf}
 use Rattle.board.specs.Stops.{AreBefore}
 use Rattle.ring_config.specs.Settings.{Settings}
-use Rattle.signal_log.specs.Over.{ArePastsOver}
+use Rattle.signal_log.specs.Over.{AreCoursesOver, ArePastsOver}
 use Rattle.signal_log.specs.Points.{HasHour}
 use Rattle.hour_work.specs.Numbers.{Numbers}
 use Rattle.hour_work.specs.Points.{Carried, ComesBack, GoesOver, IsCarryAt, IsFutureAt}
@@ -26,6 +27,10 @@ pub record StatesLead (c : Settings) (s : Store) (hour : ℕ) (before after : St
   pub over : ArePastsOver c.specs hour (rows_at s hour) s.blanks before after
   pub shape : AreBefore c.specs after
   pub early : AllEarly (first_tenth (hour + 1)) after
+
+-- these are the courses of the configuration's channels in the hour
+abbrev pub HasCourses : Settings → Store → ℕ → CourseLog → Type 0
+HasCourses c s hour courses = AreCoursesOver c.specs hour (rows_at s hour) s.blanks courses
 
 -- in every store that has the hour so: where this is what it says up to the point before the hour, that is what it says up to the point after it; and by what is told of the hour its states lead there
 pub record Leads (c : Settings) (hour : ℕ) (rows : Option (List Row)) (blanks : List Span) (before after : Carried) : Type 0 where

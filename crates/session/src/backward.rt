@@ -1,13 +1,15 @@
 // Back over the hours that an edit changes.
-ghost use Rattle.std.specs.Prelude.{◌≡◌, ◌↔◌, ◌+◌, ◌-◌, ◌≤◌, ◌<◌, length, IfOk, IsTrue};
-ghost use Rattle.hour_store.specs.Store.{IsStore, rows_at};
+ghost use Rattle.std.specs.Prelude.{◌≡◌, ◌↔◌, ◌+◌, ◌-◌, ◌≤◌, ◌<◌, length, IfSome, IfOk, IsTrue};
+ghost use Rattle.hour_store.specs.Store.{IsStore, Store, rows_at};
+ghost use Rattle.ring_config.specs.Settings.{Settings};
 ghost use Rattle.hour_work.specs.Points.{IsFutureAt};
-ghost use Rattle.session.specs.Links.{AreFuturesBut, Backs, BacksAt};
+ghost use Rattle.session.specs.Links.{AreFuturesBut, Backs, BacksAt, HasCourses};
 ghost use Rattle.session.specs.Opens.{AreOpened};
 ghost use Rattle.session.specs.Renewed.{AreNewFutures};
 ghost use Rattle.sig_base.specs.Reads.{Grow};
 
 use crate::steps::{future_again, future_before};
+use board::Courses;
 use hour_store::HourStore;
 use hour_work::{Future, pick};
 use ring_config::Config;
@@ -22,11 +24,26 @@ fn is_passed(first: Hour, hour: Hour, next: &Future, kept: &Future) -> bool
     hour <= first && next.same(kept)
 }
 
-// What was kept going back at each hour point, and the first hour that is changed.
+/// What was kept going back at each hour point, and the first hour that is changed, with its courses
+/// where they are made already.
 #[derive(Drop)]
-struct Told<'a> {
-    first: Hour,
-    kept: &'a [Future],
+pub struct Returning<'a, 'b> {
+    pub first: Hour,
+    pub kept: &'a [Future],
+    pub courses: Option<&'b Courses>,
+}
+
+// The courses of the hour, where it is the first one that is changed and they are made already.
+fn own_courses<'b>(told: &Returning<'_, 'b>, hour: Hour) -> Option<&'b Courses>
+    ensures { (c : Settings) (s : Store)
+        → IfSome told.now.courses (λ x. HasCourses c s told.now.first x.now)
+        → IfSome result (λ x. HasCourses c s hour x.now) }
+{
+    if hour == told.first {
+        told.courses
+    } else {
+        None
+    }
 }
 
 // What is kept going back at the point before the hour; of an hour before the first one that is
@@ -35,7 +52,7 @@ fn previous_future<L>(
     alloc: Global,
     config: &Config,
     store: &HourStore<L>,
-    told: &Told<'_>,
+    told: &Returning<'_, '_>,
     hour: Hour,
     after: &Future,
     reads: &mut Reads<L>,
@@ -44,12 +61,15 @@ fn previous_future<L>(
     requires after { IsFutureAt config.now store.now (hour + 1) after.now }
     requires room { length told.now.kept.now ≡ length store.now.hours + 1 }
     requires told { hour < told.now.first → BacksAt config.now store.now told.now.kept.now hour }
+    requires courses { IfSome told.now.courses (λ c.
+        HasCourses config.now store.now told.now.first c.now) }
     ensures backs { IfOk result (Backs config.now hour (rows_at store.now hour) store.now.blanks
         after.now) }
     ensures once { AreOpened hour (hour + 1) 1 1 reads.old reads.new }
 {
     if told.first <= hour {
-        return future_before(alloc, config, store, hour, after, reads);
+        let courses = own_courses(told, hour);
+        return future_before(alloc, config, store, hour, after, courses, reads);
     }
     let place = hour as usize;
     let was = About {
@@ -65,28 +85,28 @@ pub fn go_back<L>(
     alloc: Global,
     config: &Config,
     store: &HourStore<L>,
-    first: Hour,
     last: Hour,
-    kept: &[Future],
+    told: &Returning<'_, '_>,
     reads: &mut Reads<L>,
 ) -> Result<Vec<Future>, NoMemory>
     requires store { IsStore store.now }
-    requires order { first ≤ last }
+    requires order { told.now.first ≤ last }
     requires within { last < length store.now.hours }
-    requires kept { AreFuturesBut config.now store.now first last kept.now }
-    ensures futures { IfOk result (λ v. AreNewFutures config.now store.now first last kept.now
-        (last + 1 - length v.items) v.items) }
+    requires kept { AreFuturesBut config.now store.now told.now.first last told.now.kept.now }
+    requires courses { IfSome told.now.courses (λ c.
+        HasCourses config.now store.now told.now.first c.now) }
+    ensures futures { IfOk result (λ v. AreNewFutures config.now store.now told.now.first last
+        told.now.kept.now (last + 1 - length v.items) v.items) }
     ensures opens { IfOk result (λ v. AreOpened (last + 1 - length v.items) (last + 1) 1 1
         reads.old reads.new) }
     ensures grow { Grow reads.old reads.new }
 {
-    let told = Told { first, kept };
     let mut fresh = Vec::new(alloc);
     for hour in (0..last + 1).rev() {
         let place = hour as usize;
-        let after = pick(kept, place + 1, fresh.as_slice(), place + 1);
-        let next = previous_future(alloc, config, store, &told, hour, after, reads)?;
-        let done = is_passed(first, hour, &next, &kept[place]);
+        let after = pick(told.kept, place + 1, fresh.as_slice(), place + 1);
+        let next = previous_future(alloc, config, store, told, hour, after, reads)?;
+        let done = is_passed(told.first, hour, &next, &told.kept[place]);
         fresh.insert(0, next)?;
         if done {
             return Ok(fresh);

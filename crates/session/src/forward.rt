@@ -1,17 +1,18 @@
 // Forward over the hours that an edit changes: the states of each channel.
-ghost use Rattle.std.specs.Prelude.{◌≡◌, ◌↔◌, ◌+◌, ◌≤◌, ◌<◌, ◌∷◌, [], length, slice_index_or, IfOk, IfErr, IsTrue};
-ghost use Rattle.hour_store.specs.Store.{IsStore};
+ghost use Rattle.std.specs.Prelude.{◌≡◌, ◌↔◌, ◌+◌, ◌≤◌, ◌<◌, ◌∷◌, [], length, slice_index_or, IfSome, IfOk, IfErr, IsTrue};
+ghost use Rattle.hour_store.specs.Store.{IsStore, Store};
+ghost use Rattle.ring_config.specs.Settings.{Settings};
 ghost use Rattle.board.specs.Places.{AreSamePasts};
 ghost use Rattle.signal_log.specs.Log.{log_of};
 ghost use Rattle.signal_log.specs.Points.{ArePastsAt};
 ghost use Rattle.hour_work.specs.Points.{NamesRow};
-ghost use Rattle.session.specs.Links.{AreCarriesBut, LeadsAt, StatesLead};
+ghost use Rattle.session.specs.Links.{AreCarriesBut, HasCourses, LeadsAt, StatesLead};
 ghost use Rattle.session.specs.Opens.{AreOpened, NamesRowOf, OpensToRow};
 ghost use Rattle.session.specs.Renewed.{AreNewPasts};
 ghost use Rattle.sig_base.specs.Reads.{Grow};
 
-use crate::steps::{states_again, states_over};
-use board::Pasts;
+use crate::steps::{Reached, states_again, states_over};
+use board::{Courses, Pasts};
 use hour_store::HourStore;
 use hour_work::{Carry, ForwardError};
 use ring_config::Config;
@@ -55,13 +56,15 @@ fn next_states<L>(
     hour: Hour,
     before: &Pasts,
     reads: &mut Reads<L>,
-) -> Result<Pasts, ForwardError>
+) -> Result<Reached, ForwardError>
     requires in_store { hour < length store.now.hours }
     requires before { ArePastsAt (log_of config.now.specs store.now) hour before.now }
     requires room { length told.now.kept.now ≡ length store.now.hours + 1 }
     requires told { told.now.last < hour → LeadsAt config.now store.now told.now.kept.now hour }
-    ensures leads { IfOk result (StatesLead config.now store.now hour before.now) }
-    ensures pasts { IfOk result (ArePastsAt (log_of config.now.specs store.now) (hour + 1)) }
+    ensures leads { IfOk result (λ r. StatesLead config.now store.now hour before.now r.pasts) }
+    ensures pasts { IfOk result (λ r. ArePastsAt (log_of config.now.specs store.now) (hour + 1)
+        r.pasts) }
+    ensures courses { IfOk result (λ r. IfSome r.courses (HasCourses config.now store.now hour)) }
     ensures stop { IfErr result (NamesRow (log_of config.now.specs store.now)) }
     ensures row { IfErr result (NamesRowOf hour) }
     ensures once { AreOpened hour (hour + 1) 1 1 reads.old reads.new }
@@ -77,6 +80,27 @@ fn next_states<L>(
     states_again(alloc, config, store, hour, before, &was, reads)
 }
 
+// The courses of the first hour: those that are made of this one, where it is the first.
+fn first_courses(
+    first: Hour,
+    hour: Hour,
+    found: Option<Courses>,
+    own: Option<Courses>,
+) -> Option<Courses>
+    ensures { (c : Settings) (s : Store) → IfSome found (HasCourses c s first)
+        → IfSome own (HasCourses c s hour) → IfSome result (HasCourses c s first) }
+{
+    if hour == first { own } else { found }
+}
+
+/// The states of each channel at hour points, and the courses of the first hour where they are
+/// made: nothing rests on that but speed.
+#[derive(Drop)]
+pub struct Forth {
+    pub states: Vec<Pasts>,
+    pub courses: Option<Courses>,
+}
+
 /// The states of each channel at the points after the first hour that is changed, up to the first
 /// one after the last hour at which they are those that are kept, or up to the window's end.
 pub fn go_forward<L>(
@@ -87,29 +111,42 @@ pub fn go_forward<L>(
     last: Hour,
     kept: &[Carry],
     reads: &mut Reads<L>,
-) -> Result<Vec<Pasts>, ForwardError>
+) -> Result<Forth, ForwardError>
     requires order { first ≤ last }
     requires within { last < length store.now.hours }
     requires kept { AreCarriesBut config.now store.now first last kept.now }
     ensures store { IsStore store.now }
-    ensures states { IfOk result (λ v. AreNewPasts config.now store.now first last kept.now
-        v.items) }
+    ensures states { IfOk result (λ f. AreNewPasts config.now store.now first last kept.now
+        f.states.items) }
+    ensures courses { IfOk result (λ f. IfSome f.courses (HasCourses config.now store.now first)) }
     ensures stop { IfErr result (NamesRow (log_of config.now.specs store.now)) }
-    ensures opens { IfOk result (λ v. AreOpened first (first + length v.items) 1 1 reads.old
+    ensures opens { IfOk result (λ f. AreOpened first (first + length f.states.items) 1 1 reads.old
         reads.new) }
     ensures opens_to_row { IfErr result (OpensToRow first reads.old reads.new) }
     ensures grow { Grow reads.old reads.new }
 {
     let told = Told { last, kept };
+    let mut courses = None;
     let mut fresh = Vec::new(alloc);
     for hour in first..store.hours() {
         let before = last_states(&kept[first as usize], fresh.as_slice());
         let next = next_states(alloc, config, store, &told, hour, before, reads)?;
-        let done = is_behind(last, hour, &next, &kept[hour as usize + 1]);
-        fresh.push(next)?;
+        let Reached {
+            pasts,
+            courses: own,
+        } = next;
+        courses = first_courses(first, hour, courses, own);
+        let done = is_behind(last, hour, &pasts, &kept[hour as usize + 1]);
+        fresh.push(pasts)?;
         if done {
-            return Ok(fresh);
+            return Ok(Forth {
+                states: fresh,
+                courses,
+            });
         }
     }
-    Ok(fresh)
+    Ok(Forth {
+        states: fresh,
+        courses,
+    })
 }

@@ -1,23 +1,24 @@
 // What is kept of a store, and what an edit puts in its place.
-ghost use Rattle.std.specs.Prelude.{◌≡◌, ◌+◌, ◌++◌, ◌<◌, ◌≤◌, drop, length, slice_index_or, All, IfOk, IfErr, IsTrue, OnOk, ◌↔◌};
-ghost use Rattle.hour_store.specs.Store.{IsStore};
+ghost use Rattle.std.specs.Prelude.{◌≡◌, ◌+◌, ◌++◌, ◌<◌, ◌≤◌, drop, length, slice_index_or, All, IfSome, IfOk, IfErr, IsTrue, OnOk, ◌↔◌};
+ghost use Rattle.hour_store.specs.Store.{IsStore, Store};
+ghost use Rattle.ring_config.specs.Settings.{Settings};
 ghost use Rattle.signal_log.specs.Log.{HasHistory, log_of};
 ghost use Rattle.ring_config.specs.Sound.{IsSound};
 ghost use Rattle.rule_audit.specs.Rules.{rules_for};
 ghost use Rattle.hour_work.specs.Moved.{SaySame};
 ghost use Rattle.hour_work.specs.Numbers.{AreNewSums, FitHours, patched};
 ghost use Rattle.hour_work.specs.Points.{NamesRow};
-ghost use Rattle.session.specs.Links.{AreCarriesBut, AreFutures, AreFuturesBut, AreKeptBut};
+ghost use Rattle.session.specs.Links.{AreCarriesBut, AreFutures, AreFuturesBut, AreKeptBut, HasCourses};
 ghost use Rattle.session.specs.Opens.{AreOpened, OpensToRow};
 ghost use Rattle.session.specs.Renewed.{AreCarriesTo, AreNewCarries, AreNewFutures, AreNewParts, AreNewPasts, AreSameUpTo, HaveShapes, IsRenewed};
 ghost use Rattle.sig_base.specs.Reads.{Grow};
 
-use crate::backward::go_back;
-use crate::forward::go_forward;
+use crate::backward::{Returning, go_back};
+use crate::forward::{Forth, go_forward};
 use crate::steps::{Step, part_between, work_between};
-use board::Pasts;
+use board::{Courses, Pasts};
 use hour_store::HourStore;
-use hour_work::{Between, Carry, ForwardError, Future, Partial, Report, Sums, pick, put_in};
+use hour_work::{Between, Carry, ForwardError, Future, Known, Partial, Report, Sums, pick, put_in};
 use ring_config::Config;
 use rule_audit::Rule;
 use sig_base::{Applied, Hour, NoMemory, Reads};
@@ -77,6 +78,8 @@ pub fn moved(points: &Points) -> Applied
 struct Ways {
     touched: Touched,
     states: Vec<Pasts>,
+    // Of the first hour that an edit touches, where they are made already.
+    courses: Option<Courses>,
     from: Hour,
     futures: Vec<Future>,
 }
@@ -185,6 +188,16 @@ fn next_states(states: &mut Vec<Pasts>, kept: &Carry) -> Result<Pasts, NoMemory>
     Ok(states.remove(0))
 }
 
+// The courses of the hour, where it is the first and they are made already: they are taken out.
+fn own_courses(first: Hour, hour: Hour, courses: &mut Option<Courses>) -> Option<Courses>
+    ensures own { (c : Settings) (s : Store) → IfSome courses.old (HasCourses c s first)
+        → IfSome result (HasCourses c s hour) }
+    ensures stay { (c : Settings) (s : Store) → IfSome courses.old (HasCourses c s first)
+        → IfSome courses.new (HasCourses c s first) }
+{
+    if hour == first { courses.take() } else { None }
+}
+
 // Whether no new states are left, and nothing changes at the point.
 fn is_settled(left: &[Pasts], next: &Carry, kept: &Carry) -> bool
     ensures value { IsTrue result ↔ ((length left.now ≡ 0) × (next.now ≡ kept.now)) }
@@ -219,6 +232,7 @@ fn new_work<L>(
         worked.now.carries.items ways.states.items }
     requires futures { AreNewFutures config.now store.now ways.touched.first ways.touched.last
         worked.now.futures.items ways.from ways.futures.items }
+    requires courses { IfSome ways.courses (HasCourses config.now store.now ways.touched.first) }
     requires history { HasHistory (log_of config.now.specs store.now) }
     ensures first { IfOk result (λ w. w.points.first ≡ ways.touched.first) }
     ensures carries { IfOk result (λ w. AreNewCarries config.now store.now ways.touched.first
@@ -237,6 +251,7 @@ fn new_work<L>(
     let Ways {
         touched,
         mut states,
+        mut courses,
         from,
         futures,
     } = ways;
@@ -252,7 +267,12 @@ fn new_work<L>(
         let between = Between { before, after };
         let there = &kept[place + 1];
         let pasts = next_states(&mut states, there)?;
-        let step = Step { hour, pasts };
+        let own = own_courses(first, hour, &mut courses);
+        let known = Known {
+            pasts,
+            courses: own,
+        };
+        let step = Step { hour, known };
         let work = work_between(alloc, config, rules, store, step, &between, reads)?;
         let done = is_settled(states.as_slice(), &work.carry, there);
         carries.push(work.carry)?;
@@ -299,6 +319,8 @@ fn ways_of<L>(
     ensures touched { IfOk result (λ w. w.touched ≡ touched) }
     ensures states { IfOk result (λ w. AreNewPasts config.now store.now touched.first
         touched.last worked.now.carries.items w.states.items) }
+    ensures courses { IfOk result (λ w. IfSome w.courses (HasCourses config.now store.now
+        touched.first)) }
     ensures futures { IfOk result (λ w. AreNewFutures config.now store.now touched.first
         touched.last worked.now.futures.items w.from w.futures.items) }
     ensures stop { IfErr result (NamesRow (log_of config.now.specs store.now)) }
@@ -308,12 +330,28 @@ fn ways_of<L>(
     ensures grow { Grow reads.old reads.new }
 {
     let Touched { first, last } = touched;
-    let states = go_forward(alloc, config, store, first, last, &worked.carries, reads)?;
-    let futures = go_back(alloc, config, store, first, last, &worked.futures, reads)?;
+    let Forth { states, courses } = go_forward(
+        alloc,
+        config,
+        store,
+        first,
+        last,
+        &worked.carries,
+        reads,
+    )?;
+    let kept = worked.futures.as_slice();
+    let own = courses.as_ref();
+    let told = Returning {
+        first,
+        kept,
+        courses: own,
+    };
+    let futures = go_back(alloc, config, store, last, &told, reads)?;
     let from = last + 1 - futures.len() as u32;
     Ok(Ways {
         touched,
         states,
+        courses,
         from,
         futures,
     })

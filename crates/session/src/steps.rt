@@ -1,27 +1,35 @@
 // One hour of a store, which is opened.
-ghost use Rattle.std.specs.Prelude.{◌≡◌, ◌+◌, ◌<◌, length, IfOk, IfErr};
+ghost use Rattle.std.specs.Prelude.{◌≡◌, ◌+◌, ◌<◌, length, None, IfSome, IfOk, IfErr};
 ghost use Rattle.hour_store.specs.Store.{rows_at};
 ghost use Rattle.signal_log.specs.Log.{HasHistory, log_of};
 ghost use Rattle.rule_audit.specs.Rules.{rules_for};
 ghost use Rattle.hour_work.specs.Numbers.{FitHours};
 ghost use Rattle.signal_log.specs.Points.{ArePastsAt};
 ghost use Rattle.hour_work.specs.Points.{ComesBack, IsCarryAt, IsFutureAt, NamesRow};
-ghost use Rattle.session.specs.Links.{Backs, Counts, Leads, StatesLead};
+ghost use Rattle.session.specs.Links.{Backs, Counts, HasCourses, Leads, StatesLead};
 ghost use Rattle.session.specs.Opens.{AreOpened, NamesRowOf};
 
-use board::Pasts;
+use board::{Courses, Pasts};
 use hour_store::HourStore;
 use hour_work::{
-    Between, ForwardError, Future, Partial, Worked, backward_again, backward_over, forward_error,
-    partial_over, work_over,
+    Between, ForwardError, Future, Known, Partial, Worked, backward_again, backward_over,
+    backward_through, forward_error, partial_over, work_over,
 };
 use ring_config::Config;
 use rule_audit::Rule;
 use sig_base::{Hour, NoMemory, Reads};
-use signal_log::{About, Place, pasts_over, pasts_over_again};
+use signal_log::{About, Place, pasts_over_again, pasts_through};
 use std::alloc::Global;
 
-/// The states of each channel at the point after the hour.
+/// The states of each channel at the point after an hour, and the hour's courses where it was gone
+/// over whole.
+#[derive(Drop)]
+pub struct Reached {
+    pub pasts: Pasts,
+    pub courses: Option<Courses>,
+}
+
+/// The states of each channel at the point after the hour, and the hour's courses.
 pub fn states_over<L>(
     alloc: Global,
     config: &Config,
@@ -29,24 +37,31 @@ pub fn states_over<L>(
     hour: Hour,
     before: &Pasts,
     reads: &mut Reads<L>,
-) -> Result<Pasts, ForwardError>
+) -> Result<Reached, ForwardError>
     requires in_store { hour < length store.now.hours }
     requires before { ArePastsAt (log_of config.now.specs store.now) hour before.now }
-    ensures leads { IfOk result (StatesLead config.now store.now hour before.now) }
-    ensures pasts { IfOk result (ArePastsAt (log_of config.now.specs store.now) (hour + 1)) }
+    ensures leads { IfOk result (λ r. StatesLead config.now store.now hour before.now r.pasts) }
+    ensures pasts { IfOk result (λ r. ArePastsAt (log_of config.now.specs store.now) (hour + 1)
+        r.pasts) }
+    ensures courses { IfOk result (λ r. IfSome r.courses (HasCourses config.now store.now hour)) }
     ensures stop { IfErr result (NamesRow (log_of config.now.specs store.now)) }
     ensures row { IfErr result (NamesRowOf hour) }
     ensures once { AreOpened hour (hour + 1) 1 1 reads.old reads.new }
 {
     let rows = store.open_hour(hour, reads);
     let place = Place::new(alloc, hour, rows, store.blanked())?;
-    match pasts_over(alloc, config.specs(), &place, before) {
-        Ok(pasts) => Ok(pasts),
+    let courses = place.courses(alloc, config.specs())?;
+    match pasts_through(alloc, config.specs(), &place, &courses, before) {
+        Ok(pasts) => Ok(Reached {
+            pasts,
+            courses: Some(courses),
+        }),
         Err(error) => Err(forward_error(error)),
     }
 }
 
-/// The same of an hour that is as it was told before, from other states at the point before it.
+/// The same of an hour that is as it was told before, from other states at the point before it. Its
+/// courses aren't made.
 pub fn states_again<L>(
     alloc: Global,
     config: &Config,
@@ -55,12 +70,14 @@ pub fn states_again<L>(
     before: &Pasts,
     was: &About<'_, Pasts>,
     reads: &mut Reads<L>,
-) -> Result<Pasts, ForwardError>
+) -> Result<Reached, ForwardError>
     requires in_store { hour < length store.now.hours }
     requires before { ArePastsAt (log_of config.now.specs store.now) hour before.now }
     requires was { StatesLead config.now store.now hour was.now.before.now was.now.after.now }
-    ensures leads { IfOk result (StatesLead config.now store.now hour before.now) }
-    ensures pasts { IfOk result (ArePastsAt (log_of config.now.specs store.now) (hour + 1)) }
+    ensures leads { IfOk result (λ r. StatesLead config.now store.now hour before.now r.pasts) }
+    ensures pasts { IfOk result (λ r. ArePastsAt (log_of config.now.specs store.now) (hour + 1)
+        r.pasts) }
+    ensures courses { IfOk result (λ r. r.courses ≡ None) }
     ensures stop { IfErr result (NamesRow (log_of config.now.specs store.now)) }
     ensures row { IfErr result (NamesRowOf hour) }
     ensures once { AreOpened hour (hour + 1) 1 1 reads.old reads.new }
@@ -68,29 +85,38 @@ pub fn states_again<L>(
     let rows = store.open_hour(hour, reads);
     let place = Place::new(alloc, hour, rows, store.blanked())?;
     match pasts_over_again(alloc, config.specs(), &place, before, was) {
-        Ok(pasts) => Ok(pasts),
+        Ok(pasts) => Ok(Reached {
+            pasts,
+            courses: None,
+        }),
         Err(error) => Err(forward_error(error)),
     }
 }
 
-/// What is kept going back at the point before the hour.
+/// What is kept going back at the point before the hour. These are its courses, where they are made
+/// already.
 pub fn future_before<L>(
     alloc: Global,
     config: &Config,
     store: &HourStore<L>,
     hour: Hour,
     after: &Future,
+    courses: Option<&Courses>,
     reads: &mut Reads<L>,
 ) -> Result<Future, NoMemory>
     requires in_store { hour < length store.now.hours }
     requires after { IsFutureAt config.now store.now (hour + 1) after.now }
+    requires courses { IfSome courses (λ c. HasCourses config.now store.now hour c.now) }
     ensures backs { IfOk result (Backs config.now hour (rows_at store.now hour) store.now.blanks
         after.now) }
     ensures once { AreOpened hour (hour + 1) 1 1 reads.old reads.new }
 {
     let rows = store.open_hour(hour, reads);
     let place = Place::new(alloc, hour, rows, store.blanked())?;
-    backward_over(alloc, config, &place, after)
+    match courses {
+        Some(courses) => backward_through(alloc, config, &place, courses, after),
+        None => backward_over(alloc, config, &place, after),
+    }
 }
 
 /// The same of an hour that is as it was told before, from other states at the point after it.
@@ -141,11 +167,12 @@ pub fn part_between<L>(
     partial_over(alloc, config, rules, &place, between)
 }
 
-/// An hour, and the states of each channel at the point after it.
+/// An hour, with the states of each channel at the point after it, and its courses where they are
+/// made already.
 #[derive(Drop)]
 pub struct Step {
     pub hour: Hour,
-    pub pasts: Pasts,
+    pub known: Known,
 }
 
 /// What is kept at the point after the hour, and its numbers.
@@ -161,11 +188,12 @@ pub fn work_between<L>(
     requires rules { rules.now ≡ rules_for config.now }
     requires in_store { step.hour < length store.now.hours }
     requires states { StatesLead config.now store.now step.hour between.now.before.now.pasts
-        step.pasts }
+        step.known.pasts }
+    requires courses { IfSome step.known.courses (HasCourses config.now store.now step.hour) }
     requires before { IsCarryAt config.now store.now step.hour between.now.before.now }
     requires after { IsFutureAt config.now store.now (step.hour + 1) between.now.after.now }
     requires history { HasHistory (log_of config.now.specs store.now) }
-    ensures pasts { IfOk result (λ w. w.carry.pasts ≡ step.pasts) }
+    ensures pasts { IfOk result (λ w. w.carry.pasts ≡ step.known.pasts) }
     ensures leads { IfOk result (λ w. Leads config.now step.hour (rows_at store.now step.hour)
         store.now.blanks between.now.before.now w.carry) }
     ensures counts { IfOk result (λ w. Counts config.now step.hour (rows_at store.now step.hour)
@@ -173,8 +201,8 @@ pub fn work_between<L>(
     ensures small { IfOk result (λ w. FitHours 1 w.part) }
     ensures once { AreOpened step.hour (step.hour + 1) 1 1 reads.old reads.new }
 {
-    let Step { hour, pasts } = step;
+    let Step { hour, known } = step;
     let rows = store.open_hour(hour, reads);
     let place = Place::new(alloc, hour, rows, store.blanked())?;
-    work_over(alloc, config, rules, &place, between, pasts)
+    work_over(alloc, config, rules, &place, between, known)
 }

@@ -14,6 +14,7 @@ use Rattle.hour_store.specs.Store.{Store}
 use Rattle.board.specs.declared.pasts.PastsError.{PastsError}
 use Rattle.board.specs.declared.pasts.PastsError.TheVariants.{NoState, Memory}
 use Rattle.board.specs.Channels.{AreSpecs}
+use Rattle.board.specs.Courses.{CourseLog, course_log}
 use Rattle.board.specs.Logs.{IsHour, end_tenth, first_tenth}
 use Rattle.board.specs.Stops.{AreBefore}
 use Rattle.board.specs.Places.{AllEarly, AreAheadsOf}
@@ -22,7 +23,7 @@ use Rattle.board.proofs.Rows.{rows_split}
 use Rattle.board.proofs.Within.{hour_rows, one_hour}
 use Rattle.signal_log.specs.Log.{IsContradiction, log_of}
 use Rattle.signal_log.specs.Points.{AreAheadsAt, ArePastsAt, HasHour, NamesContradiction, rows_or_none}
-use Rattle.signal_log.specs.Over.{AreAheadsOver, ArePastsOver, IsCutOf, NamesStopOver}
+use Rattle.signal_log.specs.Over.{AreAheadsOver, AreCoursesOver, ArePastsOver, IsCutOf, NamesStopOver}
 use Rattle.signal_log.specs.Opened.{HasPlace, IsOpened, Opened}
 use Rattle.signal_log.proofs.Hour.{aheads_at, pasts_at}
 use Rattle.signal_log.proofs.Stopped.{contradicts}
@@ -61,6 +62,10 @@ opened_told o is = record {
   is = hour_told o.hour o.rows o.blanks o.stretches is.are_rows is.cut;
   one = is.one;
 }
+
+-- courses that are cut out of its one cut
+pub courses_told : {E : Type 0} (specs : List Spec) (o : Opened) (r : Result CourseLog E) → IsOpened o → IfOk r (λ c. c ≡ course_log specs (rows_or_none o.rows) o.stretches) → IfOk r (AreCoursesOver specs o.hour o.rows o.blanks)
+courses_told specs o r is are = IfOk-weaker r (λ c. c ≡ course_log specs (rows_or_none o.rows) o.stretches) (AreCoursesOver specs o.hour o.rows o.blanks) (λ c e ss cut. e ∙ ap (course_log specs (rows_or_none o.rows)) (sym (is.one ss cut))) are
 
 -- what an hour that is opened is, by what it's made of
 pub opened : (hour : ℕ) (rows : Option (Bor (List Row))) (held : Bool) (blanks : List Span) (ss : List Stretch) → hour < 744 → IfSome rows (λ s. AreRowsOf hour s.now) → held ≡ is_some rows → IsCut (known_in held blanks) (36000 * hour) (36000 * hour + 36000) ss → ((zs : List Stretch) → IsCut (known_in held blanks) (36000 * hour) (36000 * hour + 36000) zs → zs ≡ ss) → IsOpened (record { hour = hour; rows = option_copied rows; blanks = blanks; stretches = ss })

@@ -7,6 +7,7 @@ use Rattle.gap_map.specs.Stretches.{IsCut, known_in}
 use Rattle.channel_tables.specs.declared.spec.Spec.{Spec}
 use Rattle.board.specs.declared.pasts.PastsError.{PastsError}
 use Rattle.board.specs.declared.pasts.PastsError.TheVariants.{NoState, Memory}
+use Rattle.board.specs.Courses.{CourseLog, course_log}
 use Rattle.board.specs.Logs.{end_tenth, first_tenth, no_row}
 use Rattle.board.specs.Hours.{AreClampedPasts, AreHourAheads, IsHourStop}
 use Rattle.signal_log.specs.Points.{rows_or_none}
@@ -14,6 +15,10 @@ use Rattle.signal_log.specs.Points.{rows_or_none}
 -- the stretches of an hour of which these rows are held, or which isn't held, with these blanked ranges
 abbrev pub IsCutOf : ℕ → Option (List Row) → List Span → List Stretch → Type 0
 IsCutOf hour rows blanks ss = IsCut (known_in (is_some rows) blanks) (36000 * hour) (36000 * hour + 36000) ss
+
+-- these are cut out of the hour for these channels
+abbrev pub AreCoursesOver : List Spec → ℕ → Option (List Row) → List Span → CourseLog → Type 0
+AreCoursesOver specs hour rows blanks courses = (ss : List Stretch) → IsCutOf hour rows blanks ss → courses ≡ course_log specs (rows_or_none rows) ss
 
 -- the first known row of the hour after which its channel has no state; without one each has some
 abbrev pub StopsIn : List Spec → ℕ → Option (List Row) → List Span → List (List (List Span)) → Option ℕ → Type 0

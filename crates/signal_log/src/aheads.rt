@@ -7,10 +7,10 @@ ghost use Rattle.board.specs.Places.{AreAheadsOf};
 ghost use Rattle.signal_log.specs.Log.{log_of};
 ghost use Rattle.signal_log.specs.Opened.{HasPlace};
 ghost use Rattle.signal_log.specs.Points.{AreAheadsAt, HasHour};
-ghost use Rattle.signal_log.specs.Over.{AreAheadsOver};
+ghost use Rattle.signal_log.specs.Over.{AreAheadsOver, AreCoursesOver};
 
 use crate::place::Place;
-use board::{Aheads, aheads_hour};
+use board::{Aheads, Courses, aheads_along};
 use channel_tables::Spec;
 use sig_base::{Hour, NoMemory, Row};
 use span_set::SpanSet;
@@ -58,5 +58,28 @@ pub fn aheads_over(
     ensures over { IfOk result (AreAheadsOver specs.now place.now.hour place.now.rows
         place.now.blanks after.now) }
 {
-    aheads_hour(alloc, specs, after, place.rows(), place.stretches())
+    let courses = place.courses(alloc, specs)?;
+    aheads_through(alloc, specs, place, &courses, after)
+}
+
+/// The same, where these are the hour's courses.
+pub fn aheads_through(
+    alloc: Global,
+    specs: &[Spec],
+    place: &Place<'_>,
+    courses: &Courses,
+    after: &Aheads,
+) -> Result<Aheads, NoMemory>
+    requires specs { AreSpecs specs.now }
+    requires courses { AreCoursesOver specs.now place.now.hour place.now.rows place.now.blanks
+        courses.now }
+    requires shape { AreAheadsOf specs.now after.now }
+    ensures shape { IfOk result (λ a. AreAheadsOf specs.now a) }
+    ensures aheads { IfOk result (λ a. (s : Store) → HasPlace s place.now
+        → AreAheadsAt (log_of specs.now s) (place.now.hour + 1) after.now
+        → AreAheadsAt (log_of specs.now s) place.now.hour a) }
+    ensures over { IfOk result (AreAheadsOver specs.now place.now.hour place.now.rows
+        place.now.blanks after.now) }
+{
+    aheads_along(alloc, specs, after, place.stretches(), courses)
 }

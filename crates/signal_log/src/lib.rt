@@ -19,10 +19,10 @@ mod place;
 
 pub use about::About;
 pub use again::{aheads_over_again, pasts_over_again};
-pub use aheads::{aheads_before, aheads_over};
+pub use aheads::{aheads_before, aheads_over, aheads_through};
 pub use laws::{
     alike_meet_same, channels_combine, hours_tell, less_is_known, nothing_contradicts,
     only_what_comes_up_counts, points_at_both_ends, points_see_one_side, some_history_agrees,
 };
-pub use pasts::{pasts_after, pasts_over};
+pub use pasts::{pasts_after, pasts_over, pasts_through};
 pub use place::Place;

@@ -9,10 +9,10 @@ ghost use Rattle.board.specs.Places.{AllEarly};
 ghost use Rattle.signal_log.specs.Log.{log_of};
 ghost use Rattle.signal_log.specs.Opened.{HasPlace};
 ghost use Rattle.signal_log.specs.Points.{ArePastsAt, HasHour, NamesContradiction};
-ghost use Rattle.signal_log.specs.Over.{ArePastsOver, NamesStopOver};
+ghost use Rattle.signal_log.specs.Over.{AreCoursesOver, ArePastsOver, NamesStopOver};
 
 use crate::place::Place;
-use board::{Pasts, PastsError, pasts_hour};
+use board::{Courses, Pasts, PastsError, pasts_along};
 use channel_tables::Spec;
 use sig_base::{Hour, Row};
 use span_set::SpanSet;
@@ -74,5 +74,42 @@ pub fn pasts_over(
     ensures stop_over { IfErr result (NamesStopOver specs.now place.now.hour place.now.rows
         place.now.blanks before.now) }
 {
-    pasts_hour(alloc, specs, before, place.rows(), place.stretches())
+    let courses = place.courses(alloc, specs)?;
+    pasts_through(alloc, specs, place, &courses, before)
+}
+
+/// The same, where these are the hour's courses.
+pub fn pasts_through(
+    alloc: Global,
+    specs: &[Spec],
+    place: &Place<'_>,
+    courses: &Courses,
+    before: &Pasts,
+) -> Result<Pasts, PastsError>
+    requires specs { AreSpecs specs.now }
+    requires courses { AreCoursesOver specs.now place.now.hour place.now.rows place.now.blanks
+        courses.now }
+    requires shape { AreBefore specs.now before.now }
+    requires early { AllEarly (first_tenth place.now.hour) before.now }
+    ensures shape { IfOk result (λ p. AreBefore specs.now p
+        × AllEarly (end_tenth place.now.hour) p) }
+    ensures pasts { IfOk result (λ p. (s : Store) → HasPlace s place.now
+        → ArePastsAt (log_of specs.now s) place.now.hour before.now
+        → ArePastsAt (log_of specs.now s) (place.now.hour + 1) p) }
+    ensures stop { IfErr result (λ e. (s : Store) → HasPlace s place.now
+        → ArePastsAt (log_of specs.now s) place.now.hour before.now
+        → NamesContradiction (log_of specs.now s) e) }
+    ensures over { IfOk result (ArePastsOver specs.now place.now.hour place.now.rows
+        place.now.blanks before.now) }
+    ensures stop_over { IfErr result (NamesStopOver specs.now place.now.hour place.now.rows
+        place.now.blanks before.now) }
+{
+    pasts_along(
+        alloc,
+        specs,
+        before,
+        place.rows(),
+        place.stretches(),
+        courses,
+    )
 }

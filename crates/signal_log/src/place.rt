@@ -3,8 +3,12 @@ ghost use Rattle.std.specs.Prelude.{◌≡◌, ◌+◌, ◌*◌, ◌<◌, is_som
 ghost use Rattle.sig_base.specs.HourRows.{AreRowsOf};
 ghost use Rattle.gap_map.specs.Stretches.{known_in};
 ghost use Rattle.signal_log.specs.Opened.{IsOpened};
+ghost use Rattle.board.specs.Channels.{AreSpecs};
 ghost use Rattle.signal_log.specs.Points.{rows_or_none};
+ghost use Rattle.signal_log.specs.Over.{AreCoursesOver};
 
+use board::Courses;
+use channel_tables::Spec;
 use gap_map::{Stretch, stretches};
 use sig_base::{Hour, NoMemory, Row};
 use span_set::SpanSet;
@@ -98,6 +102,15 @@ impl<'a> Place<'a> {
         ensures opened { IsOpened self.now }
     {
         self.stretches.as_slice()
+    }
+
+    /// The courses of these channels in the hour.
+    pub fn courses(&self, alloc: Global, specs: &[Spec]) -> Result<Courses, NoMemory>
+        requires { AreSpecs specs.now }
+        ensures { IfOk result (AreCoursesOver specs.now self.now.hour self.now.rows
+            self.now.blanks) }
+    {
+        Courses::of(alloc, specs, self.rows(), self.stretches())
     }
 
     /// Whether the hour's last tenth is known.

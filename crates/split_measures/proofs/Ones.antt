@@ -36,7 +36,3 @@ one_service s n m a b c d e f lt ea eb ec ed =
 pub one_cycle : (c : Cycle) (n : ℕ) → n ≡ cycle_length c → n < 2 ^ 32 → record { services = 0; least = None; greatest = None; sum = 0; gap_out = 0; max_out = 0; force_off = 0; unlogged = 0; cycles = 1; cycle_sum = n } ≡ phase_sum_of [] (c ∷ [])
 unfolding phase_sum_of
 one_cycle c n e lt = rw e (rw (sum_one (cycle_length c) (rw e at lt), capped_one, capped_none) refl)
-
-pub no_sum : record { services = 0; least = None; greatest = None; sum = 0; gap_out = 0; max_out = 0; force_off = 0; unlogged = 0; cycles = 0; cycle_sum = 0 } ≡ phase_sum_of [] []
-unfolding phase_sum_of
-no_sum = rw capped_none refl

@@ -159,22 +159,3 @@ pub fn splits_hour(
     carry.bars = next;
     Ok(SplitSums { phases, approaches })
 }
-
-/// In `carry` what crosses the point after an hour in place of what crosses the point before it,
-/// without the hour's numbers.
-pub fn splits_carried(
-    alloc: Global,
-    config: &Config,
-    carry: &mut SplitCarry,
-    cuts: &Cuts,
-    detectors: &[Switched],
-    hour: Hour,
-) -> Result<(), NoMemory>
-    requires { hour < 744 }
-    ensures carry { OnOk result (CrossesNext config.now hour cuts.now detectors.now
-        carry.old carry.new) }
-    ensures err { OnErr result (carry.new ≡ carry.old) }
-{
-    bars_hour(alloc, config, &mut carry.bars, cuts, detectors, hour)?;
-    Ok(())
-}

@@ -20,7 +20,7 @@ mod verdict;
 
 pub use carry::SplitCarry;
 pub use failures::{SplitSum, verdict_sum};
-pub use hour::{SplitSums, splits_carried, splits_hour};
+pub use hour::{SplitSums, splits_hour};
 pub use laws::{numbers_add_up, numbers_tell, split_sums_are_one, verdicts_tell};
 pub use sums::PhaseSum;
 pub use verdict::{SplitVerdict, split_verdict};

@@ -27,8 +27,8 @@ loop-row-preserved c = λ known hour s all log test h view mask low.
     let sees = is ∙ ap (λ t. known x.at && ltb x.at t) end in
     elim c.if-knows.branch [
       | then-knows w ↦
-          let says = w.seen.ensures log test view.is_view (tenth_known known hour all c.args.stretches.now log.stretches x.at h view.same_stretches here (sym is ∙ w.if-knows.true)) mask in
-          judged_on test (λ t v. MayPass log t c.args.spec v) (is_seen known hour) rows i lt (omega arith) c.loop-row.judged _ w.seen.result (sym sees ∙ w.if-knows.true) says (w.judged-is ∙ w.with-judged.ensures) old
+          let says = w.seen-before.ensures log test view.is_view (tenth_known known hour all c.args.stretches.now log.stretches x.at h view.same_stretches here (sym is ∙ w.if-knows.true)) mask in
+          judged_on test (λ t v. MayPass log t c.args.spec v) (is_seen known hour) rows i lt (omega arith) c.loop-row.judged _ w.seen-before.result.0 (sym sees ∙ w.if-knows.true) says (w.judged-is ∙ w.with-judged.ensures) old
       | else-knows w ↦ judged_off test (λ t v. MayPass log t c.args.spec v) (is_seen known hour) rows i lt (omega arith) c.loop-row.judged _ (sym sees ∙ w.if-knows.false) (w.judged-is ∙ w.with_unseen-judged.ensures) old
     ]
 

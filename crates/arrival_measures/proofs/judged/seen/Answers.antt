@@ -8,5 +8,5 @@ use Rattle.arrival_measures.proofs.judged.seen.Goals as goal
 pub returns : goal.returns
 returns c = λ log test is known mask.
     let asked : Test = record { colours = c.args.colours; bound = Any; at = c.from.result } in
-    let sees = (rw is.same at c.seen_at_end.ensures) known in
-    says test (MayPass log c.args.at c.args.spec) asked c.seen_at_end.result refl mask sees.some_true sees.some_false
+    let sees = (rw is.same at c.seen_from.ensures) known in
+    says test (MayPass log c.args.at c.args.spec) asked c.seen_from.result.0 refl mask sees.some_true sees.some_false

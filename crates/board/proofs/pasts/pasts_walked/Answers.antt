@@ -16,10 +16,10 @@ walk_spec-requires-clause-order c =
     let spec = get_or c.args.specs.now c.loop-i.i no_spec in
     let before = c.args.before.now in
     let i = c.loop-i.i in
-    let k = course_is c.args.specs.now c.args.rows.now c.args.stretches.now c.in_ok-courses.courses.items i spec c.index-in-loop-i.result.now c.in_ok-courses.ensures c.loop-i-test.true (get_or_default c.args.specs.now c.loop-i.i no_spec spec c.loop-i-test.true) c.index-in-loop-i.ensures no_spec in
+    let k = course_is c.args.specs.now c.args.courses.now.rows c.args.courses.now.stretches c.list-list.result.now i spec c.index-list-i.result (rw c.requires.same at c.list-list.ensures) c.loop-i-test.true (get_or_default c.args.specs.now c.loop-i.i no_spec spec c.loop-i-test.true) c.index-list-i.is no_spec in
     let small : i < length before = (let l = c.requires.before.0 in let t = c.loop-i-test.true in omega arith) in
     let old : c.in_ok-past.past ≡ get_or before i [] = c.in_ok-past.ensures ∙ element c.before-2.inside.pasts.items before i c.index.result.now [] c.before-2.view_is small c.index.ensures in
-    (first_tenth c.requires.hour.0, rw old (c.requires.hour.2 i), rw (c.moves.ensures, k.1) (moves_order spec c.args.rows.now c.args.stretches.now c.requires.hour.0 c.requires.hour.1))
+    (first_tenth c.requires.hour.0, rw old (c.requires.hour.2 i), rw (c.moves.ensures, k.1) (moves_order spec c.args.courses.now.rows c.args.courses.now.stretches c.requires.hour.0 c.requires.hour.1))
 
 pub walk_spec-requires-clause-colours : goal.walk_spec-requires-clause-colours
 walk_spec-requires-clause-colours c =
@@ -41,14 +41,14 @@ walk_spec-requires-clause-some c =
 
 pub loop-i-preserved : goal.loop-i-preserved
 loop-i-preserved c =
-    let specs = c.args.specs.now in let rows = c.args.rows.now in let ss = c.args.stretches.now in let before = c.args.before.now in
+    let specs = c.args.specs.now in let rows = c.args.courses.now.rows in let ss = c.args.courses.now.stretches in let before = c.args.before.now in
     let i = c.loop-i.i in
     let spec = get_or c.args.specs.now c.loop-i.i no_spec in
     let inv = c.loop-i.invariant in
     let items : c.push.new.self.items ≡ c.loop-i.pasts.items ++ c.walk_spec.new.past ∷ [] = c.in_ok-push.ensures.items in
     let small : i < length before = (let l = c.requires.before.0 in let t = c.loop-i-test.true in omega arith) in
     let old : c.in_ok-past.past ≡ get_or before i [] = c.in_ok-past.ensures ∙ element c.before-2.inside.pasts.items before i c.index.result.now [] c.before-2.view_is small c.index.ensures in
-    let facts = λ (d : Spec). let k = course_is specs rows ss c.in_ok-courses.courses.items i spec c.index-in-loop-i.result.now c.in_ok-courses.ensures c.loop-i-test.true (get_or_default c.args.specs.now c.loop-i.i no_spec spec c.loop-i-test.true) c.index-in-loop-i.ensures d in
+    let facts = λ (d : Spec). let k = course_is specs rows ss c.list-list.result.now i spec c.index-list-i.result (rw c.requires.same at c.list-list.ensures) c.loop-i-test.true (get_or_default c.args.specs.now c.loop-i.i no_spec spec c.loop-i-test.true) c.index-list-i.is d in
     turn_facts specs rows ss before i spec d c.in_ok-past.past c.walk_spec.new.past c.moves.result.now c.in_ok-next.next k.0 old (c.moves.ensures ∙ k.1) c.in_ok-next.ensures.after in
     let width = λ (d : Spec). c.in_ok-next.ensures.colours ∙ (ap length old ∙ (c.requires.before.1 i d c.loop-i-test.true).0) in (
       rw items (length_push _ _ ∙ ap (λ n. n + 1) inv.0),

@@ -1,4 +1,4 @@
-use Rattle.std.proofs.Common.{◌≡◌, ◌∙◌, ◌+◌, ◌-◌, ◌<◌, arith, inl, inr, length, refl}
+use Rattle.std.proofs.Common.{◌≡◌, ◌+◌, ◌-◌, ◌<◌, arith, get_or, inl, inr, length, refl}
 use Rattle.std.proofs.lemmas.List.{get_or_default}
 use Rattle.session.proofs.BackLaws.{other_after, other_more, other_on, other_start, returning_done, returning_here, returning_on, returning_same, returning_start}
 use Rattle.session.proofs.OpenLaws.{grow_opened, opened_as, opened_before, opened_none}
@@ -6,14 +6,14 @@ use Rattle.session.proofs.backward.go_back.Goals as goal
 
 pub loop-hour-init : goal.loop-hour-init
 loop-hour-init g c =
-    let p = returning_start c.args.config.now c.args.store.now c.args.first c.args.last c.args.kept.now c.new-fresh.result.items c.requires.store c.requires.order c.requires.within c.requires.kept c.new-fresh.ensures.items in
-    record { returning = p; size = p.size; other = other_start c.args.first c.args.last c.args.kept.now c.new-fresh.result.items c.requires.order; opens = opened_none (c.args.last + 1) c.args.reads.now }
+    let p = returning_start c.args.config.now c.args.store.now c.args.told.now.first c.args.last c.args.told.now.kept.now c.new-fresh.result.items c.requires.store c.requires.order c.requires.within c.requires.kept c.new-fresh.ensures.items in
+    record { returning = p; size = p.size; other = other_start c.args.told.now.first c.args.last c.args.told.now.kept.now c.new-fresh.result.items c.requires.order; opens = opened_none (c.args.last + 1) c.args.reads.now }
 
 pub previous_future-requires-clause-after : goal.previous_future-requires-clause-after
 previous_future-requires-clause-after g c =
     let at = rw c.as_slice.ensures.value at c.pick-after.ensures in
     let fe : c.loop-hour.hour ≡ (c.loop-hour.hour - 1) + 1 = omega arith in
-    returning_here c.args.config.now c.args.store.now c.args.last c.args.kept.now c.loop-hour.fresh.items (c.loop-hour.hour - 1) c.loop-hour.hour c.pick-after.result.now fe c.loop-hour.invariant.returning at
+    returning_here c.args.config.now c.args.store.now c.args.last c.args.told.now.kept.now c.loop-hour.fresh.items (c.loop-hour.hour - 1) c.loop-hour.hour c.pick-after.result.now fe c.loop-hour.invariant.returning at
 
 pub returns-in_err-next-clause-grow : goal.returns-in_err-next-clause-grow
 returns-in_err-next-clause-grow g c =
@@ -40,12 +40,12 @@ loop-hour-preserved g c =
     let within = c.requires.within in
     let low = c.loop-hour.auto.hour in
     let lt : c.loop-hour.hour - 1 < length c.args.store.now.hours = omega arith in
-    let p = returning_on c.args.config.now c.args.store.now c.args.last c.args.kept.now c.loop-hour.fresh.items c.insert.new.self.items (c.loop-hour.hour - 1) c.loop-hour.hour c.pick-after.result.now c.in_ok-next.next fe
+    let p = returning_on c.args.config.now c.args.store.now c.args.last c.args.told.now.kept.now c.loop-hour.fresh.items c.insert.new.self.items (c.loop-hour.hour - 1) c.loop-hour.hour c.pick-after.result.now c.in_ok-next.next fe
     c.requires.store c.requires.kept.size lt c.loop-hour.invariant.returning at c.in_ok-next.ensures.backs c.in_ok-insert.ensures.items in
     let size = c.requires.kept.size in
-    let there : c.loop-hour.hour - 1 < length c.args.kept.now = omega arith in
-    let other = other_more c.args.first c.args.kept.now c.loop-hour.fresh.items c.insert.new.self.items (c.loop-hour.hour - 1) c.loop-hour.hour c.in_ok-next.next c.index-kept-place.result fe there c.in_ok-insert.ensures.items
-    (λ d. c.index-kept-place.is ∙ get_or_default c.args.kept.now (c.loop-hour.hour - 1) c.index-kept-place.result d there) (λ h. let z = c.if-done.ensures.1 h in cc) c.loop-hour.invariant.other in
+    let there : c.loop-hour.hour - 1 < length c.args.told.now.kept.now = omega arith in
+    let other = other_more c.args.told.now.first c.args.told.now.kept.now c.loop-hour.fresh.items c.insert.new.self.items (c.loop-hour.hour - 1) c.loop-hour.hour c.in_ok-next.next (get_or c.args.told.now.kept.now (c.loop-hour.hour - 1) c.index-told-place.result) fe there c.in_ok-insert.ensures.items
+    (λ d. get_or_default c.args.told.now.kept.now (c.loop-hour.hour - 1) c.index-told-place.result d there) (λ h. let z = c.if-done.ensures.1 h in cc) c.loop-hour.invariant.other in
     record { returning = p; size = p.size; other = other; opens = opened_before (c.loop-hour.hour - 1) (c.args.last + 1) _ _ _ (let n = c.loop-hour.invariant.size in let some = c.loop-hour.auto.hour in omega arith) (opened_as _ _ _ _ _ _ _ _ fe refl c.loop-hour.invariant.opens) c.previous_future.ensures.once }
 
 pub returns-then-done-clause-futures : goal.returns-then-done-clause-futures
@@ -56,23 +56,23 @@ returns-then-done-clause-futures g c =
     let low = c.loop-hour.auto.hour in
     let lt : c.loop-hour.hour - 1 < length c.args.store.now.hours = omega arith in
     let size = c.requires.kept.size in
-    let there : c.loop-hour.hour - 1 < length c.args.kept.now = omega arith in
+    let there : c.loop-hour.hour - 1 < length c.args.told.now.kept.now = omega arith in
     let held = c.if-done.ensures.0 refl in
-    let p = returning_on c.args.config.now c.args.store.now c.args.last c.args.kept.now c.loop-hour.fresh.items c.insert.new.self.items (c.loop-hour.hour - 1) c.loop-hour.hour c.pick-after.result.now c.in_ok-next.next fe
+    let p = returning_on c.args.config.now c.args.store.now c.args.last c.args.told.now.kept.now c.loop-hour.fresh.items c.insert.new.self.items (c.loop-hour.hour - 1) c.loop-hour.hour c.pick-after.result.now c.in_ok-next.next fe
     c.requires.store size lt c.loop-hour.invariant.returning at c.in_ok-next.ensures.backs c.in_ok-insert.ensures.items in
     let n = p.size in
-    returning_done c.args.config.now c.args.store.now c.args.first c.args.last c.args.kept.now c.insert.new.self.items (c.loop-hour.hour - 1) _ (omega arith) held.0 c.requires.order within c.requires.kept p
-    (other_on c.args.first c.args.kept.now c.loop-hour.fresh.items c.insert.new.self.items (c.loop-hour.hour - 1) c.loop-hour.hour c.in_ok-next.next fe there c.in_ok-insert.ensures.items c.loop-hour.invariant.other)
-    (inr (returning_same c.args.kept.now c.loop-hour.fresh.items c.insert.new.self.items (c.loop-hour.hour - 1) c.in_ok-next.next c.index-kept-place.result there c.in_ok-insert.ensures.items held.1
-    (λ d. c.index-kept-place.is ∙ get_or_default c.args.kept.now (c.loop-hour.hour - 1) c.index-kept-place.result d there)))
+    returning_done c.args.config.now c.args.store.now c.args.told.now.first c.args.last c.args.told.now.kept.now c.insert.new.self.items (c.loop-hour.hour - 1) _ (omega arith) held.0 c.requires.order within c.requires.kept p
+    (other_on c.args.told.now.first c.args.told.now.kept.now c.loop-hour.fresh.items c.insert.new.self.items (c.loop-hour.hour - 1) c.loop-hour.hour c.in_ok-next.next fe there c.in_ok-insert.ensures.items c.loop-hour.invariant.other)
+    (inr (returning_same c.args.told.now.kept.now c.loop-hour.fresh.items c.insert.new.self.items (c.loop-hour.hour - 1) c.in_ok-next.next (get_or c.args.told.now.kept.now (c.loop-hour.hour - 1) c.index-told-place.result) there c.in_ok-insert.ensures.items held.1
+    (λ d. get_or_default c.args.told.now.kept.now (c.loop-hour.hour - 1) c.index-told-place.result d there)))
 
 pub returns-clause-futures : goal.returns-clause-futures
 returns-clause-futures g c =
     let end : c.loop-hour.hour ≡ 0 = omega arith in
     let n = c.loop-hour.invariant.size in
     let order = c.requires.order in
-    returning_done c.args.config.now c.args.store.now c.args.first c.args.last c.args.kept.now c.loop-hour.fresh.items c.loop-hour.hour _ (omega arith) (omega arith) order c.requires.within c.requires.kept c.loop-hour.invariant.returning
-    (other_after c.args.first c.args.kept.now c.loop-hour.hour c.loop-hour.fresh.items c.loop-hour.hour (c.loop-hour.hour + 1) (omega arith) c.loop-hour.invariant.other) (inl end)
+    returning_done c.args.config.now c.args.store.now c.args.told.now.first c.args.last c.args.told.now.kept.now c.loop-hour.fresh.items c.loop-hour.hour _ (omega arith) (omega arith) order c.requires.within c.requires.kept c.loop-hour.invariant.returning
+    (other_after c.args.told.now.first c.args.told.now.kept.now c.loop-hour.hour c.loop-hour.fresh.items c.loop-hour.hour (c.loop-hour.hour + 1) (omega arith) c.loop-hour.invariant.other) (inl end)
 
 pub returns-clause-grow : goal.returns-clause-grow
 returns-clause-grow g c = grow_opened _ _ _ _ _ _ c.loop-hour.invariant.opens

@@ -10,7 +10,7 @@ use Rattle.session.proofs.forward.go_forward.Goals as goal
 pub loop-hour-init : goal.loop-hour-init
 loop-hour-init g c =
     let p = walked_start c.args.config.now c.args.store.now c.args.first c.args.last c.args.kept.now c.new-fresh.result.items c.hours-hour-end.ensures.store c.requires.order c.requires.within c.requires.kept c.new-fresh.ensures.items in
-    record { walked = p; size = p.size; others = others_start c.args.first c.args.last c.args.kept.now c.new-fresh.result.items c.requires.order; opens = opened_none c.args.first c.args.reads.now }
+    record { walked = p; size = p.size; others = others_start c.args.first c.args.last c.args.kept.now c.new-fresh.result.items c.requires.order; courses = tt; opens = opened_none c.args.first c.args.reads.now }
 
 pub next_states-requires-clause-before : goal.next_states-requires-clause-before
 next_states-requires-clause-before g c =
@@ -41,11 +41,11 @@ loop-hour-preserved g c =
     let room : c.args.first < length c.args.kept.now = omega arith in
     let last = rw c.as_slice.ensures.value at c.last_states-before.ensures in
     let at = walked_at c.args.config.now c.args.store.now c.args.first c.args.kept.now c.loop-hour.fresh.items c.loop-hour.hour c.index-kept-first.result c.last_states-before.result.now c.loop-hour.invariant.walked room c.index-kept-first.is last in
-    let p = walked_on c.args.config.now c.args.store.now c.args.first c.args.kept.now c.loop-hour.fresh.items c.push.new.self.items c.loop-hour.hour c.last_states-before.result.now c.in_ok-next.next size lt c.loop-hour.invariant.walked at c.in_ok-next.ensures.leads c.in_ok-next.ensures.pasts c.in_ok-push.ensures.items in
+    let p = walked_on c.args.config.now c.args.store.now c.args.first c.args.kept.now c.loop-hour.fresh.items c.push.new.self.items c.loop-hour.hour c.last_states-before.result.now c.in_ok-next.next.pasts size lt c.loop-hour.invariant.walked at c.in_ok-next.ensures.leads c.in_ok-next.ensures.pasts c.in_ok-push.ensures.items in
     let there : c.loop-hour.hour + 1 < length c.args.kept.now = omega arith in
-    let others = others_more c.args.first c.args.last c.args.kept.now c.loop-hour.fresh.items c.push.new.self.items c.loop-hour.hour c.in_ok-next.next c.index-kept-hour.result c.loop-hour.invariant.size there c.in_ok-push.ensures.items
+    let others = others_more c.args.first c.args.last c.args.kept.now c.loop-hour.fresh.items c.push.new.self.items c.loop-hour.hour c.in_ok-next.next.pasts c.index-kept-hour.result c.loop-hour.invariant.size there c.in_ok-push.ensures.items
     (λ d. c.index-kept-hour.is ∙ get_or_default c.args.kept.now (c.loop-hour.hour + 1) c.index-kept-hour.result d there) (λ h. let z = c.if-done.ensures.states.1 h in cc) c.loop-hour.invariant.others in
-    record { walked = p; size = p.size; others = others; opens = opened_next _ _ _ _ _ c.loop-hour.auto.hour c.loop-hour.invariant.opens c.next_states.ensures.once }
+    record { walked = p; size = p.size; others = others; courses = c.first_courses-courses.ensures c.args.config.now c.args.store.now c.loop-hour.invariant.courses c.in_ok-next.ensures.courses; opens = opened_next _ _ _ _ _ c.loop-hour.auto.hour c.loop-hour.invariant.opens c.next_states.ensures.once }
 
 pub returns-then-done-clause-states : goal.returns-then-done-clause-states
 returns-then-done-clause-states g c =
@@ -60,10 +60,10 @@ returns-then-done-clause-states g c =
     let there : c.loop-hour.hour + 1 < length c.args.kept.now = omega arith in
     let held = c.if-done.ensures.value.0 refl in
     let behind = held.0 in
-    let p = walked_on c.args.config.now c.args.store.now c.args.first c.args.kept.now c.loop-hour.fresh.items c.push.new.self.items c.loop-hour.hour c.last_states-before.result.now c.in_ok-next.next size lt c.loop-hour.invariant.walked at c.in_ok-next.ensures.leads c.in_ok-next.ensures.pasts c.in_ok-push.ensures.items in
+    let p = walked_on c.args.config.now c.args.store.now c.args.first c.args.kept.now c.loop-hour.fresh.items c.push.new.self.items c.loop-hour.hour c.last_states-before.result.now c.in_ok-next.next.pasts size lt c.loop-hour.invariant.walked at c.in_ok-next.ensures.leads c.in_ok-next.ensures.pasts c.in_ok-push.ensures.items in
     walked_done c.args.config.now c.args.store.now c.args.first c.args.last c.args.kept.now c.push.new.self.items (c.loop-hour.hour + 1) (omega arith) (omega arith) c.requires.kept p
-    (others_on c.args.first c.args.last c.args.kept.now c.loop-hour.fresh.items c.push.new.self.items c.loop-hour.hour c.in_ok-next.next c.loop-hour.invariant.size there c.in_ok-push.ensures.items c.loop-hour.invariant.others)
-    (inr (walked_same c.args.first c.args.kept.now c.loop-hour.fresh.items c.push.new.self.items c.loop-hour.hour c.in_ok-next.next c.index-kept-hour.result c.loop-hour.invariant.size there c.in_ok-push.ensures.items held.1
+    (others_on c.args.first c.args.last c.args.kept.now c.loop-hour.fresh.items c.push.new.self.items c.loop-hour.hour c.in_ok-next.next.pasts c.loop-hour.invariant.size there c.in_ok-push.ensures.items c.loop-hour.invariant.others)
+    (inr (walked_same c.args.first c.args.kept.now c.loop-hour.fresh.items c.push.new.self.items c.loop-hour.hour c.in_ok-next.next.pasts c.index-kept-hour.result c.loop-hour.invariant.size there c.in_ok-push.ensures.items held.1
     (λ d. c.index-kept-hour.is ∙ get_or_default c.args.kept.now (c.loop-hour.hour + 1) c.index-kept-hour.result d there)))
 
 pub returns-clause-states : goal.returns-clause-states

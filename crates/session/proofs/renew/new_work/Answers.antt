@@ -58,6 +58,7 @@ loop-hour-init g c =
       worked = p;
       size = p.going.size;
       parts = no_parts c.args.config.now c.args.store.now _ _ w.touched.first c.new-parts.result.items c.new-parts.ensures.items;
+      courses = c.requires.courses;
       opens = opened_none w.touched.first c.args.reads.now;
     }
 
@@ -121,6 +122,7 @@ loop-hour-preserved g c =
       size = p.going.size;
       parts = parts_on c.args.config.now c.args.store.now w.touched.first kept c.loop-hour.carries.items c.push.new.self.items (patched c.args.worked.now.futures.items w.from w.futures.items) hour c.loop-hour.parts.items c.push-in-loop-hour.new.self.items c.pick-before.result.now c.in_ok-work.work.carry c.pick-after.result.now c.in_ok-work.work.part
           c.loop-hour.invariant.size room c.in_ok-push.ensures.items c.loop-hour.invariant.parts before after c.in_ok-work.ensures.counts c.in_ok-work.ensures.small c.in_ok-push-2.ensures.items;
+      courses = c.own_courses-own.ensures.stay c.args.config.now c.args.store.now c.loop-hour.invariant.courses;
       opens = opened_next _ _ _ _ _ c.loop-hour.auto.hour c.loop-hour.invariant.opens c.work_between.ensures.once;
     }
 

@@ -1,5 +1,7 @@
 use Rattle.std.proofs.Common.{◌≡◌, ◌+◌, length}
 use Rattle.hour_work.specs.Numbers.{patched}
+use Rattle.std.specs.Prelude.{IfSome}
+use Rattle.session.specs.Links.{HasCourses}
 use Rattle.session.specs.Opens.{AreOpened}
 use Rattle.session.specs.Renewed.{AreNewParts}
 use Rattle.session.proofs.WorkLaws.{AreWorked}
@@ -10,5 +12,6 @@ invariant-loop-hour g l = record {
   worked : AreWorked l.config l.store l.fn.ways.touched.first l.fn.ways.touched.last l.worked.carries.items l.fn.ways.states.items l.states.items l.carries.items l.hour;
   size : l.fn.ways.touched.first + length l.carries.items ≡ l.hour;
   parts : AreNewParts l.config l.store (patched l.worked.carries.items (l.fn.ways.touched.first + 1) l.carries.items) (patched l.worked.futures.items l.fn.ways.from l.fn.ways.futures.items) l.fn.ways.touched.first l.hour l.parts.items;
+  courses : IfSome l.courses (HasCourses l.config l.store l.fn.ways.touched.first);
   opens : AreOpened l.fn.ways.touched.first l.hour 1 1 l.fn.reads l.reads;
 }

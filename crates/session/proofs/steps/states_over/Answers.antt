@@ -9,17 +9,17 @@ use Rattle.session.proofs.steps.states_over.Goals as goal
 pub returns-in_err-place-clause-once : goal.returns-in_err-place-clause-once
 returns-in_err-place-clause-once g c = opened_raised _ _ c.args.hour c.open_hour-rows.ensures.raised
 
-pub pasts_over-requires-clause-specs : goal.pasts_over-requires-clause-specs
-pasts_over-requires-clause-specs g c = rw c.specs.ensures.value (channels_are c.args.config.now c.specs.ensures.sound)
+pub pasts_through-requires-clause-specs : goal.pasts_through-requires-clause-specs
+pasts_through-requires-clause-specs g c = rw c.specs-2.ensures.value (channels_are c.args.config.now c.specs-2.ensures.sound)
 
-pub pasts_over-requires-clause-shape : goal.pasts_over-requires-clause-shape
-pasts_over-requires-clause-shape g c = rw c.specs.ensures.value c.requires.before.shape
+pub pasts_through-requires-clause-shape : goal.pasts_through-requires-clause-shape
+pasts_through-requires-clause-shape g c = rw c.specs-2.ensures.value c.requires.before.shape
 
 pub returns-in-Ok-clause-leads : goal.returns-in-Ok-clause-leads
 returns-in-Ok-clause-leads g c =
     let (at, held, blanked) = c.in_ok-place.ensures in
-    let shape = rw (c.specs.ensures.value, at) at c.in-Ok.ensures.shape in
-    let over = rw (c.specs.ensures.value, at, held, blanked) at c.in-Ok.ensures.over in
+    let shape = rw (c.specs-2.ensures.value, at) at c.in-Ok.ensures.shape in
+    let over = rw (c.specs-2.ensures.value, at, held, blanked) at c.in-Ok.ensures.over in
     states_of c.args.config.now c.args.store.now c.args.hour (option_copied c.open_hour-rows.result) c.blanked.result.now c.args.before.now c.in-Ok.pasts c.open_hour-rows.ensures.rows c.blanked.ensures.value shape.0 shape.1 over
 
 pub returns-in-Ok-clause-once : goal.returns-in-Ok-clause-once
@@ -30,7 +30,7 @@ returns-in-Ok-clause-pasts g c =
     let (at, held, blanked) = c.in_ok-place.ensures in
     let s = c.args.store.now in
     let has = has_hour s c.args.hour (option_copied c.open_hour-rows.result) c.blanked.result.now c.blanked.ensures.store c.requires.in_store c.open_hour-rows.ensures.rows c.blanked.ensures.value in
-    let pasts = rw (c.specs.ensures.value, at, held, blanked) at c.in-Ok.ensures.pasts in
+    let pasts = rw (c.specs-2.ensures.value, at, held, blanked) at c.in-Ok.ensures.pasts in
     pasts s has c.requires.before
 
 pub returns-clause-stop : goal.returns-clause-stop
@@ -38,7 +38,7 @@ returns-clause-stop g c =
     let (at, held, blanked) = c.in_ok-place.ensures in
     let s = c.args.store.now in
     let has = has_hour s c.args.hour (option_copied c.open_hour-rows.result) c.blanked.result.now c.blanked.ensures.store c.requires.in_store c.open_hour-rows.ensures.rows c.blanked.ensures.value in
-    let stop = rw (c.specs.ensures.value, at, held, blanked) at c.in-Err.ensures.stop in
+    let stop = rw (c.specs-2.ensures.value, at, held, blanked) at c.in-Err.ensures.stop in
     c.forward_error.ensures.row (log_of c.args.config.now.specs s) (stop s has c.requires.before)
 
 pub returns-clause-row : goal.returns-clause-row
@@ -48,8 +48,14 @@ returns-clause-row g c =
     let rows = option_copied c.open_hour-rows.result in
     let blanks = c.blanked.result.now in
     let pasts = c.args.before.now in
-    let stop = rw (c.specs.ensures.value, at, held, blanked) at c.in-Err.ensures.stop_over in
+    let stop = rw (c.specs-2.ensures.value, at, held, blanked) at c.in-Err.ensures.stop_over in
     row_of specs c.args.hour rows blanks pasts c.forward_error.result (c.forward_error.ensures.stop specs c.args.hour rows blanks pasts stop)
 
 pub returns-clause-once : goal.returns-clause-once
 returns-clause-once g c = opened_raised _ _ c.args.hour c.open_hour-rows.ensures.raised
+
+pub courses-requires : goal.courses-requires
+courses-requires g c = rw c.specs.ensures.value (channels_are c.args.config.now c.specs.ensures.sound)
+
+pub returns-in_err-courses-clause-once : goal.returns-in_err-courses-clause-once
+returns-in_err-courses-clause-once g c = opened_raised _ _ c.args.hour c.open_hour-rows.ensures.raised

@@ -21,6 +21,11 @@ work_over-requires-clause-over g c =
     let (at, held, blanked) = c.in_ok-place.ensures in
     rw (at, held, blanked, c.open_hour-rows.ensures.rows, c.blanked.ensures.value) c.requires.states.over
 
+pub work_over-requires-clause-courses : goal.work_over-requires-clause-courses
+work_over-requires-clause-courses g c =
+    let (at, held, blanked) = c.in_ok-place.ensures in
+    rw (at, held, blanked, c.open_hour-rows.ensures.rows, c.blanked.ensures.value) c.requires.courses
+
 pub work_over-requires-clause-agrees : goal.work_over-requires-clause-agrees
 work_over-requires-clause-agrees g c =
     let (at, held, blanked) = c.in_ok-place.ensures in
@@ -33,7 +38,7 @@ pub returns-clause-leads : goal.returns-clause-leads
 returns-clause-leads g c =
     let (at, held, blanked) = c.in_ok-place.ensures in
     let over = rw (← c.open_hour-rows.ensures.rows, ← c.blanked.ensures.value) at c.requires.states.over in
-    leads_of c.args.config.now c.args.step.hour (option_copied c.open_hour-rows.result) _ c.blanked.result.now _ c.args.between.now.before.now c.args.step.pasts c.work_over.result c.open_hour-rows.ensures.rows c.blanked.ensures.value over c.work_over.ensures.pasts
+    leads_of c.args.config.now c.args.step.hour (option_copied c.open_hour-rows.result) _ c.blanked.result.now _ c.args.between.now.before.now c.args.step.known.pasts c.work_over.result c.open_hour-rows.ensures.rows c.blanked.ensures.value over c.work_over.ensures.pasts
     (rw at at c.work_over.ensures.fit) (rw (at, held, blanked) at c.work_over.ensures.carry)
 
 pub returns-clause-counts : goal.returns-clause-counts

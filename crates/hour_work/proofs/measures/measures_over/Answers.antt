@@ -1,0 +1,33 @@
+use Rattle.signal_log.specs.Points.{rows_or_none}
+use Rattle.hour_work.proofs.BarLaws.{closing_next}
+use Rattle.hour_work.proofs.measures.measures_over.Goals as goal
+
+pub returns-clause-value : goal.returns-clause-value
+returns-clause-value c = λ s some has is seen.
+    let cut = c.in_ok-cut.ensures.cut s has is in
+    record {
+      phases = c.in_ok-splits.ensures.phases s cut;
+      verdicts = c.in_ok-splits.ensures.verdicts s some cut;
+      numbers = c.in_ok-others.ensures.numbers s has is;
+      states = c.in_ok-others.ensures.states s seen;
+      judged = c.in_ok-arrivals.ensures.judged s cut seen;
+      whole_cycles = c.in_ok-arrivals.ensures.cycles s cut;
+    }
+
+pub returns-clause-way : goal.returns-clause-way
+returns-clause-way c = λ s has is.
+    let o = c.args.place.now in
+    let cut = c.in_ok-cut.ensures.cut s has is in
+    record {
+      cuts = c.in_ok-cut.ensures.cuts s has is;
+      closing = closing_next c.args.config.now s o.hour c.args.before.now (rows_or_none o.rows) o.stretches c.in_ok-cut.cut cut c.in_ok-closing.closing c.end_of.result c.end_of.ensures c.in_ok-closing.ensures;
+      splits = c.in_ok-splits.ensures.carry s cut;
+      others = c.in_ok-others.ensures.carry s has is;
+      arrivals = c.in_ok-arrivals.ensures.carry s cut;
+    }
+
+pub returns-clause-sound : goal.returns-clause-sound
+returns-clause-sound c = c.in_ok-cut.ensures.sound
+
+pub returns-clause-opened : goal.returns-clause-opened
+returns-clause-opened c = c.in_ok-cut.ensures.opened

@@ -20,7 +20,7 @@ use Rattle.board.specs.History.{Agreeing, Track, events_at, letters}
 use Rattle.board.specs.Channels.{AreSpecs}
 use Rattle.board.specs.Moves.{RowsIn}
 use Rattle.board.specs.Stops.{moves_at, rules_at}
-use Rattle.board.specs.Logs.{IsHour, HourLog, first_tenth, no_row}
+use Rattle.board.specs.Logs.{IsHour, HourLog, first_tenth, no_row, no_spec}
 
 -- the stretches up to tenth x, that tenth with them
 abbrev pub upto : ℕ → List Stretch → List Stretch
@@ -133,3 +133,8 @@ SameFor past a b = (s u : State) → Holds past u → s.colour ≡ u.colour → 
 -- the same of each channel
 abbrev pub AreSameFor : List (List (List Span)) → List (List (Option ℤ)) → List (List (Option ℤ)) → Type 0
 AreSameFor pasts a b = (i : ℕ) → i < length a → SameFor (slice_index_or pasts i []) (slice_index_or a i []) (slice_index_or b i [])
+
+-- a place of the channel: so many moves come before it, which are those before row n where some number of them are
+pub record IsRowPlace (log : HourLog) (at : ℤ) (n i place : ℕ) : Type 0 where
+  pub within : place ≤ length (moves_at log.specs log.rows log.stretches i no_spec)
+  pub before : (j : ℕ) → IsSplit at (Some n) (moves_at log.specs log.rows log.stretches i no_spec) j → place ≡ j

@@ -6,9 +6,9 @@ ghost use Rattle.channel_tables.specs.declared.spec.Spec.{Spec};
 ghost use Rattle.channel_path.specs.Walks.{InOrder, EnteredBefore};
 ghost use Rattle.gap_map.specs.Stretches.{FollowOn, known_at};
 ghost use Rattle.board.specs.Channels.{AreSpecs};
-ghost use Rattle.board.specs.Logs.{end_tenth, first_tenth, hour_log, no_row};
+ghost use Rattle.board.specs.Logs.{end_tenth, first_tenth, hour_log, no_row, no_spec};
 ghost use Rattle.board.specs.Stops.{AreBefore, moves_at};
-ghost use Rattle.board.specs.Places.{IsBefore, IsSplit, IsLog, AreAheadsOf};
+ghost use Rattle.board.specs.Places.{IsBefore, IsRowPlace, IsSplit, IsLog, AreAheadsOf};
 ghost use Rattle.board.specs.Verdicts.{SeesRow, SeesEnd};
 
 use crate::aheads::Aheads;
@@ -180,10 +180,37 @@ impl HourView {
             known_at self.now.stretches at ≡ true → test.now.at ≡ pos at
             → SeesRow self.now index spec test.now result }
     {
+        let place = self.place_before_row(index, spec, test.at);
+        self.seen_at_place(spec, place, test)
+    }
+
+    /// The number of the channel's moves that come before the known row with this place in the
+    /// hour's rows, whose tenth this is: where to ask what is seen before the row, as often as
+    /// needed.
+    pub fn place_before_row(&self, index: u32, spec: u16, at: Tenth) -> usize
+        requires spec { spec < length self.now.specs }
+        ensures { IsRowPlace self.now at index spec result }
+    {
         let path = &self.paths[spec as usize];
         let marks = &self.marks[spec as usize];
-        let place = place_of(path.moves(), marks, test.at, Some(index));
-        path.seen(place, test)
+        place_of(path.moves(), marks, at, Some(index))
+    }
+
+    /// What the runs of the channel say of the test at this place among its moves: before the known
+    /// row of which it is the place.
+    pub fn seen_at_place(&self, spec: u16, place: usize, test: &Test) -> Seen
+        requires spec { spec < length self.now.specs }
+        requires place { place ≤ length (moves_at self.now.specs self.now.rows self.now.stretches
+            spec no_spec) }
+        requires low { negsuc (2 ^ 39) ≤ℤ test.now.at }
+        requires high { test.now.at ≤ℤ pos (2 ^ 39) }
+        ensures { (n : ℕ) → n < length self.now.rows
+            → let at = (slice_index_or self.now.rows n no_row).at in
+            known_at self.now.stretches at ≡ true → test.now.at ≡ pos at
+            → IsRowPlace self.now test.now.at n spec place
+            → SeesRow self.now n spec test.now result }
+    {
+        self.paths[spec as usize].seen(place, test)
     }
 
     /// What they say of it at the end of the known tenth, which is the test's.

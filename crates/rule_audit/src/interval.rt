@@ -6,6 +6,7 @@ ghost use Rattle.channel_tables.specs.Spec.{IsSpec, rules_of};
 ghost use Rattle.channel_tables.specs.Tables.{table_of};
 ghost use Rattle.reach.specs.Tests.{InBound};
 ghost use Rattle.ring_config.specs.Sound.{IsBound};
+ghost use Rattle.board.specs.Places.{IsRowPlace};
 ghost use Rattle.board.specs.Verdicts.{MayPassRow};
 ghost use Rattle.rule_audit.specs.Judged.{Closes, IsIntervalVerdict, KeepsInterval, Leaves};
 ghost use Rattle.rule_audit.specs.Pass.{log_of, row_at, spec_at, Ends, FitsItem, IsKnownRow, IsLogOf, IsReady, SeesColour};
@@ -57,12 +58,20 @@ fn opposite(bound: AgeBound) -> AgeBound
     }
 }
 
-// Whether the channel may have the colour before the row with an age in the bound, and whether it
-// may be otherwise.
-fn colour_seen(hour: &AuditedHour<'_>, index: u32, item: &IntervalItem, bound: AgeBound) -> Seen
+// Whether the channel may have the colour before the row, at its place among the channel's moves,
+// with an age in the bound, and whether it may be otherwise.
+fn colour_seen(
+    hour: &AuditedHour<'_>,
+    index: u32,
+    item: &IntervalItem,
+    place: usize,
+    bound: AgeBound,
+) -> Seen
     requires ready { IsReady hour.now }
     requires item { FitsItem hour.now.specs.now item.now }
     requires index { index < length hour.now.rows.now }
+    requires place { IsRowPlace hour.now.view.now (pos (row_at hour.now index).at) index
+        item.now.spec place }
     ensures { (e : Ends) → IsLogOf hour.now e → known_at hour.now.stretches.now
         (row_at hour.now index).at ≡ true → SeesColour
         (MayPassRow (log_of hour.now e) index item.now.spec) item.now.colour bound
@@ -73,7 +82,19 @@ fn colour_seen(hour: &AuditedHour<'_>, index: u32, item: &IntervalItem, bound: A
         bound,
         at: i64::from(hour.rows[index as usize].at),
     };
-    hour.view.seen_before_row(index, item.spec, &test)
+    hour.view.seen_at_place(item.spec, place, &test)
+}
+
+// The place before the row among the moves of the rule's channel.
+fn place_of(hour: &AuditedHour<'_>, index: u32, item: &IntervalItem) -> usize
+    requires ready { IsReady hour.now }
+    requires item { FitsItem hour.now.specs.now item.now }
+    requires index { index < length hour.now.rows.now }
+    ensures { IsRowPlace hour.now.view.now (pos (row_at hour.now index).at) index item.now.spec
+        result }
+{
+    let at = i64::from(hour.rows[index as usize].at);
+    hour.view.place_before_row(index, item.spec, at)
 }
 
 // The verdict before a row that changes the channel's colour away from the rule's.
@@ -86,18 +107,19 @@ fn closing_verdict(hour: &AuditedHour<'_>, index: u32, item: &IntervalItem) -> V
         (λ v. v.colour ≡ item.now.colour) (λ v. v.colour ≡ item.now.colour
         → InBound item.now.bound (pos (row_at hour.now index).at) v.entry) }
 {
-    let any = colour_seen(hour, index, item, AgeBound::Any);
+    let place = place_of(hour, index, item);
+    let any = colour_seen(hour, index, item, place, AgeBound::Any);
     if !any.some_true {
         return Verdict::Idle;
     }
-    let missed = colour_seen(hour, index, item, opposite(item.bound));
+    let missed = colour_seen(hour, index, item, place, opposite(item.bound));
     if !missed.some_true {
         return Verdict::Kept;
     }
     if any.some_false {
         return Verdict::Undecided;
     }
-    let met = colour_seen(hour, index, item, item.bound);
+    let met = colour_seen(hour, index, item, place, item.bound);
     if met.some_true {
         return Verdict::Undecided;
     }

@@ -15,7 +15,8 @@ returns c = λ e is known.
     let item = c.args.item.now in
     let from : c.from.result ≡ pos row.at = search (rules, ints) in
     let fits : FitsSigned w64 c.from.result = search (rules, ints) in
-    let told = simp to_z-of_z at ((rw is.is_view.same at c.seen_before_row.ensures) c.requires.index known) in
+    let there = rw is.is_view.same at c.requires.place in
+    let told = simp to_z-of_z at ((rw is.is_view.same at c.seen_at_place.ensures) c.args.index c.requires.index known) in
     let test : Test = record { colours = c.with.result; bound = c.args.bound; at = c.from.result } in
-    subst (λ (z : ℤ). SeesColour (MayPassRow log c.args.index item.spec) item.colour c.args.bound z c.seen_before_row.result) from
-    (colour_sees log c.args.index item.spec item.colour test c.seen_before_row.result (one_colour c.none.result c.with.result item.colour c.none.ensures c.with.ensures) (told from))
+    subst (λ (z : ℤ). SeesColour (MayPassRow log c.args.index item.spec) item.colour c.args.bound z c.seen_at_place.result) from
+    (colour_sees log c.args.index item.spec item.colour test c.seen_at_place.result (one_colour c.none.result c.with.result item.colour c.none.ensures c.with.ensures) (told from (rw from there)))

@@ -18,7 +18,7 @@ use Rattle.ring_config.proofs.TrackLaws.{or_true}
 use Rattle.rule_audit.specs.declared.rules.Rule.{Rule}
 use Rattle.rule_audit.specs.declared.rules.Rule.TheVariants.{Interval, Conflict, Companion, Parents}
 use Rattle.rule_audit.specs.Obligations.{has_row_at, is_clause, is_due, is_row_of_some, is_timed_by, terms_of, row_obligations, end_obligations}
-use Rattle.rule_audit.specs.Index.{is_clause_on, is_due_by, is_picked, is_timed_on, no_rule, AreSkips, HasNoRule, IsNext, IsNextDue, IsOwn, IsOwnOf, IsRuledPlace, IsSkips}
+use Rattle.rule_audit.specs.Index.{is_clause_on, is_due_by, is_picked, is_timed_on, no_rule, AreChannels, AreOwn, AreSkips, HasNoRule, IsNext, IsNextDue, IsOwn, IsOwnOf, IsRuledPlace, IsSkips}
 use Rattle.rule_audit.specs.Pass.{FitsRule, IsCutAt}
 use Rattle.rule_audit.proofs.Adding.{row_rules, row_rules_over, end_rules}
 
@@ -152,9 +152,6 @@ module _ (specs : List Spec) (rules : List Rule) (r : Row) (s : ℕ) (own : IsOw
   pub timed_skips : (n : ℕ) (lists : List (List ℕ)) → AreSkips specs rules false n lists → s < n → n ≡ length specs → IsSkips (λ x. is_timed_by specs r (get_or rules x no_rule)) (length rules) (get_or lists s [])
   timed_skips n lists are lt all = skips_same (is_picked specs rules false (get_or specs s no_spec).channel) (λ x. is_timed_by specs r (get_or rules x no_rule)) (length rules) (get_or lists s []) (λ x. sym (timed_by specs r (get_or rules x no_rule) ∙ ap (λ (o : Option Channel). is_timed_on specs o (get_or rules x no_rule)) (own_channel (omega arith)))) (are.1 s lt)
 
-  pub clause_skips : (n : ℕ) (lists : List (List ℕ)) → AreSkips specs rules true n lists → s < n → n ≡ length specs → IsSkips (is_due_by specs rules r) (length rules) (get_or lists s [])
-  clause_skips n lists are lt all = skips_same (is_picked specs rules true (get_or specs s no_spec).channel) (is_due_by specs rules r) (length rules) (get_or lists s []) (λ x. sym (ap (λ (o : Option Channel). is_clause_on specs o (get_or rules x no_rule)) (own_channel (omega arith)))) (are.1 s lt)
-
   -- a row whose place is the number of specs has no rule
   module _ (ge : length specs ≤ s) where
     pub own_none : HasNoRule specs rules (channel_in_table r.code r.param)
@@ -162,9 +159,6 @@ module _ (specs : List Spec) (rules : List Rule) (r : Row) (s : ℕ) (own : IsOw
 
     pub none_timed_by : (x : ℕ) → x < length rules → is_timed_by specs r (get_or rules x no_rule) ≡ false
     none_timed_by x lt = timed_by specs r (get_or rules x no_rule) ∙ (own_none x lt).0
-
-    pub none_due_by : (k : ℕ) → k ≤ length rules → IsNext (is_due_by specs rules r) (length rules) k (length rules)
-    none_due_by k le = record { from = le; within = omega arith; none = λ x a lt. (own_none x lt).1; passes = λ lt. absurd (omega arith) }
 
 -- ---- what is due at a tenth
 
@@ -223,41 +217,109 @@ module _ (specs : List Spec) (rules : List Rule) (rows : List Row) (t f e : ℕ)
   pub due_there : (k m : ℕ) → IsNextDue specs rules rows f e k m → m < length rules → is_due specs rows true t (get_or rules m no_rule) ≡ true
   due_there k m next lt = let (j, a, b, on) = next.passes lt in some_due (get_or rules m no_rule) j a b on
 
--- ---- the next due place of several rows
+-- ---- the next due place of several channels
 
-module _ (specs : List Spec) (rules : List Rule) (rows : List Row) (f k : ℕ) where
-  pub due_start : k ≤ length rules → IsNextDue specs rules rows f f k (length rules)
-  due_start le = record { from = le; within = omega arith; none = λ x j a b c d. absurd (omega arith); passes = λ lt. absurd (omega arith) }
+-- m is the first place from k on, of the n places, that passes for one of the first i channels of the list, or n where none does
+pub record IsNextOver (p : ℕ → ℕ → Bool) (n : ℕ) (xs : List ℕ) (i k m : ℕ) : Type 0 where
+  pub from : k ≤ m
+  pub within : m ≤ n
+  pub none : (x j : ℕ) → k ≤ x → x < m → j < i → p (get_or xs j 0) x ≡ false
+  pub passes : m < n → (j : ℕ) × (j < i) × (p (get_or xs j 0) m ≡ true)
+
+module _ (p : ℕ → ℕ → Bool) (n : ℕ) (xs : List ℕ) (k : ℕ) where
+  pub over_start : k ≤ n → IsNextOver p n xs 0 k n
+  over_start le = record { from = le; within = omega arith; none = λ x j a b c. absurd (omega arith); passes = λ lt. absurd (omega arith) }
 
   -- none can come before the first that is asked for
-  pub due_here : (e j m : ℕ) → f ≤ j → j < e → m ≡ k → IsNext (is_due_by specs rules (get_or rows j no_row)) (length rules) k m → IsNextDue specs rules rows f e k k
-  due_here e j m ft lt same next =
+  pub over_here : (i j m : ℕ) → j < i → m ≡ k → IsNext (p (get_or xs j 0)) n k m → IsNextOver p n xs i k k
+  over_here i j m lt same next =
       let top = next.within in
       record {
         from = omega arith;
         within = omega arith;
-        none = λ x i a b. absurd (omega arith);
-        passes = λ few. (j, ft, lt, subst (λ (x : ℕ). is_due_by specs rules (get_or rows j no_row) x ≡ true) same (next.passes (omega arith)));
+        none = λ x j a b. absurd (omega arith);
+        passes = λ few. (j, lt, subst (λ (x : ℕ). p (get_or xs j 0) x ≡ true) same (next.passes (omega arith)));
       }
 
   one_more : (t j : ℕ) → j < t + 1 → (j < t) ⊎ (j ≡ t)
   one_more t j lt = elim (cases_lt j t) [ inl less ↦ inl less | inr ge ↦ inr (omega arith) ]
 
-  pub due_keep : (t m n : ℕ) → f ≤ t → m ≤ n → IsNextDue specs rules rows f t k m → IsNext (is_due_by specs rules (get_or rows t no_row)) (length rules) k n → IsNextDue specs rules rows f (t + 1) k m
-  due_keep t m n ft le due next = record {
-    from = due.from;
-    within = due.within;
-    none = λ x j a b c d. elim (one_more t j d) [ inl less ↦ due.none x j a b c less | inr same ↦ ap (λ (i : ℕ). is_due_by specs rules (get_or rows i no_row) x) same ∙ next.none x a (omega arith) ];
-    passes = λ lt. let (j, a, b, on) = due.passes lt in (j, a, omega arith, on);
+  pub over_keep : (i m q : ℕ) → m ≤ q → IsNextOver p n xs i k m → IsNext (p (get_or xs i 0)) n k q → IsNextOver p n xs (i + 1) k m
+  over_keep i m q le over next = record {
+    from = over.from;
+    within = over.within;
+    none = λ x j a b c. elim (one_more i j c) [ inl less ↦ over.none x j a b less | inr same ↦ ap (λ (t : ℕ). p (get_or xs t 0) x) same ∙ next.none x a (omega arith) ];
+    passes = λ lt. let (j, b, on) = over.passes lt in (j, omega arith, on);
   }
 
-  pub due_less : (t m n : ℕ) → f ≤ t → n < m → IsNextDue specs rules rows f t k m → IsNext (is_due_by specs rules (get_or rows t no_row)) (length rules) k n → IsNextDue specs rules rows f (t + 1) k n
-  due_less t m n ft lt due next = record {
+  pub over_less : (i m q : ℕ) → q < m → IsNextOver p n xs i k m → IsNext (p (get_or xs i 0)) n k q → IsNextOver p n xs (i + 1) k q
+  over_less i m q lt over next = record {
     from = next.from;
     within = next.within;
-    none = λ x j a b c d. elim (one_more t j d) [ inl less ↦ due.none x j a (omega arith) c less | inr same ↦ ap (λ (i : ℕ). is_due_by specs rules (get_or rows i no_row) x) same ∙ next.none x a b ];
-    passes = λ few. (t, ft, omega arith, next.passes few);
+    none = λ x j a b c. elim (one_more i j c) [ inl less ↦ over.none x j a (omega arith) less | inr same ↦ ap (λ (t : ℕ). p (get_or xs t 0) x) same ∙ next.none x a b ];
+    passes = λ few. (i, omega arith, next.passes few);
   }
+
+-- whether the clause with a place is of the channel with this one
+abbrev pub is_of_channel : List Spec → List Rule → ℕ → ℕ → Bool
+is_of_channel specs rules s = is_picked specs rules true (get_or specs s no_spec).channel
+
+-- what is next for the channels of the rows is next for the rows
+module _ (specs : List Spec) (rules : List Rule) (rows : List Row) (own : List ℕ) (are : AreOwn specs rules rows (length rows) own) (f t : ℕ) (top : t ≤ length rows) (channels : List ℕ) (is : AreChannels own (length specs) f t channels) where
+  row_picked : (j x : ℕ) → j < length rows → get_or own j 0 < length specs → is_due_by specs rules (get_or rows j no_row) x ≡ is_of_channel specs rules (get_or own j 0) x
+  row_picked j x lt few = ap (λ (o : Option Channel). is_clause_on specs o (get_or rules x no_rule)) (own_channel specs rules (get_or rows j no_row) (get_or own j 0) (are.1 j lt) few)
+
+  pub due_next : (k m : ℕ) → IsNextOver (is_of_channel specs rules) (length rules) channels (length channels) k m → IsNextDue specs rules rows f t k m
+  due_next k m over =
+      let high = over.within in
+      record {
+        from = over.from;
+        within = over.within;
+        none = λ x j a b c d.
+            let lt : j < length rows = omega arith in
+            elim (cases_lt (get_or own j 0) (length specs)) [
+              | inl few ↦ let (i, li, e) = is.all j c d few in row_picked j x lt few ∙ (ap (λ (s : ℕ). is_of_channel specs rules s x) (sym e) ∙ over.none x i a b li)
+              | inr ge ↦ (own_none specs rules (get_or rows j no_row) (get_or own j 0) (are.1 j lt) ge x (omega arith)).1
+            ];
+        passes = λ lt.
+            let (i, li, on) = over.passes lt in
+            let (j, a, b, e) = is.rows i li in
+            let less = is.within i li in
+            let few : get_or own j 0 < length specs = omega arith in
+            (j, a, b, row_picked j m (omega arith) few ∙ (ap (λ (s : ℕ). is_of_channel specs rules s m) e ∙ on));
+      }
+
+-- ---- the channels of rows
+
+module _ (own : List ℕ) (n f : ℕ) where
+  before_or_at : (t j : ℕ) → j < t + 1 → (j < t) ⊎ (j ≡ t)
+  before_or_at t j lt = elim (cases_lt j t) [ inl less ↦ inl less | inr ge ↦ inr (omega arith) ]
+
+  -- a row without a rule, or of a channel that is there already
+  pub channels_keep : (t : ℕ) (xs : List ℕ) → (get_or own t 0 < n → (k : ℕ) × (k < length xs) × (get_or xs k 0 ≡ get_or own t 0)) → AreChannels own n f t xs → AreChannels own n f (t + 1) xs
+  channels_keep t xs there are = record {
+    within = are.within;
+    rows = λ k lt. let (j, a, b, e) = are.rows k lt in (j, a, omega arith, e);
+    all = λ j a b few. elim (before_or_at t j b) [ inl less ↦ are.all j a less few | inr same ↦ let few2 : get_or own t 0 < n = rw (← same) few in let (k, lt, e) = there few2 in (k, lt, rw same e) ];
+  }
+
+  -- a channel more
+  pub channels_more : (t c : ℕ) (xs : List ℕ) → get_or own t 0 ≡ c → f ≤ t → c < n → AreChannels own n f t xs → AreChannels own n f (t + 1) (xs ++ c ∷ [])
+  channels_more t c xs at ft few are =
+      let size : length (xs ++ c ∷ []) ≡ length xs + 1 = length-append xs (c ∷ []) in
+      let last : get_or (xs ++ c ∷ []) (length xs) 0 ≡ c = get_or-append_right xs (c ∷ []) (length xs) (length xs) 0 refl (omega arith) ∙ ap (λ (k : ℕ). get_or (c ∷ []) k 0) (let zero : length xs - length xs ≡ 0 = omega arith in zero) in
+      let old : (k : ℕ) → k < length xs → get_or (xs ++ c ∷ []) k 0 ≡ get_or xs k 0 = λ k lt. get_or_append_left xs (c ∷ []) 0 k lt in
+      record {
+        within = λ k lt. elim (before_or_at (length xs) k (omega arith)) [ inl less ↦ rw (old k less) (are.within k less) | inr same ↦ rw (same, last) few ];
+        rows = λ k lt. elim (before_or_at (length xs) k (omega arith)) [
+          | inl less ↦ let (j, a, b, e) = are.rows k less in (j, a, omega arith, rw (old k less) e)
+          | inr same ↦ (t, ft, omega arith, rw (same, last) at)
+        ];
+        all = λ j a b few2. elim (before_or_at t j b) [
+          | inl less ↦ let (k, lt, e) = are.all j a less few2 in (k, omega arith, rw (old k lt) e)
+          | inr same ↦ (length xs, omega arith, rw (same, last) (sym at))
+        ];
+      }
 
 -- ---- one element more
 
@@ -277,7 +339,3 @@ length_more xs n x size = length-append xs (x ∷ []) ∙ ap (λ (k : ℕ). k + 
 -- no rule of the row
 pub row_none : (specs : List Spec) (i : ℕ) (r : Row) (rules : List Rule) → ((x : ℕ) → x < length rules → is_timed_by specs r (get_or rules x no_rule) ≡ false) → row_obligations specs i r 1 rules ≡ []
 row_none specs i r rules none = row_skip specs i r rules 0 (length rules) (omega arith) (omega arith) (λ x a b. none x b) ∙ row_rules_over specs i r rules (length rules) (length rules + 1) (omega arith)
-
--- the rows come to their end
-pub due_over : (specs : List Spec) (rules : List Rule) (rows : List Row) (f k t e m : ℕ) → t ≡ e → IsNextDue specs rules rows f t k m → IsNextDue specs rules rows f e k m
-due_over specs rules rows f k t e m same due = subst (λ (x : ℕ). IsNextDue specs rules rows f x k m) same due

@@ -81,3 +81,9 @@ pub record IsNextDue (specs : List Spec) (rules : List Rule) (rows : List Row) (
   pub within : m ≤ length rules
   pub none : (x j : ℕ) → k ≤ x → x < m → f ≤ j → j < t → is_due_by specs rules (slice_index_or rows j no_row) x ≡ false
   pub passes : m < length rules → (j : ℕ) × (f ≤ j) × (j < t) × (is_due_by specs rules (slice_index_or rows j no_row) m ≡ true)
+
+-- by the places of the rows' channels among n specs: the channels of the rows from row f up to row t that have a rule, and no other
+pub record AreChannels (own : List ℕ) (n f t : ℕ) (channels : List ℕ) : Type 0 where
+  pub within : (k : ℕ) → k < length channels → slice_index_or channels k 0 < n
+  pub rows : (k : ℕ) → k < length channels → (j : ℕ) × (f ≤ j) × (j < t) × (slice_index_or own j 0 ≡ slice_index_or channels k 0)
+  pub all : (j : ℕ) → f ≤ j → j < t → slice_index_or own j 0 < n → (k : ℕ) × (k < length channels) × (slice_index_or channels k 0 ≡ slice_index_or own j 0)

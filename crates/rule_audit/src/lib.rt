@@ -7,7 +7,7 @@
 //! - `rules`: the rules with their numbers; `terms`: the clauses that they say.
 //! - `lines`: what an audit answers.
 //! - `interval`: the verdict of an interval rule before a row; `due`: the channels that a row is of;
-//!   `tenth`: all verdicts of one tenth.
+//!   `tenth`: all verdicts of one tenth; `next`: which clause comes next at its end.
 //! - `index`: the rules by channel; `owners`: of which channel each row is.
 //! - `hour`, `walk`, `audit`: the pass over the tenths of an hour, and the call.
 //! - `laws`: each rule is of the channels that it names.
@@ -22,6 +22,7 @@ mod index;
 mod interval;
 mod laws;
 mod lines;
+mod next;
 mod owners;
 mod rules;
 mod tenth;

@@ -5,13 +5,14 @@ ghost use Rattle.board.specs.Verdicts.{AreWithin};
 ghost use Rattle.rule_audit.specs.declared.rules.Rule.{Rule};
 ghost use Rattle.rule_audit.specs.declared.rules.Rule.TheVariants.{Interval};
 ghost use Rattle.rule_audit.specs.Obligations.{end_obligations, is_clause, is_row_of, is_timed_by, row_obligation, row_obligations, rows_obligations, tenth_obligations, terms_of};
-ghost use Rattle.rule_audit.specs.Index.{is_due_by, IsNext, IsNextDue, IsSkips};
+ghost use Rattle.rule_audit.specs.Index.{IsSkips};
 ghost use Rattle.rule_audit.specs.Pass.{row_at, rule_at, Adds, AddsAfter, AddsAt, AddsEnd, AddsIn, Ends, FitsItem, IsCutAt, IsDueAt, IsLogOf, IsReady};
 
 use crate::hour::AuditedHour;
 use crate::index::Skips;
 use crate::interval::interval_verdict;
 use crate::lines::{AuditLine, Place, push_line};
+use crate::next::{channels_of, next_due};
 use crate::rules::Rule;
 use board::{Clause, clause_verdict};
 use ring_config::IntervalItem;
@@ -185,45 +186,6 @@ fn judge_all(lines: &mut Vec<AuditLine>, hour: &AuditedHour<'_>, at: u32) -> Res
     Ok(())
 }
 
-// The first place from this one on of a clause of the row's channel, or the number of rules.
-fn next_of(hour: &AuditedHour<'_>, index: usize, from: usize) -> usize
-    requires ready { IsReady hour.now }
-    requires index { index < length hour.now.rows.now }
-    requires from { from ≤ length hour.now.rules.now }
-    ensures { IsNext (is_due_by hour.now.specs.now hour.now.rules.now (row_at hour.now index))
-        (length hour.now.rules.now) from result }
-{
-    let count = hour.rules.len();
-    let own = hour.own[index] as usize;
-    if own < hour.clauses.len() {
-        return hour.clauses[own].next(count, from);
-    }
-    count
-}
-
-// The first place from this one on of a clause of a row's channel, of the rows from `first` up to
-// `end`.
-fn next_due(hour: &AuditedHour<'_>, first: usize, end: usize, from: usize) -> usize
-    requires ready { IsReady hour.now }
-    requires range { first ≤ end }
-    requires end { end ≤ length hour.now.rows.now }
-    requires from { from ≤ length hour.now.rules.now }
-    ensures { IsNextDue hour.now.specs.now hour.now.rules.now hour.now.rows.now first end from
-        result }
-{
-    let mut least = hour.rules.len();
-    for index in first..end {
-        let next = next_of(hour, index, from);
-        if next == from {
-            return from;
-        }
-        if next < least {
-            least = next;
-        }
-    }
-    least
-}
-
 // The clauses of the rows' channels at the end of the tenth, whose rows are those from `first` up
 // to `end`.
 fn judge_due(
@@ -241,10 +203,12 @@ fn judge_due(
         true at 1 hour.now.rules.now) lines.old.items lines.new.items) }
 {
     let count = hour.rules.len();
-    let mut place = next_due(hour, first, end, 0);
+    let list = channels_of(*lines.allocator(), hour, first, end)?;
+    let channels = list.as_slice();
+    let mut place = next_due(hour, channels, 0);
     'rules: while place < count {
         judge_after(lines, hour, at, place)?;
-        place = next_due(hour, first, end, place + 1);
+        place = next_due(hour, channels, place + 1);
     }
     Ok(())
 }

@@ -8,17 +8,14 @@ use Rattle.rule_audit.proofs.Indexing.{due_none, due_there, end_skip}
 use Rattle.rule_audit.proofs.Tenths.{cut_le}
 use Rattle.rule_audit.proofs.tenth.judge_due.Goals as goal
 
-pub next_due-place-requires-clause-range : goal.next_due-place-requires-clause-range
-next_due-place-requires-clause-range c = cut_le c.args.hour.now.rows.now c.args.at (c.args.at + 1) c.args.first c.args.end (omega arith) c.requires.first c.requires.end
-
-pub next_due-place-requires-in-rules-clause-range : goal.next_due-place-requires-in-rules-clause-range
-next_due-place-requires-in-rules-clause-range c = cut_le c.args.hour.now.rows.now c.args.at (c.args.at + 1) c.args.first c.args.end (omega arith) c.requires.first c.requires.end
+pub channels_of-requires-clause-range : goal.channels_of-requires-clause-range
+channels_of-requires-clause-range c = cut_le c.args.hour.now.rows.now c.args.at (c.args.at + 1) c.args.first c.args.end (omega arith) c.requires.first c.requires.end
 
 pub rules-init : goal.rules-init
 rules-init c =
     let h = c.args.hour.now in
     let m = c.next_due-place.result in
-    let next = c.next_due-place.ensures in
+    let next = c.next_due-place.ensures c.args.first c.args.end c.requires.end.0 (rw c.as_slice-channels.ensures.value c.in_ok-list.ensures) in
     (next.within, due_there h.specs.now h.rules.now h.rows.now c.args.at c.args.first c.args.end c.requires.first c.requires.end 0 m next, λ e is. upto_same (HasVerdict (log_of h e)) (end_obligations h.specs.now h.rows.now true c.args.at 1 h.rules.now) (end_obligations h.specs.now h.rows.now true c.args.at (m + 1) (drop m h.rules.now)) _ _ c.args.lines.now.items c.args.lines.now.items (end_skip h.specs.now h.rows.now true c.args.at h.rules.now 0 m (omega arith) next.within (due_none h.specs.now h.rules.now h.rows.now c.args.at c.args.first c.args.end c.requires.first c.requires.end 0 m next)) refl (upto_start (HasVerdict (log_of h e)) _ c.args.lines.now.items))
 
 pub rules-preserved : goal.rules-preserved
@@ -26,7 +23,7 @@ rules-preserved c =
     let h = c.args.hour.now in
     let k = c.rules.place in
     let m = c.next_due-place-in-rules.result in
-    let next = c.next_due-place-in-rules.ensures in (
+    let next = c.next_due-place-in-rules.ensures c.args.first c.args.end c.requires.end.0 (rw c.as_slice-channels.ensures.value c.in_ok-list.ensures) in (
       next.within,
       due_there h.specs.now h.rules.now h.rows.now c.args.at c.args.first c.args.end c.requires.first c.requires.end (k + 1) m next,
       λ e is.

@@ -22,7 +22,7 @@ use Rattle.rule_audit.specs.declared.lines.AuditLine.{AuditLine}
 use Rattle.rule_audit.specs.declared.rules.Rule.{Rule}
 use Rattle.rule_audit.specs.declared.rules.Rule.TheVariants.{Interval, Conflict, Companion, Parents}
 use Rattle.rule_audit.specs.Obligations.{Obligation, end_obligation, is_clause, is_due, obligations_from}
-use Rattle.rule_audit.specs.Index.{no_rule, AreOwn, AreSkips, HasNoRule}
+use Rattle.rule_audit.specs.Index.{no_rule, AreChannels, AreOwn, AreSkips, HasNoRule}
 use Rattle.rule_audit.specs.Judged.{HasRuns, HasVerdict}
 use Rattle.rule_audit.specs.Lines.{AreLinesOf}
 
@@ -145,3 +145,7 @@ AddsUpTo Has all left old new = (os : List Obligation) × Adds Has os old new ×
 -- the obligations of the hour from tenth x up to tenth t
 abbrev pub obligations_in : AuditedHour → Bool → ℕ → ℕ → List Obligation
 obligations_in h before x t = obligations_from (known_at h.stretches.now) h.specs.now h.rules.now h.rows.now before x (t - x)
+
+-- by their places among the specs: the channels of the tenth's rows that have a rule, and no other
+abbrev pub AreChannelsAt : AuditedHour → ℕ → List ℕ → Type 0
+AreChannelsAt h at channels = (f : ℕ) × (t : ℕ) × IsCutAt h.rows.now at f × IsCutAt h.rows.now (at + 1) t × AreChannels h.own.now (length h.specs.now) f t channels

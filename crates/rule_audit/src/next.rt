@@ -1,5 +1,5 @@
 // Which clause comes next at the end of a tenth.
-ghost use Rattle.std.specs.Prelude.{◌≡◌, ◌↔◌, ◌+◌, ◌<◌, ◌≤◌, ℕ, List, true, IsTrue, length, slice_index_or, IfOk, OnOk};
+ghost use Rattle.std.specs.Prelude.{◌≡◌, ◌↔◌, ◌+◌, ◌<◌, ◌≤◌, ℕ, List, [], ◌∷◌, true, IsTrue, IfSome, length, slice_index_or, IfOk, OnOk};
 ghost use Rattle.rule_audit.specs.Index.{is_picked, AreChannels, IsNext, IsNextDue};
 ghost use Rattle.rule_audit.specs.Pass.{spec_at, IsReady};
 
@@ -54,8 +54,65 @@ pub(crate) fn channels_of(
     Ok(channels)
 }
 
-// The first place from this one on of a clause of the channel, or the number of rules.
-fn next_of(hour: &AuditedHour<'_>, channel: u16, from: usize) -> usize
+// The first row from this one on up to `end` that has a rule, or `end`.
+fn ruled_row(hour: &AuditedHour<'_>, first: usize, end: usize) -> usize
+    requires ready { IsReady hour.now }
+    requires range { first ≤ end }
+    requires end { end ≤ length hour.now.rows.now }
+    ensures from { first ≤ result }
+    ensures within { result ≤ end }
+    ensures none { (j : ℕ) → first ≤ j → j < result
+        → length hour.now.specs.now ≤ slice_index_or hour.now.own.now j 0 }
+    ensures ruled { result < end
+        → slice_index_or hour.now.own.now result 0 < length hour.now.specs.now }
+{
+    let count = hour.specs.len();
+    for index in first..end {
+        if (hour.own[index] as usize) < count {
+            return index;
+        }
+    }
+    end
+}
+
+// Whether each row from this one on up to `end` that has a rule is of the channel.
+fn are_of(hour: &AuditedHour<'_>, row: usize, end: usize, channel: u16) -> bool
+    requires ready { IsReady hour.now }
+    requires end { end ≤ length hour.now.rows.now }
+    ensures { IsTrue result ↔ ((j : ℕ) → row ≤ j → j < end
+        → slice_index_or hour.now.own.now j 0 < length hour.now.specs.now
+        → slice_index_or hour.now.own.now j 0 ≡ channel) }
+{
+    let count = hour.specs.len();
+    for index in row..end {
+        let own = hour.own[index];
+        if own != channel && (own as usize) < count {
+            return false;
+        }
+    }
+    true
+}
+
+/// The channel of the rows from `first` up to `end` that have a rule, where these are of one.
+pub(crate) fn lone_channel(hour: &AuditedHour<'_>, first: usize, end: usize) -> Option<u16>
+    requires ready { IsReady hour.now }
+    requires range { first ≤ end }
+    requires end { end ≤ length hour.now.rows.now }
+    ensures { IfSome result (λ c. AreChannels hour.now.own.now (length hour.now.specs.now) first end
+        (c ∷ [])) }
+{
+    let row = ruled_row(hour, first, end);
+    if row < end {
+        let channel = hour.own[row];
+        if are_of(hour, row, end, channel) {
+            return Some(channel);
+        }
+    }
+    None
+}
+
+/// The first place from this one on of a clause of the channel, or the number of rules.
+pub(crate) fn next_of(hour: &AuditedHour<'_>, channel: u16, from: usize) -> usize
     requires ready { IsReady hour.now }
     requires channel { channel < length hour.now.specs.now }
     requires from { from ≤ length hour.now.rules.now }

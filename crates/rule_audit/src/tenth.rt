@@ -1,18 +1,18 @@
 // The verdicts of one tenth.
-ghost use Rattle.std.specs.Prelude.{◌≡◌, ◌+◌, ◌<◌, ◌≤◌, Bool, true, false, length, OnOk};
+ghost use Rattle.std.specs.Prelude.{◌≡◌, ◌+◌, ◌<◌, ◌≤◌, [], ◌∷◌, Bool, true, false, length, OnOk};
 ghost use Rattle.gap_map.specs.Stretches.{known_at};
 ghost use Rattle.board.specs.Verdicts.{AreWithin};
 ghost use Rattle.rule_audit.specs.declared.rules.Rule.{Rule};
 ghost use Rattle.rule_audit.specs.declared.rules.Rule.TheVariants.{Interval};
 ghost use Rattle.rule_audit.specs.Obligations.{end_obligations, is_clause, is_row_of, is_timed_by, row_obligation, row_obligations, rows_obligations, tenth_obligations, terms_of};
 ghost use Rattle.rule_audit.specs.Index.{IsSkips};
-ghost use Rattle.rule_audit.specs.Pass.{row_at, rule_at, Adds, AddsAfter, AddsAt, AddsEnd, AddsIn, Ends, FitsItem, IsCutAt, IsDueAt, IsLogOf, IsReady};
+ghost use Rattle.rule_audit.specs.Pass.{row_at, rule_at, Adds, AddsAfter, AddsAt, AddsEnd, AddsIn, AreChannelsAt, Ends, FitsItem, IsCutAt, IsDueAt, IsLogOf, IsReady};
 
 use crate::hour::AuditedHour;
 use crate::index::Skips;
 use crate::interval::interval_verdict;
 use crate::lines::{AuditLine, Place, push_line};
-use crate::next::{channels_of, next_due};
+use crate::next::{channels_of, lone_channel, next_due, next_of};
 use crate::rules::Rule;
 use board::{Clause, clause_verdict};
 use ring_config::IntervalItem;
@@ -186,6 +186,50 @@ fn judge_all(lines: &mut Vec<AuditLine>, hour: &AuditedHour<'_>, at: u32) -> Res
     Ok(())
 }
 
+// The clauses of the channel at the end of the tenth, of whose rows no other channel has a rule.
+fn judge_channel(
+    lines: &mut Vec<AuditLine>,
+    hour: &AuditedHour<'_>,
+    at: u32,
+    channel: u16,
+) -> Result<(), NoMemory>
+    requires ready { IsReady hour.now }
+    requires known { known_at hour.now.stretches.now at ≡ true }
+    requires channel { AreChannelsAt hour.now at (channel ∷ []) }
+    ensures { OnOk result (AddsIn hour.now (end_obligations hour.now.specs.now hour.now.rows.now
+        true at 1 hour.now.rules.now) lines.old.items lines.new.items) }
+{
+    let count = hour.rules.len();
+    let mut place = next_of(hour, channel, 0);
+    'rules: while place < count {
+        judge_after(lines, hour, at, place)?;
+        place = next_of(hour, channel, place + 1);
+    }
+    Ok(())
+}
+
+// The clauses of the channels at the end of the tenth, which are those of its rows.
+fn judge_channels(
+    lines: &mut Vec<AuditLine>,
+    hour: &AuditedHour<'_>,
+    at: u32,
+    channels: &[u16],
+) -> Result<(), NoMemory>
+    requires ready { IsReady hour.now }
+    requires known { known_at hour.now.stretches.now at ≡ true }
+    requires channels { AreChannelsAt hour.now at channels.now }
+    ensures { OnOk result (AddsIn hour.now (end_obligations hour.now.specs.now hour.now.rows.now
+        true at 1 hour.now.rules.now) lines.old.items lines.new.items) }
+{
+    let count = hour.rules.len();
+    let mut place = next_due(hour, channels, 0);
+    'rules: while place < count {
+        judge_after(lines, hour, at, place)?;
+        place = next_due(hour, channels, place + 1);
+    }
+    Ok(())
+}
+
 // The clauses of the rows' channels at the end of the tenth, whose rows are those from `first` up
 // to `end`.
 fn judge_due(
@@ -202,15 +246,11 @@ fn judge_due(
     ensures { OnOk result (AddsIn hour.now (end_obligations hour.now.specs.now hour.now.rows.now
         true at 1 hour.now.rules.now) lines.old.items lines.new.items) }
 {
-    let count = hour.rules.len();
-    let list = channels_of(*lines.allocator(), hour, first, end)?;
-    let channels = list.as_slice();
-    let mut place = next_due(hour, channels, 0);
-    'rules: while place < count {
-        judge_after(lines, hour, at, place)?;
-        place = next_due(hour, channels, place + 1);
+    if let Some(channel) = lone_channel(hour, first, end) {
+        return judge_channel(lines, hour, at, channel);
     }
-    Ok(())
+    let channels = channels_of(*lines.allocator(), hour, first, end)?;
+    judge_channels(lines, hour, at, channels.as_slice())
 }
 
 /// Adds the lines of the known tenth, whose rows are those from `first` up to `end`. `before` says

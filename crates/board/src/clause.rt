@@ -89,11 +89,29 @@ pub fn clause_verdict(view: &HourView, at: u32, clause: &Clause) -> Verdict
     ensures { known_at view.now.stretches at ≡ true → ((w : ℕ → State) × PassStates view.now at w)
         → IsVerdict result (PassStates view.now at) (Keeps clause.now) }
 {
+    clause_verdict_from(view, at, clause, &mut [])
+}
+
+/// The same, where the search among each channel's moves begins from its cursor, which is left at
+/// what was found: quick where the tenths rise from call to call. There is a cursor a channel, by
+/// its place among the specs, at first 0. Where a channel has none the search begins from nothing.
+pub fn clause_verdict_from(
+    view: &HourView,
+    at: u32,
+    clause: &Clause,
+    cursors: &mut [usize],
+) -> Verdict
+    requires { AreWithin (length view.now.specs) clause.now }
+    ensures verdict { known_at view.now.stretches at ≡ true
+        → ((w : ℕ → State) × PassStates view.now at w)
+        → IsVerdict result (PassStates view.now at) (Keeps clause.now) }
+    ensures count { length cursors.new ≡ length cursors.old }
+{
     let _channels = view.channels();
     let terms = clause.terms();
     let mut some = false;
     for i in 0..terms.len() {
-        let seen = term_seen(view, at, terms[i]);
+        let seen = term_seen(view, at, terms[i], cursors);
         if !seen.some_false {
             return Verdict::Kept;
         }
@@ -105,15 +123,24 @@ pub fn clause_verdict(view: &HourView, at: u32, clause: &Clause) -> Verdict
     Verdict::Broken
 }
 
-// What the runs of the term's channel say of it at the end of the tenth.
-fn term_seen(view: &HourView, at: u32, term: Term) -> Seen
+// What the runs of the term's channel say of it at the end of the tenth, looked for from the
+// channel's cursor.
+fn term_seen(view: &HourView, at: u32, term: Term, cursors: &mut [usize]) -> Seen
     requires spec { term.spec < length view.now.specs }
-    ensures { known_at view.now.stretches at ≡ true → SeesTerm (MayPass view.now at) term result }
+    ensures sees { known_at view.now.stretches at ≡ true
+        → SeesTerm (MayPass view.now at) term result }
+    ensures count { length cursors.new ≡ length cursors.old }
 {
     let test = Test {
         colours: term.colours,
         bound: AgeBound::Any,
         at: i64::from(at),
     };
-    view.seen_at_end(term.spec, at, &test)
+    let channel = term.spec as usize;
+    if channel >= cursors.len() {
+        return view.seen_at_end(term.spec, at, &test);
+    }
+    let (seen, place) = view.seen_from(term.spec, at, &test, cursors[channel]);
+    cursors[channel] = place;
+    seen
 }

@@ -23,7 +23,7 @@ mod view;
 
 pub use again::{aheads_again, pasts_again};
 pub use aheads::{Aheads, aheads_along, aheads_hour};
-pub use clause::{Clause, Term, clause_verdict, has_spec};
+pub use clause::{Clause, Term, clause_verdict, clause_verdict_from, has_spec};
 pub use courses::{Course, Courses, count_before, courses_of};
 pub use pasts::{Pasts, PastsError, pasts_along, pasts_hour};
 pub use spec_table::SpecTable;

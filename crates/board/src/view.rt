@@ -25,6 +25,9 @@ use std::alloc::Global;
 use std::marker::Model;
 use std::snapshot::Snapshot;
 
+// How many steps are tried before the search begins anew.
+const STEPS: usize = 8;
+
 /// An hour of the log, and what all its histories say at its places: those that agree with its
 /// known rows, begin in a state of before it and end in one that is admitted after it.
 #[derive(Drop)]
@@ -224,8 +227,8 @@ impl HourView {
     }
 
     /// The same, with how many of the channel's moves come before it: looked for from such a number
-    /// on, which was answered for an earlier tenth, or from 0. That takes as long as the channel
-    /// has moves between the two tenths.
+    /// on, which was answered for an earlier tenth, or from 0. That is quick where the channel has
+    /// few moves between the two tenths.
     pub fn seen_from(&self, spec: u16, at: u32, test: &Test, near: usize) -> (Seen, usize)
         requires spec { spec < length self.now.specs }
         requires tenth { test.now.at ≡ pos at }
@@ -280,7 +283,8 @@ fn place_of(moves: &[Move], marks: &Marks, at: Tenth, index: Option<u32>) -> usi
     low
 }
 
-// The same, step by step from a number of moves that come before the place, where these are some.
+// The same, at first step by step from a number of moves that come before the place, where these are
+// some.
 fn place_from(moves: &[Move], marks: &Marks, near: usize, at: Tenth, index: Option<u32>) -> usize
     ensures within { result ≤ length moves.now }
     ensures place { (j : ℕ) → IsSplit at index moves.now j → result ≡ j }
@@ -289,12 +293,16 @@ fn place_from(moves: &[Move], marks: &Marks, near: usize, at: Tenth, index: Opti
     if low == 0 {
         return place_of(moves, marks, at, index);
     }
-    for place in low..moves.len() {
+    let end = moves.len().min(low.saturating_add(STEPS));
+    for place in low..end {
         if !is_before(moves[place], at, index) {
             return place;
         }
     }
-    moves.len()
+    if end == moves.len() {
+        return end;
+    }
+    place_of(moves, marks, at, index)
 }
 
 // The guess, where that many moves come before the place, and else none.

@@ -14,7 +14,7 @@ use crate::interval::interval_verdict;
 use crate::lines::{AuditLine, Place, push_line};
 use crate::next::{channels_of, lone_channel, next_due, next_of};
 use crate::rules::Rule;
-use board::{Clause, clause_verdict};
+use board::{Clause, clause_verdict_from};
 use ring_config::IntervalItem;
 use sig_base::NoMemory;
 
@@ -132,9 +132,11 @@ fn judge_rows(
     Ok(())
 }
 
-// The clause of a rule with this number, which is judged at the end of the tenth.
+// The clause of a rule with this number, which is judged at the end of the tenth. The cursors say
+// where the search among each channel's moves begins.
 fn judge_clause(
     lines: &mut Vec<AuditLine>,
+    cursors: &mut [usize],
     hour: &AuditedHour<'_>,
     at: u32,
     number: u16,
@@ -147,7 +149,7 @@ fn judge_clause(
         → is_clause rule ≡ true → terms_of rule ≡ clause.now → IsDueAt hour.now before at rule
         → AddsEnd hour.now e before at number rule lines.old.items lines.new.items) }
 {
-    let verdict = clause_verdict(hour.view, at, clause);
+    let verdict = clause_verdict_from(hour.view, at, clause, cursors);
     push_line(lines, number, at, Place::EndOfTenth, verdict)
 }
 
@@ -155,6 +157,7 @@ fn judge_clause(
 // clause.
 fn judge_after(
     lines: &mut Vec<AuditLine>,
+    cursors: &mut [usize],
     hour: &AuditedHour<'_>,
     at: u32,
     place: usize,
@@ -167,21 +170,26 @@ fn judge_after(
     let number = number_of(place);
     match &hour.rules[place] {
         Rule::Interval(_) => Ok(()),
-        Rule::Conflict(_, _, clause) => judge_clause(lines, hour, at, number, clause),
-        Rule::Companion(_, clause) => judge_clause(lines, hour, at, number, clause),
-        Rule::Parents(_, clause) => judge_clause(lines, hour, at, number, clause),
+        Rule::Conflict(_, _, clause) => judge_clause(lines, cursors, hour, at, number, clause),
+        Rule::Companion(_, clause) => judge_clause(lines, cursors, hour, at, number, clause),
+        Rule::Parents(_, clause) => judge_clause(lines, cursors, hour, at, number, clause),
     }
 }
 
 // Each clause at the end of a tenth before which the log is unknown.
-fn judge_all(lines: &mut Vec<AuditLine>, hour: &AuditedHour<'_>, at: u32) -> Result<(), NoMemory>
+fn judge_all(
+    lines: &mut Vec<AuditLine>,
+    cursors: &mut [usize],
+    hour: &AuditedHour<'_>,
+    at: u32,
+) -> Result<(), NoMemory>
     requires ready { IsReady hour.now }
     requires known { known_at hour.now.stretches.now at ≡ true }
     ensures { OnOk result (AddsIn hour.now (end_obligations hour.now.specs.now hour.now.rows.now
         false at 1 hour.now.rules.now) lines.old.items lines.new.items) }
 {
     for place in 0..hour.rules.len() {
-        judge_after(lines, hour, at, place)?;
+        judge_after(lines, cursors, hour, at, place)?;
     }
     Ok(())
 }
@@ -189,6 +197,7 @@ fn judge_all(lines: &mut Vec<AuditLine>, hour: &AuditedHour<'_>, at: u32) -> Res
 // The clauses of the channel at the end of the tenth, of whose rows no other channel has a rule.
 fn judge_channel(
     lines: &mut Vec<AuditLine>,
+    cursors: &mut [usize],
     hour: &AuditedHour<'_>,
     at: u32,
     channel: u16,
@@ -202,7 +211,7 @@ fn judge_channel(
     let count = hour.rules.len();
     let mut place = next_of(hour, channel, 0);
     'rules: while place < count {
-        judge_after(lines, hour, at, place)?;
+        judge_after(lines, cursors, hour, at, place)?;
         place = next_of(hour, channel, place + 1);
     }
     Ok(())
@@ -211,6 +220,7 @@ fn judge_channel(
 // The clauses of the channels at the end of the tenth, which are those of its rows.
 fn judge_channels(
     lines: &mut Vec<AuditLine>,
+    cursors: &mut [usize],
     hour: &AuditedHour<'_>,
     at: u32,
     channels: &[u16],
@@ -224,7 +234,7 @@ fn judge_channels(
     let count = hour.rules.len();
     let mut place = next_due(hour, channels, 0);
     'rules: while place < count {
-        judge_after(lines, hour, at, place)?;
+        judge_after(lines, cursors, hour, at, place)?;
         place = next_due(hour, channels, place + 1);
     }
     Ok(())
@@ -234,6 +244,7 @@ fn judge_channels(
 // to `end`.
 fn judge_due(
     lines: &mut Vec<AuditLine>,
+    cursors: &mut [usize],
     hour: &AuditedHour<'_>,
     at: u32,
     first: usize,
@@ -247,16 +258,17 @@ fn judge_due(
         true at 1 hour.now.rules.now) lines.old.items lines.new.items) }
 {
     if let Some(channel) = lone_channel(hour, first, end) {
-        return judge_channel(lines, hour, at, channel);
+        return judge_channel(lines, cursors, hour, at, channel);
     }
     let channels = channels_of(*lines.allocator(), hour, first, end)?;
-    judge_channels(lines, hour, at, channels.as_slice())
+    judge_channels(lines, cursors, hour, at, channels.as_slice())
 }
 
 /// Adds the lines of the known tenth, whose rows are those from `first` up to `end`. `before` says
 /// whether the tenth before is known.
 pub(crate) fn judge_tenth(
     lines: &mut Vec<AuditLine>,
+    cursors: &mut [usize],
     hour: &AuditedHour<'_>,
     at: u32,
     first: usize,
@@ -272,7 +284,7 @@ pub(crate) fn judge_tenth(
 {
     judge_rows(lines, hour, at, first, end)?;
     if before {
-        return judge_due(lines, hour, at, first, end);
+        return judge_due(lines, cursors, hour, at, first, end);
     }
-    judge_all(lines, hour, at)
+    judge_all(lines, cursors, hour, at)
 }

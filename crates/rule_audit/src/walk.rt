@@ -80,6 +80,7 @@ fn pass_over(hour: &AuditedHour<'_>, first: usize, to: u32) -> usize
 // of a rule's channel. Answers how many rows are before `to`.
 fn judge_on(
     lines: &mut Vec<AuditLine>,
+    cursors: &mut [usize],
     hour: &AuditedHour<'_>,
     first: usize,
     from: u32,
@@ -103,7 +104,7 @@ fn judge_on(
             return Ok(next);
         }
         let end = until(hour.rows, next, at + 1);
-        judge_tenth(lines, hour, at, next, end, true)?;
+        judge_tenth(lines, cursors, hour, at, next, end, true)?;
         next = pass_over(hour, end, to);
     }
     Ok(next)
@@ -112,6 +113,7 @@ fn judge_on(
 // The known tenths from `from` up to `to`; `before` says whether the tenth before them is known.
 fn judge_known(
     lines: &mut Vec<AuditLine>,
+    cursors: &mut [usize],
     hour: &AuditedHour<'_>,
     first: usize,
     from: u32,
@@ -130,17 +132,18 @@ fn judge_known(
         lines.new.items) }
 {
     if before {
-        return judge_on(lines, hour, first, from, to);
+        return judge_on(lines, cursors, hour, first, from, to);
     }
     let end = until(hour.rows, first, from + 1);
-    judge_tenth(lines, hour, from, first, end, false)?;
-    judge_on(lines, hour, end, from + 1, to)
+    judge_tenth(lines, cursors, hour, from, first, end, false)?;
+    judge_on(lines, cursors, hour, end, from + 1, to)
 }
 
 // The stretch, before which there are `first` rows; `before` says whether the tenth before it is
 // known. Answers how many rows are before its end.
 fn judge_stretch(
     lines: &mut Vec<AuditLine>,
+    cursors: &mut [usize],
     hour: &AuditedHour<'_>,
     first: usize,
     stretch: Stretch,
@@ -159,7 +162,15 @@ fn judge_stretch(
         lines.old.items lines.new.items) }
 {
     if stretch.known {
-        return judge_known(lines, hour, first, stretch.from, stretch.to, before);
+        return judge_known(
+            lines,
+            cursors,
+            hour,
+            first,
+            stretch.from,
+            stretch.to,
+            before,
+        );
     }
     Ok(until(hour.rows, first, stretch.to))
 }
@@ -177,11 +188,12 @@ pub(crate) fn judge_hour(
         (first_tenth e.hour) (end_tenth e.hour)) v.items) }
 {
     let mut lines = Vec::new(alloc);
+    let mut cursors = vec![in alloc; 0; hour.specs.len()]?;
     let mut before = known_before;
     let mut next = 0;
     let stretches = hour.stretches;
     for stretch in stretches {
-        next = judge_stretch(&mut lines, hour, next, *stretch, before)?;
+        next = judge_stretch(&mut lines, &mut cursors, hour, next, *stretch, before)?;
         before = stretch.known;
     }
     Ok(lines)

@@ -26,3 +26,4 @@ pub mod Tenths
 pub mod Over
 pub mod Own
 pub mod Parts
+pub mod Bare

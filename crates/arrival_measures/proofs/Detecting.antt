@@ -21,7 +21,7 @@ use Rattle.arrival_measures.specs.declared.faults.Detection.{Detection}
 use Rattle.arrival_measures.specs.declared.faults.Detections.{Detections}
 use Rattle.arrival_measures.specs.Faults.{arrivals_from, begins_fault, faults_from, faulty, faulty_since, is_of, is_own}
 use Rattle.arrival_measures.specs.Crossing.{flag_of, flags_of, has_detector}
-use Rattle.arrival_measures.specs.Steps.{AreDetections, arrival_in, detected_at, detected_by, fault_in, flag_after, flag_cleared, of_approaches}
+use Rattle.arrival_measures.specs.Steps.{AreDetections, arrival_in, detected_at, detected_by, fault_in, flag_after, flag_cleared, flags_in, of_approaches}
 
 -- ---- the flag of a detector, row by row
 
@@ -106,7 +106,7 @@ detected known c before hour rows ss flags end e h low at =
     let or = rise_ordered (point hour) (point hour + 36000) rows (omega arith) h.are_rows.rise in
     hour_tracked known (flag_of known) flag_after flag_cleared (detected_at known) detected_by (flag_tracks known) (has_detector c) 129 (room c) before (point hour) (point hour + 36000) rows ss flags end e h.are_stretches or low at
 
-pub detections_are : (known : ℕ → Bool) (c : Settings) (before : List Row) (hour : ℕ) (rows : List Row) (outs : List Detection) (parts : List (Option Flag)) (d : Detections) → IsTracked known (flag_of known) (detected_at known) (has_detector c) 129 before rows (point hour + 36000) outs parts → d.arrivals.items ≡ filter_map arrival_in outs → d.faults.items ≡ filter_map fault_in outs → d.flags.items ≡ parts → AreDetections known c before (known_rows known rows) hour d
+pub detections_are : (known : ℕ → Bool) (c : Settings) (before : List Row) (hour : ℕ) (rows : List Row) (outs : List Detection) (parts : List (Option Flag)) (d : Detections) → IsTracked known (flag_of known) (detected_at known) (has_detector c) 129 before rows (point hour + 36000) outs parts → d.arrivals.items ≡ filter_map arrival_in outs → d.faults.items ≡ filter_map fault_in outs → flags_in (flags_of known c (point hour) before) d.flags ≡ parts → AreDetections known c before (known_rows known rows) hour d
 detections_are known c before hour rows outs parts d is a f p = record {
   arrivals = a ∙ ap (λ zs. filter_map arrival_in zs) is.outs_are ∙ arrivals_split known (has_detector c) before (known_rows known rows);
   faults = f ∙ ap (λ zs. filter_map fault_in zs) is.outs_are ∙ faults_split known (has_detector c) before (known_rows known rows);

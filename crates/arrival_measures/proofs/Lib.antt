@@ -27,3 +27,4 @@ pub mod Over
 pub mod Own
 pub mod Parts
 pub mod Bare
+pub mod Quiet

@@ -12,7 +12,7 @@ use crate::approach::{approach_of, phase_spec};
 use crate::carry::{ArrivalCarry, Crossing};
 use crate::chains::{Chain, Chains, chain_rows, turns_among};
 use crate::cycles::CycleSum;
-use crate::faults::{Detections, detect};
+use crate::faults::{Detections, detect, put_flags};
 use crate::judged::{Judged, green, judged_rows, nothing, red, unseen_rows};
 use crate::sources::Sources;
 use crate::sums::ArrivalSum;
@@ -278,7 +278,7 @@ fn over_rows(
         hour_numbers(alloc, config, &carry.crossings, cuts, view, &sources)?
     };
     carry.crossings = numbers.crossings;
-    carry.flags = found.flags;
+    put_flags(&mut carry.flags, found.flags);
     Ok(numbers.sums)
 }
 

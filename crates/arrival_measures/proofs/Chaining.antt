@@ -1,5 +1,5 @@
 -- Rows in chains, and those that a chain passes over.
-use Rattle.std.proofs.Common.{◌≡◌, ◌≢◌, ℕ, zero, suc, ◌+◌, ◌-◌, ◌<◌, ◌≤◌, Bool, true, false, cond, List, [], ◌∷◌, ◌++◌, length, get_or, set, take, refl, ap, sym, subst, ◌∙◌, arith, inl, inr}
+use Rattle.std.proofs.Common.{◌≡◌, ◌≢◌, ℕ, zero, suc, ◌+◌, ◌-◌, ◌<◌, ◌≤◌, Bool, true, false, cond, List, [], ◌∷◌, ◌++◌, length, get_or, set, take, ap, sym, subst, ◌∙◌, arith, inl, inr}
 use Rattle.std.specs.List.{filter}
 use Rattle.std.proofs.Math.ListN.{replicate}
 use Rattle.std.proofs.lemmas.Bool.{cases_Bool, cases_eq}
@@ -10,6 +10,7 @@ use Rattle.sig_base.proofs.Common.{clash}
 use Rattle.board.specs.Logs.{no_row}
 use Rattle.arrival_measures.specs.declared.chains.Chain.{Chain}
 use Rattle.arrival_measures.specs.declared.chains.Chain.TheVariants.{Green, On}
+use Rattle.arrival_measures.proofs.Padding.{get_or-padded}
 use Rattle.arrival_measures.specs.Chains.{AreChains, IsNext, IsOnlyIn, cell_of, is_in, number_of}
 
 -- ---- the next row of a chain
@@ -41,17 +42,7 @@ cell_same (On c) (On d) e = ap (λ (n : ℕ). On n) (let same : c ≡ d = omega 
 pub cells_made : (heads new : List ℕ) (n none : ℕ) → length heads ≤ n → new ≡ take n heads ++ replicate (n - length heads) none → (i : ℕ) → get_or new i none ≡ get_or heads i none
 cells_made heads new n none le e i =
     ap (λ (xs : List ℕ). get_or xs i none) (e ∙ ap (λ (xs : List ℕ). xs ++ replicate (n - length heads) none) (take_all n heads le))
-    ∙ get_or-more heads (n - length heads) i
-  where
-    get_or-none : (m j : ℕ) → get_or (replicate m none) j none ≡ none
-    get_or-none zero j = refl
-    get_or-none (suc m) zero = refl
-    get_or-none (suc m) (suc j) = get_or-none m j
-
-    get_or-more : (xs : List ℕ) (m j : ℕ) → get_or (xs ++ replicate m none) j none ≡ get_or xs j none
-    get_or-more [] m j = get_or-none m j
-    get_or-more (x ∷ xs) m zero = refl
-    get_or-more (x ∷ xs) m (suc j) = get_or-more xs m j
+    ∙ get_or-padded none heads (n - length heads) i
 
 pub chains_none : (rows : List Row) (n : ℕ) (heads next : List ℕ) → n ≡ length rows → heads ≡ [] → next ≡ replicate n n → AreChains rows n heads next
 chains_none rows n heads next e h k = record {

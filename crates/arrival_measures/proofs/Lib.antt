@@ -28,3 +28,4 @@ pub mod Own
 pub mod Parts
 pub mod Bare
 pub mod Quiet
+pub mod Padding

@@ -36,7 +36,7 @@ use Rattle.arrival_measures.specs.declared.cycles.CycleSum.{CycleSum}
 use Rattle.arrival_measures.specs.declared.sums.ArrivalSum.{ArrivalSum}
 use Rattle.arrival_measures.specs.Faults.{arrivals_from, begins_fault, faults_from, faulty, is_own}
 use Rattle.arrival_measures.specs.Travel.{arrivals_at, from_tenth}
-use Rattle.arrival_measures.specs.Crossing.{crossing_of, flags_of, has_detector, open_since}
+use Rattle.arrival_measures.specs.Crossing.{all_flags, crossing_of, flags_of, has_detector, open_since}
 use Rattle.arrival_measures.specs.Judged.{AllPass, NonePass, OnlySomePass, CountOf, phase_channel}
 use Rattle.arrival_measures.specs.Cycles.{CycleNumbers}
 use Rattle.arrival_measures.specs.Hours.{cycle_numbers, is_last, is_seen}
@@ -74,10 +74,13 @@ flags_in old None = old
 flags_in old (Some new) = new.items
 
 -- these are the detections of an hour with these known rows, where the first rows stand before them
-pub record AreDetections (known : ℕ → Bool) (c : Settings) (before rows : List Row) (hour : ℕ) (d : Detections) : Type 0 where
+pub record AreDetections (known : ℕ → Bool) (c : Settings) (before rows : List Row) (d : Detections) : Type 0 where
   pub arrivals : d.arrivals.items ≡ of_approaches c (arrivals_from known before rows)
   pub faults : d.faults.items ≡ of_approaches c (faults_from known before rows)
-  pub flags : flags_in (flags_of known c (point hour) before) d.flags ≡ flags_of known c (point (hour + 1)) (before ++ rows)
+
+-- where the one table has the flags at the point before the hour, the other has those at the point after it
+abbrev pub FlagsGoOn : List Row → List Stretch → List (Option Flag) → List (Option Flag) → Type 0
+FlagsGoOn rows ss old new = (known : ℕ → Bool) (c : Settings) (before : List Row) (hour : ℕ) → IsHour known hour rows ss → All (λ x. x.at < point hour) before → all_flags old ≡ flags_of known c (point hour) before → all_flags new ≡ flags_of known c (point (hour + 1)) (before ++ known_rows known rows)
 
 -- the flag, where there is one, tells of no fault
 abbrev pub is_clear : Option Flag → Bool

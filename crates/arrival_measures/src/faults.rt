@@ -5,10 +5,10 @@ ghost use Rattle.sig_base.specs.declared.values.Row.{Row};
 ghost use Rattle.hour_sweep.specs.Rows.{known_rows};
 ghost use Rattle.hour_sweep.specs.Hours.{IsHour, point};
 ghost use Rattle.ring_config.specs.Settings.{Settings};
-ghost use Rattle.arrival_measures.specs.Crossing.{flags_of};
+ghost use Rattle.arrival_measures.specs.Crossing.{all_flags, flags_of};
 ghost use Rattle.arrival_measures.specs.Faults.{begins_fault, is_own};
 ghost use Rattle.arrival_measures.specs.Passing.{others_pass};
-ghost use Rattle.arrival_measures.specs.Steps.{AreDetections, arrival_in, detected_by, fault_in, flag_after, flag_cleared, flags_in, is_clear, is_quiet};
+ghost use Rattle.arrival_measures.specs.Steps.{AreDetections, FlagsGoOn, arrival_in, detected_by, fault_in, flag_after, flag_cleared, flags_in, is_clear, is_quiet};
 
 use gap_map::Stretch;
 use hour_sweep::{Track, track_hour};
@@ -171,10 +171,13 @@ pub(crate) fn detect(
     rows: &[Row],
     stretches: &[Stretch],
 ) -> Result<Detections, NoMemory>
-    ensures { IfOk result (λ d. (known : ℕ → Bool) (c : Settings) (before : List Row) (hour : ℕ)
-        → IsHour known hour rows.now stretches.now → All (λ x. x.at < point hour) before
-        → flags.now ≡ flags_of known c (point hour) before
-        → AreDetections known c before (known_rows known rows.now) hour d) }
+    ensures found { IfOk result (λ d. (known : ℕ → Bool) (c : Settings) (before : List Row)
+        (hour : ℕ) → IsHour known hour rows.now stretches.now
+        → All (λ x. x.at < point hour) before
+        → all_flags flags.now ≡ flags_of known c (point hour) before
+        → AreDetections known c before (known_rows known rows.now) d) }
+    ensures flags { IfOk result (λ d.
+        FlagsGoOn rows.now stretches.now flags.now (flags_in flags.now d.flags)) }
 {
     if is_quiet(flags, rows, stretches) {
         return Ok(Detections {

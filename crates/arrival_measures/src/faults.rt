@@ -129,6 +129,7 @@ pub(crate) struct Detections {
     pub(crate) flags: Option<Vec<Option<Flag>>>,
 }
 
+// Whether no row is one of a detector.
 fn has_no_own(rows: &[Row]) -> bool
     ensures { result ≡ list_all (λ x. not (is_own x.code)) rows.now }
 {
@@ -141,6 +142,7 @@ fn all_known(stretches: &[Stretch]) -> bool
     stretches.iter().all(|stretch| stretch.known)
 }
 
+// Whether the flag, where there is one, tells of no fault.
 fn is_clear(flag: Option<Flag>) -> bool
     ensures { result ≡ is_clear flag }
 {

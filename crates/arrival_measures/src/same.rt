@@ -72,7 +72,8 @@ fn flag_at(flags: &[Option<Flag>], number: usize) -> Option<Flag>
 
 // Whether each number has the same flag in both.
 fn same_places(a: &[Option<Flag>], b: &[Option<Flag>]) -> bool
-    ensures { IsTrue result ↔ ((i : ℕ) → slice_index_or a.now i None ≡ slice_index_or b.now i None) }
+    ensures { IsTrue result
+        ↔ ((i : ℕ) → slice_index_or a.now i None ≡ slice_index_or b.now i None) }
 {
     for number in 0..a.len().max(b.len()) {
         if !same_flag(flag_at(a, number), flag_at(b, number)) {

@@ -1,5 +1,5 @@
 -- The rows at which detectors go on, and what is sure of their faults, from one pass over an hour.
-use Rattle.std.proofs.Common.{◌≡◌, ◌≢◌, ℕ, ◌+◌, ◌<◌, ◌≤◌, Bool, true, false, not, ◌&&◌, cond, eqb, ltb, List, [], ◌∷◌, ◌++◌, Option, Some, None, refl, ap, sym, ◌∙◌, arith}
+use Rattle.std.proofs.Common.{◌≡◌, ◌≢◌, ℕ, ◌+◌, ◌<◌, ◌≤◌, Bool, true, false, not, ◌&&◌, cond, eqb, ltb, List, [], ◌∷◌, ◌++◌, Option, Some, None, length, refl, ap, sym, ◌∙◌, arith}
 use Rattle.std.specs.Prelude.{All, option_map, filter_map}
 use Rattle.std.specs.List.{cons_option, filter}
 use Rattle.std.proofs.lemmas.Bool.{and_parts, eq-eqb, ne_eqb, ltb-true}
@@ -9,7 +9,7 @@ use Rattle.gap_map.specs.declared.stretch.Stretch.{Stretch}
 use Rattle.hour_sweep.specs.Rows.{known_rows, last, last_with, since}
 use Rattle.hour_sweep.specs.Hours.{IsHour, point}
 use Rattle.hour_sweep.specs.Passes.{swept}
-use Rattle.hour_sweep.specs.Numbers.{AreTracks, IsTracked, Tracking, outs_from, tracking_after, tracking_cleared}
+use Rattle.hour_sweep.specs.Numbers.{AreTracks, IsTracked, Tracking, outs_from, table, tracking_after, tracking_cleared}
 use Rattle.hour_sweep.proofs.Known.{live_here, live_lost, live_same}
 use Rattle.hour_sweep.proofs.Laws.{hour_tracked}
 use Rattle.hour_sweep.proofs.Orders.{rise_ordered}
@@ -20,8 +20,9 @@ use Rattle.arrival_measures.specs.declared.faults.Flag.{Flag}
 use Rattle.arrival_measures.specs.declared.faults.Detection.{Detection}
 use Rattle.arrival_measures.specs.declared.faults.Detections.{Detections}
 use Rattle.arrival_measures.specs.Faults.{arrivals_from, begins_fault, faults_from, faulty, faulty_since, is_of, is_own}
-use Rattle.arrival_measures.specs.Crossing.{flag_of, flags_of, has_detector}
-use Rattle.arrival_measures.specs.Steps.{AreDetections, arrival_in, detected_at, detected_by, fault_in, flag_after, flag_cleared, of_approaches}
+use Rattle.arrival_measures.specs.Crossing.{all_flags, flag_of, flags_of, has_detector}
+use Rattle.arrival_measures.specs.Steps.{AreDetections, FlagsGoOn, arrival_in, detected_at, detected_by, fault_in, flag_after, flag_cleared, of_approaches}
+use Rattle.arrival_measures.proofs.Padding.{short_few, short_room, short_table, whole_table}
 
 -- ---- the flag of a detector, row by row
 
@@ -101,21 +102,35 @@ faults_split known has before (x ∷ xs) = fault_step (λ z. has z.param) (has x
 room : (c : Settings) (p : ℕ) → has_detector c p ≡ true → p < 129
 room c p e = ltb-true p 129 (and_parts (ltb p 129) _ e).0
 
-pub detected : (known : ℕ → Bool) (c : Settings) (before : List Row) (hour : ℕ) (rows : List Row) (ss : List Stretch) (flags : List (Option Flag)) (end : Tracking Flag Detection) → end ≡ swept (tracking_after flag_after detected_by) (tracking_cleared flag_cleared) ss rows (record { parts = flags; outs = [] }) → IsHour known hour rows ss → All (λ x. x.at < point hour) before → flags ≡ flags_of known c (point hour) before → IsTracked known (flag_of known) (detected_at known) (has_detector c) 129 before rows (point hour + 36000) end.outs end.parts
-detected known c before hour rows ss flags end e h low at =
+tracked : (known : ℕ → Bool) (c : Settings) (n : ℕ) (within : (p : ℕ) → has_detector c p ≡ true → p < n) (before : List Row) (hour : ℕ) (rows : List Row) (ss : List Stretch) (flags : List (Option Flag)) (end : Tracking Flag Detection) → end ≡ swept (tracking_after flag_after detected_by) (tracking_cleared flag_cleared) ss rows (record { parts = flags; outs = [] }) → IsHour known hour rows ss → All (λ x. x.at < point hour) before → flags ≡ table (has_detector c) n (flag_of known (point hour) before) → IsTracked known (flag_of known) (detected_at known) (has_detector c) n before rows (point hour + 36000) end.outs end.parts
+tracked known c n within before hour rows ss flags end e h low at =
     let or = rise_ordered (point hour) (point hour + 36000) rows (omega arith) h.are_rows.rise in
-    hour_tracked known (flag_of known) flag_after flag_cleared (detected_at known) detected_by (flag_tracks known) (has_detector c) 129 (room c) before (point hour) (point hour + 36000) rows ss flags end e h.are_stretches or low at
+    hour_tracked known (flag_of known) flag_after flag_cleared (detected_at known) detected_by (flag_tracks known) (has_detector c) n within before (point hour) (point hour + 36000) rows ss flags end e h.are_stretches or low at
 
-pub detections_are : (known : ℕ → Bool) (c : Settings) (before : List Row) (hour : ℕ) (rows : List Row) (outs : List Detection) (parts : List (Option Flag)) (d : Detections) → IsTracked known (flag_of known) (detected_at known) (has_detector c) 129 before rows (point hour + 36000) outs parts → d.arrivals.items ≡ filter_map arrival_in outs → d.faults.items ≡ filter_map fault_in outs → d.flags.items ≡ parts → AreDetections known c before (known_rows known rows) hour d
-detections_are known c before hour rows outs parts d is a f p = record {
+pub detected : (known : ℕ → Bool) (c : Settings) (before : List Row) (hour : ℕ) (rows : List Row) (ss : List Stretch) (flags : List (Option Flag)) (end : Tracking Flag Detection) → end ≡ swept (tracking_after flag_after detected_by) (tracking_cleared flag_cleared) ss rows (record { parts = flags; outs = [] }) → IsHour known hour rows ss → All (λ x. x.at < point hour) before → all_flags flags ≡ flags_of known c (point hour) before → IsTracked known (flag_of known) (detected_at known) (has_detector c) (length flags) before rows (point hour + 36000) end.outs end.parts
+detected known c before hour rows ss flags end e h low at =
+    let f = flag_of known (point hour) before in
+    tracked known c (length flags) (short_room (has_detector c) f (room c) flags at) before hour rows ss flags end e h low (short_table (has_detector c) f (room c) flags at)
+
+pub detections_are : (known : ℕ → Bool) (c : Settings) (n : ℕ) (before : List Row) (hour : ℕ) (rows : List Row) (outs : List Detection) (parts : List (Option Flag)) (d : Detections) → IsTracked known (flag_of known) (detected_at known) (has_detector c) n before rows (point hour + 36000) outs parts → d.arrivals.items ≡ filter_map arrival_in outs → d.faults.items ≡ filter_map fault_in outs → AreDetections known c before (known_rows known rows) d
+detections_are known c n before hour rows outs parts d is a f = record {
   arrivals = a ∙ ap (λ zs. filter_map arrival_in zs) is.outs_are ∙ arrivals_split known (has_detector c) before (known_rows known rows);
   faults = f ∙ ap (λ zs. filter_map fault_in zs) is.outs_are ∙ faults_split known (has_detector c) before (known_rows known rows);
-  flags = p ∙ is.parts_are ∙ ap (λ t. flags_of known c t (before ++ known_rows known rows)) (let e : point hour + 36000 ≡ point (hour + 1) = omega arith in e);
 }
+
+-- the flags at the point after the hour, from those at the point before it
+pub flags_go_on : (rows : List Row) (ss : List Stretch) (flags : List (Option Flag)) (end : Tracking Flag Detection) → end ≡ swept (tracking_after flag_after detected_by) (tracking_cleared flag_cleared) ss rows (record { parts = flags; outs = [] }) → FlagsGoOn rows ss flags end.parts
+flags_go_on rows ss flags end e known c before hour h low at =
+    let is = detected known c before hour rows ss flags end e h low at in
+    let told = before ++ known_rows known rows in
+    let f = flag_of known (point hour) before in
+    ap (λ zs. all_flags zs) is.parts_are
+    ∙ whole_table (has_detector c) (flag_of known (point hour + 36000) told) (length flags) (short_few (has_detector c) f (room c) flags at) (short_room (has_detector c) f (room c) flags at)
+    ∙ ap (λ t. flags_of known c t told) (let e : point hour + 36000 ≡ point (hour + 1) = omega arith in e)
 
 -- the arrivals of the hour are told by the flags at the point before it
 pub arrivals_by : (known : ℕ → Bool) (c : Settings) (before : List Row) (hour : ℕ) (rows : List Row) (ss : List Stretch) (flags : List (Option Flag)) → IsHour known hour rows ss → All (λ x. x.at < point hour) before → flags ≡ flags_of known c (point hour) before → of_approaches c (arrivals_from known before (known_rows known rows)) ≡ filter_map arrival_in (swept (tracking_after flag_after detected_by) (tracking_cleared flag_cleared) ss rows (record { parts = flags; outs = [] })).outs
 arrivals_by known c before hour rows ss flags h low at =
     let end : Tracking Flag Detection = swept (tracking_after flag_after detected_by) (tracking_cleared flag_cleared) ss rows (record { parts = flags; outs = [] }) in
-    let is = detected known c before hour rows ss flags end refl h low at in
+    let is = tracked known c 129 (room c) before hour rows ss flags end refl h low at in
     sym (ap (λ zs. filter_map arrival_in zs) is.outs_are ∙ arrivals_split known (has_detector c) before (known_rows known rows))

@@ -26,3 +26,6 @@ pub mod Tenths
 pub mod Over
 pub mod Own
 pub mod Parts
+pub mod Bare
+pub mod Quiet
+pub mod Padding

@@ -1,5 +1,5 @@
 -- What crosses a point between two hours.
-use Rattle.std.specs.Prelude.{ℕ, ◌≡◌, ◌<◌, nat_lt, ◌&&◌, Bool, List, [], Option, Some, None, All, map, option_map, option_and_then, filter, nat_le}
+use Rattle.std.specs.Prelude.{ℕ, ◌≡◌, ◌-◌, ◌++◌, ◌<◌, nat_lt, ◌&&◌, Bool, List, [], Option, Some, None, All, length, map, option_map, option_and_then, filter, nat_le, replicate}
 use Rattle.sig_base.specs.declared.values.Row.{Row}
 use Rattle.event_codes.specs.declared.channels.Kind.TheVariants.{Detector}
 use Rattle.hour_sweep.specs.Hours.{AreOrdered, point}
@@ -34,6 +34,10 @@ flag_of known t before d = record { fault = faulty known t before d }
 -- of each detector of an approach, at the place of its number, whether it is sure to have a fault at t
 abbrev pub flags_of : (ℕ → Bool) → Settings → ℕ → List Row → List (Option Flag)
 flags_of known c t before = table (has_detector c) 129 (flag_of known t before)
+
+-- the flags of all numbers, where a table goes only so far: no detector past its end is one of an approach
+abbrev pub all_flags : List (Option Flag) → List (Option Flag)
+all_flags flags = flags ++ replicate (129 - length flags) None
 
 -- what is under way of arrivals at a point between two hours: of each approach the cycle so far and the vehicles still to come, and which detectors are sure to have a fault
 pub record CarryParts : Type 0 where

@@ -64,7 +64,7 @@ IsSumBy c view s a h sum =
 -- the hour's rows in chains
 abbrev pub AreChained : Settings → Detections → List Row → List Stretch → Sources → Type 0
 AreChained c found turns ss s =
-    (known : ℕ → Bool) (before rows : List Row) (hour : ℕ) → turns ≡ turns_of rows → IsHour known hour rows ss → AreOrdered 0 (point hour) before → AreDetections known c before (known_rows known rows) hour found
+    (known : ℕ → Bool) (before rows : List Row) (hour : ℕ) → turns ≡ turns_of rows → IsHour known hour rows ss → AreOrdered 0 (point hour) before → AreDetections known c before (known_rows known rows) found
     → AreSources known c before rows hour s
 
 -- their numbers, by the view if there is one

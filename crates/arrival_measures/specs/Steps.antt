@@ -1,6 +1,7 @@
 -- What the steps of an hour owe one another.
 use Rattle.std.specs.Prelude.{ℕ, ◌≡◌, ◌↔◌, ◌≤◌, ◌<◌, ◌+◌, ◌-◌, ◌^◌, ◌==◌, ◌&&◌, ◌||◌, ◌++◌, min, not, nat_lt, Bool, true, false, if◌then◌else◌, IsTrue, IfSome, List, [], ◌∷◌, Option, Some, None, All, filter, length, map, slice_index_or}
-use Rattle.std.specs.List.{range_with_len}
+use Rattle.std.specs.List.{list_all, range_with_len}
+use Rattle.std.specs.Global.{Vec}
 use Rattle.sig_base.specs.declared.values.Row.{Row}
 use Rattle.sig_base.specs.Numbers.{has_phase}
 use Rattle.event_codes.specs.declared.channels.Kind.TheVariants.{Detector}
@@ -35,7 +36,7 @@ use Rattle.arrival_measures.specs.declared.cycles.CycleSum.{CycleSum}
 use Rattle.arrival_measures.specs.declared.sums.ArrivalSum.{ArrivalSum}
 use Rattle.arrival_measures.specs.Faults.{arrivals_from, begins_fault, faults_from, faulty, is_own}
 use Rattle.arrival_measures.specs.Travel.{arrivals_at, from_tenth}
-use Rattle.arrival_measures.specs.Crossing.{crossing_of, flags_of, has_detector, open_since}
+use Rattle.arrival_measures.specs.Crossing.{all_flags, crossing_of, flags_of, has_detector, open_since}
 use Rattle.arrival_measures.specs.Judged.{AllPass, NonePass, OnlySomePass, CountOf, phase_channel}
 use Rattle.arrival_measures.specs.Cycles.{CycleNumbers}
 use Rattle.arrival_measures.specs.Hours.{cycle_numbers, is_last, is_seen}
@@ -67,11 +68,28 @@ fault_in one = if one.fault then Some one.row else None
 abbrev pub of_approaches : Settings → List Row → List Row
 of_approaches c rows = filter (λ x. has_detector c x.param) rows
 
+-- the flags that an hour gives, or those before it where it gives none
+abbrev pub flags_in : List (Option Flag) → Option (Vec (Option Flag)) → List (Option Flag)
+flags_in old None = old
+flags_in old (Some new) = new.items
+
 -- these are the detections of an hour with these known rows, where the first rows stand before them
-pub record AreDetections (known : ℕ → Bool) (c : Settings) (before rows : List Row) (hour : ℕ) (d : Detections) : Type 0 where
+pub record AreDetections (known : ℕ → Bool) (c : Settings) (before rows : List Row) (d : Detections) : Type 0 where
   pub arrivals : d.arrivals.items ≡ of_approaches c (arrivals_from known before rows)
   pub faults : d.faults.items ≡ of_approaches c (faults_from known before rows)
-  pub flags : d.flags.items ≡ flags_of known c (point (hour + 1)) (before ++ rows)
+
+-- where the one table has the flags at the point before the hour, the other has those at the point after it
+abbrev pub FlagsGoOn : List Row → List Stretch → List (Option Flag) → List (Option Flag) → Type 0
+FlagsGoOn rows ss old new = (known : ℕ → Bool) (c : Settings) (before : List Row) (hour : ℕ) → IsHour known hour rows ss → All (λ x. x.at < point hour) before → all_flags old ≡ flags_of known c (point hour) before → all_flags new ≡ flags_of known c (point (hour + 1)) (before ++ known_rows known rows)
+
+-- the flag, where there is one, tells of no fault
+abbrev pub is_clear : Option Flag → Bool
+is_clear None = true
+is_clear (Some f) = not f.fault
+
+-- the hour gives no detection and changes no flag: no row is one of a detector, and each tenth is known or no flag tells of a fault
+abbrev pub is_quiet : List (Option Flag) → List Row → List Stretch → Bool
+is_quiet flags rows ss = list_all (λ x. not (is_own x.code)) rows && (list_all (λ s. s.known) ss || list_all is_clear flags)
 
 -- ---- the hour of an approach
 

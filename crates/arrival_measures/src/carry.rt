@@ -3,7 +3,7 @@ ghost use Rattle.std.specs.Prelude.{◌≡◌, ◌↔◌, ◌++◌, ◌∷◌, �
 ghost use Rattle.event_codes.specs.declared.channels.Kind.TheVariants.{Detector};
 ghost use Rattle.ring_config.specs.Settings.{is_tracked_as};
 ghost use Rattle.ring_config.specs.declared.items.Approach.{Approach};
-ghost use Rattle.arrival_measures.specs.Crossing.{IsCarry};
+ghost use Rattle.arrival_measures.specs.Crossing.{IsCarry, all_flags};
 ghost use Rattle.arrival_measures.specs.Steps.{no_crossing, no_flag, no_flags};
 
 use crate::faults::Flag;
@@ -99,17 +99,17 @@ impl Crossing {
 pub struct ArrivalCarry {
     // One for each approach, in file order.
     pub(crate) crossings: Vec<Crossing>,
-    // One for each detector of an approach, at its number.
+    // One for each detector of an approach, at its number. The table goes only so far.
     pub(crate) flags: Vec<Option<Flag>>,
     pub(crate) alloc: Global,
 }
 
 impl Model for ArrivalCarry {
-    ghost use Rattle.arrival_measures.specs.Crossing.{CarryParts};
+    ghost use Rattle.arrival_measures.specs.Crossing.{CarryParts, all_flags};
 
     ghost Value = { CarryParts };
 
-    ghost view = { λ c. record { crossings = c.crossings.items; flags = c.flags.items } };
+    ghost view = { λ c. record { crossings = c.crossings.items; flags = all_flags c.flags.items } };
 }
 
 // The flag of a detector at the window's start, where it is one of an approach.
@@ -126,13 +126,16 @@ fn no_flag(config: &Config, number: u8) -> Option<Flag>
     }
 }
 
-// Those of all detectors.
+// Those of all detectors, as far as there is one of an approach.
 fn no_flags(alloc: Global, config: &Config) -> Result<Vec<Option<Flag>>, NoMemory>
-    ensures { IfOk result (λ v. v.items ≡ no_flags config.now) }
+    ensures { IfOk result (λ v. all_flags v.items ≡ no_flags config.now) }
 {
     let mut flags = Vec::new(alloc);
     for number in 0..129usize {
-        flags.push(no_flag(config, number as u8))?;
+        if let Some(flag) = no_flag(config, number as u8) {
+            flags.resize(number, None)?;
+            flags.push(Some(flag))?;
+        }
     }
     Ok(flags)
 }

@@ -1,5 +1,5 @@
 // The rows of an hour in chains: those of a phase or of a detector, one after another.
-ghost use Rattle.std.specs.Prelude.{◌≡◌, ◌+◌, ◌<◌, true, false, filter, length, slice_index_or, MatchOption, IfOk};
+ghost use Rattle.std.specs.Prelude.{◌≡◌, ◌+◌, ◌<◌, true, false, filter, length, slice_index_or, ℕ, MatchOption, IfOk, OnOk};
 ghost use Rattle.board.specs.Logs.{no_row};
 ghost use Rattle.arrival_measures.specs.declared.chains.Chain.{Chain};
 ghost use Rattle.arrival_measures.specs.Chains.{IsNext, IsOnlyIn, cell_of, is_in, number_of};
@@ -18,19 +18,16 @@ pub(crate) enum Chain {
     On(u8),
 }
 
-/// A cell for each of 256 phases and of 256 detectors.
-const CELLS: usize = 512;
-
 impl Chain {
-    // Where a table of all chains has it.
+    // Where a table of all chains has it. Small numbers come first.
     fn cell(self) -> usize
         ensures cell { result ≡ cell_of self }
         ensures within { result < 512 }
         ensures number { number_of self < 256 }
     {
         match self {
-            Chain::Green(phase) => usize::from(phase),
-            Chain::On(detector) => 256 + usize::from(detector),
+            Chain::Green(phase) => 2 * usize::from(phase),
+            Chain::On(detector) => 2 * usize::from(detector) + 1,
         }
     }
 }
@@ -56,7 +53,7 @@ fn chain_of(row: &Row) -> Option<Chain>
 #[derive(Drop)]
 pub(crate) struct Chains<'a> {
     rows: &'a [Row],
-    // The first place of each chain, by its cell.
+    // The first place of each chain, by its cell; a chain past its end has none.
     heads: Vec<usize>,
     // For each row the next place of its chain; their number where there is none.
     next: Vec<usize>,
@@ -75,17 +72,31 @@ impl<'a> Model for Chains<'a> {
     ghost invariant = { λ c. AreChains c.rows.now 0 c.heads.items c.next.items };
 }
 
+// Makes the table go as far as the cell. Each cell that is new has `none`.
+fn make_cell(heads: &mut Vec<usize>, cell: usize, none: usize) -> Result<(), NoMemory>
+    requires { cell < 512 }
+    ensures within { OnOk result (cell < length heads.new.items) }
+    ensures same { OnOk result ((i : ℕ) → slice_index_or heads.new.items i none
+        ≡ slice_index_or heads.old.items i none) }
+{
+    if heads.len() <= cell {
+        heads.resize(cell + 1, none)?;
+    }
+    Ok(())
+}
+
 impl<'a> Chains<'a> {
     /// The chains of the rows.
     pub(crate) fn new(alloc: Global, rows: &'a [Row]) -> Result<Chains<'a>, NoMemory>
         ensures { IfOk result (λ c. c ≡ rows.now) }
     {
         let count = rows.len();
-        let mut heads = vec![in alloc; count; CELLS]?;
+        let mut heads = Vec::new(alloc);
         let mut next = vec![in alloc; count; count]?;
         for place in (0..rows.len()).rev() {
             if let Some(chain) = chain_of(&rows[place]) {
                 let cell = chain.cell();
+                make_cell(&mut heads, cell, count)?;
                 next[place] = heads[cell];
                 heads[cell] = place;
             }
@@ -113,7 +124,12 @@ impl<'a> Chains<'a> {
         ensures next { IsNext (is_in chain) self.now 0 result }
         ensures number { number_of chain < 256 }
     {
-        self.heads[chain.cell()]
+        let cell = chain.cell();
+        if cell < self.heads.len() {
+            self.heads[cell]
+        } else {
+            self.rows.len()
+        }
     }
 
     /// The next place of the chain that has the row with this place, or the number of rows where it

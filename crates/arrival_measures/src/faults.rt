@@ -1,14 +1,14 @@
 // Detectors that go on in an hour, and faults of detectors.
-ghost use Rattle.std.specs.Prelude.{◌≡◌, ◌<◌, ◌==◌, ◌++◌, ◌∷◌, [], ℕ, Bool, List, All, IfOk, OnOk};
-ghost use Rattle.std.specs.List.{filter_map};
+ghost use Rattle.std.specs.Prelude.{◌≡◌, ◌<◌, ◌==◌, ◌++◌, ◌∷◌, ◌&&◌, ◌||◌, not, [], ℕ, Bool, List, All, IfOk, OnOk};
+ghost use Rattle.std.specs.List.{filter_map, list_all};
 ghost use Rattle.sig_base.specs.declared.values.Row.{Row};
 ghost use Rattle.hour_sweep.specs.Rows.{known_rows};
 ghost use Rattle.hour_sweep.specs.Hours.{IsHour, point};
 ghost use Rattle.ring_config.specs.Settings.{Settings};
-ghost use Rattle.arrival_measures.specs.Crossing.{flags_of};
+ghost use Rattle.arrival_measures.specs.Crossing.{all_flags, flags_of};
 ghost use Rattle.arrival_measures.specs.Faults.{begins_fault, is_own};
 ghost use Rattle.arrival_measures.specs.Passing.{others_pass};
-ghost use Rattle.arrival_measures.specs.Steps.{AreDetections, arrival_in, detected_by, fault_in, flag_after, flag_cleared};
+ghost use Rattle.arrival_measures.specs.Steps.{AreDetections, FlagsGoOn, arrival_in, detected_by, fault_in, flag_after, flag_cleared, flags_in, is_clear, is_quiet};
 
 use gap_map::Stretch;
 use hour_sweep::{Track, track_hour};
@@ -124,8 +124,45 @@ pub(crate) struct Detections {
     pub(crate) arrivals: Vec<Row>,
     /// Those whose detector is sure to have one.
     pub(crate) faults: Vec<Row>,
-    /// At the number of each detector of an approach whether it is sure to have a fault.
-    pub(crate) flags: Vec<Option<Flag>>,
+    /// At the number of each detector of an approach whether it is sure to have a fault; none where
+    /// that is as before the hour.
+    pub(crate) flags: Option<Vec<Option<Flag>>>,
+}
+
+// Whether no row is one of a detector.
+fn has_no_own(rows: &[Row]) -> bool
+    ensures { result ≡ list_all (λ x. not (is_own x.code)) rows.now }
+{
+    rows.iter().all(|row| !is_own(row.code))
+}
+
+fn all_known(stretches: &[Stretch]) -> bool
+    ensures { result ≡ list_all (λ s. s.known) stretches.now }
+{
+    stretches.iter().all(|stretch| stretch.known)
+}
+
+// Whether the flag, where there is one, tells of no fault.
+fn is_clear(flag: Option<Flag>) -> bool
+    ensures { result ≡ is_clear flag }
+{
+    match flag {
+        Some(flag) => !flag.fault,
+        None => true,
+    }
+}
+
+fn all_clear(flags: &[Option<Flag>]) -> bool
+    ensures { result ≡ list_all is_clear flags.now }
+{
+    flags.iter().all(|flag| is_clear(*flag))
+}
+
+// Whether the hour changes no flag, and no detector goes on in it.
+fn is_quiet(flags: &[Option<Flag>], rows: &[Row], stretches: &[Stretch]) -> bool
+    ensures { result ≡ is_quiet flags.now rows.now stretches.now }
+{
+    has_no_own(rows) && (all_known(stretches) || all_clear(flags))
 }
 
 /// The hour's known rows at which detectors of approaches go on, by the flags at the point before
@@ -136,17 +173,36 @@ pub(crate) fn detect(
     rows: &[Row],
     stretches: &[Stretch],
 ) -> Result<Detections, NoMemory>
-    ensures { IfOk result (λ d. (known : ℕ → Bool) (c : Settings) (before : List Row) (hour : ℕ)
-        → IsHour known hour rows.now stretches.now → All (λ x. x.at < point hour) before
-        → flags.now ≡ flags_of known c (point hour) before
-        → AreDetections known c before (known_rows known rows.now) hour d) }
+    ensures found { IfOk result (λ d. (known : ℕ → Bool) (c : Settings) (before : List Row)
+        (hour : ℕ) → IsHour known hour rows.now stretches.now
+        → All (λ x. x.at < point hour) before
+        → all_flags flags.now ≡ flags_of known c (point hour) before
+        → AreDetections known c before (known_rows known rows.now) d) }
+    ensures flags { IfOk result (λ d.
+        FlagsGoOn rows.now stretches.now flags.now (flags_in flags.now d.flags)) }
 {
+    if is_quiet(flags, rows, stretches) {
+        return Ok(Detections {
+            arrivals: Vec::new(alloc),
+            faults: Vec::new(alloc),
+            flags: None,
+        });
+    }
     let tracked = track_hour(alloc, flags, rows, stretches)?;
     let (flags, found) = tracked.into_parts();
     let (arrivals, faults) = told_apart(alloc, &found)?;
     Ok(Detections {
         arrivals,
         faults,
-        flags,
+        flags: Some(flags),
     })
+}
+
+/// The flags at the point after the hour in place of those at the point before it.
+pub(crate) fn put_flags(flags: &mut Vec<Option<Flag>>, new: Option<Vec<Option<Flag>>>)
+    ensures { flags.new.items ≡ flags_in flags.old.items new }
+{
+    if let Some(new) = new {
+        *flags = new;
+    }
 }

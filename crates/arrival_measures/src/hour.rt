@@ -12,7 +12,7 @@ use crate::approach::{approach_of, phase_spec};
 use crate::carry::{ArrivalCarry, Crossing};
 use crate::chains::{Chain, Chains, chain_rows, turns_among};
 use crate::cycles::CycleSum;
-use crate::faults::{Detections, detect};
+use crate::faults::{Detections, detect, put_flags};
 use crate::judged::{Judged, green, judged_rows, nothing, red, unseen_rows};
 use crate::sources::Sources;
 use crate::sums::ArrivalSum;
@@ -251,9 +251,9 @@ fn sources_of<'a>(
     })
 }
 
-// The numbers of each approach in an hour, by the view if there is one, and in `carry` what crosses
-// the point after it in place of what crosses the point before it.
-fn over_hour(
+// The numbers of each approach, worked out from the hour's rows, and in `carry` what crosses the
+// point after it in place of what crosses the point before it.
+fn over_rows(
     alloc: Global,
     config: &Config,
     carry: &mut ArrivalCarry,
@@ -278,8 +278,35 @@ fn over_hour(
         hour_numbers(alloc, config, &carry.crossings, cuts, view, &sources)?
     };
     carry.crossings = numbers.crossings;
-    carry.flags = found.flags;
+    put_flags(&mut carry.flags, found.flags);
     Ok(numbers.sums)
+}
+
+// The numbers of each approach in an hour, by the view if there is one, and in `carry` what crosses
+// the point after it in place of what crosses the point before it. Where there is no approach the
+// rows aren't looked at: nothing is under way, before the hour as after it.
+fn over_hour(
+    alloc: Global,
+    config: &Config,
+    carry: &mut ArrivalCarry,
+    cuts: &Cuts,
+    view: Option<&HourView>,
+    rows: &[Row],
+    stretches: &[Stretch],
+) -> Result<Vec<ArrivalSum>, NoMemory>
+    requires view { IfSome view (λ v. length v.now.specs ≡ length config.now.specs) }
+    ensures judged { IfOk result (λ v. AreHourSumsBy config.now (option_copied view.entry) rows.now
+        stretches.now carry.old cuts.now v.items) }
+    ensures cycles { IfOk result (λ v.
+        HaveHourCycles config.now rows.now stretches.now carry.old cuts.now v.items) }
+    ensures carry { IfOk result (λ _.
+        IsCarriedOn config.now rows.now stretches.now cuts.now carry.old carry.new) }
+    ensures err { OnErr result (carry.new ≡ carry.old) }
+{
+    if config.approach_count() == 0 {
+        return Ok(Vec::new(alloc));
+    }
+    over_rows(alloc, config, carry, cuts, view, rows, stretches)
 }
 
 /// The hour's numbers, and in `carry` what crosses the point after it in place of what crosses the

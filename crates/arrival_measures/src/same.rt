@@ -1,5 +1,6 @@
 // Whether what crosses two points is equal.
-ghost use Rattle.std.specs.Prelude.{◌≡◌, ◌↔◌, IsTrue};
+ghost use Rattle.std.specs.Prelude.{◌≡◌, ◌↔◌, ℕ, None, IsTrue, slice_index_or};
+ghost use Rattle.arrival_measures.specs.Crossing.{all_flags};
 
 use crate::carry::Crossing;
 use crate::faults::Flag;
@@ -44,8 +45,7 @@ fn same_flag(a: Option<Flag>, b: Option<Flag>) -> bool
     a == b
 }
 
-/// Whether both lists are equal.
-pub(crate) fn same_flags(a: &[Option<Flag>], b: &[Option<Flag>]) -> bool
+fn same_list(a: &[Option<Flag>], b: &[Option<Flag>]) -> bool
     ensures { IsTrue result ↔ (a.now ≡ b.now) }
 {
     if a.len() != b.len() {
@@ -57,4 +57,38 @@ pub(crate) fn same_flags(a: &[Option<Flag>], b: &[Option<Flag>]) -> bool
         }
     }
     true
+}
+
+// The flag of this number; none past the table's end.
+fn flag_at(flags: &[Option<Flag>], number: usize) -> Option<Flag>
+    ensures { result ≡ slice_index_or flags.now number None }
+{
+    if number < flags.len() {
+        flags[number]
+    } else {
+        None
+    }
+}
+
+// Whether each number has the same flag in both.
+fn same_places(a: &[Option<Flag>], b: &[Option<Flag>]) -> bool
+    ensures { IsTrue result
+        ↔ ((i : ℕ) → slice_index_or a.now i None ≡ slice_index_or b.now i None) }
+{
+    for number in 0..a.len().max(b.len()) {
+        if !same_flag(flag_at(a, number), flag_at(b, number)) {
+            return false;
+        }
+    }
+    true
+}
+
+/// Whether both tables tell the same of all detectors.
+pub(crate) fn same_flags(a: &[Option<Flag>], b: &[Option<Flag>]) -> bool
+    ensures { IsTrue result ↔ (all_flags a.now ≡ all_flags b.now) }
+{
+    if same_list(a, b) {
+        return true;
+    }
+    a.len().max(129) == b.len().max(129) && same_places(a, b)
 }

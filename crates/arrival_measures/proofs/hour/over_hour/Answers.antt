@@ -1,37 +1,8 @@
-use Rattle.std.proofs.Common.{◌∙◌, ◌+◌, ◌++◌, ℕ, Bool, List, ap, refl, sym, subst}
-use Rattle.std.specs.Prelude.{option_copied}
-use Rattle.sig_base.specs.declared.values.Row.{Row}
-use Rattle.gap_map.specs.declared.stretch.Stretch.{Stretch}
-use Rattle.hour_sweep.specs.Rows.{known_rows}
-use Rattle.hour_sweep.specs.Hours.{IsHour}
-use Rattle.service_cut.specs.Cut.{IsCut}
-use Rattle.arrival_measures.specs.Crossing.{CarryParts, IsCarry}
-use Rattle.arrival_measures.specs.Steps.{AreDetections, AreGiven}
-use Rattle.arrival_measures.specs.Results.{IsJudgedBy}
-use Rattle.arrival_measures.proofs.Hours.{carry_is, given_of}
+use Rattle.std.proofs.Common.{arith}
+use Rattle.std.proofs.lemmas.List.{nil_from_length}
+use Rattle.arrival_measures.proofs.Bare.{carried_over}
 use Rattle.arrival_measures.proofs.hour.over_hour.Goals as goal
-use Rattle.arrival_measures.proofs.hour.over_hour.Goals.{After-drop-found-3}
 
-detections_of : (c : After-drop-found-3) (known : ℕ → Bool) (before : List Row) (hour : ℕ) → IsHour known hour c.args.rows.now c.args.stretches.now → IsCarry known c.args.config.now before hour c.args.carry.now → AreDetections known c.args.config.now before (known_rows known c.args.rows.now) hour c.in_ok-found.found
-detections_of c known before hour h is = c.in_ok-found.ensures known c.args.config.now before hour h is.earlier (c.deref.ensures.value ∙ ap (λ (z : CarryParts). z.flags) c.carry.view_is ∙ is.flags_are)
-
-given : (c : After-drop-found-3) (known : ℕ → Bool) (before : List Row) (hour : ℕ) → IsHour known hour c.args.rows.now c.args.stretches.now → IsCarry known c.args.config.now before hour c.args.carry.now → IsCut known c.args.config.now.phases before hour c.args.rows.now c.args.cuts.now → AreGiven known c.args.config.now before c.args.rows.now hour c.in_ok-sources.sources c.deref-3.result.now c.args.cuts.now
-given c known before hour h is cut =
-    let are = c.in_ok-sources.ensures.sources known before c.args.rows.now hour (c.deref-2.ensures.value ∙ c.in_ok-turns.ensures) h is.ordered (detections_of c known before hour h is) in
-    given_of known c.args.config.now before c.args.rows.now hour c.in_ok-sources.sources c.args.carry.now c.deref-3.result.now c.args.cuts.now are is (c.deref-3.ensures.value ∙ ap (λ (z : CarryParts). z.crossings) c.carry.view_is) cut
-
-carried : (c : After-drop-found-3) (known : ℕ → Bool) (before : List Row) (hour : ℕ) → IsHour known hour c.args.rows.now c.args.stretches.now → IsCarry known c.args.config.now before hour c.args.carry.now → IsCut known c.args.config.now.phases before hour c.args.rows.now c.args.cuts.now → IsCarry known c.args.config.now (before ++ known_rows known c.args.rows.now) (hour + 1) (record { crossings = c.in_ok-numbers.numbers.crossings.items; flags = c.in_ok-found.found.flags.items })
-carried c known before hour h is cut =
-    carry_is known c.args.config.now before hour c.args.rows.now c.args.stretches.now c.args.carry.now (record { crossings = c.in_ok-numbers.numbers.crossings.items; flags = c.in_ok-found.found.flags.items }) c.in_ok-found.found.flags.items h is
-    (detections_of c known before hour h is).flags (c.in_ok-numbers.ensures.crossings known before c.args.rows.now hour (given c known before hour h is cut)) refl
-
-pub returns-clause-judged : goal.returns-clause-judged
-returns-clause-judged c = λ known before hour log h is cut by.
-    let seen = subst (λ (ss : List Stretch). IsJudgedBy c.args.config.now (option_copied c.args.view) known c.args.rows.now ss hour log) (sym c.in_ok-sources.ensures.stretches) by in
-    c.in_ok-numbers.ensures.judged known before c.args.rows.now hour log (given c known before hour h is cut) seen
-
-pub returns-clause-cycles : goal.returns-clause-cycles
-returns-clause-cycles c = λ known before hour h is cut. c.in_ok-numbers.ensures.cycles known before c.args.rows.now hour (given c known before hour h is cut)
-
-pub returns-clause-carry : goal.returns-clause-carry
-returns-clause-carry c = λ known before hour h is cut. carried c known before hour h is cut
+pub returns-then-approach_count-eq0-clause-carry : goal.returns-then-approach_count-eq0-clause-carry
+returns-then-approach_count-eq0-clause-carry c = λ known before hour h is cut.
+    carried_over c.args.config.now (nil_from_length c.args.config.now.approaches (omega arith)) known before hour c.args.rows.now c.args.stretches.now c.args.carry.now h is

@@ -49,5 +49,7 @@ pub use lists::{pick, put_in};
 pub use numbers::Partial;
 pub use points::{cycles_over, phase_cycles, phase_points, points_over};
 pub use reported::{Report, Sums};
-pub use steps::{ForwardError, backward, backward_over, backward_through, forward, forward_error};
+pub use steps::{
+    ForwardError, backward, backward_over, backward_through, carry_over, forward, forward_error,
+};
 pub use work::{Known, Worked, work_over};

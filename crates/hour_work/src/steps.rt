@@ -101,6 +101,30 @@ fn forward_over(
         place.now.blanks before.now.pasts) }
 {
     let pasts = states_over(alloc, config, place, before)?;
+    let carry = carry_over(alloc, config, place, before, pasts)?;
+    Ok(carry)
+}
+
+/// What is kept at the point after an hour that is opened, where these are the states of each
+/// channel there. It needs no view, and makes no numbers.
+pub fn carry_over(
+    alloc: Global,
+    config: &Config,
+    place: &Place<'_>,
+    before: &Carry,
+    pasts: Pasts,
+) -> Result<Carry, NoMemory>
+    requires before { AreBefore config.now.specs before.now.pasts }
+    requires over { ArePastsOver config.now.specs place.now.hour place.now.rows place.now.blanks
+        before.now.pasts pasts }
+    requires shape { AreBefore config.now.specs pasts }
+    requires early { AllEarly (first_tenth (place.now.hour + 1)) pasts }
+    ensures fit { IfOk result (FitPoint config.now (place.now.hour + 1)) }
+    ensures pasts { IfOk result (λ c. c.pasts ≡ pasts) }
+    ensures carry { IfOk result (λ c. (s : Store) → HasPlace s place.now
+        → IsCarryAt config.now s place.now.hour before.now
+        → IsCarryAt config.now s (place.now.hour + 1) c) }
+{
     let Measured { way, .. } = measures_over(alloc, config, place, before, None)?;
     Ok(kept(place, pasts, way))
 }

@@ -1,5 +1,5 @@
 -- What is kept of a store that holds nothing.
-use Rattle.std.proofs.Common.{◌≡◌, ◌∙◌, inl, inr, ℕ, ◌+◌, ◌<◌, List, [], ◌∷◌, ◌++◌, length, length-append, get_or, Option, None, sym, ap, subst, arith}
+use Rattle.std.proofs.Common.{◌≡◌, ◌∙◌, inl, inr, ℕ, ◌+◌, ◌<◌, Bool, List, [], ◌∷◌, ◌++◌, length, length-append, get_or, Option, None, sym, ap, subst, arith}
 use Rattle.std.proofs.lemmas.Bool.{cases_lt}
 use Rattle.std.proofs.lemmas.List.{get_or_append_left, length-replicate}
 use Rattle.std.proofs.Math.Seq.{get_or-append_seam}
@@ -21,8 +21,8 @@ all_more {A} P xs items x are is e = rw e (λ k d lt. elim (cases_lt k (length x
 ])
 
 -- what is known before any hour is gone over
-pub kept_first : (c : Settings) (n last : ℕ) (xs : List Carried) (ys : List Ahead) (ps : List Numbers) → n ≡ c.window.hours → last + 1 ≡ n → length xs ≡ n + 1 → ((k : ℕ) (d : Carried) (r : Store) → k < n + 1 → IsCarryAt c r 0 (get_or xs k d)) → length ys ≡ n + 1 → ((k : ℕ) (d : Ahead) (r : Store) → k < n + 1 → length r.hours ≡ c.window.hours → IsFutureAt c r (length r.hours) (get_or ys k d)) → length ps ≡ n → AreKeptBut c (nothing_held n) 0 last xs ys ps
-kept_first c n last xs ys ps window le nx starts ny ends np =
+pub kept_first : (c : Settings) (n last : ℕ) (waiting : List Bool) (xs : List Carried) (ys : List Ahead) (ps : List Numbers) → n ≡ c.window.hours → last + 1 ≡ n → length xs ≡ n + 1 → ((k : ℕ) (d : Carried) (r : Store) → k < n + 1 → IsCarryAt c r 0 (get_or xs k d)) → length ys ≡ n + 1 → ((k : ℕ) (d : Ahead) (r : Store) → k < n + 1 → length r.hours ≡ c.window.hours → IsFutureAt c r (length r.hours) (get_or ys k d)) → length ps ≡ n → length waiting ≡ n → AreKeptBut c (nothing_held n) 0 last waiting xs ys ps
+kept_first c n last waiting xs ys ps window le nx starts ny ends np nw =
     let size : length (nothing_held n).hours ≡ n = length-replicate n no_rows in
     let none : (k : ℕ) → k < length (nothing_held n).hours → Apart 0 last k → ⊥ = λ k lt out. elim out [ inl a ↦ omega arith | inr b ↦ omega arith ] in
     record {
@@ -36,7 +36,8 @@ kept_first c n last xs ys ps window le nx starts ny ends np =
       };
       shapes = λ k d le. (ends k d (nothing_held n) (omega arith) (size ∙ window)).shape;
       size = omega arith;
-      counts = λ k lt out. absurd (none k lt out);
+      room = omega arith;
+      counts = λ k lt out wait. absurd (none k lt out);
     }
   where
     no_rows : Option Shown

@@ -1,5 +1,5 @@
 -- What is kept of each hour holds of every store that has the hour so; so it gives the report.
-use Rattle.std.proofs.Common.{◌≡◌, ◌∙◌, ℕ, zero, suc, ◌+◌, ◌-◌, ◌<◌, ◌≤◌, List, length, get_or, [], true, Option, is_some, refl, sym, ap, subst, arith}
+use Rattle.std.proofs.Common.{◌≡◌, ◌∙◌, ℕ, zero, suc, ◌+◌, ◌-◌, ◌<◌, ◌≤◌, Bool, List, length, get_or, [], true, Option, is_some, refl, sym, ap, subst, arith}
 use Rattle.sig_base.specs.declared.values.Row.{Row}
 use Rattle.span_set.specs.declared.set.Span.{Span}
 use Rattle.gap_map.specs.Stretches.{known_in}
@@ -13,7 +13,7 @@ use Rattle.strand_search.proofs.Told.{has}
 use Rattle.hour_work.specs.Numbers.{Numbers}
 use Rattle.hour_work.specs.Points.{Carried, IsCarryAt, IsFutureAt}
 use Rattle.hour_work.specs.Reports.{IsHourBetween, IsReport}
-use Rattle.session.specs.Links.{Ahead, AreCarries, AreFutures, AreKept, Backs, BacksAt, Leads, LeadsAt}
+use Rattle.session.specs.Links.{Ahead, AllSettled, AreCarries, AreFutures, AreKept, Backs, BacksAt, Leads, LeadsAt}
 
 pub has_hour : (s : Store) (hour : ℕ) (rows : Option (List Row)) (blanks : List Span) → IsStore s → hour < length s.hours → rows ≡ rows_at s hour → blanks ≡ s.blanks → HasHour s hour rows blanks
 has_hour s hour rows blanks is lt e b = record {
@@ -53,13 +53,13 @@ future_is c s xs k x is are le e = subst (λ (v : Ahead). IsFutureAt c s k v) (s
 pub between_kept : (c : Settings) (s : Store) (xs : List Carried) (ys : List Ahead) → IsStore s → AreCarries c s xs → AreFutures c s ys → HasHistory (log_of c.specs s) → (k : ℕ) (d : Carried) (e : Ahead) → k < length s.hours → IsHourBetween c s k (get_or xs k d) (rows_at s k) s.blanks (get_or ys (k + 1) e)
 between_kept c s xs ys is forth back some k d e lt = record { has_hour = has s k is lt; is_before = carry_kept c s xs is forth k d (omega arith); is_after = all_count (log_of c.specs s) (k + 1) (get_or ys (k + 1) e) (future_kept c s ys is back (k + 1) e (omega arith)); history = some }
 
--- the numbers that are kept are the store's report
-pub report_kept : (c : Settings) (s : Store) (xs : List Carried) (ys : List Ahead) (ps : List Numbers) → IsStore s → AreKept c s xs ys ps → HasHistory (log_of c.specs s) → IsReport c s ps
-report_kept c s xs ys ps is kept some =
+-- the numbers that are kept are the store's report, where none wait
+pub report_kept : (c : Settings) (s : Store) (waiting : List Bool) (xs : List Carried) (ys : List Ahead) (ps : List Numbers) → IsStore s → AreKept c s waiting xs ys ps → AllSettled waiting → HasHistory (log_of c.specs s) → IsReport c s ps
+report_kept c s waiting xs ys ps is kept settled some =
     let d : Carried = record { pasts = []; known = true; cuts = []; closing = []; splits = []; others = record { peds = []; preempts = [] }; arrivals = record { crossings = []; flags = [] } } in
     record {
       size = kept.size;
-      each = λ k f lt. kept.counts k lt d [] f s (between_kept c s xs ys is kept.forth kept.back some k d [] lt);
+      each = λ k f lt. kept.counts k lt (settled k) d [] f s (between_kept c s xs ys is kept.forth kept.back some k d [] lt);
     }
 
 -- ---- the same values, the same links

@@ -1,5 +1,6 @@
 pub mod GrowLaws
 pub mod OpenLaws
+pub mod WaitLaws
 pub mod RangeLaws
 pub mod EditLaws
 pub mod KeptLaws

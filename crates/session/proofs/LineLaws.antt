@@ -1,5 +1,5 @@
 -- The lines of the audit of an hour that doesn't move stay.
-use Rattle.std.proofs.Common.{◌≡◌, ◌∙◌, inl, inr, ℕ, ◌+◌, ◌*◌, ◌≤◌, pos, ◌≤ℤ◌, true, List, [], length, get_or, Option, Some, None, sym, ap, subst, arith}
+use Rattle.std.proofs.Common.{◌≡◌, ◌∙◌, inl, inr, ℕ, ◌+◌, ◌*◌, ◌≤◌, pos, ◌≤ℤ◌, Bool, true, List, [], length, get_or, Option, Some, None, sym, ap, subst, arith}
 use Rattle.std.proofs.lemmas.Int.{ints}
 use Rattle.std.proofs.lemmas.Option.{slice_get_within}
 use Rattle.sig_base.specs.declared.values.Applied.{Applied}
@@ -125,9 +125,9 @@ lines_alike c s t hour before (Some rows) blanks after a b sound is is_new old f
 
 -- ---- an edit that is made
 
-pub keep_lines : (c : Settings) (s t : Store) (first last : ℕ) (xs new_carries : List Carried) (ys : List Ahead) (from : ℕ) (new_futures : List Ahead) (ps : List Numbers) (moved : Applied) → IsSound c → AreSameBut first last s t → IsStore s → HasHistory (log_of c.specs s) → AreKept c s xs ys ps → IsStore t → HasHistory (log_of c.specs t) → length t.hours ≡ length s.hours
+pub keep_lines : (c : Settings) (s t : Store) (first last : ℕ) (waiting : List Bool) (xs new_carries : List Carried) (ys : List Ahead) (from : ℕ) (new_futures : List Ahead) (ps : List Numbers) (moved : Applied) → IsSound c → AreSameBut first last s t → IsStore s → HasHistory (log_of c.specs s) → AreKept c s waiting xs ys ps → IsStore t → HasHistory (log_of c.specs t) → length t.hours ≡ length s.hours
     → AreNewCarries c t first last xs new_carries → AreNewFutures c t first last ys from new_futures → moved.from ≡ from → moved.to ≡ first + length new_carries → KeepLines c s t moved
-keep_lines c s t first last xs new_carries ys from new_futures ps moved sound same_but is has kept is_new has_new hours x y fe te a b hour lt old fresh out =
+keep_lines c s t first last waiting xs new_carries ys from new_futures ps moved sound same_but is has kept is_new has_new hours x y fe te a b hour lt old fresh out =
     let low = y.low in
     let size = y.size in
     let some = x.some in

@@ -1,5 +1,5 @@
 -- The hours that an edit moves are those between the points at which nothing changes.
-use Rattle.std.proofs.Common.{◌≡◌, ◌∙◌, ◌⊎◌, inl, inr, ℕ, ◌+◌, ◌-◌, ◌<◌, ◌≤◌, List, [], true, length, get_or, sym, ap, subst, arith, OnOk, IfOk, Result, Ok, Err}
+use Rattle.std.proofs.Common.{◌≡◌, ◌∙◌, ◌⊎◌, inl, inr, ℕ, ◌+◌, ◌-◌, ◌<◌, ◌≤◌, Bool, Option, Some, None, List, [], true, false, length, get_or, sym, ap, subst, arith, OnOk, IfOk, Result, Ok, Err}
 use Rattle.std.proofs.lemmas.Bool.{cases_lt}
 use Rattle.sig_base.specs.declared.values.Applied.{Applied}
 use Rattle.sig_base.specs.declared.values.EditError.{EditError}
@@ -8,15 +8,17 @@ use Rattle.ring_config.specs.Settings.{Settings}
 use Rattle.ring_config.specs.Sound.{IsSound}
 use Rattle.signal_log.specs.Log.{HasHistory, log_of}
 use Rattle.hour_work.specs.Moved.{IsSameCarry, IsSameFuture}
-use Rattle.hour_work.specs.Numbers.{Numbers, Summed, patched}
+use Rattle.hour_work.specs.Numbers.{Numbers, patched}
 use Rattle.hour_work.specs.Points.{Carried, IsCarryAt, IsFutureAt}
 use Rattle.hour_work.proofs.MovedLaws.{carries_one, carry_same, future_same, futures_one, says_back}
 use Rattle.hour_work.proofs.OneLaws.{one_report}
 use Rattle.hour_work.proofs.PatchLaws.{patched-below, patched-past}
 use Rattle.session.specs.Edits.{Change}
-use Rattle.session.specs.Links.{Ahead, AreCarries, AreFutures, AreKept}
+use Rattle.session.specs.Links.{Ahead, AllSettled, AreCarries, AreFutures, AreKept, AreMarked}
+use Rattle.session.specs.declared.renew.Numbered.{Numbered}
 use Rattle.session.specs.Moved.{AreMoved, KeepParts, Moves, Touches}
-use Rattle.session.specs.Renewed.{AreNewCarries, AreNewFutures, IsRenewed}
+use Rattle.session.specs.Renewed.{AreNewCarries, AreNewFutures, IsRenewed, do_wait}
+use Rattle.session.proofs.WaitLaws.{settled_marked}
 use Rattle.session.proofs.KeptLaws.{carry_kept, future_kept, report_kept}
 
 -- stands where a list has no carry
@@ -65,9 +67,9 @@ module _ (c : Settings) (s t : Store) (sound : IsSound c) (is : IsStore s) (is_n
       let fresh_one = future_kept c t (patched xs from fresh) is_new new.back k [] (omega arith) in
       new.differ k [] low high (sym (futures_one c s t k (get_or xs k []) (get_or (patched xs from fresh) k []) kept fresh_one same))
 
-  pub are_moved : (first last : ℕ) (xs : List Carried) (ys : List Ahead) (ps : List Numbers) (new_carries : List Carried) (from : ℕ) (new_futures : List Ahead) (moved : Applied) → first ≤ last → last < length s.hours → AreKept c s xs ys ps
+  pub are_moved : (first last : ℕ) (waiting : List Bool) (xs : List Carried) (ys : List Ahead) (ps : List Numbers) (new_carries : List Carried) (from : ℕ) (new_futures : List Ahead) (moved : Applied) → first ≤ last → last < length s.hours → AreKept c s waiting xs ys ps
       → AreNewCarries c t first last xs new_carries → AreNewFutures c t first last ys from new_futures → moved.from ≡ from → moved.to ≡ first + length new_carries → AreMoved c s t first last moved
-  are_moved first last xs ys ps new_carries from new_futures moved order lt kept x y fe te =
+  are_moved first last waiting xs ys ps new_carries from new_futures moved order lt kept x y fe te =
       let low = y.low in
       let some = x.some in
       let within = x.within in
@@ -87,18 +89,20 @@ pub moves_by : (c : Settings) (s t new : Store) (first last : ℕ) (change : Cha
 moves_by c s t new first last change (Ok x) touched done moved = (first, last, touched, subst (λ (v : Store). AreMoved c s v first last x) (sym done.0) moved)
 moves_by c s t new first last change (Err e) touched done moved = tt
 
--- the numbers of the hours that don't move stay
-pub keep_parts : (c : Settings) (s t : Store) (first : ℕ) (xs new_carries : List Carried) (ys : List Ahead) (from : ℕ) (new_futures : List Ahead) (ps : List Numbers) (start : ℕ) (new_parts : List Numbers) (sums : Summed) (moved : Applied) → IsStore s → HasHistory (log_of c.specs s) → AreKept c s xs ys ps → IsStore t → HasHistory (log_of c.specs t)
-    → IsRenewed c t xs first new_carries ys from new_futures ps start new_parts sums → moved.from ≡ from → moved.to ≡ first + length new_carries → KeepParts c s t moved
-keep_parts c s t first xs new_carries ys from new_futures ps start new_parts sums moved is has kept is_new has_new new fe te a b hour d old fresh out =
+-- the numbers of the hours that don't move stay, where none wait
+pub keep_parts : (c : Settings) (s t : Store) (first : ℕ) (waiting : List Bool) (xs new_carries : List Carried) (ys : List Ahead) (from : ℕ) (new_futures : List Ahead) (ps : List Numbers) (start : ℕ) (numbers : Option Numbered) (marked : List Bool) (moved : Applied) → IsStore s → HasHistory (log_of c.specs s) → AreKept c s waiting xs ys ps → IsStore t → HasHistory (log_of c.specs t)
+    → AllSettled waiting → IsRenewed c t waiting xs first new_carries ys from new_futures ps start numbers → do_wait numbers ≡ false → AreMarked start (first + length new_carries) (do_wait numbers) waiting marked → moved.from ≡ from → moved.to ≡ first + length new_carries → KeepParts c s t moved
+keep_parts c s t first waiting xs new_carries ys from new_futures ps start None marked moved is has kept is_new has_new settled new plain mark fe te a b hour d old fresh out = absurd (cc)
+keep_parts c s t first waiting xs new_carries ys from new_futures ps start (Some w) marked moved is has kept is_new has_new settled new plain mark fe te a b hour d old fresh out =
     let low = new.low in
-    let end = new.end in
+    let (end, small, sums) = new.numbered in
     let room = new.part_room in
-    let one : a ≡ ps = one_report c s a ps has old (report_kept c s xs ys ps is kept has) in
-    let other : b ≡ patched ps start new_parts = one_report c t b (patched ps start new_parts) has_new fresh (report_kept c t (patched xs (first + 1) new_carries) (patched ys from new_futures) (patched ps start new_parts) is_new new.kept has_new) in
-    let stay : get_or (patched ps start new_parts) hour d ≡ get_or ps hour d = elim out [
-      | inl below ↦ patched-below ps start new_parts hour d (omega arith) (omega arith)
-      | inr past ↦ patched-past ps start new_parts hour d (omega arith) (omega arith)
+    let now : AreKept c t marked (patched xs (first + 1) new_carries) (patched ys from new_futures) (patched ps start w.parts.items) = new.kept marked mark in
+    let one : a ≡ ps = one_report c s a ps has old (report_kept c s waiting xs ys ps is kept settled has) in
+    let other : b ≡ patched ps start w.parts.items = one_report c t b (patched ps start w.parts.items) has_new fresh (report_kept c t marked (patched xs (first + 1) new_carries) (patched ys from new_futures) (patched ps start w.parts.items) is_new now (settled_marked start (first + length new_carries) waiting marked settled mark) has_new) in
+    let stay : get_or (patched ps start w.parts.items) hour d ≡ get_or ps hour d = elim out [
+      | inl below ↦ patched-below ps start w.parts.items hour d (omega arith) (omega arith)
+      | inr past ↦ patched-past ps start w.parts.items hour d (omega arith) (omega arith)
     ] in
     ap (λ (qs : List Numbers). get_or qs hour d) other ∙ (stay ∙ sym (ap (λ (qs : List Numbers). get_or qs hour d) one))
 

@@ -18,7 +18,7 @@ use Rattle.session.specs.Sessions.{refusal_for}
 
 -- ---- the count of one hour
 
-after_both : (n j k : ℕ) → count_after (count_after n j) k ≡ count_after n (j + k)
+pub after_both : (n j k : ℕ) → count_after (count_after n j) k ≡ count_after n (j + k)
 unfolding count_after
 after_both n zero k = let e : k ≡ 0 + k = omega arith in ap (λ (i : ℕ). count_after n i) e
 after_both n (suc j) zero = let e : suc j ≡ suc j + 0 = omega arith in ap (λ (i : ℕ). count_after n i) e
@@ -27,7 +27,7 @@ after_both n (suc j) (suc k) =
     let one : min (min (n + suc j) (2 ^ 64 - 1) + suc k) (2 ^ 64 - 1) ≡ min (n + suc (j + suc k)) (2 ^ 64 - 1) = omega arith in
     one ∙ ap (λ (i : ℕ). count_after n i) e
 
-after_grows : (n k : ℕ) → min n (2 ^ 64 - 1) ≤ count_after n k
+pub after_grows : (n k : ℕ) → min n (2 ^ 64 - 1) ≤ count_after n k
 unfolding count_after
 after_grows n zero = omega arith
 after_grows n (suc k) = omega arith

@@ -1,5 +1,5 @@
 -- The numbers between what is kept, and all that is new in its place.
-use Rattle.std.proofs.Common.{◌≡◌, ◌∙◌, inl, inr, ℕ, zero, suc, ◌+◌, ◌*◌, ◌-◌, ◌<◌, ◌≤◌, ◌≢◌, Bool, not, ◌&&◌, is_some, List, [], ◌∷◌, ◌++◌, length, length-append, length-set, get_or, get_or-set_other, option_map, Option, None, refl, sym, ap, subst, arith}
+use Rattle.std.proofs.Common.{◌≡◌, ◌∙◌, inl, inr, ℕ, zero, suc, ◌+◌, ◌*◌, ◌-◌, ◌<◌, ◌≤◌, ◌≢◌, ◌⊎◌, Bool, true, false, not, ◌&&◌, is_some, List, [], ◌∷◌, ◌++◌, length, length-append, length-set, set, get_or, get_or-set_other, option_map, Option, Some, None, refl, sym, ap, subst, arith}
 use Rattle.std.specs.List.{All}
 use Rattle.std.proofs.lemmas.Bool.{cases_lt}
 use Rattle.std.proofs.lemmas.List.{get_or-append_right, get_or_append_left}
@@ -19,16 +19,17 @@ use Rattle.signal_log.specs.Log.{log_of}
 use Rattle.signal_log.specs.Over.{IsCutOf}
 use Rattle.signal_log.specs.Points.{HasHour, rows_or_none}
 use Rattle.signal_log.proofs.Suiting.{same_count}
-use Rattle.hour_work.specs.Numbers.{AreNewSums, FitHours, Numbers, Summed, patched}
+use Rattle.hour_work.specs.Numbers.{AreNewSums, FitHours, Numbers, patched}
 use Rattle.hour_work.specs.Points.{Carried, ComesBack, GoesOver, IsFutureAt}
-use Rattle.session.specs.Links.{Ahead, AreKept, AreKeptBut, BacksAt, Counts, CountsAt, LeadsAt}
+use Rattle.session.specs.Links.{Ahead, AreKept, AreKeptBut, AreMarked, BacksAt, Counts, CountsAt, LeadsAt, waits}
+use Rattle.session.specs.declared.renew.Numbered.{Numbered}
 use Rattle.session.specs.declared.hours.Put.{Put}
 use Rattle.session.specs.declared.hours.Put.TheVariants as code
 use Rattle.session.specs.Puts.{AreSameBut, SameHour, put_into}
 use Rattle.session.specs.Renewed.{AreNewCarries, AreNewFutures, AreNewParts, AreSameUpTo, HaveShapes, IsRenewed}
 use Rattle.session.proofs.KeptLaws.{future_kept}
 use Rattle.session.proofs.StatesLaws.{carries_to}
-use Rattle.hour_work.proofs.PatchLaws.{length-patched, patched-at, patched-below, patched-past}
+use Rattle.hour_work.proofs.PatchLaws.{length-patched, patched-at, patched-below, patched-first, patched-past}
 
 -- ---- the numbers
 
@@ -108,76 +109,137 @@ counts_suit c s xs ys new ps k leads shape same p d e f r b =
     let back : AreSameFor pasts fresh old = λ i lt v u h colour le. (let both = same d e i (omega arith) v u h colour le in (both.1, both.0)) in
     p d e f r (record { has_hour = b.has_hour; is_before = b.is_before; is_after = same_count (log_of c.specs r) (k + 1) pasts fresh old carry.pasts back (shape e) b.is_after; history = b.history })
 
-pub kept_new : (c : Settings) (s : Store) (first last : ℕ) (carries new_carries : List Carried) (futures : List Ahead) (from start to : ℕ) (new_futures : List Ahead) (parts new_parts : List Numbers) → to ≡ first + length new_carries → from ≤ start → start ≤ first
-    → AreKeptBut c s first last carries futures parts → AreNewCarries c s first last carries new_carries → AreNewFutures c s first last futures from new_futures → AreSameUpTo carries futures from new_futures start → AreNewParts c s (patched carries (first + 1) new_carries) (patched futures from new_futures) start to new_parts
-    → AreKept c s (patched carries (first + 1) new_carries) (patched futures from new_futures) (patched parts start new_parts)
-kept_new c s first last carries new_carries futures from start to new_futures parts new_parts te after_from before_first but x y stays z =
+-- these numbers of all hours, which are those that were kept but for the hours from `start` up to `to`
+pub kept_by : (c : Settings) (s : Store) (first last : ℕ) (waiting marked : List Bool) (value : Bool) (carries new_carries : List Carried) (futures : List Ahead) (from start to : ℕ) (new_futures : List Ahead) (parts all : List Numbers) → to ≡ first + length new_carries → from ≤ start → start ≤ first
+    → AreKeptBut c s first last waiting carries futures parts → AreNewCarries c s first last carries new_carries → AreNewFutures c s first last futures from new_futures → AreSameUpTo carries futures from new_futures start → AreMarked start to value waiting marked
+    → length all ≡ length parts → ((k : ℕ) (d : Numbers) → (k < start) ⊎ (to ≤ k) → get_or all k d ≡ get_or parts k d)
+    → ((k : ℕ) → start ≤ k → k < to → waits marked k ≡ false → CountsAt c s (patched carries (first + 1) new_carries) (patched futures from new_futures) all k)
+    → AreKept c s marked (patched carries (first + 1) new_carries) (patched futures from new_futures) all
+kept_by c s first last waiting marked value carries new_carries futures from start to new_futures parts all te after_from before_first but x y stays mark same_size stay fresh =
     let within = x.within in
     let some = x.some in
     let low = y.low in
-    let n = but.size in
     let nf = but.back.size in
     let m = y.size in
-    let size = z.size in
     let last_in = but.within in
     let order = but.order in
-    let room : start + length new_parts ≤ length parts = omega arith in
+    let new_xs = patched carries (first + 1) new_carries in
+    let new_ys = patched futures from new_futures in
     record {
       forth = x.forth;
       back = y.back;
-      size = length-patched parts start new_parts room ∙ n;
-      counts = λ k lt. elim (cases_lt k from) [
-        | inl below ↦ counts_same c s carries (patched carries (first + 1) new_carries) futures (patched futures from new_futures) parts (patched parts start new_parts) k
+      size = same_size ∙ but.size;
+      room = mark.size ∙ but.room;
+      counts = λ k lt wait. elim (cases_lt k from) [
+        | inl below ↦ counts_same c s carries new_xs futures new_ys parts all k
             (λ d. let nc = but.forth.size in patched-below carries (first + 1) new_carries k d (omega arith) (omega arith))
             (λ d. y.same k d below)
-            (λ d. patched-below parts start new_parts k d (omega arith) (omega arith))
-            (but.counts k lt (inl (omega arith)))
+            (λ d. stay k d (inl (omega arith)))
+            (but.counts k lt (inl (omega arith)) (sym (mark.outside k (inl (omega arith))) ∙ wait))
         | inr above ↦ elim (cases_lt k start) [
-          | inl stay ↦ counts_same c s carries (patched carries (first + 1) new_carries) (patched futures from new_futures) (patched futures from new_futures) parts (patched parts start new_parts) k
+          | inl before ↦ counts_same c s carries new_xs new_ys new_ys parts all k
               (λ d. let nc = but.forth.size in patched-below carries (first + 1) new_carries k d (omega arith) (omega arith))
               (λ d. refl)
-              (λ d. patched-below parts start new_parts k d (omega arith) stay)
-              (counts_suit c s carries futures (patched futures from new_futures) parts k (but.forth.leads k lt (inl (omega arith))) (λ e. but.shapes (k + 1) e (omega arith)) (λ d e. stays k d e above stay) (but.counts k lt (inl (omega arith))))
+              (λ d. stay k d (inl before))
+              (counts_suit c s carries futures new_ys parts k (but.forth.leads k lt (inl (omega arith))) (λ e. but.shapes (k + 1) e (omega arith)) (λ d e. stays k d e above before) (but.counts k lt (inl (omega arith)) (sym (mark.outside k (inl before)) ∙ wait)))
           | inr from_start ↦ elim (cases_lt k to) [
-            | inl in_it ↦ λ d e f.
-                let i : k ≡ start + (k - start) = omega arith in
-                let l : k - start < length new_parts = omega arith in
-                subst (λ (v : Numbers). Counts c k (rows_at s k) s.blanks (get_or (patched carries (first + 1) new_carries) k d) (get_or (patched futures from new_futures) (k + 1) e) v) (sym (patched-at parts start new_parts k (k - start) f (omega arith) i l)) (z.counts (k - start) k d e f l i)
-            | inr past ↦ counts_same c s carries (patched carries (first + 1) new_carries) futures (patched futures from new_futures) parts (patched parts start new_parts) k
+            | inl in_it ↦ fresh k from_start in_it wait
+            | inr past ↦ counts_same c s carries new_xs futures new_ys parts all k
                 (λ d. x.same k d (omega arith) lt)
                 (λ d. patched-past futures from new_futures (k + 1) d (omega arith) (omega arith))
-                (λ d. patched-past parts start new_parts k d (omega arith) (omega arith))
-                (but.counts k lt (inr (omega arith)))
+                (λ d. stay k d (inr past))
+                (but.counts k lt (inr (omega arith)) (sym (mark.outside k (inr past)) ∙ wait))
           ]
         ]
       ];
     }
 
-pub renewed : (c : Settings) (s : Store) (first last : ℕ) (carries new_carries : List Carried) (futures : List Ahead) (from start : ℕ) (new_futures : List Ahead) (parts new_parts : List Numbers) (sums : Summed) → from ≤ start → start ≤ first
-    → AreKeptBut c s first last carries futures parts → AreNewCarries c s first last carries new_carries → AreNewFutures c s first last futures from new_futures → AreSameUpTo carries futures from new_futures start → AreNewParts c s (patched carries (first + 1) new_carries) (patched futures from new_futures) start (first + length new_carries) new_parts
-    → AreNewSums parts (patched parts start new_parts) sums → IsRenewed c s carries first new_carries futures from new_futures parts start new_parts sums
-renewed c s first last carries new_carries futures from start new_futures parts new_parts sums after_from before_first but x y stays z new =
-    let within = x.within in
-    let nc = but.forth.size in
-    let nf = but.back.size in
-    let n = but.size in
-    let m = y.size in
-    let size = z.size in
-    let last_in = but.within in
+module _ (c : Settings) (s : Store) (first last : ℕ) (waiting : List Bool) (carries new_carries : List Carried) (futures : List Ahead) (from start : ℕ) (new_futures : List Ahead) (parts : List Numbers) (after_from : from ≤ start) (before_first : start ≤ first)
+    (but : AreKeptBut c s first last waiting carries futures parts) (x : AreNewCarries c s first last carries new_carries) (y : AreNewFutures c s first last futures from new_futures) (stays : AreSameUpTo carries futures from new_futures start) where
+  -- with the numbers of the hours that change
+  pub renewed : (w : Numbered) → AreNewParts c s (patched carries (first + 1) new_carries) (patched futures from new_futures) start (first + length new_carries) w.parts.items → AreNewSums parts (patched parts start w.parts.items) w.sums
+      → IsRenewed c s waiting carries first new_carries futures from new_futures parts start (Some w)
+  renewed w z new =
+      let within = x.within in
+      let nc = but.forth.size in
+      let nf = but.back.size in
+      let n = but.size in
+      let nw = but.room in
+      let m = y.size in
+      let size = z.size in
+      let last_in = but.within in
+      let room : start + length w.parts.items ≤ length parts = omega arith in
+      record {
+        carry_room = omega arith;
+        future_room = omega arith;
+        room = omega arith;
+        part_room = omega arith;
+        low = after_from;
+        high = before_first;
+        numbered = (size, z.small, new);
+        kept = λ marked mark. kept_by c s first last waiting marked false carries new_carries futures from start (first + length new_carries) new_futures parts (patched parts start w.parts.items) refl after_from before_first but x y stays mark
+            (length-patched parts start w.parts.items room)
+            (λ k d out. elim out [
+              | inl below ↦ patched-below parts start w.parts.items k d (omega arith) below
+              | inr past ↦ patched-past parts start w.parts.items k d (omega arith) (omega arith)
+            ])
+            (λ k low high wait d e f.
+            let i : k ≡ start + (k - start) = omega arith in
+            let l : k - start < length w.parts.items = omega arith in
+            subst (λ (v : Numbers). Counts c k (rows_at s k) s.blanks (get_or (patched carries (first + 1) new_carries) k d) (get_or (patched futures from new_futures) (k + 1) e) v) (sym (patched-at parts start w.parts.items k (k - start) f (omega arith) i l)) (z.counts (k - start) k d e f l i));
+      }
+
+  -- where these wait
+  pub renewed_later : IsRenewed c s waiting carries first new_carries futures from new_futures parts start None
+  renewed_later =
+      let within = x.within in
+      let nc = but.forth.size in
+      let nf = but.back.size in
+      let n = but.size in
+      let nw = but.room in
+      let m = y.size in
+      let last_in = but.within in
+      record {
+        carry_room = omega arith;
+        future_room = omega arith;
+        room = omega arith;
+        part_room = omega arith;
+        low = after_from;
+        high = before_first;
+        numbered = tt;
+        kept = λ marked mark. kept_by c s first last waiting marked true carries new_carries futures from start (first + length new_carries) new_futures parts parts refl after_from before_first but x y stays mark
+            refl (λ k d out. refl) (λ k low high wait. let one = mark.within k low high in absurd (cc));
+      }
+
+-- the numbers of one hour that waited
+pub kept_settled : (c : Settings) (s : Store) (waiting : List Bool) (carries : List Carried) (futures : List Ahead) (parts : List Numbers) (hour : ℕ) (before : Carried) (after : Ahead) (part : Numbers) → hour < length s.hours → AreKept c s waiting carries futures parts → Counts c hour (rows_at s hour) s.blanks before after part
+    → ((d : Carried) → before ≡ get_or carries hour d) → ((d : Ahead) → after ≡ get_or futures (hour + 1) d) → AreKept c s (set waiting hour false) carries futures (patched parts hour (part ∷ []))
+kept_settled c s waiting carries futures parts hour before after part lt kept counts b a =
+    let n = kept.size in
+    let room : hour + length (part ∷ []) ≤ length parts = omega arith in
     record {
-      carry_room = omega arith;
-      future_room = omega arith;
-      part_room = omega arith;
-      low = after_from;
-      end = size;
-      kept = kept_new c s first last carries new_carries futures from start (first + length new_carries) new_futures parts new_parts refl after_from before_first but x y stays z;
-      small = z.small;
-      new_sums = new;
+      forth = kept.forth;
+      back = kept.back;
+      size = length-patched parts hour (part ∷ []) room ∙ n;
+      room = length-set waiting hour false ∙ kept.room;
+      counts = λ k l wait.
+          let old : k ≢ hour → waits waiting k ≡ false = λ other. sym (get_or-set_other waiting hour k false false other) ∙ wait in
+          elim (cases_lt k hour) [
+            | inl below ↦ counts_same c s carries carries futures futures parts (patched parts hour (part ∷ [])) k (λ d. refl) (λ d. refl) (λ d. patched-below parts hour (part ∷ []) k d (omega arith) below) (kept.counts k l (old (λ same. omega arith)))
+            | inr from ↦ elim (cases_lt hour k) [
+              | inl past ↦ counts_same c s carries carries futures futures parts (patched parts hour (part ∷ [])) k (λ d. refl) (λ d. refl) (λ d. patched-past parts hour (part ∷ []) k d (omega arith) (omega arith)) (kept.counts k l (old (λ same. omega arith)))
+              | inr no_more ↦
+                  let here : hour ≡ k = omega arith in
+                  let one : CountsAt c s carries futures (patched parts hour (part ∷ [])) hour = λ d e f. subst (λ (v : Numbers). Counts c hour (rows_at s hour) s.blanks (get_or carries hour d) (get_or futures (hour + 1) e) v) (sym (patched-first parts hour [] part f (omega arith)))
+                  (subst (λ (w : Ahead). Counts c hour (rows_at s hour) s.blanks (get_or carries hour d) w part) (a e) (subst (λ (w : Carried). Counts c hour (rows_at s hour) s.blanks w after part) (b d) counts)) in
+                  subst (λ (j : ℕ). CountsAt c s carries futures (patched parts hour (part ∷ [])) j) here one
+            ]
+          ];
     }
 
 -- at the points before the first hour that is changed everything has the shape of the configuration's channels
-pub shapes_new : (c : Settings) (s : Store) (first last : ℕ) (carries : List Carried) (futures : List Ahead) (from : ℕ) (new_futures : List Ahead) (parts : List Numbers) → IsStore s → AreKeptBut c s first last carries futures parts → AreNewFutures c s first last futures from new_futures → HaveShapes carries futures from new_futures first
-shapes_new c s first last carries futures from new_futures parts is but y k d e lt =
+pub shapes_new : (c : Settings) (s : Store) (first last : ℕ) (waiting : List Bool) (carries : List Carried) (futures : List Ahead) (from : ℕ) (new_futures : List Ahead) (parts : List Numbers) → IsStore s → AreKeptBut c s first last waiting carries futures parts → AreNewFutures c s first last futures from new_futures → HaveShapes carries futures from new_futures first
+shapes_new c s first last waiting carries futures from new_futures parts is but y k d e lt =
     let order = but.order in
     let within = but.within in
     let carry = carries_to c s first last carries is order within but.forth (k + 1) d (omega arith) in
@@ -235,8 +297,8 @@ counts_stay : (c : Settings) (s t : Store) (k : ℕ) (xs : List Carried) (ys : L
 counts_stay c s t k xs ys ps same p d e f r b = p d e f r (record { has_hour = same_has s t r k same b.has_hour; is_before = b.is_before; is_after = b.is_after; history = b.history })
 
 -- what is kept of a store, of another one that has all hours alike but those from `first` to `last`
-pub kept_but : (c : Settings) (s t : Store) (first last : ℕ) (xs : List Carried) (ys : List Ahead) (ps : List Numbers) → first ≤ last → last < length s.hours → length t.hours ≡ length s.hours → AreSameBut first last s t → IsStore s → AreKept c s xs ys ps → AreKeptBut c t first last xs ys ps
-kept_but c s t first last xs ys ps order within size same is kept = record {
+pub kept_but : (c : Settings) (s t : Store) (first last : ℕ) (waiting : List Bool) (xs : List Carried) (ys : List Ahead) (ps : List Numbers) → first ≤ last → last < length s.hours → length t.hours ≡ length s.hours → AreSameBut first last s t → IsStore s → AreKept c s waiting xs ys ps → AreKeptBut c t first last waiting xs ys ps
+kept_but c s t first last waiting xs ys ps order within size same is kept = record {
   order = order;
   within = rw size within;
   forth = record {
@@ -251,7 +313,8 @@ kept_but c s t first last xs ys ps order within size same is kept = record {
   };
   shapes = λ k d le. (future_kept c s ys is kept.back k d (omega arith)).shape;
   size = kept.size ∙ sym size;
-  counts = λ k lt out. counts_stay c s t k xs ys ps (same k out) (kept.counts k (omega arith));
+  room = kept.room ∙ sym size;
+  counts = λ k lt out wait. counts_stay c s t k xs ys ps (same k out) (kept.counts k (omega arith) wait);
 }
 
 -- one that holds another hour, or blanks other tenths

@@ -18,11 +18,12 @@ use Rattle.signal_log.proofs.Hour.{pasts_at}
 use Rattle.signal_log.proofs.Lawful.{some_history}
 use Rattle.rule_audit.proofs.Tracked.{channels_are}
 use Rattle.strand_search.proofs.Told.{has}
+use Rattle.hour_work.specs.Numbers.{patched}
 use Rattle.hour_work.specs.Points.{Carried}
 use Rattle.hour_work.proofs.PatchLaws.{patched-at, patched-below, patched-last, patched-more, patched-past}
 use Rattle.session.specs.Links.{AreCarriesBut, LeadsAt, States, StatesLead, StatesLeadAt}
-use Rattle.session.specs.Renewed.{AreCarriesTo, AreNewPasts, states_with}
-use Rattle.session.proofs.KeptLaws.{carry_up}
+use Rattle.session.specs.Renewed.{AreCarriesTo, AreNewCarries, AreNewPasts, states_with}
+use Rattle.session.proofs.KeptLaws.{carry_kept, carry_up}
 
 -- ---- each hour has its cut
 
@@ -240,3 +241,8 @@ states_up c s first last kept fresh are is but new (suc k) le =
 pub history_new : (c : Settings) (s : Store) (first last : ℕ) (kept : List Carried) (fresh : List States) → IsSound c → IsStore s → AreCarriesBut c s first last kept → AreNewPasts c s first last kept fresh → HasHistory (log_of c.specs s)
 history_new c s first last kept fresh sound is but new =
     some_history (log_of c.specs s) (get_or (states_with kept first fresh) (length s.hours) []) (channels_are c sound) (states_up c s first last kept fresh (channels_are c sound) is but new (length s.hours) (omega arith))
+
+-- the same by all that is kept
+pub history_carries : (c : Settings) (s : Store) (first last : ℕ) (kept fresh : List Carried) → IsSound c → IsStore s → AreNewCarries c s first last kept fresh → HasHistory (log_of c.specs s)
+history_carries c s first last kept fresh sound is new =
+    some_history (log_of c.specs s) (get_or (patched kept (first + 1) fresh) (length s.hours) no_carry).pasts (channels_are c sound) (carry_kept c s (patched kept (first + 1) fresh) is new.forth (length s.hours) no_carry (omega arith)).pasts

@@ -1,5 +1,5 @@
 -- What is kept of a store: at each hour point, and of each hour.
-use Rattle.std.specs.Prelude.{◌≡◌, ◌+◌, ◌≤◌, ◌<◌, ◌⊎◌, ℕ, ℤ, List, [], Option, length, slice_index_or}
+use Rattle.std.specs.Prelude.{◌≡◌, ◌+◌, ◌≤◌, ◌<◌, ◌⊎◌, ℕ, ℤ, Bool, false, List, [], Option, length, slice_index_or}
 use Rattle.sig_base.specs.declared.values.Row.{Row}
 use Rattle.span_set.specs.declared.set.Span.{Span}
 use Rattle.hour_store.specs.Store.{Store, rows_at}
@@ -71,12 +71,31 @@ pub record AreFutures (c : Settings) (s : Store) (futures : List Ahead) : Type 0
   pub end : (d : Ahead) (r : Store) → length r.hours ≡ length s.hours → IsFutureAt c r (length s.hours) (slice_index_or futures (length s.hours) d)
   pub backs : (k : ℕ) → k < length s.hours → BacksAt c s futures k
 
--- what is kept at each hour point, and the numbers of each hour
-pub record AreKept (c : Settings) (s : Store) (carries : List Carried) (futures : List Ahead) (parts : List Numbers) : Type 0 where
+-- the numbers of the hour wait to be worked out
+abbrev pub waits : List Bool → ℕ → Bool
+waits waiting hour = slice_index_or waiting hour false
+
+-- those of no hour wait
+abbrev pub AllSettled : List Bool → Type 0
+AllSettled waiting = (hour : ℕ) → waits waiting hour ≡ false
+
+-- no numbers wait, and none may
+abbrev pub IsKeptPlain : Bool → List Bool → Type 0
+IsKeptPlain may_wait waiting = (may_wait ≡ false) × AllSettled waiting
+
+-- those of the hours from `from` up to `to` wait, or don't, and those of all others as before
+pub record AreMarked (from to : ℕ) (value : Bool) (old new : List Bool) : Type 0 where
+  pub size : length new ≡ length old
+  pub within : (hour : ℕ) → from ≤ hour → hour < to → waits new hour ≡ value
+  pub outside : (hour : ℕ) → (hour < from) ⊎ (to ≤ hour) → waits new hour ≡ waits old hour
+
+-- what is kept at each hour point, and the numbers of each hour that don't wait
+pub record AreKept (c : Settings) (s : Store) (waiting : List Bool) (carries : List Carried) (futures : List Ahead) (parts : List Numbers) : Type 0 where
   pub forth : AreCarries c s carries
   pub back : AreFutures c s futures
   pub size : length parts ≡ length s.hours
-  pub counts : (k : ℕ) → k < length s.hours → CountsAt c s carries futures parts k
+  pub room : length waiting ≡ length s.hours
+  pub counts : (k : ℕ) → k < length s.hours → waits waiting k ≡ false → CountsAt c s carries futures parts k
 
 -- ---- while an edit is made
 
@@ -95,11 +114,12 @@ pub record AreFuturesBut (c : Settings) (s : Store) (first last : ℕ) (futures 
   pub end : (d : Ahead) (r : Store) → length r.hours ≡ length s.hours → IsFutureAt c r (length s.hours) (slice_index_or futures (length s.hours) d)
   pub backs : (k : ℕ) → k < length s.hours → Apart first last k → BacksAt c s futures k
 
-pub record AreKeptBut (c : Settings) (s : Store) (first last : ℕ) (carries : List Carried) (futures : List Ahead) (parts : List Numbers) : Type 0 where
+pub record AreKeptBut (c : Settings) (s : Store) (first last : ℕ) (waiting : List Bool) (carries : List Carried) (futures : List Ahead) (parts : List Numbers) : Type 0 where
   pub order : first ≤ last
   pub within : last < length s.hours
   pub forth : AreCarriesBut c s first last carries
   pub back : AreFuturesBut c s first last futures
   pub shapes : (k : ℕ) (d : Ahead) → k ≤ length s.hours → AreAheadsOf c.specs (slice_index_or futures k d)
   pub size : length parts ≡ length s.hours
-  pub counts : (k : ℕ) → k < length s.hours → Apart first last k → CountsAt c s carries futures parts k
+  pub room : length waiting ≡ length s.hours
+  pub counts : (k : ℕ) → k < length s.hours → Apart first last k → waits waiting k ≡ false → CountsAt c s carries futures parts k

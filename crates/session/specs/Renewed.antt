@@ -1,14 +1,15 @@
 -- What an edit puts in the place of what is kept.
-use Rattle.std.specs.Prelude.{◌≡◌, ◌+◌, ◌≤◌, ◌<◌, ℕ, List, [], length, map, slice_index_or, All}
+use Rattle.std.specs.Prelude.{◌≡◌, ◌+◌, ◌≤◌, ◌<◌, ℕ, Bool, true, false, List, [], Option, Some, None, length, map, slice_index_or, All}
 use Rattle.channel_tables.specs.declared.spec.Spec.{Spec}
 use Rattle.hour_store.specs.Store.{Store, rows_at}
 use Rattle.board.specs.Places.{AreAheadsOf, AreSameFor, AreSamePasts}
 use Rattle.board.specs.Stops.{AreBefore}
 use Rattle.ring_config.specs.Settings.{Settings}
 use Rattle.hour_work.specs.Moved.{SaySame}
-use Rattle.hour_work.specs.Numbers.{AreNewSums, FitHours, Numbers, Summed, patched}
+use Rattle.hour_work.specs.Numbers.{AreNewSums, FitHours, Numbers, patched}
 use Rattle.hour_work.specs.Points.{Carried, IsCarryAt}
-use Rattle.session.specs.Links.{Ahead, AreCarries, AreFutures, AreKept, Counts, States, StatesLeadAt}
+use Rattle.session.specs.Links.{Ahead, AreCarries, AreFutures, AreKept, AreMarked, Counts, States, StatesLeadAt}
+use Rattle.session.specs.declared.renew.Numbered.{Numbered}
 
 -- the states that are kept at each point, but new ones at the points after the hour `first`
 abbrev pub states_with : List Carried → ℕ → List States → List States
@@ -56,13 +57,28 @@ pub record AreNewParts (c : Settings) (s : Store) (carries : List Carried) (futu
   pub counts : (i k : ℕ) (d : Carried) (e : Ahead) (f : Numbers) → i < length fresh → k ≡ from + i → Counts c k (rows_at s k) s.blanks (slice_index_or carries k d) (slice_index_or futures (k + 1) e) (slice_index_or fresh i f)
   pub small : All (FitHours 1) fresh
 
+-- the numbers of each hour, with these from one on in the place of what was there, where they are worked out
+abbrev pub put_numbers : List Numbers → ℕ → Option Numbered → List Numbers
+put_numbers parts start (Some w) = patched parts start w.parts.items
+put_numbers parts start None = parts
+
+-- whether the numbers of an edit wait
+abbrev pub do_wait : Option Numbered → Bool
+do_wait (Some w) = false
+do_wait None = true
+
+-- those of the hours from `start` up to `end` are these, with the sums that they change, where they don't wait
+abbrev pub AreNumbered : List Numbers → ℕ → ℕ → Option Numbered → Type 0
+AreNumbered parts start end (Some w) = (start + length w.parts.items ≡ end) × All (FitHours 1) w.parts.items × AreNewSums parts (patched parts start w.parts.items) w.sums
+AreNumbered parts start end None = Unit {0}
+
 -- all that is new of an edit: once it stands in the place of what was kept, this is what is kept of the store
-pub record IsRenewed (c : Settings) (s : Store) (carries : List Carried) (first : ℕ) (new_carries : List Carried) (futures : List Ahead) (from : ℕ) (new_futures : List Ahead) (parts : List Numbers) (start : ℕ) (new_parts : List Numbers) (sums : Summed) : Type 0 where
+pub record IsRenewed (c : Settings) (s : Store) (waiting : List Bool) (carries : List Carried) (first : ℕ) (new_carries : List Carried) (futures : List Ahead) (from : ℕ) (new_futures : List Ahead) (parts : List Numbers) (start : ℕ) (numbers : Option Numbered) : Type 0 where
   pub carry_room : first + 1 + length new_carries ≤ length carries
   pub future_room : from + length new_futures ≤ length futures
-  pub part_room : start + length new_parts ≤ length parts
+  pub room : first + length new_carries ≤ length waiting
+  pub part_room : first + length new_carries ≤ length parts
   pub low : from ≤ start
-  pub end : start + length new_parts ≡ first + length new_carries
-  pub kept : AreKept c s (patched carries (first + 1) new_carries) (patched futures from new_futures) (patched parts start new_parts)
-  pub small : All (FitHours 1) new_parts
-  pub new_sums : AreNewSums parts (patched parts start new_parts) sums
+  pub high : start ≤ first
+  pub numbered : AreNumbered parts start (first + length new_carries) numbers
+  pub kept : (marked : List Bool) → AreMarked start (first + length new_carries) (do_wait numbers) waiting marked → AreKept c s marked (patched carries (first + 1) new_carries) (patched futures from new_futures) (put_numbers parts start numbers)

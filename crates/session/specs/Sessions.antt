@@ -1,5 +1,5 @@
 -- A session, and what an edit answers and does to it.
-use Rattle.std.specs.Prelude.{◌≡◌, ◌<◌, ℕ, List, length, slice_index_or, Result, Ok, Err}
+use Rattle.std.specs.Prelude.{◌≡◌, ◌<◌, ℕ, Bool, List, length, slice_index_or, Result, Ok, Err}
 use Rattle.sig_base.specs.declared.values.Applied.{Applied}
 use Rattle.sig_base.specs.declared.values.EditError.{EditError}
 use Rattle.sig_base.specs.declared.values.EditError.TheVariants.{TooManyBlanks, Contradiction, Memory}
@@ -20,6 +20,12 @@ use Rattle.session.specs.Links.{Ahead, AreKept}
 pub record Kept : Type 0 where
   pub config : Settings
   pub store : Store
+
+-- a draft: the same, and the hours whose numbers wait
+pub record Drafted : Type 0 where
+  pub config : Settings
+  pub store : Store
+  pub waiting : List Bool
 
 -- an edit that these refusals don't meet may fail since memory ran out
 abbrev pub MayWantMemory : Result Store EditError → Type 0
@@ -57,10 +63,10 @@ pub record AreCounted (rules : ℕ) (all : List Numbers) : Type 0 where
   pub total : length (total_of all).rules ≡ rules
 
 -- what is kept beside a store belongs to it: a window of as many hours, the rules of the configuration, and what the hours lead to at each hour point and count; some history agrees with the store
-pub record Belong (config : Settings) (store : Store) (own : List Rule) (carries : List Carried) (futures : List Ahead) (parts : List Numbers) : Type 0 where
+pub record Belong (config : Settings) (store : Store) (own : List Rule) (waiting : List Bool) (carries : List Carried) (futures : List Ahead) (parts : List Numbers) : Type 0 where
   pub sound : IsSound config
   pub is_store : IsStore store
   pub hours : length store.hours ≡ config.window.hours
   pub rules : own ≡ rules_for config
   pub history : HasHistory (log_of config.specs store)
-  pub kept : AreKept config store carries futures parts
+  pub kept : AreKept config store waiting carries futures parts

@@ -59,8 +59,8 @@ pub fn lines_of<L>(
     requires rules { rules.now ≡ rules_for config.now }
     requires in_store { hour < length store.now.hours }
     requires store { IsStore store.now }
-    requires kept { AreKept config.now store.now worked.now.carries.items worked.now.futures.items
-        worked.now.report }
+    requires kept { AreKept config.now store.now worked.now.waiting.items worked.now.carries.items
+        worked.now.futures.items worked.now.report }
     requires history { HasHistory (log_of config.now.specs store.now) }
     ensures lines { IfOk result (λ v. AreAuditLines config.now store.now hour v.items) }
     ensures grow { Grow reads.old reads.new }

@@ -4,7 +4,7 @@ ghost use Rattle.hour_store.specs.Store.{Store, nothing_held};
 ghost use Rattle.ring_config.specs.Sound.{IsSound};
 ghost use Rattle.rule_audit.specs.Rules.{rules_for};
 ghost use Rattle.hour_work.specs.Points.{Carried, IsCarryAt, IsFutureAt};
-ghost use Rattle.session.specs.Links.{Ahead, AreKept, AreKeptBut};
+ghost use Rattle.session.specs.Links.{Ahead, AllSettled, AreKept, AreKeptBut};
 
 use crate::renew::{Touched, Worked, adopt, renew};
 use hour_store::HourStore;
@@ -57,18 +57,32 @@ fn no_parts(alloc: Global, hours: u32) -> Result<Report, NoMemory>
     Report::new(alloc, parts)
 }
 
+// So many hours, none of which is waiting.
+fn none_waiting(alloc: Global, hours: u32) -> Result<Vec<bool>, NoMemory>
+    ensures size { IfOk result (λ v. length v.items ≡ hours) }
+    ensures settled { IfOk result (λ v. AllSettled v.items) }
+{
+    let mut waiting = Vec::new(alloc);
+    for _ in 0..hours {
+        waiting.push(false)?;
+    }
+    Ok(waiting)
+}
+
 // What is kept of a window of so many hours before they are worked through.
 fn not_begun(alloc: Global, config: &Config, hours: u32) -> Result<Worked, NoMemory>
     requires some { 1 ≤ hours }
     requires few { hours ≤ 744 }
     requires window { hours ≡ config.now.window.hours }
-    ensures { IfOk result (λ k. AreKeptBut config.now (nothing_held hours) 0 (hours - 1)
-        k.carries.items k.futures.items k.report) }
+    ensures kept { IfOk result (λ k. AreKeptBut config.now (nothing_held hours) 0 (hours - 1)
+        k.waiting.items k.carries.items k.futures.items k.report) }
+    ensures settled { IfOk result (λ k. AllSettled k.waiting.items) }
 {
     Ok(Worked {
         carries: starts(alloc, config, hours + 1)?,
         futures: ends(alloc, config, hours + 1)?,
         report: no_parts(alloc, hours)?,
+        waiting: none_waiting(alloc, hours)?,
     })
 }
 
@@ -85,9 +99,12 @@ fn work_through(
     requires sound { IsSound config.now }
     requires rules { rules.now ≡ rules_for config.now }
     requires kept { AreKeptBut config.now (nothing_held hours) 0 (hours - 1)
-        worked.old.carries.items worked.old.futures.items worked.old.report }
-    ensures { OnOk result (AreKept config.now (nothing_held hours) worked.new.carries.items
-        worked.new.futures.items worked.new.report) }
+        worked.old.waiting.items worked.old.carries.items worked.old.futures.items
+        worked.old.report }
+    requires settled { AllSettled worked.old.waiting.items }
+    ensures kept { OnOk result (AreKept config.now (nothing_held hours) worked.new.waiting.items
+        worked.new.carries.items worked.new.futures.items worked.new.report) }
+    ensures settled { OnOk result (AllSettled worked.new.waiting.items) }
 {
     let store = HourStore::new(alloc, hours)?;
     let mut reads = Reads::new(NoRows);
@@ -95,7 +112,9 @@ fn work_through(
         first: 0,
         last: hours - 1,
     };
-    match renew(alloc, config, rules, &store, worked, touched, &mut reads) {
+    match renew(
+        alloc, config, rules, &store, worked, touched, false, &mut reads,
+    ) {
         Ok(fresh) => {
             adopt(worked, fresh);
             Ok(())
@@ -112,8 +131,9 @@ pub fn begin(alloc: Global, config: &Config, rules: &[Rule], hours: u32) -> Resu
     requires sound { IsSound config.now }
     requires rules { rules.now ≡ rules_for config.now }
     requires window { hours ≡ config.now.window.hours }
-    ensures { IfOk result (λ k. AreKept config.now (nothing_held hours) k.carries.items
-        k.futures.items k.report) }
+    ensures kept { IfOk result (λ k. AreKept config.now (nothing_held hours) k.waiting.items
+        k.carries.items k.futures.items k.report) }
+    ensures settled { IfOk result (λ k. AllSettled k.waiting.items) }
 {
     let mut worked = not_begun(alloc, config, hours)?;
     work_through(alloc, config, rules, hours, &mut worked)?;

@@ -1,20 +1,21 @@
-// Forward over the hours that an edit changes: the states of each channel.
+// Forward over the hours that an edit changes: the states of each channel, or all that is kept.
 ghost use Rattle.std.specs.Prelude.{◌≡◌, ◌↔◌, ◌+◌, ◌≤◌, ◌<◌, ◌∷◌, [], length, slice_index_or, IfSome, IfOk, IfErr, IsTrue};
-ghost use Rattle.hour_store.specs.Store.{IsStore, Store};
+ghost use Rattle.hour_store.specs.Store.{IsStore, Store, rows_at};
 ghost use Rattle.ring_config.specs.Settings.{Settings};
 ghost use Rattle.board.specs.Places.{AreSamePasts};
 ghost use Rattle.signal_log.specs.Log.{log_of};
+ghost use Rattle.hour_work.specs.Moved.{SaySame};
 ghost use Rattle.signal_log.specs.Points.{ArePastsAt};
-ghost use Rattle.hour_work.specs.Points.{NamesRow};
-ghost use Rattle.session.specs.Links.{AreCarriesBut, HasCourses, LeadsAt, StatesLead};
+ghost use Rattle.hour_work.specs.Points.{IsCarryAt, NamesRow};
+ghost use Rattle.session.specs.Links.{AreCarriesBut, HasCourses, Leads, LeadsAt, StatesLead};
 ghost use Rattle.session.specs.Opens.{AreOpened, NamesRowOf, OpensToRow};
-ghost use Rattle.session.specs.Renewed.{AreNewPasts};
+ghost use Rattle.session.specs.Renewed.{AreNewCarries, AreNewPasts};
 ghost use Rattle.sig_base.specs.Reads.{Grow};
 
-use crate::steps::{Reached, states_again, states_over};
+use crate::steps::{Crossed, Reached, carry_after, states_after};
 use board::{Courses, Pasts};
 use hour_store::HourStore;
-use hour_work::{Carry, ForwardError};
+use hour_work::{Carry, ForwardError, pick};
 use ring_config::Config;
 use sig_base::{Hour, Reads};
 use signal_log::About;
@@ -46,6 +47,22 @@ struct Told<'a> {
     kept: &'a [Carry],
 }
 
+// What was told of the states about an hour, where it is after the last one that is changed.
+fn told_of<'a>(told: &Told<'a>, hour: Hour) -> Option<About<'a, Pasts>>
+    requires { hour + 1 < length told.now.kept.now }
+    ensures { (c : Settings) (s : Store) → (told.now.last < hour → LeadsAt c s told.now.kept.now hour)
+        → IfSome result (λ w. StatesLead c s hour w.before.now w.after.now) }
+{
+    if hour <= told.last {
+        return None;
+    }
+    let place = hour as usize;
+    Some(About {
+        before: told.kept[place].pasts(),
+        after: told.kept[place + 1].pasts(),
+    })
+}
+
 // The states at the point after the hour; of an hour after the last one that is changed it was told
 // before.
 fn next_states<L>(
@@ -69,15 +86,33 @@ fn next_states<L>(
     ensures row { IfErr result (NamesRowOf hour) }
     ensures once { AreOpened hour (hour + 1) 1 1 reads.old reads.new }
 {
-    if hour <= told.last {
-        return states_over(alloc, config, store, hour, before, reads);
-    }
-    let place = hour as usize;
-    let was = About {
-        before: told.kept[place].pasts(),
-        after: told.kept[place + 1].pasts(),
-    };
-    states_again(alloc, config, store, hour, before, &was, reads)
+    let was = told_of(told, hour);
+    states_after(alloc, config, store, hour, before, was, reads)
+}
+
+// The same of all that is kept there.
+fn next_carry<L>(
+    alloc: Global,
+    config: &Config,
+    store: &HourStore<L>,
+    told: &Told<'_>,
+    hour: Hour,
+    before: &Carry,
+    reads: &mut Reads<L>,
+) -> Result<Crossed, ForwardError>
+    requires in_store { hour < length store.now.hours }
+    requires before { IsCarryAt config.now store.now hour before.now }
+    requires room { length told.now.kept.now ≡ length store.now.hours + 1 }
+    requires told { told.now.last < hour → LeadsAt config.now store.now told.now.kept.now hour }
+    ensures leads { IfOk result (λ r. Leads config.now hour (rows_at store.now hour)
+        store.now.blanks before.now r.carry) }
+    ensures courses { IfOk result (λ r. IfSome r.courses (HasCourses config.now store.now hour)) }
+    ensures stop { IfErr result (NamesRow (log_of config.now.specs store.now)) }
+    ensures row { IfErr result (NamesRowOf hour) }
+    ensures once { AreOpened hour (hour + 1) 1 1 reads.old reads.new }
+{
+    let was = told_of(told, hour);
+    carry_after(alloc, config, store, hour, before, was, reads)
 }
 
 // The courses of the first hour: those that are made of this one, where it is the first.
@@ -147,6 +182,72 @@ pub fn go_forward<L>(
     }
     Ok(Forth {
         states: fresh,
+        courses,
+    })
+}
+
+// Whether the last hour that is changed is behind, and nothing changes at the point after this one.
+fn is_over(last: Hour, hour: Hour, next: &Carry, kept: &Carry) -> bool
+    ensures value { IsTrue result ↔ ((last ≤ hour) × (next.now ≡ kept.now)) }
+    ensures says { IsTrue result ↔ ((last ≤ hour) × SaySame next.now kept.now) }
+{
+    last <= hour && next.same(kept)
+}
+
+/// What is kept at hour points, and the courses of the first hour where they are made.
+#[derive(Drop)]
+pub struct Across {
+    pub carries: Vec<Carry>,
+    pub courses: Option<Courses>,
+}
+
+/// All that is kept at the points after the first hour that is changed, up to the first one after
+/// the last hour at which nothing changes, or up to the window's end. No numbers are made.
+pub fn go_across<L>(
+    alloc: Global,
+    config: &Config,
+    store: &HourStore<L>,
+    first: Hour,
+    last: Hour,
+    kept: &[Carry],
+    reads: &mut Reads<L>,
+) -> Result<Across, ForwardError>
+    requires order { first ≤ last }
+    requires within { last < length store.now.hours }
+    requires kept { AreCarriesBut config.now store.now first last kept.now }
+    ensures store { IsStore store.now }
+    ensures carries { IfOk result (λ f. AreNewCarries config.now store.now first last kept.now
+        f.carries.items) }
+    ensures courses { IfOk result (λ f. IfSome f.courses (HasCourses config.now store.now first)) }
+    ensures stop { IfErr result (NamesRow (log_of config.now.specs store.now)) }
+    ensures opens { IfOk result (λ f. AreOpened first (first + length f.carries.items) 1 1 reads.old
+        reads.new) }
+    ensures opens_to_row { IfErr result (OpensToRow first reads.old reads.new) }
+    ensures grow { Grow reads.old reads.new }
+{
+    let told = Told { last, kept };
+    let mut courses = None;
+    let mut fresh = Vec::new(alloc);
+    for hour in first..store.hours() {
+        let place = hour as usize;
+        let before = pick(kept, first as usize + 1, fresh.as_slice(), place);
+        let next = next_carry(alloc, config, store, &told, hour, before, reads)?;
+        let Crossed {
+            carry,
+            courses: own,
+        } = next;
+        courses = first_courses(first, hour, courses, own);
+        let done = is_over(last, hour, &carry, &kept[place + 1]);
+        fresh.push(carry)?;
+        if done {
+            return Ok(Across {
+                carries: fresh,
+                courses,
+            });
+        }
+    }
+    Ok(Across {
+        carries: fresh,
         courses,
     })
 }

@@ -80,8 +80,8 @@ pub fn phase_diagrams<L>(
     phase: u8,
     reads: &mut Reads<L>,
 ) -> Result<Vec<Diagram>, NoMemory>
-    requires kept { AreKept config.now store.now worked.now.carries.items worked.now.futures.items
-        worked.now.report }
+    requires kept { AreKept config.now store.now worked.now.waiting.items worked.now.carries.items
+        worked.now.futures.items worked.now.report }
     requires history { HasHistory (log_of config.now.specs store.now) }
     ensures points { IfOk result (λ v. v.items ≡ diagrams_of (is_known store.now) config.now phase
         (known_rows store.now)) }

@@ -1,20 +1,20 @@
 // What is kept of a store, and what an edit puts in its place.
-ghost use Rattle.std.specs.Prelude.{◌≡◌, ◌+◌, ◌++◌, ◌<◌, ◌≤◌, drop, length, slice_index_or, All, IfSome, IfOk, IfErr, IsTrue, OnOk, ◌↔◌};
+ghost use Rattle.std.specs.Prelude.{◌≡◌, ℕ, true, false, ◌+◌, ◌++◌, ◌<◌, ◌≤◌, drop, length, slice_index_or, All, IfSome, IfOk, IfErr, IsTrue, OnOk, ◌↔◌};
 ghost use Rattle.hour_store.specs.Store.{IsStore, Store};
 ghost use Rattle.ring_config.specs.Settings.{Settings};
 ghost use Rattle.signal_log.specs.Log.{HasHistory, log_of};
 ghost use Rattle.ring_config.specs.Sound.{IsSound};
 ghost use Rattle.rule_audit.specs.Rules.{rules_for};
 ghost use Rattle.hour_work.specs.Moved.{SaySame};
-ghost use Rattle.hour_work.specs.Numbers.{AreNewSums, FitHours, patched};
+ghost use Rattle.hour_work.specs.Numbers.{FitHours, patched};
 ghost use Rattle.hour_work.specs.Points.{NamesRow};
-ghost use Rattle.session.specs.Links.{AreCarriesBut, AreFutures, AreFuturesBut, AreKeptBut, HasCourses};
-ghost use Rattle.session.specs.Opens.{AreOpened, OpensToRow};
-ghost use Rattle.session.specs.Renewed.{AreCarriesTo, AreNewCarries, AreNewFutures, AreNewParts, AreNewPasts, AreSameUpTo, HaveShapes, IsRenewed};
+ghost use Rattle.session.specs.Links.{AreCarriesBut, AreFutures, AreFuturesBut, AreKeptBut, AreMarked, HasCourses};
+ghost use Rattle.session.specs.Opens.{AreOpened, OpensToRow, most_opens};
+ghost use Rattle.session.specs.Renewed.{AreCarriesTo, AreNewCarries, AreNewFutures, AreNewParts, AreNewPasts, AreNumbered, AreSameUpTo, HaveShapes, IsRenewed, do_wait, put_numbers};
 ghost use Rattle.sig_base.specs.Reads.{Grow};
 
 use crate::backward::{Returning, go_back};
-use crate::forward::{Forth, go_forward};
+use crate::forward::{Across, Forth, go_across, go_forward};
 use crate::steps::{Step, part_between, work_between};
 use board::{Courses, Pasts};
 use hour_store::HourStore;
@@ -25,12 +25,13 @@ use sig_base::{Applied, Hour, NoMemory, Reads};
 use std::alloc::Global;
 
 /// What is kept at each hour point of the hours before it and after it, and the numbers of each
-/// hour.
+/// hour; those of an hour that is waiting aren't worked out yet.
 #[derive(Drop)]
 pub struct Worked {
     pub carries: Vec<Carry>,
     pub futures: Vec<Future>,
     pub report: Report,
+    pub waiting: Vec<bool>,
 }
 
 /// What is new at hour points: the carries of the points after the hour `first`, and the futures of
@@ -43,14 +44,20 @@ pub struct Points {
     pub futures: Vec<Future>,
 }
 
-/// What comes in the place of what is kept: what is new at hour points, the numbers of the hours
-/// from `start` on, and the sums that they change.
+/// The numbers of hours, and the sums that they change.
+#[derive(Drop)]
+pub struct Numbered {
+    pub parts: Vec<Partial>,
+    pub sums: Sums,
+}
+
+/// What comes in the place of what is kept: what is new at hour points, and the numbers of the hours
+/// from `start` on, or none where these wait.
 #[derive(Drop)]
 pub struct Fresh {
     pub points: Points,
     pub start: Hour,
-    pub parts: Vec<Partial>,
-    pub sums: Sums,
+    pub numbers: Option<Numbered>,
 }
 
 /// The hours from the first to the last that an edit touches.
@@ -86,33 +93,27 @@ struct Ways {
 
 // The first hour whose numbers may change: from the first one after which other states can be
 // completed, where one of these can come up there.
-fn start_of(worked: &Worked, ways: &Ways) -> Hour
-    requires order { ways.now.from ≤ ways.now.touched.first }
-    requires carry_room { ways.now.touched.first < length worked.now.carries.items }
-    requires future_room { ways.now.from + length ways.now.futures.items
-        ≤ length worked.now.futures.items }
-    requires last { ways.now.touched.first < length worked.now.futures.items }
-    requires shape { HaveShapes worked.now.carries.items worked.now.futures.items ways.now.from
-        ways.now.futures.items ways.now.touched.first }
-    ensures low { ways.now.from ≤ result }
-    ensures high { result ≤ ways.now.touched.first }
-    ensures same { AreSameUpTo worked.now.carries.items worked.now.futures.items ways.now.from
-        ways.now.futures.items result }
+fn start_of(worked: &Worked, first: Hour, from: Hour, futures: &[Future]) -> Hour
+    requires order { from ≤ first }
+    requires carry_room { first < length worked.now.carries.items }
+    requires future_room { from + length futures.now ≤ length worked.now.futures.items }
+    requires last { first < length worked.now.futures.items }
+    requires shape { HaveShapes worked.now.carries.items worked.now.futures.items from futures.now
+        first }
+    ensures low { from ≤ result }
+    ensures high { result ≤ first }
+    ensures same { AreSameUpTo worked.now.carries.items worked.now.futures.items from futures.now
+        result }
 {
-    for hour in ways.from..ways.touched.first {
+    for hour in from..first {
         let place = hour as usize + 1;
         let kept = &worked.futures[place];
-        let next = pick(
-            worked.futures.as_slice(),
-            ways.from as usize,
-            ways.futures.as_slice(),
-            place,
-        );
+        let next = pick(worked.futures.as_slice(), from as usize, futures, place);
         if !kept.same_for(&worked.carries[place], next) {
             return hour;
         }
     }
-    ways.touched.first
+    first
 }
 
 // The numbers of the hours from `start` on.
@@ -159,7 +160,7 @@ fn new_parts<L>(
         reads.new) }
     ensures grow { Grow reads.old reads.new }
 {
-    let start = start_of(worked, ways);
+    let start = start_of(worked, ways.touched.first, ways.from, &ways.futures);
     let mut parts = Vec::new(alloc);
     for hour in start..ways.touched.first {
         let place = hour as usize;
@@ -227,7 +228,8 @@ fn new_work<L>(
 ) -> Result<NewWork, NoMemory>
     requires rules { rules.now ≡ rules_for config.now }
     requires kept { AreKeptBut config.now store.now ways.touched.first ways.touched.last
-        worked.now.carries.items worked.now.futures.items worked.now.report }
+        worked.now.waiting.items worked.now.carries.items worked.now.futures.items
+        worked.now.report }
     requires states { AreNewPasts config.now store.now ways.touched.first ways.touched.last
         worked.now.carries.items ways.states.items }
     requires futures { AreNewFutures config.now store.now ways.touched.first ways.touched.last
@@ -357,9 +359,8 @@ fn ways_of<L>(
     })
 }
 
-/// What comes in the place of what is kept, where that fits the store but for the hours from
-/// `first` to `last`. `Contradiction` comes where the log contradicts itself.
-pub fn renew<L>(
+// What is new, with the numbers of the hours that it changes.
+fn work_out<L>(
     alloc: Global,
     config: &Config,
     rules: &[Rule],
@@ -371,16 +372,18 @@ pub fn renew<L>(
     requires rules { rules.now ≡ rules_for config.now }
     requires sound { IsSound config.now }
     requires kept { AreKeptBut config.now store.now touched.first touched.last
-        worked.now.carries.items worked.now.futures.items worked.now.report }
+        worked.now.waiting.items worked.now.carries.items worked.now.futures.items
+        worked.now.report }
     ensures store { IsStore store.now }
     ensures first { IfOk result (λ f. f.points.first ≡ touched.first) }
     ensures carries { IfOk result (λ f. AreNewCarries config.now store.now touched.first
         touched.last worked.now.carries.items f.points.carries.items) }
     ensures futures { IfOk result (λ f. AreNewFutures config.now store.now touched.first
         touched.last worked.now.futures.items f.points.from f.points.futures.items) }
-    ensures fresh { IfOk result (λ f. IsRenewed config.now store.now worked.now.carries.items
-        f.points.first f.points.carries.items worked.now.futures.items f.points.from
-        f.points.futures.items worked.now.report f.start f.parts.items f.sums) }
+    ensures fresh { IfOk result (λ f. IsRenewed config.now store.now worked.now.waiting.items
+        worked.now.carries.items f.points.first f.points.carries.items worked.now.futures.items
+        f.points.from f.points.futures.items worked.now.report f.start f.numbers) }
+    ensures numbers { IfOk result (λ f. do_wait f.numbers ≡ false) }
     ensures history { OnOk result (HasHistory (log_of config.now.specs store.now)) }
     ensures stop { IfErr result (NamesRow (log_of config.now.specs store.now)) }
     ensures opens { IfOk result (λ f. AreOpened f.points.from
@@ -396,9 +399,135 @@ pub fn renew<L>(
     Ok(Fresh {
         points: work.points,
         start: new.start,
-        parts,
-        sums,
+        numbers: Some(Numbered { parts, sums }),
     })
+}
+
+// What is new, where the numbers of the hours that it changes wait.
+fn put_off<L>(
+    alloc: Global,
+    config: &Config,
+    store: &HourStore<L>,
+    worked: &Worked,
+    touched: Touched,
+    reads: &mut Reads<L>,
+) -> Result<Fresh, ForwardError>
+    requires sound { IsSound config.now }
+    requires kept { AreKeptBut config.now store.now touched.first touched.last
+        worked.now.waiting.items worked.now.carries.items worked.now.futures.items
+        worked.now.report }
+    ensures store { IsStore store.now }
+    ensures first { IfOk result (λ f. f.points.first ≡ touched.first) }
+    ensures carries { IfOk result (λ f. AreNewCarries config.now store.now touched.first
+        touched.last worked.now.carries.items f.points.carries.items) }
+    ensures futures { IfOk result (λ f. AreNewFutures config.now store.now touched.first
+        touched.last worked.now.futures.items f.points.from f.points.futures.items) }
+    ensures fresh { IfOk result (λ f. IsRenewed config.now store.now worked.now.waiting.items
+        worked.now.carries.items f.points.first f.points.carries.items worked.now.futures.items
+        f.points.from f.points.futures.items worked.now.report f.start f.numbers) }
+    ensures numbers { IfOk result (λ f. do_wait f.numbers ≡ true) }
+    ensures history { OnOk result (HasHistory (log_of config.now.specs store.now)) }
+    ensures stop { IfErr result (NamesRow (log_of config.now.specs store.now)) }
+    ensures opens { IfOk result (λ f. AreOpened f.points.from
+        (f.points.first + length f.points.carries.items) 1 2 reads.old reads.new) }
+    ensures opens_to_row { IfErr result (OpensToRow touched.first reads.old reads.new) }
+    ensures grow { Grow reads.old reads.new }
+{
+    let Touched { first, last } = touched;
+    let Across { carries, courses } = go_across(
+        alloc,
+        config,
+        store,
+        first,
+        last,
+        &worked.carries,
+        reads,
+    )?;
+    let kept = worked.futures.as_slice();
+    let own = courses.as_ref();
+    let told = Returning {
+        first,
+        kept,
+        courses: own,
+    };
+    let futures = go_back(alloc, config, store, last, &told, reads)?;
+    let from = last + 1 - futures.len() as u32;
+    let start = start_of(worked, first, from, &futures);
+    let points = Points {
+        first,
+        carries,
+        from,
+        futures,
+    };
+    Ok(Fresh {
+        points,
+        start,
+        numbers: None,
+    })
+}
+
+/// What comes in the place of what is kept, where that fits the store but for the hours from
+/// `first` to `last`. Where they may wait, the numbers of the hours that change aren't worked out.
+/// `Contradiction` comes where the log contradicts itself.
+pub fn renew<L>(
+    alloc: Global,
+    config: &Config,
+    rules: &[Rule],
+    store: &HourStore<L>,
+    worked: &Worked,
+    touched: Touched,
+    may_wait: bool,
+    reads: &mut Reads<L>,
+) -> Result<Fresh, ForwardError>
+    requires rules { rules.now ≡ rules_for config.now }
+    requires sound { IsSound config.now }
+    requires kept { AreKeptBut config.now store.now touched.first touched.last
+        worked.now.waiting.items worked.now.carries.items worked.now.futures.items
+        worked.now.report }
+    ensures store { IsStore store.now }
+    ensures first { IfOk result (λ f. f.points.first ≡ touched.first) }
+    ensures carries { IfOk result (λ f. AreNewCarries config.now store.now touched.first
+        touched.last worked.now.carries.items f.points.carries.items) }
+    ensures futures { IfOk result (λ f. AreNewFutures config.now store.now touched.first
+        touched.last worked.now.futures.items f.points.from f.points.futures.items) }
+    ensures fresh { IfOk result (λ f. IsRenewed config.now store.now worked.now.waiting.items
+        worked.now.carries.items f.points.first f.points.carries.items worked.now.futures.items
+        f.points.from f.points.futures.items worked.now.report f.start f.numbers) }
+    ensures numbers { IfOk result (λ f. do_wait f.numbers ≡ may_wait) }
+    ensures history { OnOk result (HasHistory (log_of config.now.specs store.now)) }
+    ensures stop { IfErr result (NamesRow (log_of config.now.specs store.now)) }
+    ensures opens { IfOk result (λ f. AreOpened f.points.from
+        (f.points.first + length f.points.carries.items) 1 (most_opens may_wait) reads.old
+        reads.new) }
+    ensures opens_to_row { IfErr result (OpensToRow touched.first reads.old reads.new) }
+    ensures grow { Grow reads.old reads.new }
+{
+    if may_wait {
+        put_off(alloc, config, store, worked, touched, reads)
+    } else {
+        work_out(alloc, config, rules, store, worked, touched, reads)
+    }
+}
+
+// Marks the hours from one up to another as waiting, or as not waiting.
+fn mark(waiting: &mut [bool], from: Hour, to: Hour, value: bool)
+    requires order { from ≤ to }
+    requires room { to ≤ length waiting.old }
+    ensures { AreMarked from to value waiting.old waiting.new }
+{
+    for hour in from..to {
+        waiting[hour as usize] = value;
+    }
+}
+
+// Puts the numbers in the place of those of as many hours from this one on, where there are some.
+fn put_numbers(report: &mut Report, start: Hour, numbers: Option<Numbered>)
+    requires { (end : ℕ) × (end ≤ length report.old) × AreNumbered report.old start end numbers }
+    ensures { report.new ≡ put_numbers report.old start numbers }
+{
+    if let Some(Numbered { mut parts, sums }) = numbers {
+        report.exchange(start as usize, parts.as_mut_slice(), sums);
+    }
 }
 
 /// Puts it in the place of what is kept.
@@ -407,21 +536,26 @@ pub fn adopt(worked: &mut Worked, fresh: Fresh)
         ≤ length worked.old.carries.items }
     requires future_room { fresh.points.from + length fresh.points.futures.items
         ≤ length worked.old.futures.items }
-    requires part_room { fresh.start + length fresh.parts.items ≤ length worked.old.report }
-    requires small { All (FitHours 1) fresh.parts.items }
-    requires sums { AreNewSums worked.old.report (patched worked.old.report fresh.start
-        fresh.parts.items) fresh.sums }
+    requires room { fresh.points.first + length fresh.points.carries.items
+        ≤ length worked.old.waiting.items }
+    requires part_room { fresh.points.first + length fresh.points.carries.items
+        ≤ length worked.old.report }
+    requires few { length worked.old.waiting.items ≤ 744 }
+    requires order { fresh.start ≤ fresh.points.first }
+    requires numbered { AreNumbered worked.old.report fresh.start
+        (fresh.points.first + length fresh.points.carries.items) fresh.numbers }
     ensures carries { worked.new.carries.items ≡ patched worked.old.carries.items
         (fresh.points.first + 1) fresh.points.carries.items }
     ensures futures { worked.new.futures.items ≡ patched worked.old.futures.items fresh.points.from
         fresh.points.futures.items }
-    ensures report { worked.new.report ≡ patched worked.old.report fresh.start fresh.parts.items }
+    ensures report { worked.new.report ≡ put_numbers worked.old.report fresh.start fresh.numbers }
+    ensures marked { AreMarked fresh.start (fresh.points.first + length fresh.points.carries.items)
+        (do_wait fresh.numbers) worked.old.waiting.items worked.new.waiting.items }
 {
     let Fresh {
         points,
         start,
-        mut parts,
-        sums,
+        numbers,
     } = fresh;
     let Points {
         first,
@@ -429,12 +563,13 @@ pub fn adopt(worked: &mut Worked, fresh: Fresh)
         from,
         mut futures,
     } = points;
+    let end = first + carries.len() as u32;
+    mark(&mut worked.waiting, start, end, numbers.is_none());
     put_in(
         &mut worked.carries,
         first as usize + 1,
         carries.as_mut_slice(),
     );
     put_in(&mut worked.futures, from as usize, futures.as_mut_slice());
-    let report = &mut worked.report;
-    report.exchange(start as usize, parts.as_mut_slice(), sums);
+    put_numbers(&mut worked.report, start, numbers);
 }

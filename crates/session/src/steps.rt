@@ -1,19 +1,24 @@
 // One hour of a store, which is opened.
-ghost use Rattle.std.specs.Prelude.{◌≡◌, ◌+◌, ◌<◌, length, None, IfSome, IfOk, IfErr};
-ghost use Rattle.hour_store.specs.Store.{rows_at};
+ghost use Rattle.std.specs.Prelude.{◌≡◌, ◌+◌, ◌<◌, length, IfSome, IfOk, IfErr};
+ghost use Rattle.hour_store.specs.Store.{Store, rows_at};
+ghost use Rattle.board.specs.Logs.{end_tenth, first_tenth};
+ghost use Rattle.board.specs.Places.{AllEarly};
+ghost use Rattle.board.specs.Stops.{AreBefore};
+ghost use Rattle.signal_log.specs.Opened.{HasPlace};
+ghost use Rattle.signal_log.specs.Over.{AreCoursesOver, ArePastsOver};
 ghost use Rattle.signal_log.specs.Log.{HasHistory, log_of};
 ghost use Rattle.rule_audit.specs.Rules.{rules_for};
 ghost use Rattle.hour_work.specs.Numbers.{FitHours};
 ghost use Rattle.signal_log.specs.Points.{ArePastsAt};
-ghost use Rattle.hour_work.specs.Points.{ComesBack, IsCarryAt, IsFutureAt, NamesRow};
+ghost use Rattle.hour_work.specs.Points.{ComesBack, IsCarryAt, IsFutureAt, NamesRow, NamesStop};
 ghost use Rattle.session.specs.Links.{Backs, Counts, HasCourses, Leads, StatesLead};
 ghost use Rattle.session.specs.Opens.{AreOpened, NamesRowOf};
 
 use board::{Courses, Pasts};
 use hour_store::HourStore;
 use hour_work::{
-    Between, ForwardError, Future, Known, Partial, Worked, backward_again, backward_over,
-    backward_through, forward_error, partial_over, work_over,
+    Between, Carry, ForwardError, Future, Known, Partial, Worked, backward_again, backward_over,
+    backward_through, carry_over, forward_error, partial_over, work_over,
 };
 use ring_config::Config;
 use rule_audit::Rule;
@@ -29,17 +34,125 @@ pub struct Reached {
     pub courses: Option<Courses>,
 }
 
-/// The states of each channel at the point after the hour, and the hour's courses.
-pub fn states_over<L>(
+// The states of each channel at the point after an hour that is opened, and the hour's courses.
+fn reached_whole(
+    alloc: Global,
+    config: &Config,
+    place: &Place<'_>,
+    before: &Pasts,
+) -> Result<Reached, ForwardError>
+    requires shape { AreBefore config.now.specs before.now }
+    requires early { AllEarly (first_tenth place.now.hour) before.now }
+    ensures shape { IfOk result (λ r. AreBefore config.now.specs r.pasts
+        × AllEarly (end_tenth place.now.hour) r.pasts) }
+    ensures over { IfOk result (λ r. ArePastsOver config.now.specs place.now.hour place.now.rows
+        place.now.blanks before.now r.pasts) }
+    ensures pasts { IfOk result (λ r. (s : Store) → HasPlace s place.now
+        → ArePastsAt (log_of config.now.specs s) place.now.hour before.now
+        → ArePastsAt (log_of config.now.specs s) (place.now.hour + 1) r.pasts) }
+    ensures courses { IfOk result (λ r. IfSome r.courses (AreCoursesOver config.now.specs
+        place.now.hour place.now.rows place.now.blanks)) }
+    ensures stop { IfErr result (λ e. (s : Store) → HasPlace s place.now
+        → ArePastsAt (log_of config.now.specs s) place.now.hour before.now
+        → NamesRow (log_of config.now.specs s) e) }
+    ensures row { IfErr result (NamesStop config.now.specs place.now.hour place.now.rows
+        place.now.blanks before.now) }
+{
+    let courses = place.courses(alloc, config.specs())?;
+    match pasts_through(alloc, config.specs(), place, &courses, before) {
+        Ok(pasts) => Ok(Reached {
+            pasts,
+            courses: Some(courses),
+        }),
+        Err(error) => Err(forward_error(error)),
+    }
+}
+
+// The same of an hour that is as it was when this was told of it. Its courses aren't made.
+fn reached_again(
+    alloc: Global,
+    config: &Config,
+    place: &Place<'_>,
+    before: &Pasts,
+    was: &About<'_, Pasts>,
+) -> Result<Reached, ForwardError>
+    requires shape { AreBefore config.now.specs before.now }
+    requires early { AllEarly (first_tenth place.now.hour) before.now }
+    requires was_shape { AreBefore config.now.specs was.now.after.now }
+    requires was { ArePastsOver config.now.specs place.now.hour place.now.rows place.now.blanks
+        was.now.before.now was.now.after.now }
+    ensures shape { IfOk result (λ r. AreBefore config.now.specs r.pasts
+        × AllEarly (end_tenth place.now.hour) r.pasts) }
+    ensures over { IfOk result (λ r. ArePastsOver config.now.specs place.now.hour place.now.rows
+        place.now.blanks before.now r.pasts) }
+    ensures pasts { IfOk result (λ r. (s : Store) → HasPlace s place.now
+        → ArePastsAt (log_of config.now.specs s) place.now.hour before.now
+        → ArePastsAt (log_of config.now.specs s) (place.now.hour + 1) r.pasts) }
+    ensures courses { IfOk result (λ r. IfSome r.courses (AreCoursesOver config.now.specs
+        place.now.hour place.now.rows place.now.blanks)) }
+    ensures stop { IfErr result (λ e. (s : Store) → HasPlace s place.now
+        → ArePastsAt (log_of config.now.specs s) place.now.hour before.now
+        → NamesRow (log_of config.now.specs s) e) }
+    ensures row { IfErr result (NamesStop config.now.specs place.now.hour place.now.rows
+        place.now.blanks before.now) }
+{
+    match pasts_over_again(alloc, config.specs(), place, before, was) {
+        Ok(pasts) => Ok(Reached {
+            pasts,
+            courses: None,
+        }),
+        Err(error) => Err(forward_error(error)),
+    }
+}
+
+// The same of either: of an hour that is as it was by what was told of it.
+fn reached_over(
+    alloc: Global,
+    config: &Config,
+    place: &Place<'_>,
+    before: &Pasts,
+    was: Option<About<'_, Pasts>>,
+) -> Result<Reached, ForwardError>
+    requires shape { AreBefore config.now.specs before.now }
+    requires early { AllEarly (first_tenth place.now.hour) before.now }
+    requires was_shape { IfSome was (λ w. AreBefore config.now.specs w.after.now) }
+    requires was { IfSome was (λ w. ArePastsOver config.now.specs place.now.hour place.now.rows
+        place.now.blanks w.before.now w.after.now) }
+    ensures shape { IfOk result (λ r. AreBefore config.now.specs r.pasts
+        × AllEarly (end_tenth place.now.hour) r.pasts) }
+    ensures over { IfOk result (λ r. ArePastsOver config.now.specs place.now.hour place.now.rows
+        place.now.blanks before.now r.pasts) }
+    ensures pasts { IfOk result (λ r. (s : Store) → HasPlace s place.now
+        → ArePastsAt (log_of config.now.specs s) place.now.hour before.now
+        → ArePastsAt (log_of config.now.specs s) (place.now.hour + 1) r.pasts) }
+    ensures courses { IfOk result (λ r. IfSome r.courses (AreCoursesOver config.now.specs
+        place.now.hour place.now.rows place.now.blanks)) }
+    ensures stop { IfErr result (λ e. (s : Store) → HasPlace s place.now
+        → ArePastsAt (log_of config.now.specs s) place.now.hour before.now
+        → NamesRow (log_of config.now.specs s) e) }
+    ensures row { IfErr result (NamesStop config.now.specs place.now.hour place.now.rows
+        place.now.blanks before.now) }
+{
+    match was {
+        Some(was) => reached_again(alloc, config, place, before, &was),
+        None => reached_whole(alloc, config, place, before),
+    }
+}
+
+/// The states of each channel at the point after the hour, and the hour's courses where they are
+/// made. `was` is what was told of the states before, where the hour is as it was.
+pub fn states_after<L>(
     alloc: Global,
     config: &Config,
     store: &HourStore<L>,
     hour: Hour,
     before: &Pasts,
+    was: Option<About<'_, Pasts>>,
     reads: &mut Reads<L>,
 ) -> Result<Reached, ForwardError>
     requires in_store { hour < length store.now.hours }
     requires before { ArePastsAt (log_of config.now.specs store.now) hour before.now }
+    requires was { IfSome was (λ w. StatesLead config.now store.now hour w.before.now w.after.now) }
     ensures leads { IfOk result (λ r. StatesLead config.now store.now hour before.now r.pasts) }
     ensures pasts { IfOk result (λ r. ArePastsAt (log_of config.now.specs store.now) (hour + 1)
         r.pasts) }
@@ -50,47 +163,42 @@ pub fn states_over<L>(
 {
     let rows = store.open_hour(hour, reads);
     let place = Place::new(alloc, hour, rows, store.blanked())?;
-    let courses = place.courses(alloc, config.specs())?;
-    match pasts_through(alloc, config.specs(), &place, &courses, before) {
-        Ok(pasts) => Ok(Reached {
-            pasts,
-            courses: Some(courses),
-        }),
-        Err(error) => Err(forward_error(error)),
-    }
+    reached_over(alloc, config, &place, before, was)
 }
 
-/// The same of an hour that is as it was told before, from other states at the point before it. Its
-/// courses aren't made.
-pub fn states_again<L>(
+/// What is kept at the point after an hour, and its courses where they are made.
+#[derive(Drop)]
+pub struct Crossed {
+    pub carry: Carry,
+    pub courses: Option<Courses>,
+}
+
+/// The same of all that is kept there: the states, and what is under way. It makes no numbers.
+pub fn carry_after<L>(
     alloc: Global,
     config: &Config,
     store: &HourStore<L>,
     hour: Hour,
-    before: &Pasts,
-    was: &About<'_, Pasts>,
+    before: &Carry,
+    was: Option<About<'_, Pasts>>,
     reads: &mut Reads<L>,
-) -> Result<Reached, ForwardError>
+) -> Result<Crossed, ForwardError>
     requires in_store { hour < length store.now.hours }
-    requires before { ArePastsAt (log_of config.now.specs store.now) hour before.now }
-    requires was { StatesLead config.now store.now hour was.now.before.now was.now.after.now }
-    ensures leads { IfOk result (λ r. StatesLead config.now store.now hour before.now r.pasts) }
-    ensures pasts { IfOk result (λ r. ArePastsAt (log_of config.now.specs store.now) (hour + 1)
-        r.pasts) }
-    ensures courses { IfOk result (λ r. r.courses ≡ None) }
+    requires before { IsCarryAt config.now store.now hour before.now }
+    requires was { IfSome was (λ w. StatesLead config.now store.now hour w.before.now w.after.now) }
+    ensures leads { IfOk result (λ r. Leads config.now hour (rows_at store.now hour)
+        store.now.blanks before.now r.carry) }
+    ensures courses { IfOk result (λ r. IfSome r.courses (HasCourses config.now store.now hour)) }
     ensures stop { IfErr result (NamesRow (log_of config.now.specs store.now)) }
     ensures row { IfErr result (NamesRowOf hour) }
     ensures once { AreOpened hour (hour + 1) 1 1 reads.old reads.new }
 {
     let rows = store.open_hour(hour, reads);
     let place = Place::new(alloc, hour, rows, store.blanked())?;
-    match pasts_over_again(alloc, config.specs(), &place, before, was) {
-        Ok(pasts) => Ok(Reached {
-            pasts,
-            courses: None,
-        }),
-        Err(error) => Err(forward_error(error)),
-    }
+    let reached = reached_over(alloc, config, &place, before.pasts(), was)?;
+    let Reached { pasts, courses } = reached;
+    let carry = carry_over(alloc, config, &place, before, pasts)?;
+    Ok(Crossed { carry, courses })
 }
 
 /// What is kept going back at the point before the hour. These are its courses, where they are made

@@ -6,12 +6,13 @@ use Rattle.hour_work.specs.declared.steps.ForwardError.{ForwardError}
 use Rattle.hour_work.specs.Points.{NamesRow}
 use Rattle.rule_audit.proofs.Tracked.{channels_are}
 use Rattle.session.specs.Links.{AreKeptBut}
+use Rattle.session.proofs.WaitLaws.{settled_marked}
 use Rattle.session.proofs.begin.work_through.Goals as goal
 
 pub renew-requires-clause-kept : goal.renew-requires-clause-kept
 renew-requires-clause-kept c =
     let kept = c.args.worked.now in
-    subst (λ (s : Store). AreKeptBut c.args.config.now s 0 (c.args.hours - 1) kept.carries.items kept.futures.items kept.report) (sym c.in_ok-store.ensures) c.requires.kept
+    subst (λ (s : Store). AreKeptBut c.args.config.now s 0 (c.args.hours - 1) kept.waiting.items kept.carries.items kept.futures.items kept.report) (sym c.in_ok-store.ensures) c.requires.kept
 
 pub unreachable-requires : goal.unreachable-requires
 unreachable-requires c =
@@ -20,3 +21,13 @@ unreachable-requires c =
     let stop = subst (λ (e : ForwardError). NamesRow (log_of cfg.specs s) e) c.in-Err-Contradiction.field-0-is c.in-Err-Contradiction.ensures.stop in
     let some = subst (λ (t : Store). HasHistory (log_of cfg.specs t)) (sym c.in_ok-store.ensures) (nothing cfg.specs c.args.hours (channels_are cfg c.requires.sound)) in
     no_history cfg.specs s c.in-Err-Contradiction.field-0-0 (channels_are cfg c.requires.sound) c.in-Err-Contradiction.ensures.store stop some
+
+pub returns-in-Ok-clause-kept : goal.returns-in-Ok-clause-kept
+returns-in-Ok-clause-kept c =
+    let kept = c.in-Ok.ensures.fresh.kept _ c.adopt.ensures.marked in
+    rw (c.adopt.ensures.carries, c.adopt.ensures.futures, c.adopt.ensures.report, ← c.in_ok-store.ensures) kept
+
+pub returns-in-Ok-clause-settled : goal.returns-in-Ok-clause-settled
+returns-in-Ok-clause-settled c =
+    let mark = rw c.in-Ok.ensures.numbers at c.adopt.ensures.marked in
+    settled_marked _ _ _ _ c.requires.settled mark

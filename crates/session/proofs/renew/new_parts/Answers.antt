@@ -52,3 +52,6 @@ returns-clause-opens g c =
     let high = c.start_of-start.ensures.high in
     let end : c.loop-hour.hour ≡ c.args.ways.now.touched.first = omega arith in
     opened_as _ _ _ _ _ _ _ _ refl end c.loop-hour.invariant.opens
+
+pub start_of-start-requires-clause-shape : goal.start_of-start-requires-clause-shape
+start_of-start-requires-clause-shape g c = rw c.deref.ensures.value c.requires.shape

@@ -9,7 +9,7 @@ pub same_for-requires : goal.same_for-requires
 same_for-requires c =
     let carry = c.index.result.now in
     let kept = c.index-kept.result.now in
-    let new = rw (c.as_slice.ensures.value, c.as_slice-in-loop-hour.ensures.value) at c.pick-next.ensures in
+    let new = rw c.as_slice.ensures.value at c.pick-next.ensures in
     let (specs, before, own, other) = c.requires.shape c.loop-hour.hour carry kept c.loop-hour-test.true in
     record {
       shape = (

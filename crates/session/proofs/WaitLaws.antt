@@ -1,0 +1,205 @@
+-- Hours whose numbers wait, and how often they are opened.
+use Rattle.std.proofs.Common.{◌≡◌, ◌∙◌, ◌⊎◌, inl, inr, ℕ, ◌+◌, ◌-◌, ◌<◌, ◌≤◌, ◌≢◌, Bool, true, false, List, [], ◌∷◌, ◌++◌, length, length-append, set, get_or, length-set, get_or-set_same, get_or-set_other, refl, sym, ap, subst, arith, Ok, Err, Result}
+use Rattle.std.proofs.lemmas.Bool.{cases_lt}
+use Rattle.std.proofs.lemmas.List.{get_or_append_left, get_or_past}
+use Rattle.std.proofs.Math.Seq.{get_or-append_seam}
+use Rattle.sig_base.specs.Reads.{Grow}
+use Rattle.sig_base.specs.declared.values.Applied.{Applied}
+use Rattle.sig_base.specs.declared.values.EditError.{EditError}
+use Rattle.sig_base.specs.declared.values.EditError.TheVariants.{OutOfWindow, AlreadyHeld, NotHeld, EmptyRange, TooManyRows, TooManyBlanks, Contradiction, Memory}
+use Rattle.hour_work.specs.declared.steps.ForwardError.{ForwardError}
+use Rattle.hour_work.specs.declared.steps.ForwardError.TheVariants as forward
+use Rattle.session.specs.Edits.{Change}
+use Rattle.session.specs.Links.{AllSettled, AreMarked, waits}
+use Rattle.session.specs.Moved.{Touches}
+use Rattle.session.specs.Opens.{AreOpened, AreOpenedFor, AreOpenedOnce, IsOpened, IsOpenedFor, OpensBy, OpensFor, OpensToRow, count_after, most_opens, still}
+use Rattle.hour_sweep.specs.Sums.{one_if}
+use Rattle.session.specs.Sessions.{refusal_for}
+use Rattle.session.proofs.OpenLaws.{after_both, after_grows, opened_not}
+
+-- ---- marks
+
+pub settled_marked : (from to : ℕ) (old new : List Bool) → AllSettled old → AreMarked from to false old new → AllSettled new
+settled_marked from to old new settled mark hour = elim (cases_lt hour from) [
+  | inl below ↦ mark.outside hour (inl below) ∙ settled hour
+  | inr above ↦ elim (cases_lt hour to) [
+    | inl in_it ↦ mark.within hour above in_it
+    | inr past ↦ mark.outside hour (inr past) ∙ settled hour
+  ]
+]
+
+pub marked_none : (from : ℕ) (value : Bool) (xs : List Bool) → AreMarked from from value xs xs
+marked_none from value xs = record { size = refl; within = λ h low high. absurd (omega arith); outside = λ h out. refl }
+
+-- one hour more
+pub marked_on : (from to : ℕ) (value : Bool) (old mid new : List Bool) → from ≤ to → to < length mid → AreMarked from to value old mid → new ≡ set mid to value → AreMarked from (to + 1) value old new
+marked_on from to value old mid new order room mark e = rw e (record {
+  size = length-set mid to value ∙ mark.size;
+  within = λ h low high. elim (cases_lt h to) [
+    | inl below ↦ get_or-set_other mid to h value false (λ same. omega arith) ∙ mark.within h low below
+    | inr last ↦
+        let here : to ≡ h = omega arith in
+        subst (λ (i : ℕ). get_or (set mid to value) i false ≡ value) here (get_or-set_same mid to value false room)
+  ];
+  outside = λ h out. elim out [
+    | inl below ↦ get_or-set_other mid to h value false (λ same. omega arith) ∙ mark.outside h (inl below)
+    | inr past ↦ get_or-set_other mid to h value false (λ same. omega arith) ∙ mark.outside h (inr (omega arith))
+  ];
+})
+
+-- ---- openings
+
+pub still_least : (w : List Bool) (h : ℕ) → waits w h ≡ false → still w h ≡ 0
+still_least w h e = rw e refl
+
+-- an edit whose numbers are worked out, or wait
+pub opened_for : (may_wait : Bool) (from start to : ℕ) (w v : List Bool) (a b : List ℕ) → from ≤ start → AreOpened from to 1 (most_opens may_wait) a b → AreMarked start to may_wait w v → AreOpenedFor from to w v a b
+opened_for may_wait from start to w v a b le p mark = record {
+  size = p.size;
+  within = λ h lt low high. elim (cases_lt h start) [
+    | inl before ↦
+        let same : still v h ≡ still w h = rw (mark.outside h (inl before)) refl in
+        let o = p.within h lt low high in
+        let least = o.least in
+        let most = o.most in
+        let three = most_three may_wait in
+        record { times = o.times; least = least; most = omega arith; count = o.count }
+    | inr after ↦
+        let o = p.within h lt low high in
+        let least = o.least in
+        let most = o.most in
+        let three = most_more may_wait (waits v h) (mark.within h after high) in
+        record { times = o.times; least = least; most = omega arith; count = o.count }
+  ];
+  outside = λ h out. (p.outside h out, mark.outside h (elim out [ inl below ↦ inl (omega arith) | inr past ↦ inr past ]));
+}
+  where
+    most_three : (b : Bool) → most_opens b ≤ 3
+    most_three true = omega arith
+    most_three false = omega arith
+
+    most_more : (b x : Bool) → x ≡ b → most_opens b + one_if x ≤ 3
+    most_more true x e = rw e (omega arith)
+    most_more false x e = rw e (omega arith)
+
+pub opens_for : (change : Change) (f t : ℕ) (moved : Applied) (w v : List Bool) (a b : List ℕ) → moved.from ≡ f → moved.to ≡ t → AreOpenedFor f t w v a b → OpensFor change w v a b (Ok moved)
+unfolding OpensFor
+opens_for change f t moved w v a b fe te p = subst (λ (i : ℕ). AreOpenedFor i moved.to w v a b) (sym fe) (subst (λ (i : ℕ). AreOpenedFor f i w v a b) (sym te) p)
+
+pub opens_not : (change : Change) (first last : ℕ) (w : List Bool) (a b : List ℕ) (e : ForwardError) (refusal : EditError) → refusal ≡ refusal_for e → Touches change first last → OpensToRow first a b e → OpensFor change w w a b (Err refusal)
+unfolding OpensFor
+opens_not change first last w a b (forward.Contradiction row) refusal is touched p = rw is (refl, (first, last, touched, p))
+opens_not change first last w a b forward.Memory refusal is touched p = rw is tt
+
+-- an edit of a draft of which no numbers wait, before and after it
+pub opens_plain : (change : Change) (w v : List Bool) (a b : List ℕ) (result : Result Applied EditError) → AllSettled w → AllSettled v → OpensFor change w v a b result → OpensBy change a b result
+unfolding OpensFor OpensBy
+opens_plain change w v a b (Ok moved) settled after p = record {
+  size = p.size;
+  within = λ h lt low high.
+      let o = p.within h lt low high in
+      let none = still_least w h (settled h) in
+      let least = o.least in
+      let most = o.most in
+      record { times = o.times; least = least; most = omega arith; count = o.count };
+  outside = λ h out. (p.outside h out).0;
+}
+opens_plain change w v a b (Err (Contradiction row)) settled after p = p.1
+opens_plain change w v a b (Err Memory) settled after p = tt
+opens_plain change w v a b (Err OutOfWindow) settled after p = p.1
+opens_plain change w v a b (Err AlreadyHeld) settled after p = p.1
+opens_plain change w v a b (Err NotHeld) settled after p = p.1
+opens_plain change w v a b (Err EmptyRange) settled after p = p.1
+opens_plain change w v a b (Err TooManyRows) settled after p = p.1
+opens_plain change w v a b (Err TooManyBlanks) settled after p = p.1
+
+-- ---- hours that are settled one after another
+
+pub once_none : (w : List Bool) (a : List ℕ) → AreOpenedOnce w w a a
+once_none w a = record { size = refl; each = λ h lt. let o = opened_not (get_or a h 0) (get_or a h 0) refl in let most = o.most in record { times = o.times; least = o.least; most = omega arith; count = o.count } }
+
+pub once_on : (w x v : List Bool) (a b d : List ℕ) (hour : ℕ) → waits x hour ≡ true → AreOpenedOnce w x a b → AreMarked hour (hour + 1) false x v → AreOpened hour (hour + 1) 1 1 b d → AreOpenedOnce w v a d
+once_on w x v a b d hour waiting p mark q = record {
+  size = q.size ∙ p.size;
+  each = λ h lt.
+      let n = p.size in
+      let there : h < length b = omega arith in
+      let o = p.each h lt in
+      let most = o.most in
+      elim (cases_lt h hour) [
+        | inl below ↦
+            let same : still v h ≡ still x h = rw (mark.outside h (inl below)) refl in
+            record { times = o.times; least = o.least; most = omega arith; count = q.outside h (inl below) ∙ o.count }
+        | inr from ↦ elim (cases_lt hour h) [
+          | inl past ↦
+              let same : still v h ≡ still x h = rw (mark.outside h (inr (omega arith))) refl in
+              record { times = o.times; least = o.least; most = omega arith; count = q.outside h (inr (omega arith)) ∙ o.count }
+          | inr no_more ↦
+              let here : hour ≡ h = omega arith in
+              let before : still x h ≡ 1 = rw (← here, waiting) refl in
+              let after : still v h ≡ 0 = rw (mark.within h from (omega arith)) refl in
+              let one = q.within h there from (omega arith) in
+              let least = one.least in
+              let high = one.most in
+              record {
+                times = o.times + one.times;
+                least = omega arith;
+                most = omega arith;
+                count = one.count ∙ (ap (λ (k : ℕ). count_after k one.times) o.count ∙ after_both (get_or a h 0) o.times one.times);
+              }
+        ]
+      ];
+}
+
+-- and hours that are settled then
+pub once_join : (w x v : List Bool) (a b d : List ℕ) → AreOpenedOnce w x a b → AreOpenedOnce x v b d → AreOpenedOnce w v a d
+once_join w x v a b d p q = record {
+  size = q.size ∙ p.size;
+  each = λ h lt.
+      let n = p.size in
+      let there : h < length b = omega arith in
+      let o = p.each h lt in
+      let r = q.each h there in
+      let most = o.most in
+      let high = r.most in
+      record {
+        times = o.times + r.times;
+        least = omega arith;
+        most = omega arith;
+        count = r.count ∙ (ap (λ (k : ℕ). count_after k r.times) o.count ∙ after_both (get_or a h 0) o.times r.times);
+      };
+}
+
+-- an hour that doesn't wait
+pub marked_still : (hour : ℕ) (w : List Bool) → waits w hour ≡ false → AreMarked hour (hour + 1) false w w
+marked_still hour w settled = record {
+  size = refl;
+  within = λ h low high. let here : hour ≡ h = omega arith in subst (λ (i : ℕ). waits w i ≡ false) here settled;
+  outside = λ h out. refl;
+}
+
+-- none waits past the last hour
+pub settled_all : (w : List Bool) (n : ℕ) → length w ≡ n → ((h : ℕ) → h < n → waits w h ≡ false) → AllSettled w
+settled_all w n size below h = elim (cases_lt h n) [ inl lt ↦ below h lt | inr past ↦ get_or_past w h false (omega arith) ]
+
+pub settled_more : (xs items : List Bool) → AllSettled xs → items ≡ xs ++ false ∷ [] → AllSettled items
+settled_more xs items settled e h = rw e (elim (cases_lt h (length xs)) [
+  | inl below ↦ get_or_append_left xs (false ∷ []) false h below ∙ settled h
+  | inr from ↦ elim (cases_lt (length xs) h) [
+    | inl past ↦ get_or_past (xs ++ false ∷ []) h false (rw length-append (omega arith))
+    | inr no_more ↦
+        let here : h ≡ length xs = omega arith in
+        ap (λ (i : ℕ). get_or (xs ++ false ∷ []) i false) here ∙ get_or-append_seam xs false [] false
+  ]
+])
+
+pub grow_once : (w v : List Bool) (a b : List ℕ) → AreOpenedOnce w v a b → Grow a b
+unfolding Grow
+grow_once w v a b p h = elim (cases_lt h (length a)) [
+  | inl lt ↦
+      let o = p.each h lt in
+      let e = o.count in
+      let more = after_grows (get_or a h 0) o.times in
+      omega arith
+  | inr past ↦ let none : get_or a h 0 ≡ 0 = get_or_past a h 0 past in omega arith
+]

@@ -1,0 +1,81 @@
+use Rattle.std.proofs.Common.{◌≡◌, ◌+◌, ◌-◌, ◌≤◌, ℕ, arith, length, refl, subst}
+use Rattle.session.specs.Renewed.{AreNewFutures}
+use Rattle.session.proofs.GrowLaws.{grow_on}
+use Rattle.session.proofs.OpenLaws.{opened_across, opened_as}
+use Rattle.session.proofs.RenewLaws.{renewed_later, shapes_new}
+use Rattle.session.proofs.StatesLaws.{history_carries}
+use Rattle.session.proofs.renew.put_off.Goals as goal
+
+pub returns-in_err-futures-clause-grow : goal.returns-in_err-futures-clause-grow
+returns-in_err-futures-clause-grow g c = grow_on _ _ _ c.go_across.ensures.grow c.go_back.ensures.grow
+
+pub returns-clause-grow : goal.returns-clause-grow
+returns-clause-grow g c = grow_on _ _ _ c.go_across.ensures.grow c.go_back.ensures.grow
+
+pub start_of-start-requires-clause-order : goal.start_of-start-requires-clause-order
+start_of-start-requires-clause-order g c =
+    let size = c.len.ensures in
+    let low = c.in_ok-futures.ensures.futures.low in
+    omega arith
+
+pub start_of-start-requires-clause-carry_room : goal.start_of-start-requires-clause-carry_room
+start_of-start-requires-clause-carry_room g c =
+    let a = c.requires.kept.order in
+    let b = c.requires.kept.within in
+    let size = c.requires.kept.forth.size in
+    omega arith
+
+pub start_of-start-requires-clause-future_room : goal.start_of-start-requires-clause-future_room
+start_of-start-requires-clause-future_room g c =
+    let len = c.len.ensures in
+    let deref = c.deref-2.ensures.value in
+    let new = c.in_ok-futures.ensures.futures.size in
+    let b = c.requires.kept.within in
+    let size = c.requires.kept.back.size in
+    rw deref (omega arith)
+
+pub start_of-start-requires-clause-last : goal.start_of-start-requires-clause-last
+start_of-start-requires-clause-last g c =
+    let a = c.requires.kept.order in
+    let b = c.requires.kept.within in
+    let size = c.requires.kept.back.size in
+    omega arith
+
+pub start_of-start-requires-clause-shape : goal.start_of-start-requires-clause-shape
+start_of-start-requires-clause-shape g c =
+    let size = c.len.ensures in
+    let from : (c.args.touched.last + 1) - length c.in_ok-futures.futures.items ≡ (c.args.touched.last + 1) - c.len.result = omega arith in
+    let new = rw (from, c.as_slice-kept.ensures.value) at c.in_ok-futures.ensures.futures in
+    rw c.deref-2.ensures.value (shapes_new c.args.config.now c.args.store.now c.args.touched.first c.args.touched.last c.args.worked.now.waiting.items c.args.worked.now.carries.items c.args.worked.now.futures.items _ c.in_ok-futures.futures.items c.args.worked.now.report c.go_across.ensures.store c.requires.kept new)
+
+pub returns-clause-history : goal.returns-clause-history
+returns-clause-history g c =
+    let across = rw c.deref.ensures.value at c.in_ok-carries.ensures.carries in
+    history_carries c.args.config.now c.args.store.now c.args.touched.first c.args.touched.last c.args.worked.now.carries.items _ c.requires.sound c.go_across.ensures.store across
+
+pub returns-clause-futures : goal.returns-clause-futures
+returns-clause-futures g c =
+    let size = c.len.ensures in
+    let from : (c.args.touched.last + 1) - length c.in_ok-futures.futures.items ≡ (c.args.touched.last + 1) - c.len.result = omega arith in
+    rw (from, c.as_slice-kept.ensures.value) at c.in_ok-futures.ensures.futures
+
+pub returns-clause-fresh : goal.returns-clause-fresh
+returns-clause-fresh g c =
+    let kept = c.args.worked.now in
+    let size = c.len.ensures in
+    let from : (c.args.touched.last + 1) - length c.in_ok-futures.futures.items ≡ (c.args.touched.last + 1) - c.len.result = omega arith in
+    let new = rw (from, c.as_slice-kept.ensures.value) at c.in_ok-futures.ensures.futures in
+    let same = rw c.deref-2.ensures.value at c.start_of-start.ensures.same in
+    let across = rw c.deref.ensures.value at c.in_ok-carries.ensures.carries in
+    renewed_later c.args.config.now c.args.store.now c.args.touched.first c.args.touched.last kept.waiting.items kept.carries.items _ kept.futures.items _ c.start_of-start.result c.in_ok-futures.futures.items kept.report c.start_of-start.ensures.low c.start_of-start.ensures.high c.requires.kept across new same
+
+pub returns-clause-opens : goal.returns-clause-opens
+returns-clause-opens g c =
+    let forth = c.in_ok-carries.ensures.carries in
+    let back = c.in_ok-futures.ensures.futures in
+    let some = forth.some in
+    let low = back.low in
+    let order = c.requires.kept.order in
+    let size = c.len.ensures in
+    let from : (c.args.touched.last + 1) - length c.in_ok-futures.futures.items ≡ (c.args.touched.last + 1) - c.len.result = omega arith in
+    opened_as _ _ _ _ _ _ _ _ from refl (opened_across _ _ _ _ _ _ _ (omega arith) (omega arith) (omega arith) c.in_ok-carries.ensures.opens c.in_ok-futures.ensures.opens)

@@ -1,8 +1,0 @@
-use Rattle.session.proofs.ReportLaws.{counted, report_is}
-use Rattle.session.proofs.session.Session.report.Goals as goal
-
-pub returns-clause-report : goal.returns-clause-report
-returns-clause-report g c = rw (← c.self.view_is) (report_is _ _ _ _ _ _ c.self.invariant)
-
-pub returns-clause-counted : goal.returns-clause-counted
-returns-clause-counted g c = rw (← c.self.view_is) (counted _ _ _ _ _ _ c.self.invariant)

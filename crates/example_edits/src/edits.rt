@@ -1,4 +1,5 @@
 mod configured;
+mod drafts;
 mod many_hours;
 mod pairs;
 

@@ -19,10 +19,11 @@ use Rattle.ring_config.specs.declared.error.ConfigError.{ConfigError}
 use Rattle.signal_log.specs.Log.{HasHistory, log_of}
 use Rattle.session.specs.Edits.{Change, hour_change, step_of}
 use Rattle.session.specs.Edits as change
-use Rattle.session.specs.Moved.{Moves}
-use Rattle.session.specs.Opens.{AreOpened, OpensBy}
-use Rattle.session.specs.Sessions.{Kept, Steps}
-use Rattle.session.proofs.OpenLaws.{opened_not, opened_on, opened_wider}
+use Rattle.session.specs.Moved.{Moves, Touches}
+use Rattle.session.specs.Links.{AllSettled, waits}
+use Rattle.session.specs.Opens.{AreOpened, AreOpenedFor, AreOpenedOnce, IsOpened, IsOpenedFor, OpensFor, count_after, still}
+use Rattle.session.specs.Sessions.{Steps}
+use Rattle.session.proofs.OpenLaws.{after_both, opened_not, opened_wider}
 use Rattle.command_line.specs.Words.{Asked, for_run}
 use Rattle.script_lines.specs.Lines.{after_line, first_line, lines_of}
 use Rattle.script_lines.specs.Words.{Said, said}
@@ -34,7 +35,7 @@ use Rattle.sigaudit.specs.declared.status.Status.{Status}
 use Rattle.sigaudit.specs.declared.status.Status.TheVariants as outer
 use Rattle.sigaudit.specs.declared.status.Stopped.{Stopped}
 use Rattle.sigaudit.specs.declared.status.Stopped.TheVariants as stopped
-use Rattle.sigaudit.specs.Counting.{AreCounted, ArePlain, AreTallied, OpensAnswer, OpensAsked, OpensConfig, OpensFile, OpensText, EditTally, FetchTally, IsPlain, LineTally, MadeTally, ReadTally, ScriptTally, WhereTaken, within}
+use Rattle.sigaudit.specs.Counting.{AreCounted, AreCountedFor, ArePlain, AreTallied, OpensAnswer, OpensAsked, OpensConfig, OpensFile, OpensText, EditTally, FetchTally, IsPlain, LineTally, MadeTally, ReadTally, ScriptTally, WhereTaken, within}
 use Rattle.sigaudit.specs.Aims.{Aim, for_lines}
 use Rattle.sigaudit.specs.HourFile.{hour_said}
 use Rattle.sigaudit.specs.Offsets.{advance_of}
@@ -63,36 +64,79 @@ within_not : (from to h : ℕ) → (h < from) ⊎ (to ≤ h) → within from to 
 within_not from to h (inl before) = rw (lt-ltb h from before) refl
 within_not from to h (inr past) = elim (cases_lt h from) [ inl before ↦ rw (lt-ltb h from before) refl | inr low ↦ rw (le-ltb h from low, le-ltb h to past) refl ]
 
+-- ---- one hour whose numbers may wait
+
+-- an hour whose numbers wait as before
+for_opened : (low high s x y : ℕ) → IsOpened low high x y → IsOpenedFor low high s s x y
+for_opened low high s x y o = let most = o.most in record { times = o.times; least = o.least; most = omega arith; count = o.count }
+
+for_same : (w v : List Bool) (h x y : ℕ) → waits v h ≡ waits w h → y ≡ x → IsOpenedFor 0 0 (still w h) (still v h) x y
+for_same w v h x y marked e =
+    let same : still v h ≡ still w h = rw marked refl in
+    let o = opened_not x y e in
+    let most = o.most in
+    record { times = o.times; least = o.least; most = omega arith; count = o.count }
+
+for_wider : (low high high' s t x y : ℕ) → high ≤ high' → IsOpenedFor low high s t x y → IsOpenedFor low high' s t x y
+for_wider low high high' s t x y le o = let most = o.most in record { times = o.times; least = o.least; most = omega arith; count = o.count }
+
+-- openings one after another
+for_on : (a b c d s t u x y z : ℕ) → IsOpenedFor a b s t x y → IsOpenedFor c d t u y z → IsOpenedFor (a + c) (b + d) s u x z
+for_on a b c d s t u x y z p q =
+    let low = p.least in
+    let high = p.most in
+    let low2 = q.least in
+    let high2 = q.most in
+    record {
+      times = p.times + q.times;
+      least = omega arith;
+      most = omega arith;
+      count = q.count ∙ (ap (λ (n : ℕ). count_after n q.times) p.count ∙ after_both x p.times q.times);
+    }
+
+-- where the numbers of the hour didn't wait before
+for_none : (low high s t x y : ℕ) → s ≡ 0 → IsOpenedFor low high s t x y → IsOpened low high x y
+for_none low high s t x y e o = let most = o.most in record { times = o.times; least = o.least; most = omega arith; count = o.count }
+
+-- ---- an edit
+
 -- nothing was opened
-pub counted_still : (Tally : ℕ → ℕ → ℕ → Type 0) (a b : List ℕ) → b ≡ a → ((h : ℕ) → Tally h 0 0) → AreCounted Tally a b
-counted_still Tally a b e tally = (ap length e, λ h lt. (0, 0, tally h, opened_not (slice_index a h) (slice_index b h) (ap (λ (x : List ℕ). slice_index x h) e)))
+pub counted_still : (w : List Bool) (Tally : ℕ → ℕ → ℕ → Type 0) (a b : List ℕ) → b ≡ a → ((h : ℕ) → Tally h 0 0) → AreCountedFor w w Tally a b
+counted_still w Tally a b e tally = (ap length e, λ h lt. (0, 0, tally h, for_same w w h (slice_index a h) (slice_index b h) refl (ap (λ (x : List ℕ). slice_index x h) e)))
 
-pub same_tally : (T U : ℕ → ℕ → ℕ → Type 0) (a b : List ℕ) → ((h m k : ℕ) → T h m k → U h m k) → AreCounted T a b → AreCounted U a b
-same_tally T U a b f (size, each) = (size, λ h lt. let (m, k, tally, opened) = each h lt in (m, k, f h m k tally, opened))
+pub same_tally : (w v : List Bool) (T U : ℕ → ℕ → ℕ → Type 0) (a b : List ℕ) → ((h m k : ℕ) → T h m k → U h m k) → AreCountedFor w v T a b → AreCountedFor w v U a b
+same_tally w v T U a b f (size, each) = (size, λ h lt. let (m, k, tally, opened) = each h lt in (m, k, f h m k tally, opened))
 
-made_counted : (c : Settings) (s new : Store) (ch : Change) (a : Applied) (old now : List ℕ) → HasHistory (log_of c.specs new) → Moves c s new ch a → AreOpened a.from a.to 1 3 old now → AreCounted (MadeTally c s ch (Ok new)) old now
-made_counted c s new ch a old now has moves opens = (
+made_counted : (c : Settings) (s new : Store) (ch : Change) (a : Applied) (w v : List Bool) (old now : List ℕ) → HasHistory (log_of c.specs new) → Moves c s new ch a → AreOpenedFor a.from a.to w v old now → AreCountedFor w v (MadeTally c s ch (Ok new)) old now
+made_counted c s new ch a w v old now has moves opens = (
   opens.size,
   λ h lt. elim (cases_lt h a.from) [
-    | inl before ↦ (0, 0, inl (has, a, moves, sym (within_not a.from a.to h (inl before)), refl), opened_not (slice_index old h) (slice_index now h) (opens.outside h (inl before)))
+    | inl before ↦
+        let out = opens.outside h (inl before) in
+        (0, 0, inl (has, a, moves, sym (within_not a.from a.to h (inl before)), refl), for_same w v h (slice_index old h) (slice_index now h) out.1 out.0)
     | inr low ↦ elim (cases_lt h a.to) [
       | inl high ↦ (1, 0, inl (has, a, moves, sym (within_is a.from a.to h low high), refl), opens.within h lt low high)
-      | inr past ↦ (0, 0, inl (has, a, moves, sym (within_not a.from a.to h (inr past)), refl), opened_not (slice_index old h) (slice_index now h) (opens.outside h (inr past)))
+      | inr past ↦
+          let out = opens.outside h (inr past) in
+          (0, 0, inl (has, a, moves, sym (within_not a.from a.to h (inr past)), refl), for_same w v h (slice_index old h) (slice_index now h) out.1 out.0)
     ]
   ],
 )
 
-pub edit_counted : (c : Settings) (s new : Store) (ch : Change) (a : Applied) (old now : List ℕ) → Steps c (step_of s ch) s new (Ok a) → Moves c s new ch a → OpensBy ch old now (Ok a) → AreCounted (EditTally c s ch) old now
-unfolding OpensBy
-edit_counted c s new ch a old now steps moves opens = rw steps.0 (made_counted c s new ch a old now steps.1 moves opens)
+pub edit_counted : (c : Settings) (s new : Store) (ch : Change) (a : Applied) (w v : List Bool) (old now : List ℕ) → Steps c (step_of s ch) s new (Ok a) → Moves c s new ch a → OpensFor ch w v old now (Ok a) → AreCountedFor w v (EditTally c s ch) old now
+unfolding OpensFor
+edit_counted c s new ch a w v old now steps moves opens = rw steps.0 (made_counted c s new ch a w v old now steps.1 moves opens)
+
+-- as many numbers wait as before
+marked_still : (w v : List Bool) (Tally : ℕ → ℕ → ℕ → Type 0) (old now : List ℕ) → v ≡ w → AreCountedFor w w Tally old now → AreCountedFor w v Tally old now
+marked_still w v Tally old now e h = subst (λ (x : List Bool). AreCountedFor w x Tally old now) (sym e) h
 
 -- an edit that is refused before it is made
-unmade : (c : Settings) (s : Store) (ch : Change) (to : Result Store EditError) (e : EditError) (old now : List ℕ) → to ≡ Err e → now ≡ old → AreCounted (MadeTally c s ch to) old now
-unmade c s ch to e old now made same = rw made (counted_still (MadeTally c s ch (Err e)) old now same (λ h. (refl, refl)))
+unmade : (c : Settings) (s : Store) (ch : Change) (to : Result Store EditError) (e : EditError) (w v : List Bool) (old now : List ℕ) → to ≡ Err e → (v ≡ w) × (now ≡ old) → AreCountedFor w v (MadeTally c s ch to) old now
+unmade c s ch to e w v old now made same = rw made (marked_still w v (MadeTally c s ch (Err e)) old now same.0 (counted_still w (MadeTally c s ch (Err e)) old now same.1 (λ h. (refl, refl))))
 
-stopped_counted : (c : Settings) (s new : Store) (ch : Change) (row : Row) (old now : List ℕ) → Steps c (Ok new) s s (Err (Contradiction row)) → OpensBy ch old now (Err (Contradiction row)) → AreCounted (MadeTally c s ch (Ok new)) old now
-unfolding OpensBy
-stopped_counted c s new ch row old now steps (first, last, touches, opens) =
+stopped_counted : (c : Settings) (s new : Store) (ch : Change) (row : Row) (first last : ℕ) (w : List Bool) (old now : List ℕ) → Steps c (Ok new) s s (Err (Contradiction row)) → Touches ch first last → AreOpened first (row.at / 36000 + 1) 1 1 old now → AreCountedFor w w (MadeTally c s ch (Ok new)) old now
+stopped_counted c s new ch row first last w old now steps touches opens =
     let to = row.at / 36000 + 1 in
     let (_, (t, is, contradicts, none)) = steps in
     let same : t ≡ new = cc in
@@ -100,26 +144,26 @@ stopped_counted c s new ch row old now steps (first, last, touches, opens) =
     let not = rw same at none in (
       opens.size,
       λ h lt. elim (cases_lt h first) [
-        | inl before ↦ (0, 0, inr (row, first, last, at, not, touches, refl, sym (within_not first to h (inl before))), opened_not (slice_index old h) (slice_index now h) (opens.outside h (inl before)))
+        | inl before ↦ (0, 0, inr (row, first, last, at, not, touches, refl, sym (within_not first to h (inl before))), for_same w w h (slice_index old h) (slice_index now h) refl (opens.outside h (inl before)))
         | inr low ↦ elim (cases_lt h to) [
-          | inl high ↦ (0, 1, inr (row, first, last, at, not, touches, refl, sym (within_is first to h low high)), opened_wider 1 1 0 3 (slice_index old h) (slice_index now h) (omega arith) (omega arith) (opens.within h lt low high))
-          | inr past ↦ (0, 0, inr (row, first, last, at, not, touches, refl, sym (within_not first to h (inr past))), opened_not (slice_index old h) (slice_index now h) (opens.outside h (inr past)))
+          | inl high ↦ (0, 1, inr (row, first, last, at, not, touches, refl, sym (within_is first to h low high)), for_opened 0 3 (still w h) (slice_index old h) (slice_index now h) (opened_wider 1 1 0 3 (slice_index old h) (slice_index now h) (omega arith) (omega arith) (opens.within h lt low high)))
+          | inr past ↦ (0, 0, inr (row, first, last, at, not, touches, refl, sym (within_not first to h (inr past))), for_same w w h (slice_index old h) (slice_index now h) refl (opens.outside h (inr past)))
         ]
       ],
     )
 
-pub refusal_counted : (c : Settings) (s new : Store) (ch : Change) (to : Result Store EditError) (e : EditError) (old now : List ℕ) → is_edit_memory e ≡ false → Steps c to s new (Err e) → OpensBy ch old now (Err e) → AreCounted (MadeTally c s ch to) old now
-unfolding OpensBy
-refusal_counted c s new ch to OutOfWindow old now ne steps opens = unmade c s ch to OutOfWindow old now steps.1 opens
-refusal_counted c s new ch to AlreadyHeld old now ne steps opens = unmade c s ch to AlreadyHeld old now steps.1 opens
-refusal_counted c s new ch to NotHeld old now ne steps opens = unmade c s ch to NotHeld old now steps.1 opens
-refusal_counted c s new ch to EmptyRange old now ne steps opens = unmade c s ch to EmptyRange old now steps.1 opens
-refusal_counted c s new ch to TooManyRows old now ne steps opens = unmade c s ch to TooManyRows old now steps.1 opens
-refusal_counted c s new ch to TooManyBlanks old now ne steps opens = unmade c s ch to TooManyBlanks old now steps.1 opens
-refusal_counted c s new ch to (Contradiction row) old now ne steps opens =
+pub refusal_counted : (c : Settings) (s new : Store) (ch : Change) (to : Result Store EditError) (e : EditError) (w v : List Bool) (old now : List ℕ) → is_edit_memory e ≡ false → Steps c to s new (Err e) → OpensFor ch w v old now (Err e) → AreCountedFor w v (MadeTally c s ch to) old now
+unfolding OpensFor
+refusal_counted c s new ch to OutOfWindow w v old now ne steps opens = unmade c s ch to OutOfWindow w v old now steps.1 opens
+refusal_counted c s new ch to AlreadyHeld w v old now ne steps opens = unmade c s ch to AlreadyHeld w v old now steps.1 opens
+refusal_counted c s new ch to NotHeld w v old now ne steps opens = unmade c s ch to NotHeld w v old now steps.1 opens
+refusal_counted c s new ch to EmptyRange w v old now ne steps opens = unmade c s ch to EmptyRange w v old now steps.1 opens
+refusal_counted c s new ch to TooManyRows w v old now ne steps opens = unmade c s ch to TooManyRows w v old now steps.1 opens
+refusal_counted c s new ch to TooManyBlanks w v old now ne steps opens = unmade c s ch to TooManyBlanks w v old now steps.1 opens
+refusal_counted c s new ch to (Contradiction row) w v old now ne steps (marked, (first, last, touches, opens)) =
     let (_, (t, is, contradicts, none)) = steps in
-    rw is (stopped_counted c s t ch row old now (refl, (t, refl, contradicts, none)) opens)
-refusal_counted c s new ch to Memory old now ne steps opens = absurd (cc)
+    rw is (marked_still w v (MadeTally c s ch (Ok t)) old now marked (stopped_counted c s t ch row first last w old now (refl, (t, refl, contradicts, none)) touches opens))
+refusal_counted c s new ch to Memory w v old now ne steps opens = absurd (cc)
 
 -- ---- an hour file
 
@@ -131,26 +175,26 @@ said_as c c' hour signal window bytes x ec es ew h =
     let h' : hour_said (wanted_for c hour) bytes ≡ x = rw (sig, win) at h in
     h'
 
-pub read_counted : (c : Settings) (make : Shown → Change) (s : Store) (read : Result Shown Unread) (shown : Shown) (ch : Change) (old now : List ℕ) (r : Result Bool Stopped) → read ≡ Ok shown → ch ≡ make shown → OnOk r (AreCounted (EditTally c s ch) old now) → OnOk r (AreCounted (ReadTally c make s read) old now)
-read_counted c make s read shown ch old now r e em h = rw e (subst (λ (x : Change). OnOk r (AreCounted (EditTally c s x) old now)) em h)
+pub read_counted : (c : Settings) (make : Shown → Change) (s : Store) (read : Result Shown Unread) (shown : Shown) (ch : Change) (w v : List Bool) (old now : List ℕ) (r : Result Bool Stopped) → read ≡ Ok shown → ch ≡ make shown → OnOk r (AreCountedFor w v (EditTally c s ch) old now) → OnOk r (AreCountedFor w v (ReadTally c make s read) old now)
+read_counted c make s read shown ch w v old now r e em h = rw e (subst (λ (x : Change). OnOk r (AreCountedFor w v (EditTally c s x) old now)) em h)
 
-pub unread_counted : (c : Settings) (make : Shown → Change) (s : Store) (read : Result Shown Unread) (e : Unread) (old : List ℕ) (r : Result Bool Stopped) → read ≡ Err e → OnOk r (AreCounted (ReadTally c make s read) old old)
-unread_counted c make s read e old r is = rw is (on_ok r (AreCounted (ReadTally c make s (Err e)) old old) (counted_still (ReadTally c make s (Err e)) old old refl (λ h. (refl, refl))))
+pub unread_counted : (c : Settings) (make : Shown → Change) (s : Store) (read : Result Shown Unread) (e : Unread) (w : List Bool) (old : List ℕ) (r : Result Bool Stopped) → read ≡ Err e → OnOk r (AreCountedFor w w (ReadTally c make s read) old old)
+unread_counted c make s read e w old r is = rw is (on_ok r (AreCountedFor w w (ReadTally c make s (Err e)) old old) (counted_still w (ReadTally c make s (Err e)) old old refl (λ h. (refl, refl))))
 
-pub fetched_counted : (c : Settings) (hour : ℕ) (make : Shown → Change) (s : Store) (want : Result (List ℕ) Refusal) (bytes bytes' old now : List ℕ) (r : Result Bool Stopped) → want ≡ Ok bytes → bytes' ≡ bytes → OnOk r (AreCounted (ReadTally c make s (hour_said (wanted_for c hour) bytes')) old now) → OnOk r (AreCounted (FetchTally c hour make s want) old now)
-fetched_counted c hour make s want bytes bytes' old now r e eb h = rw e (subst (λ (x : List ℕ). OnOk r (AreCounted (ReadTally c make s (hour_said (wanted_for c hour) x)) old now)) eb h)
+pub fetched_counted : (c : Settings) (hour : ℕ) (make : Shown → Change) (s : Store) (want : Result (List ℕ) Refusal) (bytes bytes' : List ℕ) (w v : List Bool) (old now : List ℕ) (r : Result Bool Stopped) → want ≡ Ok bytes → bytes' ≡ bytes → OnOk r (AreCountedFor w v (ReadTally c make s (hour_said (wanted_for c hour) bytes')) old now) → OnOk r (AreCountedFor w v (FetchTally c hour make s want) old now)
+fetched_counted c hour make s want bytes bytes' w v old now r e eb h = rw e (subst (λ (x : List ℕ). OnOk r (AreCountedFor w v (ReadTally c make s (hour_said (wanted_for c hour) x)) old now)) eb h)
 
-pub missed_counted : (c : Settings) (hour : ℕ) (make : Shown → Change) (s : Store) (want : Result (List ℕ) Refusal) (refusal : Refusal) (old : List ℕ) (r : Result Bool Stopped) → want ≡ Err refusal → OnOk r (AreCounted (FetchTally c hour make s want) old old)
-missed_counted c hour make s want refusal old r is = rw is (on_ok r (AreCounted (FetchTally c hour make s (Err refusal)) old old) (counted_still (FetchTally c hour make s (Err refusal)) old old refl (λ h. (refl, refl))))
+pub missed_counted : (c : Settings) (hour : ℕ) (make : Shown → Change) (s : Store) (want : Result (List ℕ) Refusal) (refusal : Refusal) (w : List Bool) (old : List ℕ) (r : Result Bool Stopped) → want ≡ Err refusal → OnOk r (AreCountedFor w w (FetchTally c hour make s want) old old)
+missed_counted c hour make s want refusal w old r is = rw is (on_ok r (AreCountedFor w w (FetchTally c hour make s (Err refusal)) old old) (counted_still w (FetchTally c hour make s (Err refusal)) old old refl (λ h. (refl, refl))))
 
 -- an hour that the window hasn't, or has
-pub outside_counted : (files : Files) (c : Settings) (hour : ℕ) (name : List ℕ) (make : Shown → Change) (s : Store) (old : List ℕ) (r : Result Bool Stopped) → c.window.hours ≤ hour → OnOk r (AreCounted (FetchTally c hour make s (hour_bytes files c hour name)) old old)
-outside_counted files c hour name make s old r past =
+pub outside_counted : (files : Files) (c : Settings) (hour : ℕ) (name : List ℕ) (make : Shown → Change) (s : Store) (w : List Bool) (old : List ℕ) (r : Result Bool Stopped) → c.window.hours ≤ hour → OnOk r (AreCountedFor w w (FetchTally c hour make s (hour_bytes files c hour name)) old old)
+outside_counted files c hour name make s w old r past =
     let e : hour_bytes files c hour name ≡ Err (Edit OutOfWindow) = rw (le-ltb hour c.window.hours past) refl in
-    missed_counted c hour make s (hour_bytes files c hour name) (Edit OutOfWindow) old r e
+    missed_counted c hour make s (hour_bytes files c hour name) (Edit OutOfWindow) w old r e
 
-pub inside_counted : (files : Files) (c : Settings) (hour : ℕ) (name : List ℕ) (make : Shown → Change) (s : Store) (old now : List ℕ) (r : Result Bool Stopped) → hour < c.window.hours → OnOk r (AreCounted (FetchTally c hour make s (hour_file (files name))) old now) → OnOk r (AreCounted (FetchTally c hour make s (hour_bytes files c hour name)) old now)
-inside_counted files c hour name make s old now r lt h =
+pub inside_counted : (files : Files) (c : Settings) (hour : ℕ) (name : List ℕ) (make : Shown → Change) (s : Store) (w v : List Bool) (old now : List ℕ) (r : Result Bool Stopped) → hour < c.window.hours → OnOk r (AreCountedFor w v (FetchTally c hour make s (hour_file (files name))) old now) → OnOk r (AreCountedFor w v (FetchTally c hour make s (hour_bytes files c hour name)) old now)
+inside_counted files c hour name make s w v old now r lt h =
     let e : hour_bytes files c hour name ≡ hour_file (files name) = rw (lt-ltb hour c.window.hours lt) refl in
     rw e h
 
@@ -172,8 +216,8 @@ line_edit files c (line.measures_of hour) ch s e h m k t = absurd (cc)
 line_edit files c (line.points p) ch s e h m k t = absurd (cc)
 line_edit files c (line.offsets name) ch s e h m k t = absurd (cc)
 
-pub line_edited : (files : Files) (c : Settings) (x : Said) (ch : Change) (s : Store) (old now : List ℕ) (r : Result Bool Stopped) → Some ch ≡ edit_said x → OnOk r (AreCounted (EditTally c s ch) old now) → OnOk r (AreCounted (LineTally files c x s) old now)
-line_edited files c x ch s old now r e h = on_ok_by r (AreCounted (EditTally c s ch) old now) (AreCounted (LineTally files c x s) old now) (same_tally (EditTally c s ch) (LineTally files c x s) old now (line_edit files c x ch s e)) h
+pub line_edited : (files : Files) (c : Settings) (x : Said) (ch : Change) (s : Store) (w v : List Bool) (old now : List ℕ) (r : Result Bool Stopped) → Some ch ≡ edit_said x → OnOk r (AreCountedFor w v (EditTally c s ch) old now) → OnOk r (AreCountedFor w v (LineTally files c x s) old now)
+line_edited files c x ch s w v old now r e h = on_ok_by r (AreCountedFor w v (EditTally c s ch) old now) (AreCountedFor w v (LineTally files c x s) old now) (same_tally w v (EditTally c s ch) (LineTally files c x s) old now (line_edit files c x ch s e)) h
 
 line_loads : (files : Files) (c : Settings) (hour : ℕ) (name : List ℕ) (s : Store) (h m k : ℕ) → FetchTally c hour (hour_change false) s (hour_bytes files c hour name) h m k → LineTally files c (line.load hour name) s h m k
 unfolding LineTally
@@ -183,13 +227,13 @@ line_replaces : (files : Files) (c : Settings) (hour : ℕ) (name : List ℕ) (s
 unfolding LineTally
 line_replaces files c hour name s h m k t = t
 
-pub line_loaded : (files : Files) (c : Settings) (x : Said) (hour : ℕ) (name : List ℕ) (s : Store) (old now : List ℕ) (r : Result Bool Stopped) → x ≡ line.load hour name → OnOk r (AreCounted (FetchTally c hour (hour_change false) s (hour_bytes files c hour name)) old now) → OnOk r (AreCounted (LineTally files c x s) old now)
-line_loaded files c x hour name s old now r e h =
-    rw e (on_ok_by r (AreCounted (FetchTally c hour (hour_change false) s (hour_bytes files c hour name)) old now) (AreCounted (LineTally files c (line.load hour name) s) old now) (same_tally (FetchTally c hour (hour_change false) s (hour_bytes files c hour name)) (LineTally files c (line.load hour name) s) old now (line_loads files c hour name s)) h)
+pub line_loaded : (files : Files) (c : Settings) (x : Said) (hour : ℕ) (name : List ℕ) (s : Store) (w v : List Bool) (old now : List ℕ) (r : Result Bool Stopped) → x ≡ line.load hour name → OnOk r (AreCountedFor w v (FetchTally c hour (hour_change false) s (hour_bytes files c hour name)) old now) → OnOk r (AreCountedFor w v (LineTally files c x s) old now)
+line_loaded files c x hour name s w v old now r e h =
+    rw e (on_ok_by r (AreCountedFor w v (FetchTally c hour (hour_change false) s (hour_bytes files c hour name)) old now) (AreCountedFor w v (LineTally files c (line.load hour name) s) old now) (same_tally w v (FetchTally c hour (hour_change false) s (hour_bytes files c hour name)) (LineTally files c (line.load hour name) s) old now (line_loads files c hour name s)) h)
 
-pub line_replaced : (files : Files) (c : Settings) (x : Said) (hour : ℕ) (name : List ℕ) (s : Store) (old now : List ℕ) (r : Result Bool Stopped) → x ≡ line.replace hour name → OnOk r (AreCounted (FetchTally c hour (hour_change true) s (hour_bytes files c hour name)) old now) → OnOk r (AreCounted (LineTally files c x s) old now)
-line_replaced files c x hour name s old now r e h =
-    rw e (on_ok_by r (AreCounted (FetchTally c hour (hour_change true) s (hour_bytes files c hour name)) old now) (AreCounted (LineTally files c (line.replace hour name) s) old now) (same_tally (FetchTally c hour (hour_change true) s (hour_bytes files c hour name)) (LineTally files c (line.replace hour name) s) old now (line_replaces files c hour name s)) h)
+pub line_replaced : (files : Files) (c : Settings) (x : Said) (hour : ℕ) (name : List ℕ) (s : Store) (w v : List Bool) (old now : List ℕ) (r : Result Bool Stopped) → x ≡ line.replace hour name → OnOk r (AreCountedFor w v (FetchTally c hour (hour_change true) s (hour_bytes files c hour name)) old now) → OnOk r (AreCountedFor w v (LineTally files c x s) old now)
+line_replaced files c x hour name s w v old now r e h =
+    rw e (on_ok_by r (AreCountedFor w v (FetchTally c hour (hour_change true) s (hour_bytes files c hour name)) old now) (AreCountedFor w v (LineTally files c (line.replace hour name) s) old now) (same_tally w v (FetchTally c hour (hour_change true) s (hour_bytes files c hour name)) (LineTally files c (line.replace hour name) s) old now (line_replaces files c hour name s)) h)
 
 -- a line that is no edit
 pub skip_still : (files : Files) (c : Settings) (s : Store) (h : ℕ) → LineTally files c line.skip s h 0 0
@@ -208,8 +252,15 @@ pub hour_still : (files : Files) (c : Settings) (hour : ℕ) (s : Store) (h : �
 unfolding LineTally
 hour_still files c hour s h = (refl, refl)
 
-pub line_still : (files : Files) (c : Settings) (x y : Said) (s : Store) (old : List ℕ) (r : Result Bool Stopped) → x ≡ y → ((h : ℕ) → LineTally files c y s h 0 0) → OnOk r (AreCounted (LineTally files c x s) old old)
-line_still files c x y s old r e still = rw e (on_ok r (AreCounted (LineTally files c y s) old old) (counted_still (LineTally files c y s) old old refl still))
+pub line_still : (files : Files) (c : Settings) (x y : Said) (s : Store) (w : List Bool) (old : List ℕ) (r : Result Bool Stopped) → x ≡ y → ((h : ℕ) → LineTally files c y s h 0 0) → OnOk r (AreCountedFor w w (LineTally files c x s) old old)
+line_still files c x y s w old r e none = rw e (on_ok r (AreCountedFor w w (LineTally files c y s) old old) (counted_still w (LineTally files c y s) old old refl none))
+
+-- a line that asks for numbers, which no longer wait
+settled_counted : (w v : List Bool) (Tally : ℕ → ℕ → ℕ → Type 0) (old now : List ℕ) → ((h : ℕ) → Tally h 0 0) → AreOpenedOnce w v old now → AreCountedFor w v Tally old now
+settled_counted w v Tally old now none once = (once.size, λ h lt. (0, 0, none h, once.each h lt))
+
+pub line_settled : (files : Files) (c : Settings) (x y : Said) (s : Store) (w v : List Bool) (old now : List ℕ) (r : Result Bool Stopped) → x ≡ y → ((h : ℕ) → LineTally files c y s h 0 0) → OnOk r (AreOpenedOnce w v old now) → OnOk r (AreCountedFor w v (LineTally files c x s) old now)
+line_settled files c x y s w v old now r e none h = rw e (on_ok_by r (AreOpenedOnce w v old now) (AreCountedFor w v (LineTally files c y s) old now) (settled_counted w v (LineTally files c y s) old now none) h)
 
 points_still : (files : Files) (c : Settings) (p : ℕ) (s : Store) (h : ℕ) → LineTally files c (line.points p) s h 0 0
 unfolding LineTally
@@ -220,19 +271,19 @@ unfolding LineTally
 offsets_still files c name s h = (refl, refl)
 
 -- a bad line, as it names no phase of the configuration, or no approach with an advance detector
-pub points_counted : (files : Files) (c : Settings) (x : Said) (p : ℕ) (s : Store) (old now : List ℕ) (r : Result Bool Stopped) → x ≡ line.points p → (has_phase c.phases p ≡ false → now ≡ old) → IsPlain c x → OnOk r (AreCounted (LineTally files c x s) old now)
-points_counted files c x p s old now r e still plain =
+pub points_counted : (files : Files) (c : Settings) (x : Said) (p : ℕ) (s : Store) (w : List Bool) (old now : List ℕ) (r : Result Bool Stopped) → x ≡ line.points p → (has_phase c.phases p ≡ false → now ≡ old) → IsPlain c x → OnOk r (AreCountedFor w w (LineTally files c x s) old now)
+points_counted files c x p s w old now r e same plain =
     let absent : has_phase c.phases p ≡ false = subst (λ (z : Said). IsPlain c z) e plain in
-    rw e (on_ok r (AreCounted (LineTally files c (line.points p) s) old now) (counted_still (LineTally files c (line.points p) s) old now (still absent) (points_still files c p s)))
+    rw e (on_ok r (AreCountedFor w w (LineTally files c (line.points p) s) old now) (counted_still w (LineTally files c (line.points p) s) old now (same absent) (points_still files c p s)))
 
-pub offsets_counted : (files : Files) (c : Settings) (x : Said) (name : List ℕ) (s : Store) (old now : List ℕ) (r : Result Bool Stopped) → x ≡ line.offsets name → (advance_of c name ≡ None → now ≡ old) → IsPlain c x → OnOk r (AreCounted (LineTally files c x s) old now)
-offsets_counted files c x name s old now r e still plain =
+pub offsets_counted : (files : Files) (c : Settings) (x : Said) (name : List ℕ) (s : Store) (w : List Bool) (old now : List ℕ) (r : Result Bool Stopped) → x ≡ line.offsets name → (advance_of c name ≡ None → now ≡ old) → IsPlain c x → OnOk r (AreCountedFor w w (LineTally files c x s) old now)
+offsets_counted files c x name s w old now r e same plain =
     let absent : advance_of c name ≡ None = subst (λ (z : Said). IsPlain c z) e plain in
-    rw e (on_ok r (AreCounted (LineTally files c (line.offsets name) s) old now) (counted_still (LineTally files c (line.offsets name) s) old now (still absent) (offsets_still files c name s)))
+    rw e (on_ok r (AreCountedFor w w (LineTally files c (line.offsets name) s) old now) (counted_still w (LineTally files c (line.offsets name) s) old now (same absent) (offsets_still files c name s)))
 
 -- a line by what is read of it
-pub line_read : (files : Files) (c : Settings) (x y : Said) (s : Store) (old now : List ℕ) (r : Result Bool Stopped) → x ≡ y → (IsPlain c x → OnOk r (AreCounted (LineTally files c x s) old now)) → IsPlain c y → OnOk r (AreCounted (LineTally files c y s) old now)
-line_read files c x y s old now r e h = subst (λ (z : Said). IsPlain c z → OnOk r (AreCounted (LineTally files c z s) old now)) e h
+pub line_read : (files : Files) (c : Settings) (x y : Said) (s : Store) (w v : List Bool) (old now : List ℕ) (r : Result Bool Stopped) → x ≡ y → (IsPlain c x → OnOk r (AreCountedFor w v (LineTally files c x s) old now)) → IsPlain c y → OnOk r (AreCountedFor w v (LineTally files c y s) old now)
+line_read files c x y s w v old now r e h = subst (λ (z : Said). IsPlain c z → OnOk r (AreCountedFor w v (LineTally files c z s) old now)) e h
 
 -- ---- lines one after another
 
@@ -252,29 +303,29 @@ tally_more files c n at (x ∷ xs) l s mid last t h m1 k1 m2 k2 e (u, first, (a,
     (u, first, (a, b, a' + m2, b' + k2, one, tally_more files c (n + 1) at xs l u.store mid last t h a' b' m2 k2 (omega arith) rest turn store tally, omega arith, omega arith))
 
 -- two openings one after another, by tallies that add up
-counted_on : (T U V : ℕ → ℕ → ℕ → Type 0) (a b d : List ℕ) → ((h m k m' k' : ℕ) → T h m k → U h m' k' → V h (m + m') (k + k')) → AreCounted T a b → AreCounted U b d → AreCounted V a d
-counted_on T U V a b d join (size, each) (size', each') = (
+counted_on : (w x v : List Bool) (T U V : ℕ → ℕ → ℕ → Type 0) (a b d : List ℕ) → ((h m k m' k' : ℕ) → T h m k → U h m' k' → V h (m + m') (k + k')) → AreCountedFor w x T a b → AreCountedFor x v U b d → AreCountedFor w v V a d
+counted_on w x v T U V a b d join (size, each) (size', each') = (
   size' ∙ size,
   λ h lt.
       let (m, k, tally, opened) = each h lt in
       let (m', k', tally', opened') = each' h (rw size lt) in
-      let both = opened_on m (3 * (m + k)) m' (3 * (m' + k')) (slice_index a h) (slice_index b h) (slice_index d h) opened opened' in
-      (m + m', k + k', join h m k m' k' tally tally', opened_wider (m + m') (3 * (m + k) + 3 * (m' + k')) (m + m') (3 * ((m + m') + (k + k'))) (slice_index a h) (slice_index d h) (omega arith) (omega arith) both),
+      let both = for_on m (3 * (m + k)) m' (3 * (m' + k')) (still w h) (still x h) (still v h) (slice_index a h) (slice_index b h) (slice_index d h) opened opened' in
+      (m + m', k + k', join h m k m' k' tally tally', for_wider (m + m') (3 * (m + k) + 3 * (m' + k')) (3 * ((m + m') + (k + k'))) (still w h) (still v h) (slice_index a h) (slice_index d h) (omega arith) both),
 )
 
 -- the lines before line n were taken, these are left, and hours were opened so
-pub record IsCountedOn (files : Files) (c : Settings) (lines : List (List ℕ)) (s0 : Store) (n : ℕ) (rest : List (List ℕ)) (s : Store) (old now : List ℕ) : Type 0 where
+pub record IsCountedOn (files : Files) (c : Settings) (lines : List (List ℕ)) (s0 : Store) (n : ℕ) (rest : List (List ℕ)) (s : Store) (w v : List Bool) (old now : List ℕ) : Type 0 where
   pub done : List (List ℕ)
   pub all : lines ≡ done ++ rest
   pub number : n ≡ 1 + length done
-  pub counted : AreCounted (AreTallied files c 1 done s0 s) old now
+  pub counted : AreCountedFor w v (AreTallied files c 1 done s0 s) old now
 
-pub counted_start : (files : Files) (c : Settings) (lines : List (List ℕ)) (s : Store) (n : ℕ) (old : List ℕ) → n ≡ 1 → IsCountedOn files c lines s n lines s old old
-counted_start files c lines s n old e = record {
+pub counted_start : (files : Files) (c : Settings) (lines : List (List ℕ)) (s : Store) (n : ℕ) (w : List Bool) (old : List ℕ) → n ≡ 1 → IsCountedOn files c lines s n lines s w w old old
+counted_start files c lines s n w old e = record {
   done = [];
   all = refl;
   number = e;
-  counted = counted_still (AreTallied files c 1 [] s s) old old refl (λ h. tally_none files c 1 s h);
+  counted = counted_still w (AreTallied files c 1 [] s s) old old refl (λ h. tally_none files c 1 s h);
 }
 
 -- a line of plain ones is plain
@@ -282,44 +333,58 @@ plain_at : (c : Settings) (done : List (List ℕ)) (l : List ℕ) (rest : List (
 plain_at c [] l rest all = All-head (λ (y : List ℕ). IsPlain c (said c.window y)) l rest all
 plain_at c (x ∷ xs) l rest all = plain_at c xs l rest (All-tail (λ (y : List ℕ). IsPlain c (said c.window y)) x (xs ++ l ∷ rest) all)
 
-pub line_plain : (files : Files) (c : Settings) (lines : List (List ℕ)) (s0 s : Store) (n : ℕ) (text line : List ℕ) (old now : List ℕ) → 0 < length text → line ≡ first_line text → ArePlain c lines
-    → IsCountedOn files c lines s0 n (lines_of text) s old now → IsPlain c (said c.window line)
-line_plain files c lines s0 s n text line old now some l plain on =
+pub line_plain : (files : Files) (c : Settings) (lines : List (List ℕ)) (s0 s : Store) (n : ℕ) (text line : List ℕ) (w v : List Bool) (old now : List ℕ) → 0 < length text → line ≡ first_line text → ArePlain c lines
+    → IsCountedOn files c lines s0 n (lines_of text) s w v old now → IsPlain c (said c.window line)
+line_plain files c lines s0 s n text line w v old now some l plain on =
     let all : lines ≡ on.done ++ line ∷ lines_of (after_line text) = on.all ∙ (rw (lines_next text some, ← l) refl) in
     plain_at c on.done line (lines_of (after_line text)) (rw all at plain)
 
 -- one more line was taken
-pub line_counted : (files : Files) (c : Settings) (lines : List (List ℕ)) (s0 : Store) (n m : ℕ) (text line after : List ℕ) (mid new : World) (s s' : Store) (r : Bool) (old now later : List ℕ)
+pub line_counted : (files : Files) (c : Settings) (lines : List (List ℕ)) (s0 : Store) (n m : ℕ) (text line after : List ℕ) (mid new : World) (s s' : Store) (r : Bool) (w x v : List Bool) (old now later : List ℕ)
     → 0 < length text → line ≡ first_line text → after ≡ after_line text → m ≡ n + 1
-    → IsCountedOn files c lines s0 n (lines_of text) s old now
-    → Takes (IsTurn files c n (said c.window line) s) mid new s' (Ok r) → AreCounted (LineTally files c (said c.window line) s) now later
-    → IsCountedOn files c lines s0 m (lines_of after) s' old later
-line_counted files c lines s0 n m text line after mid new s s' r old now later some l a em on takes counts =
+    → IsCountedOn files c lines s0 n (lines_of text) s w x old now
+    → Takes (IsTurn files c n (said c.window line) s) mid new s' (Ok r) → AreCountedFor x v (LineTally files c (said c.window line) s) now later
+    → IsCountedOn files c lines s0 m (lines_of after) s' w v old later
+line_counted files c lines s0 n m text line after mid new s s' r w x v old now later some l a em on takes counts =
     let (t, turn, _, _, store, _) = takes in
     record {
       done = on.done ++ line ∷ [];
       all = on.all ∙ (rw (lines_next text some, ← l, ← a, append_assoc) refl);
       number = let e = on.number in rw length-append (omega arith);
-      counted = counted_on (AreTallied files c 1 on.done s0 s) (LineTally files c (said c.window line) s) (AreTallied files c 1 (on.done ++ line ∷ []) s0 s') old now later
-          (λ h x k x' k' tally tally'. tally_more files c 1 n on.done line s0 s s' t h x k x' k' on.number tally turn store tally') on.counted counts;
+      counted = counted_on w x v (AreTallied files c 1 on.done s0 s) (LineTally files c (said c.window line) s) (AreTallied files c 1 (on.done ++ line ∷ []) s0 s') old now later
+          (λ h a k a' k' tally tally'. tally_more files c 1 n on.done line s0 s s' t h a k a' k' on.number tally turn store tally') on.counted counts;
     }
 
 -- no line is left
-pub lines_counted : (files : Files) (c : Settings) (lines : List (List ℕ)) (s0 s : Store) (n : ℕ) (text old now : List ℕ) → length text ≡ 0 → IsCountedOn files c lines s0 n (lines_of text) s old now → AreCounted (ScriptTally files c lines s0) old now
-lines_counted files c lines s0 s n text old now none on =
+pub lines_counted : (files : Files) (c : Settings) (lines : List (List ℕ)) (s0 s : Store) (n : ℕ) (text : List ℕ) (w v : List Bool) (old now : List ℕ) → length text ≡ 0 → IsCountedOn files c lines s0 n (lines_of text) s w v old now → AreCountedFor w v (ScriptTally files c lines s0) old now
+lines_counted files c lines s0 s n text w v old now none on =
     let all : lines ≡ on.done = on.all ∙ (rw (lines_over text none, append-nil) refl) in
-    rw all (same_tally (AreTallied files c 1 on.done s0 s) (ScriptTally files c on.done s0) old now (λ h m k tally. (s, tally)) on.counted)
+    rw all (same_tally w v (AreTallied files c 1 on.done s0 s) (ScriptTally files c on.done s0) old now (λ h m k tally. (s, tally)) on.counted)
 
 -- ---- a run
 
-pub script_counted : (files : Files) (c : Settings) (script : List ℕ) (session : Kept) (old now : List ℕ) (refused : Bool) → session ≡ record { config = c; store = nothing_held c.window.hours }
-    → (ArePlain session.config (lines_of script) → AreCounted (ScriptTally files session.config (lines_of script) session.store) old now) → WhereTaken (status_of_run (Ok (ended_by refused))) (OpensText files c for_lines old now (Some script))
-script_counted files c script session old now true e h = subst (λ (k : Kept). ArePlain k.config (lines_of script) → AreCounted (ScriptTally files k.config (lines_of script) k.store) old now) e h
-script_counted files c script session old now false e h = subst (λ (k : Kept). ArePlain k.config (lines_of script) → AreCounted (ScriptTally files k.config (lines_of script) k.store) old now) e h
+-- where no numbers waited before
+counted_none : (w v : List Bool) (Tally : ℕ → ℕ → ℕ → Type 0) (old now : List ℕ) → AllSettled w → AreCountedFor w v Tally old now → AreCounted Tally old now
+counted_none w v Tally old now settled (size, each) = (
+  size,
+  λ h lt.
+      let (m, k, tally, opened) = each h lt in
+      let none : still w h ≡ 0 = rw (settled h) refl in
+      (m, k, tally, for_none m (3 * (m + k)) (still w h) (still v h) (slice_index old h) (slice_index now h) none opened),
+)
 
-pub opened_in : (files : Files) (c : Settings) (script : List ℕ) (k : Kept) (old now : List ℕ) (s : Status) → k ≡ record { config = c; store = nothing_held c.window.hours }
-    → WhereTaken s (OpensText files k.config for_lines old now (Some script)) → WhereTaken s (OpensText files c for_lines old now (Some script))
-opened_in files c script k old now s e h = subst (λ (x : Kept). WhereTaken s (OpensText files x.config for_lines old now (Some script))) e h
+script_opens : (files : Files) (c : Settings) (script : List ℕ) (first : Store) (w v : List Bool) (old now : List ℕ) → first ≡ nothing_held c.window.hours → AllSettled w
+    → (ArePlain c (lines_of script) → AreCountedFor w v (ScriptTally files c (lines_of script) first) old now) → OpensText files c for_lines old now (Some script)
+script_opens files c script first w v old now e settled h plain =
+    subst (λ (s : Store). AreCounted (ScriptTally files c (lines_of script) s) old now) e (counted_none w v (ScriptTally files c (lines_of script) first) old now settled (h plain))
+
+pub script_counted : (files : Files) (c : Settings) (script : List ℕ) (first : Store) (w v : List Bool) (old now : List ℕ) (refused : Bool) → first ≡ nothing_held c.window.hours → AllSettled w
+    → (ArePlain c (lines_of script) → AreCountedFor w v (ScriptTally files c (lines_of script) first) old now) → WhereTaken (status_of_run (Ok (ended_by refused))) (OpensText files c for_lines old now (Some script))
+script_counted files c script first w v old now true e settled h = script_opens files c script first w v old now e settled h
+script_counted files c script first w v old now false e settled h = script_opens files c script first w v old now e settled h
+
+pub opened_in : (files : Files) (c c' : Settings) (script old now : List ℕ) (s : Status) → c' ≡ c → WhereTaken s (OpensText files c' for_lines old now (Some script)) → WhereTaken s (OpensText files c for_lines old now (Some script))
+opened_in files c c' script old now s e h = subst (λ (x : Settings). WhereTaken s (OpensText files x for_lines old now (Some script))) e h
 
 pub taken_not : (s : Stopped) (P : Type 0) → WhereTaken (status_of_run (Err s)) P
 taken_not stopped.Fault P = tt

@@ -17,7 +17,7 @@ use Rattle.filling_pair.specs.declared.strands.Strand.{Strand}
 use Rattle.filling_pair.specs.declared.strands.Pair.{Pair}
 use Rattle.filling_pair.specs.Strands.{AreAllStrands, AreFills}
 use Rattle.session.specs.Pairs.{ArePairsAt, ArePairsOf}
-use Rattle.session.specs.Sessions.{Kept}
+use Rattle.session.specs.Sessions.{Drafted}
 use Rattle.script_lines.specs.Lines.{lines_of}
 use Rattle.report_text.specs.Pairs.{AreFillsIn, AreStrandsIn, IsPairIn, found_text, nothing_text}
 use Rattle.sigaudit.specs.Aims.{for_rule}
@@ -78,25 +78,30 @@ found_stops c c' s rule at ps ps' w w' ec ep history pairs h =
 
 -- ---- the run of them
 
+-- what is found, by other words for the configuration and the store
+found_in : (c c' : Settings) (s s' : Store) (rule : ℕ) (at text : List ℕ) → c' ≡ c → s' ≡ s → AreFound c' s' (place_of c' rule (stamp_in c'.window at)) text → AreFound c s (place_of c rule (stamp_in c.window at)) text
+found_in c c' s s' rule at text ec es h =
+    subst (λ (k : Settings). AreFound k s (place_of k rule (stamp_in k.window at)) text) ec (subst (λ (x : Store). AreFound c' x (place_of c' rule (stamp_in c'.window at)) text) es h)
+
 -- all was written
-pub pairs_told : (files : Files) (c : Settings) (rule : ℕ) (at script : List ℕ) (session : Kept) (refused : Bool) (k k' : Counts) (w w' : Taken) → k'.failed ≡ k.failed
+pub pairs_told : (files : Files) (c : Settings) (rule : ℕ) (at script : List ℕ) (session : Drafted) (refused : Bool) (k k' : Counts) (w w' : Taken) → k'.failed ≡ k.failed
     → IsCarriedOut files c (lines_of script) (Ok (session, refused))
     → PutsOne {T = Unit {0}} (AreFound session.config session.store (place_of session.config rule (stamp_in session.config.window at))) w w' (Ok tt)
     → RunsAs (IsAimOutcome files c (for_rule rule at) (Some script)) (world k w) (world k' w') (status_of_run (Ok (ended_by refused)))
 pairs_told files c rule at script session true k k' w w' failed carried put =
-    let found = subst (λ (x : Kept). AreFound x.config x.store (place_of x.config rule (stamp_in x.config.window at)) put.0) carried.2 put.1 in
-    (put.0, (carried.0, carried.1, (put.0, found, ap (λ (b : Bool). outcome put.0 (ended_by b)) carried.3)), (put.2.wrote, (failed, put.2.same)))
+    let found = found_in c session.config carried.0.store session.store rule at put.0 carried.2 carried.3 put.1 in
+    (put.0, (carried.0, carried.1, (put.0, found, ap (λ (b : Bool). outcome put.0 (ended_by b)) carried.4)), (put.2.wrote, (failed, put.2.same)))
 pairs_told files c rule at script session false k k' w w' failed carried put =
-    let found = subst (λ (x : Kept). AreFound x.config x.store (place_of x.config rule (stamp_in x.config.window at)) put.0) carried.2 put.1 in
-    (put.0, (carried.0, carried.1, (put.0, found, ap (λ (b : Bool). outcome put.0 (ended_by b)) carried.3)), (put.2.wrote, (failed, put.2.same)))
+    let found = found_in c session.config carried.0.store session.store rule at put.0 carried.2 carried.3 put.1 in
+    (put.0, (carried.0, carried.1, (put.0, found, ap (λ (b : Bool). outcome put.0 (ended_by b)) carried.4)), (put.2.wrote, (failed, put.2.same)))
 
 -- it was cut off in it
-pub pairs_cut : (files : Files) (c : Settings) (rule : ℕ) (at script : List ℕ) (session : Kept) (refused : Bool) (k k' : Counts) (w w' : Taken) (s : Stopped)
+pub pairs_cut : (files : Files) (c : Settings) (rule : ℕ) (at script : List ℕ) (session : Drafted) (refused : Bool) (k k' : Counts) (w w' : Taken) (s : Stopped)
     → IsCarriedOut files c (lines_of script) (Ok (session, refused))
     → PutsOne {T = Unit {0}} (AreFound session.config session.store (place_of session.config rule (stamp_in session.config.window at))) w w' (Err s)
     → RunsAs (IsAimOutcome files c (for_rule rule at) (Some script)) (world k w) (world k' w') (status_of_run (Err s))
 pairs_cut files c rule at script session refused k k' w w' stopped.Fault carried put =
-    let found = subst (λ (x : Kept). AreFound x.config x.store (place_of x.config rule (stamp_in x.config.window at)) put.0) carried.2 put.1 in
+    let found = found_in c session.config carried.0.store session.store rule at put.0 carried.2 carried.3 put.1 in
     (inr put.2.rose, inr (0, outcome put.0 (ended_by carried.0.refused), (carried.0, carried.1, (put.0, found, refl)), put.2.front))
 pairs_cut files c rule at script session refused k k' w w' stopped.Memory carried put = inl (rw put (appends-nothing w.written))
 
@@ -108,7 +113,7 @@ told_cause Is true k k' w w' failed put = (failed, put.2.same)
 told_cause Is false k k' w w' failed put = (failed, put.2.same)
 
 -- how they are shown
-pub pairs_shown : (files : Files) (c : Settings) (rule : ℕ) (at script : List ℕ) (session : Kept) (refused : Bool) (k k' : Counts) (w w' : Taken) (r : Result Ended Stopped) → k'.failed ≡ k.failed
+pub pairs_shown : (files : Files) (c : Settings) (rule : ℕ) (at script : List ℕ) (session : Drafted) (refused : Bool) (k k' : Counts) (w w' : Taken) (r : Result Ended Stopped) → k'.failed ≡ k.failed
     → IsCarriedOut files c (lines_of script) (Ok (session, refused)) → IfOk r (λ e. e ≡ ended_by refused)
     → PutsOne (AreFound session.config session.store (place_of session.config rule (stamp_in session.config.window at))) w w' r
     → RunsAs (IsAimOutcome files c (for_rule rule at) (Some script)) (world k w) (world k' w') (status_of_run r)

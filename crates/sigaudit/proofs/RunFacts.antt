@@ -15,7 +15,7 @@ use Rattle.ring_config.specs.Reading.{Fails, Read}
 use Rattle.ring_config.specs.Settings.{Settings, config_of}
 use Rattle.ring_config.specs.declared.error.ConfigError.{ConfigError}
 use Rattle.ring_config.specs.declared.error.ConfigError.TheVariants.{NotToml, Missing, BadValue, Unknown, Repeated, TooMany, Memory}
-use Rattle.session.specs.Sessions.{Kept}
+use Rattle.session.specs.Sessions.{Drafted}
 use Rattle.command_line.specs.Words.{Asked, for_run, for_pairs, for_count, for_pack, for_demo, request_of}
 use Rattle.demonstration.specs.Files.{config_name, demo_files, script_name}
 use Rattle.sigaudit.specs.declared.file.Task.{Task}
@@ -163,25 +163,22 @@ pub config_refused : (files : Files) (aim : Aim) (script : List ℕ) (said : Rea
 config_refused files aim script said e k w w' r ne h put =
     rw (config_fails said e ne h) (run-of_put (IsConfigOutcome files aim script (Err e)) (outcome (config_text e) ended.BadConfig) k k w w' r refl (λ lines. refl) put)
 
--- a session that holds nothing yet
-pub lines_told : (files : Files) (c : Settings) (script : List ℕ) (session : Kept) (last : Store) (old new : World) (refused : Bool) → session ≡ record { config = c; store = nothing_held c.window.hours }
-    → TellsAll files session.config (lines_of script) session.store last old new (Ok refused) → RunsAs (IsScriptOutcome files c (Some script)) old new (status_of_run (Ok (ended_by refused)))
-lines_told files c script session last old new refused e h =
-    run-of_told files c script last old new refused (subst (λ (k : Kept). TellsAll files k.config (lines_of script) k.store last old new (Ok refused)) e h)
+-- a draft that holds nothing yet
+pub lines_told : (files : Files) (c : Settings) (script : List ℕ) (first last : Store) (old new : World) (refused : Bool) → first ≡ nothing_held c.window.hours
+    → TellsAll files c (lines_of script) first last old new (Ok refused) → RunsAs (IsScriptOutcome files c (Some script)) old new (status_of_run (Ok (ended_by refused)))
+lines_told files c script first last old new refused e h =
+    run-of_told files c script last old new refused (subst (λ (s : Store). TellsAll files c (lines_of script) s last old new (Ok refused)) e h)
 
-pub lines_cut : (files : Files) (c : Settings) (script : List ℕ) (session : Kept) (last : Store) (old new : World) (s : Stopped) → session ≡ record { config = c; store = nothing_held c.window.hours }
-    → TellsAll files session.config (lines_of script) session.store last old new (Err s) → RunsAs (IsScriptOutcome files c (Some script)) old new (status_of_run (Err s))
-lines_cut files c script session last old new s e h =
-    run-of_cut files c script last old new s (subst (λ (k : Kept). TellsAll files k.config (lines_of script) k.store last old new (Err s)) e h)
+pub lines_cut : (files : Files) (c : Settings) (script : List ℕ) (first last : Store) (old new : World) (s : Stopped) → first ≡ nothing_held c.window.hours
+    → TellsAll files c (lines_of script) first last old new (Err s) → RunsAs (IsScriptOutcome files c (Some script)) old new (status_of_run (Err s))
+lines_cut files c script first last old new s e h =
+    run-of_cut files c script last old new s (subst (λ (k : Store). TellsAll files c (lines_of script) k last old new (Err s)) e h)
 
-pub kept_is : (k : Kept) → k.store ≡ nothing_held k.config.window.hours → k ≡ record { config = k.config; store = nothing_held k.config.window.hours }
-kept_is k e = ap (λ (s : Store). let r : Kept = record { config = k.config; store = s } in r) e
+pub holds_nothing : (c : Settings) (k : Drafted) → k.config ≡ c → k.store ≡ nothing_held c.window.hours → k.store ≡ nothing_held k.config.window.hours
+holds_nothing c k ec es = es ∙ sym (ap (λ (x : Settings). nothing_held x.window.hours) ec)
 
-pub holds_nothing : (c : Settings) (k : Kept) → k ≡ record { config = c; store = nothing_held c.window.hours } → k.store ≡ nothing_held k.config.window.hours
-holds_nothing c k e = ap (λ (x : Kept). x.store) e ∙ sym (ap (λ (x : Kept). nothing_held x.config.window.hours) e)
-
-pub told_in : (files : Files) (c : Settings) (script : List ℕ) (k : Kept) (old new : World) (s : Status) → k ≡ record { config = c; store = nothing_held c.window.hours } → RunsAs (IsScriptOutcome files k.config (Some script)) old new s → RunsAs (IsScriptOutcome files c (Some script)) old new s
-told_in files c script k old new s e h = subst (λ (x : Kept). RunsAs (IsScriptOutcome files x.config (Some script)) old new s) e h
+pub told_in : (files : Files) (c c' : Settings) (script : List ℕ) (old new : World) (s : Status) → c' ≡ c → RunsAs (IsScriptOutcome files c' (Some script)) old new s → RunsAs (IsScriptOutcome files c (Some script)) old new s
+told_in files c c' script old new s e h = subst (λ (x : Settings). RunsAs (IsScriptOutcome files x (Some script)) old new s) e h
 
 -- ---- what the words ask for
 

@@ -1,5 +1,5 @@
 -- How a line's turn follows from what it wrote.
-use Rattle.std.proofs.Common.{◌≡◌, ◌≤◌, ℕ, List, Bool, Option, Result, Ok, Err, refl, ap, inl, inr, arith}
+use Rattle.std.proofs.Common.{◌≡◌, ◌≤◌, ℕ, List, Bool, Option, Result, Ok, Err, refl, ap, subst, inl, inr, arith}
 use Rattle.outside.specs.Sink.{Taken}
 use Rattle.outside.specs.Shelf.{Counts}
 use Rattle.outside.proofs.PutsFacts.{appends-nothing}
@@ -28,6 +28,12 @@ pub by_refusal : (Is : Turn → Type 0) (c c' : Settings) (n : ℕ) (refusal : R
 by_refusal Is c c' n refusal s w w' r ec i h =
     let h' = rw ec at (h s) in
     by_put Is (refuses c n refusal s) w w' s r i h'
+
+-- a line of a draft whose numbers were worked out first, told in the words of the draft before it
+pub by_settled : (Is : Settings → Store → Turn → Type 0) (c c' : Settings) (s s' : Store) (w w' : Taken) (r : Result Bool Stopped)
+    → c' ≡ c → s' ≡ s → TakesBy (Is c' s') w w' s' r → TakesBy (Is c s) w w' s' r
+by_settled Is c c' s s' w w' r ec es h =
+    subst (λ (k : Settings). TakesBy (Is k s) w w' s' r) ec (subst (λ (x : Store). TakesBy (Is c' x) w w' s' r) es h)
 
 begins_as : (Is Is' : Turn → Type 0) (w w' : Option (List ℕ)) → ((t : Turn) → Is t → Is' t) → BeginsTurn Is w w' → BeginsTurn Is' w w'
 begins_as Is Is' w w' k (inl h) = inl h

@@ -1,5 +1,5 @@
 -- How often a script opens each hour.
-use Rattle.std.specs.Prelude.{◌≡◌, ◌⊎◌, ◌<◌, ◌+◌, ◌*◌, ◌/◌, ◌^◌, ℕ, nat_lt, if◌then◌else◌, List, [], ◌∷◌, length, slice_index, Option, Some, None, Result, Ok, Err, false, All, ⊤}
+use Rattle.std.specs.Prelude.{◌≡◌, ◌⊎◌, ◌<◌, ◌+◌, ◌*◌, ◌/◌, ◌^◌, ℕ, nat_lt, if◌then◌else◌, Bool, List, [], ◌∷◌, length, slice_index, Option, Some, None, Result, Ok, Err, false, All, ⊤}
 use Rattle.outside.specs.Shelf.{Files}
 use Rattle.sig_base.specs.HourRows.{Shown}
 use Rattle.sig_base.specs.Numbers.{has_phase}
@@ -13,7 +13,7 @@ use Rattle.signal_log.specs.Log.{HasHistory, IsContradiction, log_of}
 use Rattle.session.specs.Edits.{Change, hour_change, step_of}
 use Rattle.session.specs.Edits as change
 use Rattle.session.specs.Moved.{Moves, Touches}
-use Rattle.session.specs.Opens.{IsOpened}
+use Rattle.session.specs.Opens.{IsOpened, IsOpenedFor, still}
 use Rattle.command_line.specs.Words.{Asked, for_run}
 use Rattle.script_lines.specs.Lines.{lines_of}
 use Rattle.script_lines.specs.Words.{Said, said}
@@ -99,6 +99,12 @@ WhereTaken SomeRefused P = P
 WhereTaken _ P = ⊤
 
 -- ---- For contracts alone
+
+-- `AreCounted` where the numbers of some hours may wait, before and after: each hour is counted with the opening that its numbers still cost, but for one where they waited before
+abbrev pub AreCountedFor : List Bool → List Bool → (ℕ → ℕ → ℕ → Type 0) → List ℕ → List ℕ → Type 0
+AreCountedFor waiting marked Tally old new =
+    (length new ≡ length old)
+    × ((h : ℕ) → h < length old → (m : ℕ) × (k : ℕ) × Tally h m k × IsOpenedFor m (3 * (m + k)) (still waiting h) (still marked h) (slice_index old h) (slice_index new h))
 
 -- each of the lines can be counted
 abbrev pub ArePlain : Settings → List (List ℕ) → Type 0

@@ -10,7 +10,7 @@ use Rattle.report_text.specs.declared.refusal.Refusal.{Refusal}
 use Rattle.report_text.specs.Refusals.{IsOfWindow}
 use Rattle.command_line.specs.Words.{Asked, for_run, for_pairs, for_demo}
 use Rattle.ring_config.specs.Settings.{Settings}
-use Rattle.session.specs.Sessions.{Kept}
+use Rattle.session.specs.Sessions.{Drafted}
 use Rattle.script_lines.specs.Lines.{lines_of}
 use Rattle.sigaudit.specs.Turns.{Turn}
 use Rattle.sigaudit.specs.Script.{Told, IsTold}
@@ -187,9 +187,9 @@ TellsAll files c lines s last old new (Ok refused) = (told : Told) × IsTold fil
 TellsAll files c lines s last old new (Err stopped.Fault) = HasFault old new × TellsFirst files c lines s old new
 TellsAll files c lines s last old new (Err stopped.Memory) = TellsFirst files c lines s old new
 
--- a script was carried out whose lines write nothing: the configuration and the store that it leaves are the session's, and the answer says whether a line was refused
-abbrev pub IsCarriedOut : Files → Settings → List (List ℕ) → Result (Kept × Bool) Stopped → Type 0
-IsCarriedOut files c lines (Ok r) = (told : Told) × IsTold files c 1 lines (nothing_held c.window.hours) told × (r.0 ≡ record { config = c; store = told.store }) × (r.1 ≡ told.refused)
+-- a script was carried out whose lines write nothing: the configuration and the store that it leaves are the draft's, and the answer says whether a line was refused
+abbrev pub IsCarriedOut : Files → Settings → List (List ℕ) → Result (Drafted × Bool) Stopped → Type 0
+IsCarriedOut files c lines (Ok r) = (told : Told) × IsTold files c 1 lines (nothing_held c.window.hours) told × (r.0.config ≡ c) × (r.0.store ≡ told.store) × (r.1 ≡ told.refused)
 IsCarriedOut files c lines (Err s) = ⊤
 
 -- why that was cut off, by the shelf's counts

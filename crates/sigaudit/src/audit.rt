@@ -1,7 +1,8 @@
-// The verdicts of a session: those that are broken or undecided, or all of one hour.
+// The verdicts of a draft: those that are broken or undecided, or all of one hour.
 ghost use Rattle.std.specs.Prelude.{◌≡◌, ◌<◌, ◌++◌, true, [], IfOk, IsTrue, OnOk, length, nat_lt};
 ghost use Rattle.sig_base.specs.Reads.{Grow};
 ghost use Rattle.hour_work.specs.Counts.{is_kept};
+ghost use Rattle.session.specs.Links.{AllSettled};
 ghost use Rattle.sigaudit.specs.Audit.{AddsHour, AreFailing, AreVerdicts, IsAudited, failing_at, failing_of};
 ghost use Rattle.sigaudit.specs.Run.{TakesBy};
 
@@ -10,7 +11,7 @@ use crate::status::Stopped;
 use outside::Sink;
 use report_text::{Refusal, put_audit, put_verdicts};
 use rule_audit::AuditLine;
-use session::Session;
+use session::Draft;
 use sig_base::{EditError, Hour, NoMemory, Reads, Verdict};
 use std::alloc::Global;
 
@@ -21,8 +22,9 @@ fn is_kept(verdict: Verdict) -> bool
 }
 
 // Whether each verdict of the hour is kept, so that an audit has no line of it. No hour is opened.
-fn is_clean<L>(hour: Hour, session: &Session<L>) -> bool
-    requires { hour < length session.now.store.hours }
+fn is_clean<L>(hour: Hour, session: &Draft<L>) -> bool
+    requires within { hour < length session.now.store.hours }
+    requires settled { AllSettled session.now.waiting }
     ensures { IsTrue result → AddsHour session.now.config session.now.store hour [] [] }
 {
     match session.report().hour(hour) {
@@ -57,10 +59,11 @@ fn add_lines(failing: &mut Vec<AuditLine>, lines: &[AuditLine]) -> Result<(), No
 fn add_hour<L>(
     failing: &mut Vec<AuditLine>,
     hour: Hour,
-    session: &Session<L>,
+    session: &Draft<L>,
     reads: &mut Reads<L>,
 ) -> Result<(), NoMemory>
-    requires { hour < length session.now.store.hours }
+    requires within { hour < length session.now.store.hours }
+    requires settled { AllSettled session.now.waiting }
     ensures added { OnOk result (AddsHour session.now.config session.now.store hour
         failing.old.items failing.new.items) }
     ensures grow { Grow reads.old reads.new }
@@ -76,9 +79,10 @@ fn add_hour<L>(
 #[tactic(auto, using(crate::proofs::GrowFacts::grow_same))]
 fn failing_lines<L>(
     alloc: Global,
-    session: &Session<L>,
+    session: &Draft<L>,
     reads: &mut Reads<L>,
 ) -> Result<Vec<AuditLine>, NoMemory>
+    requires { AllSettled session.now.waiting }
     ensures lines { IfOk result (λ v. AreFailing session.now.config session.now.store 0
         session.now.config.window.hours v.items) }
     ensures grow { Grow reads.old reads.new }
@@ -91,17 +95,16 @@ fn failing_lines<L>(
     Ok(failing)
 }
 
-/// Writes an audit: how many verdicts each rule has in the window, and then the broken and
-/// undecided ones, hour by hour, each broken one with its decisive window. All of them are found
-/// before anything is written.
+// Writes an audit, where no numbers wait. All of its lines are found before anything is written.
 #[tactic(auto, using(crate::proofs::GrowFacts::grow_same))]
-pub fn audit_line<L, K: Sink>(
+fn put_whole<L, K: Sink>(
     alloc: Global,
     number: u32,
-    session: &Session<L>,
+    session: &Draft<L>,
     sink: &mut K,
     reads: &mut Reads<L>,
 ) -> Result<bool, Stopped>
+    requires { AllSettled session.now.waiting }
     ensures turn { TakesBy (IsAudited session.now.config number session.now.store)
         (K.taken sink.old) (K.taken sink.new) session.now.store result }
     ensures grow { Grow reads.old reads.new }
@@ -119,12 +122,31 @@ pub fn audit_line<L, K: Sink>(
     Ok(false)
 }
 
+/// Works out the numbers that wait, and writes an audit: how many verdicts each rule has in the
+/// window, and then the broken and undecided ones, hour by hour, each broken one with its decisive
+/// window. All of them are found before anything is written.
+pub fn audit_line<L, K: Sink>(
+    alloc: Global,
+    number: u32,
+    session: &mut Draft<L>,
+    sink: &mut K,
+    reads: &mut Reads<L>,
+) -> Result<bool, Stopped>
+    ensures turn { TakesBy (IsAudited session.old.config number session.old.store)
+        (K.taken sink.old) (K.taken sink.new) session.new.store result }
+    ensures config { session.new.config ≡ session.old.config }
+    ensures grow { Grow reads.old reads.new }
+{
+    session.settle(reads)?;
+    put_whole(alloc, number, session, sink, reads)
+}
+
 // Writes the verdicts of an hour of the window.
 #[tactic(auto, using(crate::proofs::GrowFacts::grow_same))]
 fn hour_verdicts<L, K: Sink>(
     number: u32,
     hour: Hour,
-    session: &Session<L>,
+    session: &Draft<L>,
     sink: &mut K,
     reads: &mut Reads<L>,
 ) -> Result<bool, Stopped>
@@ -144,7 +166,7 @@ fn hour_verdicts<L, K: Sink>(
 pub fn verdicts_line<L, K: Sink>(
     number: u32,
     hour: Hour,
-    session: &Session<L>,
+    session: &Draft<L>,
     sink: &mut K,
     reads: &mut Reads<L>,
 ) -> Result<bool, Stopped>

@@ -14,7 +14,7 @@ use outside::Sink;
 use report_text::{Refusal, put_shifts};
 use ring_config::Config;
 use service_cut::Cycle;
-use session::Session;
+use session::Draft;
 use sig_base::{NoMemory, Reads};
 use std::alloc::Global;
 
@@ -97,7 +97,7 @@ fn shifts_of<L>(
     alloc: Global,
     place: u32,
     phase: u8,
-    session: &Session<L>,
+    session: &Draft<L>,
     reads: &mut Reads<L>,
 ) -> Result<(usize, Shifts), NoMemory>
     ensures shifts { IfOk result (λ found. found.1 ≡ counts_of
@@ -122,7 +122,7 @@ pub fn offsets_line<L, K: Sink>(
     alloc: Global,
     number: u32,
     name: &str,
-    session: &Session<L>,
+    session: &Draft<L>,
     sink: &mut K,
     reads: &mut Reads<L>,
 ) -> Result<bool, Stopped>

@@ -11,6 +11,7 @@ ghost use Rattle.report_text.specs.Usage.{usage_text};
 ghost use Rattle.sigaudit.specs.Status.{status_of_run};
 ghost use Rattle.script_lines.specs.Lines.{lines_of};
 ghost use Rattle.hour_store.specs.Store.{nothing_held};
+ghost use Rattle.session.specs.Links.{AllSettled};
 ghost use Rattle.row_reader.specs.Stamp.{stamp_in};
 ghost use Rattle.sigaudit.specs.Aims.{aim_of, for_lines, for_rule};
 ghost use Rattle.sigaudit.specs.Pairs.{AreFound, place_of};
@@ -33,7 +34,7 @@ use measure_laws::parts_are_one;
 use outside::{FetchError, Shelf, Sink};
 use report_text::{put_config_error, put_usage};
 use ring_config::{Config, ConfigError, read_config};
-use session::Session;
+use session::Draft;
 use sig_base::Reads;
 use signal_log::some_history_agrees;
 use std::alloc::Global;
@@ -114,23 +115,24 @@ fn tell_lines<L, S: Shelf, K: Sink>(
         reads.old reads.new (Some script.now)) }
     ensures grow { Grow reads.old reads.new }
 {
-    match Session::new(alloc, config) {
+    match Draft::new(alloc, config) {
         Ok(mut session) => tell_lines_in(alloc, script, &mut session, shelf, sink, reads),
         Err(_) => Err(Stopped::Memory),
     }
 }
 
-// Carries them out in a session that holds nothing yet.
+// Carries them out in a draft that holds nothing yet.
 fn tell_lines_in<L, S: Shelf, K: Sink>(
     alloc: Global,
     script: &[u8],
-    session: &mut Session<L>,
+    session: &mut Draft<L>,
     shelf: &mut S,
     sink: &mut K,
     reads: &mut Reads<L>,
 ) -> Result<Ended, Stopped>
     requires short { length script.now ≤ 4194304 }
     requires begun { session.old.store ≡ nothing_held session.old.config.window.hours }
+    requires settled { AllSettled session.old.waiting }
     ensures told { (files : Files) → S.files shelf.old ≡ Some files
         → RunsAs (IsScriptOutcome files session.old.config (Some script.now))
         (world (S.counts shelf.old) (K.taken sink.old))
@@ -150,7 +152,7 @@ fn tell_lines_in<L, S: Shelf, K: Sink>(
     }
 }
 
-// Carries out the lines of a script in a new session, and writes nothing.
+// Carries out the lines of a script in a new draft, and writes nothing.
 #[tactic(auto, using(crate::proofs::GrowFacts::grow_same))]
 fn carry_out<L, S: Shelf>(
     alloc: Global,
@@ -158,7 +160,7 @@ fn carry_out<L, S: Shelf>(
     script: &[u8],
     shelf: &mut S,
     reads: &mut Reads<L>,
-) -> Result<(Session<L>, bool), Stopped>
+) -> Result<(Draft<L>, bool), Stopped>
     requires { length script.now ≤ 4194304 }
     ensures told { (files : Files) → S.files shelf.old ≡ Some files
         → IsCarriedOut files config (lines_of script.now) result }
@@ -166,7 +168,7 @@ fn carry_out<L, S: Shelf>(
     ensures never_fall { CountsGrow (S.counts shelf.old) (S.counts shelf.new) }
     ensures grow { Grow reads.old reads.new }
 {
-    let mut session = match Session::new(alloc, config) {
+    let mut session = match Draft::new(alloc, config) {
         Ok(session) => session,
         Err(_) => return Err(Stopped::Memory),
     };
@@ -242,7 +244,7 @@ fn show_pairs<L, K: Sink>(
     rule: u32,
     at: &str,
     refused: bool,
-    session: &Session<L>,
+    session: &Draft<L>,
     sink: &mut K,
     reads: &mut Reads<L>,
 ) -> Result<Ended, Stopped>

@@ -12,7 +12,7 @@ use report_text::{put_nothing, put_pairs};
 use ring_config::Config;
 use row_reader::read_stamp;
 use rule_audit::Rule;
-use session::Session;
+use session::Draft;
 use sig_base::{Reads, Tenth};
 
 // The number, if one of the rules has it.
@@ -62,7 +62,7 @@ fn place_of(config: &Config, rules: &[Rule], rule: u32, at: &str) -> Option<(u16
 fn put_place<L, K: Sink>(
     rule: u16,
     at: u32,
-    session: &Session<L>,
+    session: &Draft<L>,
     sink: &mut K,
     reads: &mut Reads<L>,
 ) -> Result<(), Stopped>
@@ -86,7 +86,7 @@ fn put_place<L, K: Sink>(
 pub fn put_undecided<L, K: Sink>(
     rule: u32,
     at: &str,
-    session: &Session<L>,
+    session: &Draft<L>,
     sink: &mut K,
     reads: &mut Reads<L>,
 ) -> Result<(), Stopped>

@@ -10,7 +10,7 @@ use crate::status::Stopped;
 use outside::Sink;
 use report_text::{Refusal, put_diagrams};
 use ring_config::Config;
-use session::Session;
+use session::Draft;
 use sig_base::{Reads, has_phase};
 
 // Writes the diagrams of a phase of the configuration.
@@ -18,7 +18,7 @@ use sig_base::{Reads, has_phase};
 fn phase_diagrams<L, K: Sink>(
     number: u32,
     phase: u8,
-    session: &Session<L>,
+    session: &Draft<L>,
     sink: &mut K,
     reads: &mut Reads<L>,
 ) -> Result<bool, Stopped>
@@ -37,7 +37,7 @@ fn phase_diagrams<L, K: Sink>(
 pub fn points_line<L, K: Sink>(
     number: u32,
     phase: u8,
-    session: &Session<L>,
+    session: &Draft<L>,
     sink: &mut K,
     reads: &mut Reads<L>,
 ) -> Result<bool, Stopped>

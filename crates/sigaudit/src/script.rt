@@ -4,12 +4,14 @@ ghost use Rattle.outside.specs.Shelf.{Files};
 ghost use Rattle.sig_base.specs.HourRows.{Shown};
 ghost use Rattle.hour_store.specs.Store.{Store};
 ghost use Rattle.session.specs.Edits.{change_of, hour_change};
+ghost use Rattle.session.specs.Links.{AllSettled};
+ghost use Rattle.session.specs.Opens.{AreOpenedOnce};
 ghost use Rattle.sig_base.specs.Reads.{Grow};
 ghost use Rattle.script_lines.specs.Lines.{lines_of};
 ghost use Rattle.script_lines.specs.Words.{said};
 ghost use Rattle.script_lines.specs.Seen.{seen, seen_edit};
 ghost use Rattle.sigaudit.specs.Script.{edit_said, is_edit_memory, hour_file, load_bytes, IsEdited, IsMeasured, IsMeasuredOf, IsTurn, ReadsLoad, TakesLoad};
-ghost use Rattle.sigaudit.specs.Counting.{AreCounted, ArePlain, BytesTally, EditTally, IsPlain, LineTally, LoadTally, ScriptTally};
+ghost use Rattle.sigaudit.specs.Counting.{AreCountedFor, ArePlain, BytesTally, EditTally, IsPlain, LineTally, LoadTally, ScriptTally};
 ghost use Rattle.sigaudit.specs.Run.{world, CountsFetch, FetchesHour, NamesNoRow, IsCaused, NeverFall, Takes, TakesBy, TellsAll};
 
 use crate::audit::{audit_line, verdicts_line};
@@ -21,7 +23,7 @@ use crate::status::Stopped;
 use outside::{FetchError, Shelf, Sink};
 use report_text::{Refusal, put_applied, put_hour_measures, put_window_measures};
 use script_lines::{Line, PlainEdit, read_line, split_line};
-use session::{Edit, Session};
+use session::{Draft, Edit};
 use sig_base::{EditError, Hour, HourRows, Reads};
 use std::alloc::Global;
 
@@ -52,23 +54,24 @@ fn is_edit_memory(error: EditError) -> bool
     matches!(error, EditError::Memory)
 }
 
-// Makes an edit and answers its line; a load or a replacement names its rows and repeats.
+// Makes an edit and answers its line; a load or a replacement names its rows and repeats. The
+// numbers of the hours that change may wait until a line asks for them.
 fn edit_line<L, K: Sink>(
     number: u32,
     loaded: Option<(u32, u32)>,
     edit: Edit<L>,
-    session: &mut Session<L>,
+    session: &mut Draft<L>,
     sink: &mut K,
     reads: &mut Reads<L>,
 ) -> Result<bool, Stopped>
     ensures turn { TakesBy (IsEdited session.old.config number loaded session.old.store
         (change_of edit)) (K.taken sink.old) (K.taken sink.new) session.new.store result }
     ensures config { session.new.config ≡ session.old.config }
-    ensures opens { OnOk result (AreCounted
+    ensures opens { OnOk result (AreCountedFor session.old.waiting session.new.waiting
         (EditTally session.old.config session.old.store (change_of edit)) reads.old reads.new) }
     ensures grow { Grow reads.old reads.new }
 {
-    match session.apply(edit, reads) {
+    match session.apply(edit, true, reads) {
         Ok(applied) => match put_applied(number, loaded, &applied, sink) {
             Ok(()) => Ok(false),
             Err(_) => Err(Stopped::Fault),
@@ -99,7 +102,7 @@ fn bytes_line<L, K: Sink>(
     alloc: Global,
     load: &LoadLine<'_>,
     bytes: &[u8],
-    session: &mut Session<L>,
+    session: &mut Draft<L>,
     sink: &mut K,
     reads: &mut Reads<L>,
 ) -> Result<bool, Stopped>
@@ -107,8 +110,9 @@ fn bytes_line<L, K: Sink>(
     ensures turn { TakesBy (ReadsLoad session.old.config load.now session.old.store bytes.now)
         (K.taken sink.old) (K.taken sink.new) session.new.store result }
     ensures config { session.new.config ≡ session.old.config }
-    ensures opens { OnOk result (AreCounted (BytesTally session.old.config load.now
-        session.old.store bytes.now) reads.old reads.new) }
+    ensures opens { OnOk result (AreCountedFor session.old.waiting session.new.waiting
+        (BytesTally session.old.config load.now session.old.store bytes.now)
+        reads.old reads.new) }
     ensures grow { Grow reads.old reads.new }
 {
     let config = session.config();
@@ -147,7 +151,7 @@ fn fetch_hour<S: Shelf>(alloc: Global, name: &str, shelf: &mut S, bytes: &mut Ve
 fn fetch_line<L, S: Shelf, K: Sink>(
     alloc: Global,
     load: &LoadLine<'_>,
-    session: &mut Session<L>,
+    session: &mut Draft<L>,
     shelf: &mut S,
     sink: &mut K,
     reads: &mut Reads<L>,
@@ -164,7 +168,8 @@ fn fetch_line<L, S: Shelf, K: Sink>(
     ensures files { S.files shelf.new ≡ S.files shelf.old }
     ensures config { session.new.config ≡ session.old.config }
     ensures opens { (files : Files) → S.files shelf.old ≡ Some files
-        → OnOk result (AreCounted (LoadTally session.old.config load.now session.old.store
+        → OnOk result (AreCountedFor session.old.waiting session.new.waiting
+        (LoadTally session.old.config load.now session.old.store
         (hour_file (files load.now.name.now))) reads.old reads.new) }
     ensures grow { Grow reads.old reads.new }
 {
@@ -181,7 +186,7 @@ fn fetch_line<L, S: Shelf, K: Sink>(
 fn file_line<L, S: Shelf, K: Sink>(
     alloc: Global,
     load: &LoadLine<'_>,
-    session: &mut Session<L>,
+    session: &mut Draft<L>,
     shelf: &mut S,
     sink: &mut K,
     reads: &mut Reads<L>,
@@ -198,7 +203,8 @@ fn file_line<L, S: Shelf, K: Sink>(
     ensures files { S.files shelf.new ≡ S.files shelf.old }
     ensures config { session.new.config ≡ session.old.config }
     ensures opens { (files : Files) → S.files shelf.old ≡ Some files
-        → OnOk result (AreCounted (LoadTally session.old.config load.now session.old.store
+        → OnOk result (AreCountedFor session.old.waiting session.new.waiting
+        (LoadTally session.old.config load.now session.old.store
         (load_bytes files session.old.config load.now)) reads.old reads.new) }
     ensures grow { Grow reads.old reads.new }
 {
@@ -213,12 +219,9 @@ fn file_line<L, S: Shelf, K: Sink>(
     fetch_line(alloc, load, session, shelf, sink, reads)
 }
 
-// Writes the measures of the window.
-fn measures_line<L, K: Sink>(
-    number: u32,
-    session: &Session<L>,
-    sink: &mut K,
-) -> Result<bool, Stopped>
+// Writes the measures of the window, where no numbers wait.
+fn put_window<L, K: Sink>(number: u32, session: &Draft<L>, sink: &mut K) -> Result<bool, Stopped>
+    requires { AllSettled session.now.waiting }
     ensures { TakesBy (IsMeasured session.now.config number session.now.store) (K.taken sink.old)
         (K.taken sink.new) session.now.store result }
 {
@@ -227,13 +230,32 @@ fn measures_line<L, K: Sink>(
     Ok(false)
 }
 
-// Writes the measures of one hour.
-fn hour_line<L, K: Sink>(
+// Works out the numbers that wait, and writes the measures of the window.
+fn measures_line<L, K: Sink>(
+    number: u32,
+    session: &mut Draft<L>,
+    sink: &mut K,
+    reads: &mut Reads<L>,
+) -> Result<bool, Stopped>
+    ensures turn { TakesBy (IsMeasured session.old.config number session.old.store)
+        (K.taken sink.old) (K.taken sink.new) session.new.store result }
+    ensures config { session.new.config ≡ session.old.config }
+    ensures opens { OnOk result (AreOpenedOnce session.old.waiting session.new.waiting
+        reads.old reads.new) }
+    ensures grow { Grow reads.old reads.new }
+{
+    session.settle(reads)?;
+    put_window(number, session, sink)
+}
+
+// Writes the measures of one hour, where no numbers wait.
+fn put_hour<L, K: Sink>(
     number: u32,
     hour: Hour,
-    session: &Session<L>,
+    session: &Draft<L>,
     sink: &mut K,
 ) -> Result<bool, Stopped>
+    requires { AllSettled session.now.waiting }
     ensures { TakesBy (IsMeasuredOf session.now.config number hour session.now.store
         (nat_lt hour session.now.config.window.hours)) (K.taken sink.old) (K.taken sink.new)
         session.now.store result }
@@ -244,6 +266,26 @@ fn hour_line<L, K: Sink>(
     };
     put_hour_measures(number, hour, config, part, sink)?;
     Ok(false)
+}
+
+// Works out the numbers that wait, and writes the measures of one hour.
+fn hour_line<L, K: Sink>(
+    number: u32,
+    hour: Hour,
+    session: &mut Draft<L>,
+    sink: &mut K,
+    reads: &mut Reads<L>,
+) -> Result<bool, Stopped>
+    ensures turn { TakesBy (IsMeasuredOf session.old.config number hour session.old.store
+        (nat_lt hour session.old.config.window.hours)) (K.taken sink.old) (K.taken sink.new)
+        session.new.store result }
+    ensures config { session.new.config ≡ session.old.config }
+    ensures opens { OnOk result (AreOpenedOnce session.old.waiting session.new.waiting
+        reads.old reads.new) }
+    ensures grow { Grow reads.old reads.new }
+{
+    session.settle(reads)?;
+    put_hour(number, hour, session, sink)
 }
 
 // The edit of a line that names no file.
@@ -263,7 +305,7 @@ fn take_said<L, S: Shelf, K: Sink>(
     alloc: Global,
     number: u32,
     line: Line<'_>,
-    session: &mut Session<L>,
+    session: &mut Draft<L>,
     shelf: &mut S,
     sink: &mut K,
     reads: &mut Reads<L>,
@@ -280,8 +322,9 @@ fn take_said<L, S: Shelf, K: Sink>(
     ensures config { session.new.config ≡ session.old.config }
     ensures opens { (files : Files) → S.files shelf.old ≡ Some files
         → IsPlain session.old.config (seen line.entry)
-        → OnOk result (AreCounted (LineTally files session.old.config (seen line.entry)
-        session.old.store) reads.old reads.new) }
+        → OnOk result (AreCountedFor session.old.waiting session.new.waiting
+        (LineTally files session.old.config (seen line.entry) session.old.store)
+        reads.old reads.new) }
     ensures grow { Grow reads.old reads.new }
 {
     match line {
@@ -307,8 +350,8 @@ fn take_said<L, S: Shelf, K: Sink>(
         }
         Line::Audit => audit_line(alloc, number, session, sink, reads),
         Line::Verdicts(hour) => verdicts_line(number, hour, session, sink, reads),
-        Line::Measures => measures_line(number, session, sink),
-        Line::MeasuresOf(hour) => hour_line(number, hour, session, sink),
+        Line::Measures => measures_line(number, session, sink, reads),
+        Line::MeasuresOf(hour) => hour_line(number, hour, session, sink, reads),
         Line::Points(phase) => points_line(number, phase, session, sink, reads),
         Line::Offsets(name) => offsets_line(alloc, number, name, session, sink, reads),
         Line::Edit(edit) => {
@@ -323,7 +366,7 @@ fn take_line<L, S: Shelf, K: Sink>(
     alloc: Global,
     number: u32,
     line: &[u8],
-    session: &mut Session<L>,
+    session: &mut Draft<L>,
     shelf: &mut S,
     sink: &mut K,
     reads: &mut Reads<L>,
@@ -340,8 +383,9 @@ fn take_line<L, S: Shelf, K: Sink>(
     ensures config { session.new.config ≡ session.old.config }
     ensures opens { (files : Files) → S.files shelf.old ≡ Some files
         → IsPlain session.old.config (said session.old.config.window line.now)
-        → OnOk result (AreCounted (LineTally files session.old.config
-        (said session.old.config.window line.now) session.old.store) reads.old reads.new) }
+        → OnOk result (AreCountedFor session.old.waiting session.new.waiting
+        (LineTally files session.old.config (said session.old.config.window line.now)
+        session.old.store) reads.old reads.new) }
     ensures grow { Grow reads.old reads.new }
 {
     let said = read_line(line, session.config().window());
@@ -354,7 +398,7 @@ fn take_line<L, S: Shelf, K: Sink>(
 pub fn run_script<L, S: Shelf, K: Sink>(
     alloc: Global,
     script: &[u8],
-    session: &mut Session<L>,
+    session: &mut Draft<L>,
     shelf: &mut S,
     sink: &mut K,
     reads: &mut Reads<L>,
@@ -370,8 +414,9 @@ pub fn run_script<L, S: Shelf, K: Sink>(
         (world (S.counts shelf.new) (K.taken sink.new)) }
     ensures opens { (files : Files) → S.files shelf.old ≡ Some files
         → ArePlain session.old.config (lines_of script.now)
-        → OnOk result (AreCounted (ScriptTally files session.old.config (lines_of script.now)
-        session.old.store) reads.old reads.new) }
+        → OnOk result (AreCountedFor session.old.waiting session.new.waiting
+        (ScriptTally files session.old.config (lines_of script.now) session.old.store)
+        reads.old reads.new) }
     ensures config { session.new.config ≡ session.old.config }
     ensures grow { Grow reads.old reads.new }
 {

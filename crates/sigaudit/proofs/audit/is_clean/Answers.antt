@@ -13,5 +13,5 @@ returns-in-Some g c = λ yes.
     let part = c.in-Some.part.now in
     let at : slice_get c.report.result.now c.args.hour ≡ Some part = sym c.hour.ensures ∙ ap (λ o. option_map (λ p. p.now) o) c.in-Some.is in
     let is : get_or c.report.result.now c.args.hour part ≡ part = get_or_from_slice_get c.report.result.now c.args.hour part part at in
-    let each : IsHourPart cfg s c.args.hour part = subst (λ (n : Numbers). IsHourPart cfg s c.args.hour n) is (c.report.ensures.report.each c.args.hour part c.requires) in
+    let each : IsHourPart cfg s c.args.hour part = subst (λ (n : Numbers). IsHourPart cfg s c.args.hour n) is (c.report.ensures.report.each c.args.hour part c.requires.within) in
     clean_hour cfg s c.args.hour part each (c.are_all_kept.ensures.0 yes)

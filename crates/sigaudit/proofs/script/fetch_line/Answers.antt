@@ -23,8 +23,8 @@ returns-in-Missed-clause-never_fall g c =
 
 pub returns-in-There-clause-opens : goal.returns-in-There-clause-opens
 returns-in-There-clause-opens g c = λ files told.
-    fetched_counted c.args.session.now.config c.args.load.now.hour (hour_change c.args.load.now.replaces) c.args.session.now.store (hour_file (files c.args.load.now.name.now)) c.fetch_hour.new.bytes.items c.deref.result.now c.args.reads.now c.bytes_line.new.reads c.bytes_line.result (c.in-There.ensures.told files told) c.deref.ensures.value c.bytes_line.ensures.opens
+    fetched_counted c.args.session.now.config c.args.load.now.hour (hour_change c.args.load.now.replaces) c.args.session.now.store (hour_file (files c.args.load.now.name.now)) c.fetch_hour.new.bytes.items c.deref.result.now c.args.session.now.waiting c.bytes_line.new.session.waiting c.args.reads.now c.bytes_line.new.reads c.bytes_line.result (c.in-There.ensures.told files told) c.deref.ensures.value c.bytes_line.ensures.opens
 
 pub returns-in-Missed-clause-opens : goal.returns-in-Missed-clause-opens
 returns-in-Missed-clause-opens g c = λ files told.
-    missed_counted c.args.session.now.config c.args.load.now.hour (hour_change c.args.load.now.replaces) c.args.session.now.store (hour_file (files c.args.load.now.name.now)) c.in-Missed.refusal c.args.reads.now c.refuse.result (c.in-Missed.ensures.told files told)
+    missed_counted c.args.session.now.config c.args.load.now.hour (hour_change c.args.load.now.replaces) c.args.session.now.store (hour_file (files c.args.load.now.name.now)) c.in-Missed.refusal c.args.session.now.waiting c.args.reads.now c.refuse.result (c.in-Missed.ensures.told files told)

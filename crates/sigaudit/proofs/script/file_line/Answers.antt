@@ -41,10 +41,10 @@ pub returns-then-load-hours-clause-opens : goal.returns-then-load-hours-clause-o
 returns-then-load-hours-clause-opens g c = λ files told.
     let same : c.hours.result ≡ c.args.session.now.config.window.hours = c.hours.ensures.value ∙ ap (λ (w : Span). w.hours) c.window.ensures ∙ ap (λ (k : Settings). k.window.hours) c.config.ensures.value in
     let past : c.args.session.now.config.window.hours ≤ c.args.load.now.hour = let t = c.if-load-hours.true in omega arith in
-    outside_counted files c.args.session.now.config c.args.load.now.hour c.args.load.now.name.now (hour_change c.args.load.now.replaces) c.args.session.now.store c.args.reads.now c.refuse.result past
+    outside_counted files c.args.session.now.config c.args.load.now.hour c.args.load.now.name.now (hour_change c.args.load.now.replaces) c.args.session.now.store c.args.session.now.waiting c.args.reads.now c.refuse.result past
 
 pub returns-clause-opens : goal.returns-clause-opens
 returns-clause-opens g c = λ files told.
     let same : c.hours.result ≡ c.args.session.now.config.window.hours = c.hours.ensures.value ∙ ap (λ (w : Span). w.hours) c.window.ensures ∙ ap (λ (k : Settings). k.window.hours) c.config.ensures.value in
     let inside : c.args.load.now.hour < c.args.session.now.config.window.hours = let t = c.if-load-hours.false in omega arith in
-    inside_counted files c.args.session.now.config c.args.load.now.hour c.args.load.now.name.now (hour_change c.args.load.now.replaces) c.args.session.now.store c.args.reads.now c.fetch_line.new.reads c.fetch_line.result inside (c.fetch_line.ensures.opens files told)
+    inside_counted files c.args.session.now.config c.args.load.now.hour c.args.load.now.name.now (hour_change c.args.load.now.replaces) c.args.session.now.store c.args.session.now.waiting c.fetch_line.new.session.waiting c.args.reads.now c.fetch_line.new.reads c.fetch_line.result inside (c.fetch_line.ensures.opens files told)

@@ -1,12 +1,14 @@
-use Rattle.sigaudit.proofs.LineFacts.{measures_cut, measures_done}
-use Rattle.sigaudit.proofs.StopFacts.{fault_at}
+use Rattle.hour_store.specs.Store.{Store}
+use Rattle.ring_config.specs.Settings.{Settings}
+use Rattle.sigaudit.specs.Script.{IsMeasured}
+use Rattle.sigaudit.proofs.StopFacts.{memory_at}
+use Rattle.sigaudit.proofs.TakeFacts.{by_nothing, by_settled}
 use Rattle.sigaudit.proofs.script.measures_line.Goals as goal
 
-pub returns-in_err-put_window_measures : goal.returns-in_err-put_window_measures
-returns-in_err-put_window_measures g c =
-    rw (fault_at c.from_residual.result c.from_residual.ensures.1)
-    (measures_cut c.args.session.now.config c.config.result.now c.args.number c.args.session.now.store c.report.result.now c.total-total.result.now _ _ c.config.ensures.value (record { history = c.report.ensures.history; store = c.report.ensures.store; hours = c.config.ensures.hours; report = c.report.ensures.report }) c.total-total.ensures c.in_err-put_window_measures.ensures)
+pub returns-in_err-settle-clause-turn : goal.returns-in_err-settle-clause-turn
+returns-in_err-settle-clause-turn g c =
+    rw (memory_at c.from_residual.result c.from_residual.ensures.1) (by_nothing (IsMeasured c.args.session.now.config c.args.number c.args.session.now.store) (g.K.Sink.taken c.args.sink.now) c.settle.new.self.store)
 
-pub returns : goal.returns
-returns g c =
-    measures_done c.args.session.now.config c.config.result.now c.args.number c.args.session.now.store c.report.result.now c.total-total.result.now _ _ c.config.ensures.value (record { history = c.report.ensures.history; store = c.report.ensures.store; hours = c.config.ensures.hours; report = c.report.ensures.report }) c.total-total.ensures c.in_ok-put_window_measures.ensures
+pub returns-clause-turn : goal.returns-clause-turn
+returns-clause-turn g c =
+    by_settled (λ (k : Settings) (s : Store). IsMeasured k c.args.number s) c.args.session.now.config c.settle.new.self.config c.args.session.now.store c.settle.new.self.store _ _ c.put_window.result c.in_ok-settle.ensures.config c.in_ok-settle.ensures.store c.put_window.ensures

@@ -8,7 +8,7 @@ use Rattle.sigaudit.specs.Script.{IsTurn}
 use Rattle.sigaudit.specs.Run.{world, Takes}
 use Rattle.sigaudit.proofs.GrowFacts.{grow_same, grow_on}
 use Rattle.sigaudit.proofs.TakeFacts.{never_on, never_still}
-use Rattle.sigaudit.specs.Counting.{AreCounted, IsPlain, LineTally}
+use Rattle.sigaudit.specs.Counting.{AreCountedFor, IsPlain, LineTally}
 use Rattle.sigaudit.proofs.CountFacts.{counted_start, line_counted, line_plain, lines_counted}
 use Rattle.sigaudit.proofs.ScriptFacts.{is_on_start, line_more, line_cut, cut_caused, lines_done}
 use Rattle.sigaudit.proofs.script.run_script.Goals as goal
@@ -23,7 +23,7 @@ loop-rest-init g c = record {
   never = never_still _ _;
   grow = grow_same c.args.reads.now;
   told = λ files told. is_on_start files c.args.session.now.config (lines_of c.args.script.now) c.args.session.now.store (world (g.S.Shelf.counts c.args.shelf.now) (g.K.Sink.taken c.args.sink.now)) 1 refl;
-  opens = λ files told plain. counted_start files c.args.session.now.config (lines_of c.args.script.now) c.args.session.now.store 1 c.args.reads.now refl;
+  opens = λ files told plain. counted_start files c.args.session.now.config (lines_of c.args.script.now) c.args.session.now.store 1 c.args.session.now.waiting c.args.reads.now refl;
 }
 
 pub loop-rest-smaller : goal.loop-rest-smaller
@@ -70,10 +70,10 @@ loop-rest-preserved g c =
           let line = c.split_line.result.0.now in
           let s = c.loop-rest.session.store in
           let on = i.opens files told plain in
-          let is_plain = line_plain files cfg lines c.args.session.now.store s (c.loop-rest.number + 1) c.loop-rest.rest.now line c.args.reads.now c.loop-rest.reads some c.split_line.ensures.line plain on in
+          let is_plain = line_plain files cfg lines c.args.session.now.store s (c.loop-rest.number + 1) c.loop-rest.rest.now line c.args.session.now.waiting c.loop-rest.session.waiting c.args.reads.now c.loop-rest.reads some c.split_line.ensures.line plain on in
           let turn = subst (λ (k : Settings). Takes (IsTurn files k (c.loop-rest.number + 1) (said k.window line) s) (world (g.S.Shelf.counts c.loop-rest.shelf) (g.K.Sink.taken c.loop-rest.sink)) (world (g.S.Shelf.counts c.take_line.new.shelf) (g.K.Sink.taken c.take_line.new.sink)) c.take_line.new.session.store (Ok c.in-Ok.is_refused)) i.config (c.in-Ok.ensures.turn files (i.files ∙ told)) in
-          let counts = subst (λ (k : Settings). IsPlain k (said k.window line) → AreCounted (LineTally files k (said k.window line) s) c.loop-rest.reads c.take_line.new.reads) i.config (c.in-Ok.ensures.opens files (i.files ∙ told)) is_plain in
-          line_counted files cfg lines c.args.session.now.store (c.loop-rest.number + 1) (c.loop-rest.number + 1 + 1) c.loop-rest.rest.now line c.split_line.result.1.now (world (g.S.Shelf.counts c.loop-rest.shelf) (g.K.Sink.taken c.loop-rest.sink)) (world (g.S.Shelf.counts c.take_line.new.shelf) (g.K.Sink.taken c.take_line.new.sink)) s c.take_line.new.session.store c.in-Ok.is_refused c.args.reads.now c.loop-rest.reads c.take_line.new.reads
+          let counts = subst (λ (k : Settings). IsPlain k (said k.window line) → AreCountedFor c.loop-rest.session.waiting c.take_line.new.session.waiting (LineTally files k (said k.window line) s) c.loop-rest.reads c.take_line.new.reads) i.config (c.in-Ok.ensures.opens files (i.files ∙ told)) is_plain in
+          line_counted files cfg lines c.args.session.now.store (c.loop-rest.number + 1) (c.loop-rest.number + 1 + 1) c.loop-rest.rest.now line c.split_line.result.1.now (world (g.S.Shelf.counts c.loop-rest.shelf) (g.K.Sink.taken c.loop-rest.sink)) (world (g.S.Shelf.counts c.take_line.new.shelf) (g.K.Sink.taken c.take_line.new.sink)) s c.take_line.new.session.store c.in-Ok.is_refused c.args.session.now.waiting c.loop-rest.session.waiting c.take_line.new.session.waiting c.args.reads.now c.loop-rest.reads c.take_line.new.reads
           some c.split_line.ensures.line c.split_line.ensures.rest refl on turn counts;
     }
 
@@ -86,4 +86,4 @@ returns-clause-transcript g c = λ files told.
 pub returns-clause-opens : goal.returns-clause-opens
 returns-clause-opens g c = λ files told plain.
     let none : length c.loop-rest.rest.now ≡ 0 = eqb-true (length c.loop-rest.rest.now) 0 (sym c.is_empty.ensures ∙ c.loop-rest-test.false) in
-    lines_counted files c.args.session.now.config (lines_of c.args.script.now) c.args.session.now.store c.loop-rest.session.store (c.loop-rest.number + 1) c.loop-rest.rest.now c.args.reads.now c.loop-rest.reads none (c.loop-rest.invariant.opens files told plain)
+    lines_counted files c.args.session.now.config (lines_of c.args.script.now) c.args.session.now.store c.loop-rest.session.store (c.loop-rest.number + 1) c.loop-rest.rest.now c.args.session.now.waiting c.loop-rest.session.waiting c.args.reads.now c.loop-rest.reads none (c.loop-rest.invariant.opens files told plain)

@@ -21,7 +21,7 @@ invariant-loop-rest g l = record {
   told : (files : Files) → g.S.Shelf.files l.fn.shelf ≡ Some files →
       IsOn files l.fn.session.config (lines_of l.fn.script) l.fn.session.store (world (g.S.Shelf.counts l.fn.shelf) (g.K.Sink.taken l.fn.sink)) (world (g.S.Shelf.counts l.shelf) (g.K.Sink.taken l.sink)) (l.number + 1) (lines_of l.rest) l.session.store l.refused;
   opens : (files : Files) → g.S.Shelf.files l.fn.shelf ≡ Some files → ArePlain l.fn.session.config (lines_of l.fn.script) →
-      IsCountedOn files l.fn.session.config (lines_of l.fn.script) l.fn.session.store (l.number + 1) (lines_of l.rest) l.session.store l.fn.reads l.reads;
+      IsCountedOn files l.fn.session.config (lines_of l.fn.script) l.fn.session.store (l.number + 1) (lines_of l.rest) l.session.store l.fn.session.waiting l.session.waiting l.fn.reads l.reads;
 }
 
 abbrev pub decreases-loop-rest : goal.decreases-loop-rest

@@ -1,7 +1,7 @@
 -- A sort by tenth, code and parameter gives the rows in order.
-use Rattle.std.proofs.Common.{◌≡◌, ◌≤◌, ◌<◌, ◌+◌, ℕ, suc, Bool, true, false, List, [], ◌∷◌, length, refl, sym, ap, ap₂, add-one, ◌∙◌, arith, get_or, cond, filter}
+use Rattle.std.proofs.Common.{◌≡◌, ◌≤◌, ◌<◌, ◌+◌, ℕ, zero, suc, Bool, true, false, List, [], ◌∷◌, length, refl, sym, ap, ap₂, add-one, ◌∙◌, arith, get_or, cond, filter}
 use Rattle.std.proofs.lemmas.Bool.Decides.{nat_tests}
-use Rattle.std.specs.List.Sorted.{ties}
+use Rattle.std.specs.List.Sorted.{IsNonDecreasingBy, ties}
 use Rattle.std.specs.Ordering.{is_lt, nat_cmp, ordering_then}
 use Rattle.std.specs.Prelude.{not, ◌&&◌}
 use Rattle.sig_base.specs.declared.values.Row.{Row}
@@ -143,6 +143,26 @@ unfolding ordered
 ordered-like q [] = refl
 ordered-like q (x ∷ xs) =
     placed-like x q (ordered xs) ∙ ap (λ (l : List Row). cond (Like q x) (x ∷ l) l) (ordered-like q xs)
+
+-- ---- rows in order rise by their tenths
+
+not_earlier : (x y : Row) → is_before y x ≡ false → x.at ≤ y.at
+not_earlier x y h = grind (arith, nat_tests)
+
+none_earlier : (x : Row) (xs : List Row) (j : ℕ) (d : Row) → Above x xs → j < length xs → x.at ≤ (get_or xs j d).at
+none_earlier x [] j d h lt = absurd (omega arith)
+none_earlier x (y ∷ ys) zero d h lt = not_earlier x y h.0
+none_earlier x (y ∷ ys) (suc j) d h lt = none_earlier x ys j d h.1 (omega arith)
+
+climbs : (xs : List Row) → Rise xs → IsNonDecreasingBy (λ (r : Row). r.at) xs
+climbs [] h i j d le lt = absurd (omega arith)
+climbs (x ∷ xs) h zero zero d le lt = omega arith
+climbs (x ∷ xs) h zero (suc j) d le lt = none_earlier x xs j d h.0 (omega arith)
+climbs (x ∷ xs) h (suc i) zero d le lt = absurd (omega arith)
+climbs (x ∷ xs) h (suc i) (suc j) d le lt = climbs xs h.1 i j d (omega arith) (omega arith)
+
+pub ordered-climbs : (xs : List Row) → IsNonDecreasingBy (λ (r : Row). r.at) (ordered xs)
+ordered-climbs xs = climbs (ordered xs) (ordered-rise xs)
 
 -- ---- what std says of a sorted list
 

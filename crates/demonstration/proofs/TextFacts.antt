@@ -1,5 +1,5 @@
 -- Texts that go on part by part.
-use Rattle.std.proofs.Common.{◌≡◌, ◌≤◌, ◌<◌, ◌+◌, ◌-◌, ◌%◌, ℕ, zero, suc, Bool, true, false, List, [], ◌∷◌, ◌++◌, length, drop, get_or, Some, None, refl, sym, ap, ◌∙◌, arith, append_assoc, ◌*◌, cond, filter, decimal}
+use Rattle.std.proofs.Common.{◌≡◌, ◌≤◌, ◌<◌, ◌+◌, ◌-◌, ◌%◌, ℕ, zero, suc, true, false, List, [], ◌++◌, length, drop, get_or, Some, None, refl, sym, ap, ◌∙◌, arith, append_assoc, ◌*◌, decimal}
 use Rattle.std.specs.Prelude.{◌==◌, if◌then◌else◌}
 use Rattle.std.specs.Str.{bytes_eq}
 use Rattle.sig_base.specs.declared.values.Row.{Row}
@@ -20,27 +20,15 @@ pub each-done : (line : ℕ → List ℕ) (by rest hours hour : ℕ) → hours �
 unfolding each_hour
 each-done line by rest hours hour h = let k : hours - hour ≡ zero = omega arith in rw k refl
 
-pub records-next : (p : Row → Bool) (x : Row) (xs : List Row)
-    → records_of (filter p (x ∷ xs)) ≡ (if p x then record_of x else []) ++ records_of (filter p xs)
+-- one record more
+pub records-go : (rows : List Row) (i : ℕ) (d : Row) (out new whole : List ℕ) → i < length rows
+    → out ++ records_of (drop i rows) ≡ whole → new ≡ out ++ record_of (get_or rows i d) → new ++ records_of (drop (i + 1) rows) ≡ whole
 unfolding records_of
-records-next p x xs = by_test (p x)
-  where
-    by_test : (b : Bool) → records_of (cond b (x ∷ filter p xs) (filter p xs)) ≡ (if b then record_of x else []) ++ records_of (filter p xs)
-    by_test true = refl
-    by_test false = refl
+records-go rows i d out new whole lt h e = goes_on out new _ _ whole _ h (ap (λ (l : List Row). records_of l) (next_row rows i d lt)) e
 
--- one record more, or none
-pub records-go : (p : Row → Bool) (rows : List Row) (i : ℕ) (d : Row) (out new whole : List ℕ) → i < length rows
-    → out ++ records_of (filter p (drop i rows)) ≡ whole → new ≡ out ++ (if p (get_or rows i d) then record_of (get_or rows i d) else [])
-    → new ++ records_of (filter p (drop (i + 1) rows)) ≡ whole
-records-go p rows i d out new whole lt h e =
-    let step : records_of (filter p (drop i rows)) ≡ (if p (get_or rows i d) then record_of (get_or rows i d) else []) ++ records_of (filter p (drop (i + 1) rows))
-    = ap (λ (l : List Row). records_of (filter p l)) (next_row rows i d lt) ∙ records-next p (get_or rows i d) (drop (i + 1) rows) in
-    goes_on out new _ _ whole _ h step e
-
-pub records-done : (p : Row → Bool) (rows : List Row) (i : ℕ) → length rows ≤ i → records_of (filter p (drop i rows)) ≡ []
+pub records-done : (rows : List Row) (i : ℕ) → length rows ≤ i → records_of (drop i rows) ≡ []
 unfolding records_of
-records-done p rows i h = let e : drop i rows ≡ [] = drop_of_length-le rows h in rw e refl
+records-done rows i h = let e : drop i rows ≡ [] = drop_of_length-le rows h in rw e refl
 
 pub named-next : (hours hour : ℕ) (name : List ℕ) → hour < hours
     → hour_named (hours - hour) hour name ≡ (if bytes_eq (decimal hour) name then Some hour else hour_named (hours - (hour + 1)) (hour + 1) name)

@@ -4,7 +4,7 @@ ghost use Rattle.demonstration.specs.Texts.{config_text, hour_text, script_text}
 ghost use Rattle.demonstration.specs.Files.{demo_files, hour_named};
 
 use crate::order::put_in_order;
-use crate::records::put_records;
+use crate::records::{put_records, rows_of_hour};
 use crate::rows::{put_pulses, put_services};
 use crate::script::{put_edits, put_end};
 use itoa::Buffer;
@@ -103,7 +103,7 @@ impl Demo {
         ensures { OnOk result (out.new.items ≡ out.old.items ++ hour_text self.now hour) }
     {
         out.extend_from_slice(HEADER)?;
-        put_records(out, &self.window, hour, &self.rows)?;
+        put_records(out, &self.window, rows_of_hour(hour, &self.rows))?;
         Ok(())
     }
 

@@ -1,5 +1,6 @@
 // The records of the hour files.
-ghost use Rattle.std.specs.Prelude.{◌≡◌, ◌+◌, ◌*◌, ◌<◌, ◌++◌, [], if◌then◌else◌, filter, OnOk};
+ghost use Rattle.std.specs.Prelude.{◌≡◌, ◌*◌, ◌<◌, ◌≤◌, ◌++◌, All, filter, length, OnOk};
+ghost use Rattle.std.specs.List.Sorted.{IsNonDecreasingBy, IsPartitionPoint};
 ghost use Rattle.demonstration.specs.Texts.{calendar, is_of_hour, record_of, records_of, spaced_stamp};
 
 use itoa::Buffer;
@@ -35,34 +36,35 @@ fn put_record(out: &mut Vec<u8>, window: &Window, row: Row) -> Result<(), NoMemo
     Ok(())
 }
 
-// The record of a row of this hour, and nothing of another row.
-fn put_record_of(out: &mut Vec<u8>, window: &Window, hour: u32, row: Row) -> Result<(), NoMemory>
-    requires days { window.now ≡ calendar }
-    requires hour { hour < 168 }
-    ensures { OnOk result
-        (out.new.items ≡ out.old.items ++ (if is_of_hour hour row then record_of row else [])) }
+// The number of first rows before the tenth, of rows that rise by their tenths.
+fn rows_before(rows: &[Row], tenth: u32) -> usize
+    requires { IsNonDecreasingBy (λ r. r.at) rows.now }
+    ensures within { result ≤ length rows.now }
+    ensures point { IsPartitionPoint (λ r. r.at < tenth) (λ r. tenth ≤ r.at) rows.now result }
 {
-    let from = 36_000 * hour;
-    if from <= row.at && row.at < from + 36_000 {
-        put_record(out, window, row)?;
-    }
-    Ok(())
+    rows.partition_point(|row| row.at < tenth)
 }
 
-/// Writes the records of the rows of this hour.
-pub(crate) fn put_records(
-    out: &mut Vec<u8>,
-    window: &Window,
-    hour: u32,
-    rows: &[Row],
-) -> Result<(), NoMemory>
-    requires days { window.now ≡ calendar }
+/// The rows of an hour, of rows that rise by their tenths.
+pub(crate) fn rows_of_hour(hour: u32, rows: &[Row]) -> &[Row]
     requires hour { hour < 168 }
-    ensures { OnOk result
-        (out.new.items ≡ out.old.items ++ records_of (filter (is_of_hour hour) rows.now)) }
+    requires rise { IsNonDecreasingBy (λ r. r.at) rows.now }
+    ensures { result.now ≡ filter (is_of_hour hour) rows.now }
+{
+    let from = 36_000 * hour;
+    let (_, later) = rows.split_at(rows_before(rows, from));
+    let (here, _) = later.split_at(rows_before(later, from + 36_000));
+    here
+}
+
+/// Writes the records of these rows.
+pub(crate) fn put_records(out: &mut Vec<u8>, window: &Window, rows: &[Row]) -> Result<(), NoMemory>
+    requires days { window.now ≡ calendar }
+    requires at { All (λ r. r.at < 36000 * 169) rows.now }
+    ensures { OnOk result (out.new.items ≡ out.old.items ++ records_of rows.now) }
 {
     for row in rows {
-        put_record_of(out, window, hour, *row)?;
+        put_record(out, window, *row)?;
     }
     Ok(())
 }

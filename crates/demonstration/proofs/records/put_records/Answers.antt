@@ -1,12 +1,11 @@
 use Rattle.std.proofs.Common.{arith}
-use Rattle.demonstration.specs.Texts.{is_of_hour}
 use Rattle.demonstration.proofs.RowFacts.{is_done}
 use Rattle.demonstration.proofs.TextFacts.{records-done, records-go}
 use Rattle.demonstration.proofs.records.put_records.Goals as goal
 
 pub loop-row-preserved : goal.loop-row-preserved
 loop-row-preserved c =
-    records-go (is_of_hour c.args.hour) c.args.rows.now c.loop-row.row-index _ c.loop-row.out.items c.put_record_of.new.out.items _ (omega arith) c.loop-row.invariant c.in_ok-put_record_of.ensures
+    records-go c.args.rows.now c.loop-row.row-index _ c.loop-row.out.items c.put_record.new.out.items _ (omega arith) c.loop-row.invariant c.in_ok-put_record.ensures
 
 pub returns : goal.returns
-returns c = is_done c.loop-row.out.items _ _ c.loop-row.invariant (records-done (is_of_hour c.args.hour) c.args.rows.now c.loop-row.row-index (omega arith))
+returns c = is_done c.loop-row.out.items _ _ c.loop-row.invariant (records-done c.args.rows.now c.loop-row.row-index (omega arith))

@@ -61,3 +61,7 @@ StopsAt m sets xs j = (j < length xs) × ((u : State) × AfterMoves m sets (take
 -- each state of the sets is entered before the tenth
 abbrev pub EnteredBefore : List (List Span) → ℕ → Type 0
 EnteredBefore sets low = (s : State) → Holds sets s → s.entry <ℤ pos low
+
+-- some run of the moves leads from a state of the sets to one that is admitted
+abbrev pub GoesThrough : Rules → List (List Span) → List (Option ℤ) → List Move → Type 0
+GoesThrough m before after xs = (u : State) × AfterMoves m before xs u × Admits after u

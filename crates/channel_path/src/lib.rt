@@ -9,6 +9,7 @@
 mod ahead;
 mod leg;
 mod moves;
+mod near;
 mod past;
 mod path;
 mod places;
@@ -16,5 +17,6 @@ mod sure;
 
 pub use ahead::walk_ahead;
 pub use moves::{Move, runs_are_moves};
+pub use near::ahead_near;
 pub use past::{end_run, walk_past};
 pub use path::Path;

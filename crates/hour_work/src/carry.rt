@@ -70,6 +70,29 @@ impl Carry {
         })
     }
 
+    /// Room for what is kept at a point of which nothing is known yet: no channel and no phase.
+    pub fn nothing(alloc: Global, config: &Config) -> Result<Carry, NoMemory>
+        ensures pasts { IfOk result (λ c. c.pasts ≡ []) }
+    {
+        let channels = Vec::new(alloc);
+        let phases = Vec::new(alloc);
+        let pasts = Pasts::start(alloc, &channels)?;
+        let cuts = CutCarry::start(alloc, &phases)?;
+        let closing = Closing::start(alloc);
+        let splits = SplitCarry::start(alloc, config)?;
+        let others = OtherCarry::start(alloc, config)?;
+        let arrivals = ArrivalCarry::start(alloc, config)?;
+        Ok(Carry {
+            pasts,
+            known: false,
+            cuts,
+            closing,
+            splits,
+            others,
+            arrivals,
+        })
+    }
+
     /// The states in which each channel may be, in the order of the specs.
     pub fn pasts(&self) -> &Pasts
         ensures { result.now ≡ self.now.pasts }

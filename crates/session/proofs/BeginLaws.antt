@@ -21,14 +21,14 @@ all_more {A} P xs items x are is e = rw e (λ k d lt. elim (cases_lt k (length x
 ])
 
 -- what is known before any hour is gone over
-pub kept_first : (c : Settings) (n last : ℕ) (waiting : List Bool) (xs : List Carried) (ys : List Ahead) (ps : List Numbers) → n ≡ c.window.hours → last + 1 ≡ n → length xs ≡ n + 1 → ((k : ℕ) (d : Carried) (r : Store) → k < n + 1 → IsCarryAt c r 0 (get_or xs k d)) → length ys ≡ n + 1 → ((k : ℕ) (d : Ahead) (r : Store) → k < n + 1 → length r.hours ≡ c.window.hours → IsFutureAt c r (length r.hours) (get_or ys k d)) → length ps ≡ n → length waiting ≡ n → AreKeptBut c (nothing_held n) 0 last waiting xs ys ps
+pub kept_first : (c : Settings) (n last : ℕ) (waiting : List Bool) (xs : List Carried) (ys : List Ahead) (ps : List Numbers) → n ≡ c.window.hours → last + 1 ≡ n → length xs ≡ n + 1 → ((d : Carried) (r : Store) → IsCarryAt c r 0 (get_or xs 0 d)) → length ys ≡ n + 1 → ((k : ℕ) (d : Ahead) (r : Store) → k < n + 1 → length r.hours ≡ c.window.hours → IsFutureAt c r (length r.hours) (get_or ys k d)) → length ps ≡ n → length waiting ≡ n → AreKeptBut c (nothing_held n) 0 last waiting xs ys ps
 kept_first c n last waiting xs ys ps window le nx starts ny ends np nw =
     let size : length (nothing_held n).hours ≡ n = length-replicate n no_rows in
     let none : (k : ℕ) → k < length (nothing_held n).hours → Apart 0 last k → ⊥ = λ k lt out. elim out [ inl a ↦ omega arith | inr b ↦ omega arith ] in
     record {
       order = omega arith;
       within = omega arith;
-      forth = record { size = omega arith; start = λ d r. starts 0 d r (omega arith); leads = λ k lt out. absurd (none k lt out) };
+      forth = record { size = omega arith; start = starts; leads = λ k lt out. absurd (none k lt out) };
       back = record {
         size = omega arith;
         end = λ d r e. subst (λ (m : ℕ). IsFutureAt c r m (get_or ys (length (nothing_held n).hours) d)) e (ends (length (nothing_held n).hours) d r (omega arith) (e ∙ size ∙ window));

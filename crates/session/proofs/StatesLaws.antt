@@ -2,7 +2,7 @@
 use Rattle.std.proofs.Common.{◌≡◌, ◌∙◌, ◌⊎◌, inl, inr, ℕ, zero, suc, ◌+◌, ◌*◌, ◌<◌, ◌≤◌, Bool, true, false, List, [], ◌∷◌, ◌++◌, length, length-append, get_or, map, refl, sym, ap, subst, arith}
 use Rattle.std.specs.Prelude.{is_some}
 use Rattle.std.proofs.lemmas.Bool.{cases_lt}
-use Rattle.std.proofs.lemmas.List.{get_or-map, length-map}
+use Rattle.std.proofs.lemmas.List.{get_or-map, get_or_default, length-map}
 use Rattle.gap_map.specs.Cuts.{stretch}
 use Rattle.gap_map.specs.declared.stretch.Stretch.{Stretch}
 use Rattle.gap_map.specs.Stretches.{IsCut, known_in}
@@ -246,3 +246,26 @@ history_new c s first last kept fresh sound is but new =
 pub history_carries : (c : Settings) (s : Store) (first last : ℕ) (kept fresh : List Carried) → IsSound c → IsStore s → AreNewCarries c s first last kept fresh → HasHistory (log_of c.specs s)
 history_carries c s first last kept fresh sound is new =
     some_history (log_of c.specs s) (get_or (patched kept (first + 1) fresh) (length s.hours) no_carry).pasts (channels_are c sound) (carry_kept c s (patched kept (first + 1) fresh) is new.forth (length s.hours) no_carry (omega arith)).pasts
+
+-- ---- the first hour that is changed
+
+-- the states before it that are kept lead to the first of the new ones
+pub first_states : (c : Settings) (s : Store) (first last : ℕ) (kept : List Carried) (fresh : List States) (d : Carried) (e : States) → first ≤ last → last < length s.hours → AreCarriesBut c s first last kept → AreNewPasts c s first last kept fresh → StatesLead c s first (get_or kept first d).pasts (get_or fresh 0 e)
+first_states c s first last kept fresh d e order within but new =
+    let size = but.size in
+    let more = new.some in
+    let n = size_states kept in
+    let some : 0 < length fresh = omega arith in
+    let next : get_or (states_with kept first fresh) (first + 1) [] ≡ get_or fresh 0 [] = patched-at (map (λ (x : Carried). x.pasts) kept) (first + 1) fresh (first + 1) 0 [] (omega arith) (omega arith) some in
+    lead_as c s first _ (get_or kept first d).pasts _ (get_or fresh 0 e) (sym (states_below kept first fresh first d (omega arith) (omega arith))) (sym (next ∙ get_or_default fresh 0 [] e some)) (new.leads first (omega arith))
+
+-- the same of all that is kept
+pub first_carries : (c : Settings) (s : Store) (first last : ℕ) (kept fresh : List Carried) (d : Carried) → first ≤ last → last < length s.hours → AreCarriesBut c s first last kept → AreNewCarries c s first last kept fresh → StatesLead c s first (get_or kept first d).pasts (get_or fresh 0 d).pasts
+first_carries c s first last kept fresh d order within but new =
+    let size = but.size in
+    let more = new.some in
+    let some : 0 < length fresh = omega arith in
+    let all = patched kept (first + 1) fresh in
+    let own : get_or all first d ≡ get_or kept first d = patched-below kept (first + 1) fresh first d (omega arith) (omega arith) in
+    let next : get_or all (first + 1) d ≡ get_or fresh 0 d = patched-at kept (first + 1) fresh (first + 1) 0 d (omega arith) (omega arith) some in
+    lead_as c s first _ (get_or kept first d).pasts _ (get_or fresh 0 d).pasts (ap (λ (x : Carried). x.pasts) (sym own)) (ap (λ (x : Carried). x.pasts) (sym next)) (lead_states c s all first d (new.forth.leads first (omega arith)))

@@ -9,7 +9,8 @@ use Rattle.board.specs.Places.{AllEarly, AreAheadsOf}
 use Rattle.board.specs.Stops.{AreBefore}
 use Rattle.ring_config.specs.Settings.{Settings}
 use Rattle.signal_log.specs.Over.{AreCoursesOver, ArePastsOver}
-use Rattle.signal_log.specs.Points.{HasHour}
+use Rattle.signal_log.specs.Log.{log_of}
+use Rattle.signal_log.specs.Points.{ArePastsAt, HasHour}
 use Rattle.hour_work.specs.Numbers.{Numbers}
 use Rattle.hour_work.specs.Points.{Carried, ComesBack, GoesOver, IsCarryAt, IsFutureAt}
 use Rattle.hour_work.specs.Reports.{IsHourBetween, IsHourPart}
@@ -31,6 +32,12 @@ pub record StatesLead (c : Settings) (s : Store) (hour : ℕ) (before after : St
 -- these are the courses of the configuration's channels in the hour
 abbrev pub HasCourses : Settings → Store → ℕ → CourseLog → Type 0
 HasCourses c s hour courses = AreCoursesOver c.specs hour (rows_at s hour) s.blanks courses
+
+-- the hour was gone over forward by these courses of it, from these states before it to those after it
+pub record IsGone (c : Settings) (s : Store) (hour : ℕ) (courses : CourseLog) (before after : States) : Type 0 where
+  pub courses : HasCourses c s hour courses
+  pub before : ArePastsAt (log_of c.specs s) hour before
+  pub leads : StatesLead c s hour before after
 
 -- in every store that has the hour so: where this is what it says up to the point before the hour, that is what it says up to the point after it; and by what is told of the hour its states lead there
 pub record Leads (c : Settings) (hour : ℕ) (rows : Option (List Row)) (blanks : List Span) (before after : Carried) : Type 0 where

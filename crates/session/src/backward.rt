@@ -3,18 +3,17 @@ ghost use Rattle.std.specs.Prelude.{◌≡◌, ◌↔◌, ◌+◌, ◌-◌, ◌�
 ghost use Rattle.hour_store.specs.Store.{IsStore, Store, rows_at};
 ghost use Rattle.ring_config.specs.Settings.{Settings};
 ghost use Rattle.hour_work.specs.Points.{IsFutureAt};
-ghost use Rattle.session.specs.Links.{AreFuturesBut, Backs, BacksAt, HasCourses};
+ghost use Rattle.session.specs.Links.{AreFuturesBut, Backs, BacksAt, IsGone};
 ghost use Rattle.session.specs.Opens.{AreOpened};
 ghost use Rattle.session.specs.Renewed.{AreNewFutures};
 ghost use Rattle.sig_base.specs.Reads.{Grow};
 
-use crate::steps::{future_again, future_before};
-use board::Courses;
+use crate::steps::{Gone, future_again, future_before};
+use board::About;
 use hour_store::HourStore;
 use hour_work::{Future, pick};
 use ring_config::Config;
 use sig_base::{Hour, NoMemory, Reads};
-use signal_log::About;
 use std::alloc::Global;
 
 // Whether all hours that are changed are passed, and nothing changes at the point before this one.
@@ -24,25 +23,29 @@ fn is_passed(first: Hour, hour: Hour, next: &Future, kept: &Future) -> bool
     hour <= first && next.same(kept)
 }
 
-/// What was kept going back at each hour point, and the first hour that is changed, with its courses
-/// where they are made already.
+/// What was kept going back at each hour point, and the first hour that is changed, with how it was
+/// gone over forward.
 #[derive(Drop)]
 pub struct Returning<'a, 'b> {
     pub first: Hour,
     pub kept: &'a [Future],
-    pub courses: Option<&'b Courses>,
+    pub gone: Option<Gone<'b>>,
 }
 
-// The courses of the hour, where it is the first one that is changed and they are made already.
-fn own_courses<'b>(told: &Returning<'_, 'b>, hour: Hour) -> Option<&'b Courses>
+// How the hour was gone over forward, where it is the first one that is changed.
+fn own_gone<'a, 'b>(told: &'a Returning<'_, 'b>, hour: Hour) -> Option<&'a Gone<'b>>
     ensures { (c : Settings) (s : Store)
-        → IfSome told.now.courses (λ x. HasCourses c s told.now.first x.now)
-        → IfSome result (λ x. HasCourses c s hour x.now) }
+        → IfSome told.now.gone (λ g. IsGone c s told.now.first g.courses.now g.states.before.now
+        g.states.after.now)
+        → IfSome result (λ g. IsGone c s hour g.now.courses.now g.now.states.before.now
+        g.now.states.after.now) }
 {
-    if hour == told.first {
-        told.courses
-    } else {
-        None
+    if hour != told.first {
+        return None;
+    }
+    match &told.gone {
+        Some(gone) => Some(gone),
+        None => None,
     }
 }
 
@@ -61,15 +64,15 @@ fn previous_future<L>(
     requires after { IsFutureAt config.now store.now (hour + 1) after.now }
     requires room { length told.now.kept.now ≡ length store.now.hours + 1 }
     requires told { hour < told.now.first → BacksAt config.now store.now told.now.kept.now hour }
-    requires courses { IfSome told.now.courses (λ c.
-        HasCourses config.now store.now told.now.first c.now) }
+    requires gone { IfSome told.now.gone (λ g. IsGone config.now store.now told.now.first
+        g.courses.now g.states.before.now g.states.after.now) }
     ensures backs { IfOk result (Backs config.now hour (rows_at store.now hour) store.now.blanks
         after.now) }
     ensures once { AreOpened hour (hour + 1) 1 1 reads.old reads.new }
 {
     if told.first <= hour {
-        let courses = own_courses(told, hour);
-        return future_before(alloc, config, store, hour, after, courses, reads);
+        let gone = own_gone(told, hour);
+        return future_before(alloc, config, store, hour, after, gone, reads);
     }
     let place = hour as usize;
     let was = About {
@@ -93,8 +96,8 @@ pub fn go_back<L>(
     requires order { told.now.first ≤ last }
     requires within { last < length store.now.hours }
     requires kept { AreFuturesBut config.now store.now told.now.first last told.now.kept.now }
-    requires courses { IfSome told.now.courses (λ c.
-        HasCourses config.now store.now told.now.first c.now) }
+    requires gone { IfSome told.now.gone (λ g. IsGone config.now store.now told.now.first
+        g.courses.now g.states.before.now g.states.after.now) }
     ensures futures { IfOk result (λ v. AreNewFutures config.now store.now told.now.first last
         told.now.kept.now (last + 1 - length v.items) v.items) }
     ensures opens { IfOk result (λ v. AreOpened (last + 1 - length v.items) (last + 1) 1 1

@@ -18,15 +18,16 @@ use std::alloc::Global;
 #[derive(Drop)]
 struct NoRows;
 
-// So many times what is kept at the window's start.
-fn starts(alloc: Global, config: &Config, points: u32) -> Result<Vec<Carry>, NoMemory>
-    ensures size { IfOk result (λ v. length v.items ≡ points) }
-    ensures start { IfOk result (λ v. (k : ℕ) (d : Carried) (r : Store) → k < points
-        → IsCarryAt config.now r 0 (slice_index_or v.items k d)) }
+// What is kept at the window's start, and room for what is kept at so many points after it.
+fn start_with(alloc: Global, config: &Config, points: u32) -> Result<Vec<Carry>, NoMemory>
+    ensures size { IfOk result (λ v. length v.items ≡ points + 1) }
+    ensures start { IfOk result (λ v. (d : Carried) (r : Store)
+        → IsCarryAt config.now r 0 (slice_index_or v.items 0 d)) }
 {
     let mut carries = Vec::new(alloc);
+    carries.push(Carry::start(alloc, config)?)?;
     for _ in 0..points {
-        carries.push(Carry::start(alloc, config)?)?;
+        carries.push(Carry::nothing(alloc, config)?)?;
     }
     Ok(carries)
 }
@@ -79,7 +80,7 @@ fn not_begun(alloc: Global, config: &Config, hours: u32) -> Result<Worked, NoMem
     ensures settled { IfOk result (λ k. AllSettled k.waiting.items) }
 {
     Ok(Worked {
-        carries: starts(alloc, config, hours + 1)?,
+        carries: start_with(alloc, config, hours)?,
         futures: ends(alloc, config, hours + 1)?,
         report: no_parts(alloc, hours)?,
         waiting: none_waiting(alloc, hours)?,

@@ -13,12 +13,11 @@ ghost use Rattle.session.specs.Renewed.{AreNewCarries, AreNewPasts};
 ghost use Rattle.sig_base.specs.Reads.{Grow};
 
 use crate::steps::{Crossed, Reached, carry_after, states_after};
-use board::{Courses, Pasts};
+use board::{About, Courses, Pasts};
 use hour_store::HourStore;
 use hour_work::{Carry, ForwardError, pick};
 use ring_config::Config;
 use sig_base::{Hour, Reads};
-use signal_log::About;
 use std::alloc::Global;
 
 // Whether the last hour that is changed is behind, and the states at the point after this one are

@@ -7,16 +7,17 @@ ghost use Rattle.ring_config.specs.Sound.{IsSound};
 ghost use Rattle.rule_audit.specs.Rules.{rules_for};
 ghost use Rattle.hour_work.specs.Moved.{SaySame};
 ghost use Rattle.hour_work.specs.Numbers.{FitHours, patched};
+ghost use Rattle.signal_log.specs.Points.{ArePastsAt};
 ghost use Rattle.hour_work.specs.Points.{NamesRow};
-ghost use Rattle.session.specs.Links.{AreCarriesBut, AreFutures, AreFuturesBut, AreKeptBut, AreMarked, HasCourses};
+ghost use Rattle.session.specs.Links.{AreCarriesBut, AreFutures, AreFuturesBut, AreKeptBut, AreMarked, HasCourses, IsGone, StatesLead};
 ghost use Rattle.session.specs.Opens.{AreOpened, OpensToRow, most_opens};
 ghost use Rattle.session.specs.Renewed.{AreCarriesTo, AreNewCarries, AreNewFutures, AreNewParts, AreNewPasts, AreNumbered, AreSameUpTo, HaveShapes, IsRenewed, do_wait, put_numbers};
 ghost use Rattle.sig_base.specs.Reads.{Grow};
 
 use crate::backward::{Returning, go_back};
 use crate::forward::{Across, Forth, go_across, go_forward};
-use crate::steps::{Step, part_between, work_between};
-use board::{Courses, Pasts};
+use crate::steps::{Gone, Step, part_between, work_between};
+use board::{About, Courses, Pasts};
 use hour_store::HourStore;
 use hour_work::{Between, Carry, ForwardError, Future, Known, Partial, Report, Sums, pick, put_in};
 use ring_config::Config;
@@ -301,6 +302,26 @@ fn joined(first: Vec<Partial>, mut others: Vec<Partial>) -> Result<Vec<Partial>,
     Ok(parts)
 }
 
+// How an hour was gone over forward, where its courses are made.
+fn gone_over<'a>(
+    courses: Option<&'a Courses>,
+    before: &'a Pasts,
+    after: &'a Pasts,
+) -> Option<Gone<'a>>
+    ensures { (c : Settings) (s : Store) (hour : ℕ)
+        → IfSome courses (λ x. HasCourses c s hour x.now)
+        → ArePastsAt (log_of c.specs s) hour before.now → StatesLead c s hour before.now after.now
+        → IfSome result (λ g. IsGone c s hour g.courses.now g.states.before.now g.states.after.now) }
+{
+    match courses {
+        Some(courses) => Some(Gone {
+            courses,
+            states: About { before, after },
+        }),
+        None => None,
+    }
+}
+
 // What is new at hour points of the states alone, where what is kept fits the store but for the
 // hours that are touched.
 fn ways_of<L>(
@@ -342,11 +363,11 @@ fn ways_of<L>(
         reads,
     )?;
     let kept = worked.futures.as_slice();
-    let own = courses.as_ref();
+    let before = worked.carries[first as usize].pasts();
     let told = Returning {
         first,
         kept,
-        courses: own,
+        gone: gone_over(courses.as_ref(), before, &states[0]),
     };
     let futures = go_back(alloc, config, store, last, &told, reads)?;
     let from = last + 1 - futures.len() as u32;
@@ -444,11 +465,11 @@ fn put_off<L>(
         reads,
     )?;
     let kept = worked.futures.as_slice();
-    let own = courses.as_ref();
+    let before = worked.carries[first as usize].pasts();
     let told = Returning {
         first,
         kept,
-        courses: own,
+        gone: gone_over(courses.as_ref(), before, carries[0].pasts()),
     };
     let futures = go_back(alloc, config, store, last, &told, reads)?;
     let from = last + 1 - futures.len() as u32;

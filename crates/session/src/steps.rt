@@ -11,10 +11,10 @@ ghost use Rattle.rule_audit.specs.Rules.{rules_for};
 ghost use Rattle.hour_work.specs.Numbers.{FitHours};
 ghost use Rattle.signal_log.specs.Points.{ArePastsAt};
 ghost use Rattle.hour_work.specs.Points.{ComesBack, IsCarryAt, IsFutureAt, NamesRow, NamesStop};
-ghost use Rattle.session.specs.Links.{Backs, Counts, HasCourses, Leads, StatesLead};
+ghost use Rattle.session.specs.Links.{Backs, Counts, HasCourses, IsGone, Leads, StatesLead};
 ghost use Rattle.session.specs.Opens.{AreOpened, NamesRowOf};
 
-use board::{Courses, Pasts};
+use board::{About, Courses, Pasts};
 use hour_store::HourStore;
 use hour_work::{
     Between, Carry, ForwardError, Future, Known, Partial, Worked, backward_again, backward_over,
@@ -23,7 +23,7 @@ use hour_work::{
 use ring_config::Config;
 use rule_audit::Rule;
 use sig_base::{Hour, NoMemory, Reads};
-use signal_log::{About, Place, pasts_over_again, pasts_through};
+use signal_log::{Place, pasts_over_again, pasts_through};
 use std::alloc::Global;
 
 /// The states of each channel at the point after an hour, and the hour's courses where it was gone
@@ -201,28 +201,35 @@ pub fn carry_after<L>(
     Ok(Crossed { carry, courses })
 }
 
-/// What is kept going back at the point before the hour. These are its courses, where they are made
-/// already.
+/// How an hour was gone over forward: its courses, and the states of each channel before and after it.
+#[derive(Drop)]
+pub struct Gone<'a> {
+    pub courses: &'a Courses,
+    pub states: About<'a, Pasts>,
+}
+
+/// What is kept going back at the point before the hour, where it was gone over forward so.
 pub fn future_before<L>(
     alloc: Global,
     config: &Config,
     store: &HourStore<L>,
     hour: Hour,
     after: &Future,
-    courses: Option<&Courses>,
+    gone: Option<&Gone<'_>>,
     reads: &mut Reads<L>,
 ) -> Result<Future, NoMemory>
     requires in_store { hour < length store.now.hours }
     requires after { IsFutureAt config.now store.now (hour + 1) after.now }
-    requires courses { IfSome courses (λ c. HasCourses config.now store.now hour c.now) }
+    requires gone { IfSome gone (λ g. IsGone config.now store.now hour g.now.courses.now
+        g.now.states.before.now g.now.states.after.now) }
     ensures backs { IfOk result (Backs config.now hour (rows_at store.now hour) store.now.blanks
         after.now) }
     ensures once { AreOpened hour (hour + 1) 1 1 reads.old reads.new }
 {
     let rows = store.open_hour(hour, reads);
     let place = Place::new(alloc, hour, rows, store.blanked())?;
-    match courses {
-        Some(courses) => backward_through(alloc, config, &place, courses, after),
+    match gone {
+        Some(gone) => backward_through(alloc, config, &place, gone.courses, &gone.states, after),
         None => backward_over(alloc, config, &place, after),
     }
 }

@@ -17,7 +17,30 @@ returns-in-Some-clause-backs g c =
 pub backward_through-requires-clause-courses : goal.backward_through-requires-clause-courses
 backward_through-requires-clause-courses g c =
     let (at, held, blanked) = c.in_ok-place.ensures in
-    rw (at, held, blanked, c.open_hour-rows.ensures.rows, c.blanked.ensures.value) (rw c.in-Some.is at c.requires.courses)
+    let gone = rw c.in-Some.is at c.requires.gone in
+    rw (at, held, blanked, c.open_hour-rows.ensures.rows, c.blanked.ensures.value) gone.courses
+
+pub backward_through-requires-clause-shape_before : goal.backward_through-requires-clause-shape_before
+backward_through-requires-clause-shape_before g c =
+    let gone = rw c.in-Some.is at c.requires.gone in
+    gone.before.shape
+
+pub backward_through-requires-clause-early : goal.backward_through-requires-clause-early
+backward_through-requires-clause-early g c =
+    let (at, held, blanked) = c.in_ok-place.ensures in
+    let gone = rw c.in-Some.is at c.requires.gone in
+    rw at gone.before.early
+
+pub backward_through-requires-clause-reached : goal.backward_through-requires-clause-reached
+backward_through-requires-clause-reached g c =
+    let gone = rw c.in-Some.is at c.requires.gone in
+    gone.leads.shape
+
+pub backward_through-requires-clause-states : goal.backward_through-requires-clause-states
+backward_through-requires-clause-states g c =
+    let (at, held, blanked) = c.in_ok-place.ensures in
+    let gone = rw c.in-Some.is at c.requires.gone in
+    rw (at, held, blanked, c.open_hour-rows.ensures.rows, c.blanked.ensures.value) gone.leads.over
 
 pub returns-clause-once : goal.returns-clause-once
 returns-clause-once g c = opened_raised _ _ c.args.hour c.open_hour-rows.ensures.raised

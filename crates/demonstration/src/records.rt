@@ -1,21 +1,22 @@
 // The records of the hour files.
-ghost use Rattle.std.specs.Prelude.{◌≡◌, ◌*◌, ◌<◌, ◌≤◌, ◌++◌, All, filter, length, OnOk};
+ghost use Rattle.std.specs.Prelude.{◌≡◌, ◌*◌, ◌<◌, ◌≤◌, ◌++◌, All, codes, filter, length, OnOk};
 ghost use Rattle.std.specs.List.Sorted.{IsNonDecreasingBy, IsPartitionPoint};
 ghost use Rattle.demonstration.specs.Texts.{calendar, is_of_hour, record_of, records_of, spaced_stamp};
 
 use itoa::Buffer;
 use sig_base::{NoMemory, Row, Window};
 
-// The stamp of a tenth with a space between date and time.
+// How the record of a row at this tenth begins.
 #[tactic(auto, unfolding(crate::specs::Texts::spaced_stamp))]
-fn spaced_stamp(window: &Window, at: u32) -> [u8; 21]
+fn record_start(window: &Window, at: u32) -> [u8; 27]
     requires days { window.now ≡ calendar }
     requires at { at < 36000 * 169 }
-    ensures { result ≡ spaced_stamp at }
+    ensures { result ≡ codes "9000," ++ spaced_stamp at ++ codes "," }
 {
-    let mut stamp = window.stamp(at);
-    stamp[10] = b' ';
-    stamp
+    let mut start = *b"9000,2024-01-01 00:00:00.0,";
+    start[5..26].copy_from_slice(&window.stamp(at));
+    start[15] = b' ';
+    start
 }
 
 #[tactic(auto, unfolding(crate::specs::Texts::record_of))]
@@ -26,13 +27,11 @@ fn put_record(out: &mut Vec<u8>, window: &Window, row: Row) -> Result<(), NoMemo
 {
     let mut code = Buffer::new();
     let mut param = Buffer::new();
-    out.extend_from_slice(b"9000,")?;
-    out.extend_from_slice(&spaced_stamp(window, row.at))?;
-    out.extend_from_slice(b",")?;
+    out.extend_from_slice(&record_start(window, row.at))?;
     out.extend_from_slice(code.format(row.code).as_bytes())?;
-    out.extend_from_slice(b",")?;
+    out.push(b',')?;
     out.extend_from_slice(param.format(row.param).as_bytes())?;
-    out.extend_from_slice(b"\n")?;
+    out.push(b'\n')?;
     Ok(())
 }
 

@@ -4,3 +4,4 @@ pub mod Legs
 pub mod Kept
 pub mod Certain
 pub mod Runs
+pub mod Near

@@ -21,6 +21,23 @@ impl Past {
     }
 }
 
+impl Ahead {
+    /// The state's colour with every entry up to its own.
+    pub fn only(one: Single) -> Ahead
+        requires { IsSingle one }
+        ensures colours { length result ≡ length (sets_of one) }
+        ensures states { (s : State) → Admits result s ↔ ((s.colour ≡ one.colour)
+            × (s.entry ≤ℤ one.entry)) }
+    {
+        let mut latest = [None; 16];
+        latest[one.colour as usize] = Some(one.entry);
+        Ahead {
+            latest,
+            colours: one.colours,
+        }
+    }
+}
+
 /// Whether the state can still be completed.
 pub fn single_goes_on(one: Single, ahead: &Ahead) -> bool
     requires single { IsSingle one }

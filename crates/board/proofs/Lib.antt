@@ -23,5 +23,6 @@ pub mod Cells
 pub mod Few
 pub mod Suiting
 pub mod Back
+pub mod Twins
 pub mod Among
 pub mod Common

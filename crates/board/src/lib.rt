@@ -9,8 +9,10 @@
 //! Tenths are tenths of a second from the window's start.
 #![tactic(auto)]
 
+mod about;
 mod again;
 mod aheads;
+mod between;
 mod clause;
 mod courses;
 mod finder;
@@ -21,8 +23,10 @@ mod slice_view;
 mod spec_table;
 mod view;
 
+pub use about::About;
 pub use again::{aheads_again, pasts_again};
 pub use aheads::{Aheads, aheads_along, aheads_hour};
+pub use between::aheads_between;
 pub use clause::{Clause, Term, clause_verdict, clause_verdict_from, has_spec};
 pub use courses::{Course, Courses, count_before, courses_of};
 pub use pasts::{Pasts, PastsError, pasts_along, pasts_hour};

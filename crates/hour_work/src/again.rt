@@ -8,9 +8,10 @@ ghost use Rattle.signal_log.specs.Over.{AreAheadsOver};
 ghost use Rattle.hour_work.specs.Points.{ComesBack, IsFutureAt};
 
 use crate::Future;
+use board::About;
 use ring_config::Config;
 use sig_base::NoMemory;
-use signal_log::{About, Place, aheads_over_again};
+use signal_log::{Place, aheads_over_again};
 use std::alloc::Global;
 
 /// `backward_over` of an hour of which it was said before, from other states at the point after it:

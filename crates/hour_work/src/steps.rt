@@ -18,7 +18,7 @@ ghost use Rattle.hour_work.specs.Points.{AreUnderWayAt, FitPoint, IsCarryAt, IsF
 
 use crate::measures::{Measured, UnderWay, measures_over};
 use crate::{Carry, Future};
-use board::{Courses, Pasts, PastsError};
+use board::{About, Courses, Pasts, PastsError};
 use ring_config::Config;
 use sig_base::{Hour, NoMemory, Row};
 use signal_log::{Place, aheads_over, aheads_through, pasts_over};
@@ -222,16 +222,23 @@ pub fn backward_over(
     Ok(Future { aheads })
 }
 
-/// The same, where these are the hour's courses.
+/// The same, where these are the hour's courses and the states of each channel at the points before
+/// it and after it: of a channel whose first few moves alone tell, no others are walked back.
 pub fn backward_through(
     alloc: Global,
     config: &Config,
     place: &Place<'_>,
     courses: &Courses,
+    states: &About<'_, Pasts>,
     after: &Future,
 ) -> Result<Future, NoMemory>
     requires courses { AreCoursesOver config.now.specs place.now.hour place.now.rows
         place.now.blanks courses.now }
+    requires shape_before { AreBefore config.now.specs states.now.before.now }
+    requires early { AllEarly (first_tenth place.now.hour) states.now.before.now }
+    requires reached { AreBefore config.now.specs states.now.after.now }
+    requires states { ArePastsOver config.now.specs place.now.hour place.now.rows place.now.blanks
+        states.now.before.now states.now.after.now }
     requires fit { AreAheadsOf config.now.specs after.now }
     ensures fit { IfOk result (AreAheadsOf config.now.specs) }
     ensures future { IfOk result (λ f. (s : Store) → HasPlace s place.now
@@ -240,7 +247,7 @@ pub fn backward_through(
     ensures over { IfOk result (AreAheadsOver config.now.specs place.now.hour place.now.rows
         place.now.blanks after.now) }
 {
-    let aheads = aheads_through(alloc, config.specs(), place, courses, &after.aheads)?;
+    let aheads = aheads_through(alloc, config.specs(), place, courses, states, &after.aheads)?;
     Ok(Future { aheads })
 }
 

@@ -11,9 +11,8 @@ ghost use Rattle.signal_log.specs.Opened.{HasPlace};
 ghost use Rattle.signal_log.specs.Points.{AreAheadsAt, ArePastsAt, NamesContradiction};
 ghost use Rattle.signal_log.specs.Over.{AreAheadsOver, ArePastsOver, NamesStopOver};
 
-use crate::about::About;
 use crate::place::Place;
-use board::{Aheads, Pasts, PastsError, aheads_again, pasts_again};
+use board::{About, Aheads, Pasts, PastsError, aheads_again, pasts_again};
 use channel_tables::Spec;
 use sig_base::NoMemory;
 use std::alloc::Global;

@@ -3,14 +3,16 @@ ghost use Rattle.std.specs.Prelude.{◌<◌, ◌+◌, option_copied, IfSome, IfO
 ghost use Rattle.sig_base.specs.HourRows.{AreRowsOf};
 ghost use Rattle.hour_store.specs.Store.{Store};
 ghost use Rattle.board.specs.Channels.{AreSpecs};
-ghost use Rattle.board.specs.Places.{AreAheadsOf};
+ghost use Rattle.board.specs.Logs.{first_tenth};
+ghost use Rattle.board.specs.Stops.{AreBefore};
+ghost use Rattle.board.specs.Places.{AllEarly, AreAheadsOf};
 ghost use Rattle.signal_log.specs.Log.{log_of};
 ghost use Rattle.signal_log.specs.Opened.{HasPlace};
 ghost use Rattle.signal_log.specs.Points.{AreAheadsAt, HasHour};
-ghost use Rattle.signal_log.specs.Over.{AreAheadsOver, AreCoursesOver};
+ghost use Rattle.signal_log.specs.Over.{AreAheadsOver, AreCoursesOver, ArePastsOver};
 
 use crate::place::Place;
-use board::{Aheads, Courses, aheads_along};
+use board::{About, Aheads, Courses, Pasts, aheads_along, aheads_between};
 use channel_tables::Spec;
 use sig_base::{Hour, NoMemory, Row};
 use span_set::SpanSet;
@@ -59,20 +61,27 @@ pub fn aheads_over(
         place.now.blanks after.now) }
 {
     let courses = place.courses(alloc, specs)?;
-    aheads_through(alloc, specs, place, &courses, after)
+    aheads_along(alloc, specs, after, place.stretches(), &courses)
 }
 
-/// The same, where these are the hour's courses.
+/// The same, where these are the hour's courses and the states of each channel at the points before
+/// it and after it: of a channel whose first few moves alone tell, no others are walked back.
 pub fn aheads_through(
     alloc: Global,
     specs: &[Spec],
     place: &Place<'_>,
     courses: &Courses,
+    states: &About<'_, Pasts>,
     after: &Aheads,
 ) -> Result<Aheads, NoMemory>
     requires specs { AreSpecs specs.now }
     requires courses { AreCoursesOver specs.now place.now.hour place.now.rows place.now.blanks
         courses.now }
+    requires shape_before { AreBefore specs.now states.now.before.now }
+    requires early { AllEarly (first_tenth place.now.hour) states.now.before.now }
+    requires reached { AreBefore specs.now states.now.after.now }
+    requires states { ArePastsOver specs.now place.now.hour place.now.rows place.now.blanks
+        states.now.before.now states.now.after.now }
     requires shape { AreAheadsOf specs.now after.now }
     ensures shape { IfOk result (λ a. AreAheadsOf specs.now a) }
     ensures aheads { IfOk result (λ a. (s : Store) → HasPlace s place.now
@@ -81,5 +90,5 @@ pub fn aheads_through(
     ensures over { IfOk result (AreAheadsOver specs.now place.now.hour place.now.rows
         place.now.blanks after.now) }
 {
-    aheads_along(alloc, specs, after, place.stretches(), courses)
+    aheads_between(alloc, specs, states, after, place.stretches(), courses)
 }

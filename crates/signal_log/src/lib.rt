@@ -10,14 +10,12 @@
 //! points the view of one hour says what the histories of the whole window say.
 #![tactic(auto)]
 
-mod about;
 mod again;
 mod aheads;
 mod laws;
 mod pasts;
 mod place;
 
-pub use about::About;
 pub use again::{aheads_over_again, pasts_over_again};
 pub use aheads::{aheads_before, aheads_over, aheads_through};
 pub use laws::{

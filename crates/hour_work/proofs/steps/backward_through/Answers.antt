@@ -14,3 +14,12 @@ returns-clause-over c =
 
 pub aheads_through-requires-clause-courses : goal.aheads_through-requires-clause-courses
 aheads_through-requires-clause-courses c = rw c.specs.ensures.value c.requires.courses
+
+pub aheads_through-requires-clause-shape_before : goal.aheads_through-requires-clause-shape_before
+aheads_through-requires-clause-shape_before c = rw c.specs.ensures.value c.requires.shape_before
+
+pub aheads_through-requires-clause-reached : goal.aheads_through-requires-clause-reached
+aheads_through-requires-clause-reached c = rw c.specs.ensures.value c.requires.reached
+
+pub aheads_through-requires-clause-states : goal.aheads_through-requires-clause-states
+aheads_through-requires-clause-states c = rw c.specs.ensures.value c.requires.states

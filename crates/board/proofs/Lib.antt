@@ -24,5 +24,6 @@ pub mod Few
 pub mod Suiting
 pub mod Back
 pub mod Twins
+pub mod Repeating
 pub mod Among
 pub mod Common

@@ -4,6 +4,7 @@ pub mod Logs
 pub mod Channels
 pub mod Courses
 pub mod Stops
+pub mod Repeats
 pub mod Places
 pub mod Hours
 pub mod Verdicts

@@ -10,12 +10,14 @@ ghost use Rattle.channel_path.specs.Places.{EntersBefore};
 ghost use Rattle.gap_map.specs.Stretches.{FollowOn};
 ghost use Rattle.board.specs.Channels.{AreSpecs};
 ghost use Rattle.board.specs.Logs.{IsHour};
+ghost use Rattle.board.specs.Repeats.{Repeats, StandsTwice};
 ghost use Rattle.board.specs.Places.{AreAheadsOf, AreSameFor, SameFor};
 ghost use Rattle.board.specs.Stops.{AreBefore};
 ghost use Rattle.board.specs.Hours.{AreEnds, AreAheadsBefore};
 
-use crate::courses::Courses;
+use crate::courses::{Course, Courses};
 use crate::pasts::Pasts;
+use crate::repeat::repeats;
 use channel_path::{Move, walk_ahead};
 use channel_tables::{AnyMachine, Spec, machine_of};
 use colour_machine::Machine;
@@ -177,12 +179,33 @@ pub fn aheads_along(
 {
     let list = courses.list();
     let first = first_of(stretches);
-    let mut aheads = Vec::new(alloc);
+    let mut aheads: Vec<Ahead> = Vec::new(alloc);
     for i in 0..specs.len() {
+        if repeats_ahead(specs, list, after, i) {
+            let ahead = aheads[i - 1].copy();
+            aheads.push(ahead)?;
+            continue;
+        }
         let ahead = ahead_before(&specs[i], &after.aheads[i], list[i].moves(), first);
         aheads.push(ahead)?;
     }
     Ok(Aheads { aheads, alloc })
+}
+
+/// Whether the channel with this place has the machine and the moves of the one before it, and after
+/// them the same states are admitted.
+pub fn repeats_ahead(specs: &[Spec], list: &[Course], after: &Aheads, place: usize) -> bool
+    requires within { place < length specs.now }
+    requires same { length list.now ≡ length specs.now }
+    requires after { length after.now ≡ length specs.now }
+    ensures later { IsTrue result → 1 ≤ place }
+    ensures repeats { IsTrue result → Repeats specs.now list.now place }
+    ensures states { IsTrue result → StandsTwice after.now place }
+{
+    if !repeats(specs, list, place) {
+        return false;
+    }
+    after.aheads[place].same(&after.aheads[place - 1])
 }
 
 /// The states of one channel, entered before the tenth, from which its moves lead to one that is

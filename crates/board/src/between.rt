@@ -15,7 +15,7 @@ ghost use Rattle.board.specs.Places.{AllEarly, AreAheadsOf};
 ghost use Rattle.board.specs.Hours.{AreAheadsBefore, ArePastsOf};
 
 use crate::about::About;
-use crate::aheads::{Aheads, ahead_before, lower_before};
+use crate::aheads::{Aheads, ahead_before, lower_before, repeats_ahead};
 use crate::courses::Courses;
 use crate::pasts::Pasts;
 use channel_path::{Move, ahead_near};
@@ -58,8 +58,13 @@ pub fn aheads_between(
     let reached = states.after;
     let list = courses.list();
     let first = first_of(stretches);
-    let mut aheads = Vec::new(alloc);
+    let mut aheads: Vec<Ahead> = Vec::new(alloc);
     for i in 0..specs.len() {
+        if repeats_ahead(specs, list, after, i) {
+            let ahead = aheads[i - 1].copy();
+            aheads.push(ahead)?;
+            continue;
+        }
         let ahead = ahead_between(
             alloc,
             &specs[i],

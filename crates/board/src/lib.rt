@@ -19,6 +19,7 @@ mod finder;
 mod marks;
 mod meeting;
 mod pasts;
+mod repeat;
 mod slice_view;
 mod spec_table;
 mod view;

@@ -12,10 +12,12 @@ ghost use Rattle.board.specs.Channels.{AreSpecs};
 ghost use Rattle.board.specs.Courses.{course_log};
 ghost use Rattle.board.specs.Logs.{IsHour, first_tenth, end_tenth};
 ghost use Rattle.board.specs.Stops.{number, IsEarlier, IsWalked, IsFirstStop, AreAfter, AreBefore, rules_at};
+ghost use Rattle.board.specs.Repeats.{Repeats, StandsTwice};
 ghost use Rattle.board.specs.Places.{AllEarly, AreSamePasts};
 ghost use Rattle.board.specs.Hours.{IsStart, AreStarts, AllClamped, ArePastsOf, NamesStop};
 
-use crate::courses::Courses;
+use crate::courses::{Course, Courses};
+use crate::repeat::repeats;
 use channel_path::{Move, walk_past};
 use channel_tables::{AnyMachine, Spec, machine_of};
 use colour_machine::Machine;
@@ -222,7 +224,8 @@ pub struct After {
     pub stop: Option<u32>,
 }
 
-// The same without an end, by the moves of each channel.
+// The same without an end, by the moves of each channel. A channel that repeats the one before it
+// has that one's states, and changes no stop.
 fn pasts_walked(
     alloc: Global,
     specs: &[Spec],
@@ -243,9 +246,14 @@ fn pasts_walked(
         courses.now.stretches before.now (length specs.now) a.pasts) }
 {
     let list = courses.list();
-    let mut pasts = Vec::new(alloc);
+    let mut pasts: Vec<Past> = Vec::new(alloc);
     let mut stop = None;
     for i in 0..specs.len() {
+        if repeats_past(specs, list, before, i) {
+            let past = pasts[i - 1].copy()?;
+            pasts.push(past)?;
+            continue;
+        }
         let mut past = before.pasts[i].copy()?;
         let next = walk_spec(alloc, &specs[i], &mut past, list[i].moves())?;
         stop = earlier(stop, next);
@@ -255,6 +263,22 @@ fn pasts_walked(
         pasts: Pasts { pasts, alloc },
         stop,
     })
+}
+
+// Whether the channel with this place has the machine, the moves and the states before them of the
+// one before it.
+fn repeats_past(specs: &[Spec], list: &[Course], before: &Pasts, place: usize) -> bool
+    requires within { place < length specs.now }
+    requires same { length list.now ≡ length specs.now }
+    requires before { length before.now ≡ length specs.now }
+    ensures later { IsTrue result → 1 ≤ place }
+    ensures repeats { IsTrue result → Repeats specs.now list.now place }
+    ensures states { IsTrue result → StandsTwice before.now place }
+{
+    if !repeats(specs, list, place) {
+        return false;
+    }
+    before.pasts[place].same(&before.pasts[place - 1])
 }
 
 /// The states of one channel after its moves. Answers the row after which there is none.

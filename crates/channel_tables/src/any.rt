@@ -1,5 +1,5 @@
 // The machine of any channel.
-ghost use Rattle.std.specs.Prelude.{◌≡◌};
+ghost use Rattle.std.specs.Prelude.{◌≡◌, IsTrue};
 ghost use Rattle.channel_tables.specs.Any.{any_rules};
 ghost use Rattle.channel_tables.specs.Spec.{IsSpec, rules_of};
 
@@ -92,4 +92,11 @@ pub fn machine_of(spec: &Spec) -> AnyMachine
         Kind::PreemptService => AnyMachine::Preempt(PreemptMachine::new(spec.floors)),
         Kind::Coordination => AnyMachine::Coord(CoordMachine {}),
     }
+}
+
+/// Whether both channels have the same machine: they are of one kind, and have the same floors.
+pub fn same_machine(a: &Spec, b: &Spec) -> bool
+    ensures { IsTrue result → rules_of a.now ≡ rules_of b.now }
+{
+    a.channel.kind == b.channel.kind && a.floors == b.floors
 }

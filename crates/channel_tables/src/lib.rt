@@ -17,7 +17,7 @@ mod preempt;
 mod spec;
 mod switch;
 
-pub use any::{AnyMachine, machine_of};
+pub use any::{AnyMachine, machine_of, same_machine};
 pub use coordination::CoordMachine;
 pub use detector::DetectorMachine;
 pub use letters::{letter_of, letter_of_kind};

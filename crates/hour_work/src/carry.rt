@@ -1,5 +1,5 @@
 // What is kept at an hour point.
-ghost use Rattle.std.specs.Prelude.{◌≡◌, ◌↔◌, List, length, IfOk, IsTrue};
+ghost use Rattle.std.specs.Prelude.{◌≡◌, ◌↔◌, [], List, length, IfOk, IsTrue};
 ghost use Rattle.channel_tables.specs.declared.spec.Spec.{Spec};
 ghost use Rattle.hour_store.specs.Store.{Store};
 ghost use Rattle.board.specs.Places.{AreAheadsOf, AreSameFor};

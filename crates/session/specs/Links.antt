@@ -35,8 +35,8 @@ HasCourses c s hour courses = AreCoursesOver c.specs hour (rows_at s hour) s.bla
 
 -- the hour was gone over forward by these courses of it, from these states before it to those after it
 pub record IsGone (c : Settings) (s : Store) (hour : ℕ) (courses : CourseLog) (before after : States) : Type 0 where
-  pub courses : HasCourses c s hour courses
-  pub before : ArePastsAt (log_of c.specs s) hour before
+  pub cut : HasCourses c s hour courses
+  pub begun : ArePastsAt (log_of c.specs s) hour before
   pub leads : StatesLead c s hour before after
 
 -- in every store that has the hour so: where this is what it says up to the point before the hour, that is what it says up to the point after it; and by what is told of the hour its states lead there

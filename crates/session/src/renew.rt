@@ -309,7 +309,7 @@ fn gone_over<'a>(
     after: &'a Pasts,
 ) -> Option<Gone<'a>>
     ensures { (c : Settings) (s : Store) (hour : ℕ)
-        → IfSome courses (λ x. HasCourses c s hour x.now)
+        → IfSome courses.entry (λ x. HasCourses c s hour x.now)
         → ArePastsAt (log_of c.specs s) hour before.now → StatesLead c s hour before.now after.now
         → IfSome result (λ g. IsGone c s hour g.courses.now g.states.before.now g.states.after.now) }
 {

@@ -1,9 +1,13 @@
-use Rattle.std.proofs.Common.{◌≡◌, ◌+◌, ◌-◌, ◌≤◌, ℕ, arith, length, refl, subst}
-use Rattle.session.specs.Renewed.{AreNewFutures}
+use Rattle.std.proofs.Common.{◌≡◌, ◌∙◌, ◌+◌, ◌-◌, ◌<◌, ap, arith, get_or, length, refl, rules, subst, sym}
+use Rattle.std.proofs.lemmas.List.{get_or_default}
+use Rattle.hour_work.specs.Points.{Carried}
+use Rattle.signal_log.specs.Log.{log_of}
+use Rattle.signal_log.specs.Points.{ArePastsAt}
+use Rattle.session.specs.Links.{States, StatesLead}
 use Rattle.session.proofs.GrowLaws.{grow_on}
 use Rattle.session.proofs.OpenLaws.{opened_across, opened_as}
 use Rattle.session.proofs.RenewLaws.{renewed_later, shapes_new}
-use Rattle.session.proofs.StatesLaws.{history_carries}
+use Rattle.session.proofs.StatesLaws.{carries_to, first_carries, history_carries}
 use Rattle.session.proofs.renew.put_off.Goals as goal
 
 pub returns-in_err-futures-clause-grow : goal.returns-in_err-futures-clause-grow
@@ -79,3 +83,23 @@ returns-clause-opens g c =
     let size = c.len.ensures in
     let from : (c.args.touched.last + 1) - length c.in_ok-futures.futures.items ≡ (c.args.touched.last + 1) - c.len.result = omega arith in
     opened_as _ _ _ _ _ _ _ _ from refl (opened_across _ _ _ _ _ _ _ (omega arith) (omega arith) (omega arith) c.in_ok-carries.ensures.opens c.in_ok-futures.ensures.opens)
+
+pub go_back-requires-clause-gone : goal.go_back-requires-clause-gone
+go_back-requires-clause-gone g c =
+    let cfg = c.args.config.now in
+    let s = c.args.store.now in
+    let first = c.args.touched.first in
+    let last = c.args.touched.last in
+    let kept = c.args.worked.now.carries.items in
+    let d = c.index.result.now in
+    let order = c.requires.kept.order in
+    let within = c.requires.kept.within in
+    let own = carries_to cfg s first last kept c.go_across.ensures.store order within c.requires.kept.forth first d (omega arith) in
+    let before : c.pasts-before.result.now ≡ (get_or kept first d).pasts = c.pasts-before.ensures ∙ ap (λ (v : Carried). v.pasts) c.index.ensures in
+    let new = rw c.deref.ensures.value at c.in_ok-carries.ensures.carries in
+    let x = c.index-2.result.now in
+    let fresh = c.in_ok-carries.field-0.carries.items in
+    let some : 0 < length fresh = (let more = new.some in omega arith) in
+    let after : c.pasts.result.now ≡ (get_or fresh 0 d).pasts = c.pasts.ensures ∙ ap (λ (v : Carried). v.pasts) (c.index-2.ensures ∙ get_or_default fresh 0 x d some) in
+    let leads = subst (λ (v : States). StatesLead cfg s first (get_or kept first d).pasts v) (sym after) (first_carries cfg s first last kept fresh d order within c.requires.kept.forth new) in
+    c.gone_over.ensures cfg s first (search rules) (subst (λ (v : States). ArePastsAt (log_of cfg.specs s) first v) (sym before) own.pasts) (subst (λ (v : States). StatesLead cfg s first v c.pasts.result.now) (sym before) leads)

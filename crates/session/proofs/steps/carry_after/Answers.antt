@@ -1,6 +1,5 @@
 use Rattle.std.proofs.Common.{rules}
 use Rattle.std.specs.Prelude.{option_copied}
-use Rattle.signal_log.specs.Log.{log_of}
 use Rattle.session.proofs.KeptLaws.{has_hour}
 use Rattle.session.proofs.OpenLaws.{opened_raised, row_of}
 use Rattle.session.proofs.StepLaws.{lead_on, some_to}

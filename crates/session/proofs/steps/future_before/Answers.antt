@@ -18,18 +18,18 @@ pub backward_through-requires-clause-courses : goal.backward_through-requires-cl
 backward_through-requires-clause-courses g c =
     let (at, held, blanked) = c.in_ok-place.ensures in
     let gone = rw c.in-Some.is at c.requires.gone in
-    rw (at, held, blanked, c.open_hour-rows.ensures.rows, c.blanked.ensures.value) gone.courses
+    rw (at, held, blanked, c.open_hour-rows.ensures.rows, c.blanked.ensures.value) gone.cut
 
 pub backward_through-requires-clause-shape_before : goal.backward_through-requires-clause-shape_before
 backward_through-requires-clause-shape_before g c =
     let gone = rw c.in-Some.is at c.requires.gone in
-    gone.before.shape
+    gone.begun.shape
 
 pub backward_through-requires-clause-early : goal.backward_through-requires-clause-early
 backward_through-requires-clause-early g c =
     let (at, held, blanked) = c.in_ok-place.ensures in
     let gone = rw c.in-Some.is at c.requires.gone in
-    rw at gone.before.early
+    rw at gone.begun.early
 
 pub backward_through-requires-clause-reached : goal.backward_through-requires-clause-reached
 backward_through-requires-clause-reached g c =

@@ -302,8 +302,8 @@ impl<L> Draft<L> {
         ensures lines { IfOk result (KeepLines self.old.config self.old.store self.new.store) }
         ensures settled { IsKeptPlain may_wait self.old.waiting → AllSettled self.new.waiting }
         ensures config { self.new.config ≡ self.old.config }
-        ensures opens { OpensFor (hour_change replaces rows) self.old.waiting self.new.waiting reads.old
-            reads.new result }
+        ensures opens { OpensFor (hour_change replaces rows) self.old.waiting self.new.waiting
+            reads.old reads.new result }
         ensures grow { Grow reads.old reads.new }
     {
         let hour = rows.hour();
@@ -369,8 +369,8 @@ impl<L> Draft<L> {
         ensures lines { IfOk result (KeepLines self.old.config self.old.store self.new.store) }
         ensures settled { IsKeptPlain may_wait self.old.waiting → AllSettled self.new.waiting }
         ensures config { self.new.config ≡ self.old.config }
-        ensures opens { OpensFor (range_change edit from to) self.old.waiting self.new.waiting reads.old
-            reads.new result }
+        ensures opens { OpensFor (range_change edit from to) self.old.waiting self.new.waiting
+            reads.old reads.new result }
         ensures grow { Grow reads.old reads.new }
     {
         if reaches_out(self.config.hours(), from, to) {

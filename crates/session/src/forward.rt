@@ -49,7 +49,8 @@ struct Told<'a> {
 // What was told of the states about an hour, where it is after the last one that is changed.
 fn told_of<'a>(told: &Told<'a>, hour: Hour) -> Option<About<'a, Pasts>>
     requires { hour + 1 < length told.now.kept.now }
-    ensures { (c : Settings) (s : Store) → (told.now.last < hour → LeadsAt c s told.now.kept.now hour)
+    ensures { (c : Settings) (s : Store)
+        → (told.now.last < hour → LeadsAt c s told.now.kept.now hour)
         → IfSome result (λ w. StatesLead c s hour w.before.now w.after.now) }
 {
     if hour <= told.last {

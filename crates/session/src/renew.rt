@@ -311,7 +311,8 @@ fn gone_over<'a>(
     ensures { (c : Settings) (s : Store) (hour : ℕ)
         → IfSome courses.entry (λ x. HasCourses c s hour x.now)
         → ArePastsAt (log_of c.specs s) hour before.now → StatesLead c s hour before.now after.now
-        → IfSome result (λ g. IsGone c s hour g.courses.now g.states.before.now g.states.after.now) }
+        → IfSome result (λ g. IsGone c s hour g.courses.now g.states.before.now
+        g.states.after.now) }
 {
     match courses {
         Some(courses) => Some(Gone {

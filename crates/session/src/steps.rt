@@ -201,7 +201,8 @@ pub fn carry_after<L>(
     Ok(Crossed { carry, courses })
 }
 
-/// How an hour was gone over forward: its courses, and the states of each channel before and after it.
+/// How an hour was gone over forward: its courses, and the states of each channel before it and after
+/// it.
 #[derive(Drop)]
 pub struct Gone<'a> {
     pub courses: &'a Courses,

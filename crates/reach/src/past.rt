@@ -112,7 +112,7 @@ impl Past {
 fn copy_sets(alloc: Global, sets: &[SpanSet]) -> Result<Vec<SpanSet>, NoMemory>
     ensures { IfOk result (λ v. v.items ≡ sets.now) }
 {
-    let mut copies = Vec::new(alloc);
+    let mut copies = Vec::with_capacity(alloc, sets.len())?;
     for set in sets {
         let next = set.copy()?;
         copies.push(next)?;

@@ -1,10 +1,11 @@
 -- Ranges in order, and what is in them.
-use Rattle.std.proofs.Common.{zero, ◌-◌, suc, ◌&&◌, drop, drop-cons, add-one, get_or, length, ◌<◌, ◌≤◌, ◌+◌, ◌∙◌, sym, ◌≡◌, refl, ap, ◌⊎◌, inl, inr, ℕ, ℤ, negsuc, ◌^◌, ◌<ℤ◌, ◌≤ℤ◌, true, false, List, [], ◌∷◌, arith, ◌↔◌, int_lt, int_le, take, Bool, ◌||◌, IsTrue}
+use Rattle.std.proofs.Common.{rules, set, zero, ◌-◌, suc, ◌&&◌, drop, drop-cons, add-one, get_or, length, ◌<◌, ◌≤◌, ◌+◌, ◌∙◌, sym, ◌≡◌, refl, ap, ◌⊎◌, inl, inr, ℕ, ℤ, negsuc, ◌^◌, ◌<ℤ◌, ◌≤ℤ◌, true, false, List, [], ◌∷◌, arith, ◌↔◌, int_lt, int_le, take, Bool, ◌||◌, IsTrue}
 use Rattle.std.specs.Int.{int_max, int_min}
 use Rattle.std.proofs.lemmas.Int.{ints, clamps}
 use Rattle.std.proofs.lemmas.Bool.{and_parts, and_from, false≢true}
 use Rattle.std.proofs.lemmas.Bool.Decides.{Decides-int_eq}
-use Rattle.std.proofs.lemmas.List.{take_all, length-drop}
+use Rattle.std.proofs.lemmas.List.{take_all, drop_all, length-drop, length-set, get_or_default}
+use Rattle.std.specs.List.{refill}
 use Rattle.std.specs.Bool.{Decides}
 use Rattle.std.specs.Ordering.{int_eq}
 use Rattle.span_set.specs.declared.set.Span.{Span}
@@ -97,6 +98,14 @@ pub end_more : (at : ℤ) (ss : List Span) (n : ℕ) (d : Span) → n < length s
 end_more at [] n d h a p = absurd (omega arith)
 end_more at (s ∷ ss) zero d h a p = (a, tt)
 end_more at (s ∷ ss) (suc n) d h a p = let i = end_more at ss n d (omega arith) a p.1 in rw add-one (p.0, rw add-one at i)
+
+-- a range that is read, as the value at a place
+pub read_is : (xs ys : List Span) (n : ℕ) (d : Span) → xs ≡ ys → n < length ys → get_or xs n d ≡ get_or ys n (get_or xs n d)
+read_is xs ys n d e h = ap (λ l. get_or l n d) e ∙ get_or_default ys n d (get_or xs n d) h
+
+-- ranges whose places are written, and one of them is another
+pub write_is : (xs ys : List Span) (n : ℕ) (s : Span) → xs ≡ ys → refill (length ys) ys (set xs n s) ≡ set ys n s
+write_is xs ys n s e = rw e (search (rules, drop_all (length ys) ys (omega arith), take_all (length ys) (set ys n s) (omega (arith, length-set ys n s))))
 
 -- what a slice from a place on has
 pub suffix : (xs : List Span) (n : ℕ) → n ≤ length xs → take (length xs - n) (drop n xs) ≡ drop n xs

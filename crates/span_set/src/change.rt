@@ -1,15 +1,16 @@
 // Changes of ranges in place.
-ghost use Rattle.std.specs.Prelude.{◌≡◌, ℤ, pos, negsuc, ◌≤ℤ◌, ◌<ℤ◌, ◌^◌, ◌∷◌, ◌++◌, ◌+◌, ◌<◌, ◌≤◌, vec_len, take, drop, length, IfOk, OnOk, OnErr};
+ghost use Rattle.std.specs.Prelude.{◌≡◌, ℤ, pos, negsuc, ◌≤ℤ◌, ◌<ℤ◌, ◌^◌, ◌∷◌, ◌++◌, ◌+◌, ◌<◌, ◌≤◌, take, drop, length, IfOk, OnOk, OnErr};
 ghost use Rattle.std.specs.Int.{int_max, int_min};
+ghost use Rattle.smallvec.specs.SmallVec.{small_vec_len};
 ghost use Rattle.span_set.specs.Spans.{AreRanges, BeginsBelow};
 ghost use Rattle.span_set.specs.Changes.{span, add_to, join, cut, part_before, from_on, keep_to, squash};
 
 use crate::search::{all_ended, begins_by, ended_by};
-use crate::set::Span;
+use crate::set::{Span, Spans};
 use sig_base::{NoMemory, Tenth};
 
 /// A range after all others is added in one step.
-pub fn add(spans: &mut Vec<Span>, from: Tenth, to: Tenth) -> Result<(), NoMemory>
+pub fn add(spans: &mut Spans, from: Tenth, to: Tenth) -> Result<(), NoMemory>
     requires low { negsuc (2 ^ 40) <ℤ from }
     requires ordered { AreRanges spans.old.items }
     ensures ok { OnOk result (spans.new.items ≡ add_to from to spans.old.items) }
@@ -22,7 +23,7 @@ pub fn add(spans: &mut Vec<Span>, from: Tenth, to: Tenth) -> Result<(), NoMemory
     add_within(spans, from, to)
 }
 
-fn add_within(spans: &mut Vec<Span>, from: Tenth, to: Tenth) -> Result<(), NoMemory>
+fn add_within(spans: &mut Spans, from: Tenth, to: Tenth) -> Result<(), NoMemory>
     requires low { negsuc (2 ^ 40) <ℤ from }
     ensures ok { OnOk result (spans.new.items ≡ add_to from to spans.old.items) }
     ensures err { OnErr result (spans.new.items ≡ spans.old.items) }
@@ -68,8 +69,8 @@ fn cover(a: Span, b: Span) -> Span
 }
 
 // Puts the range in place of those at `first` that it stands for.
-fn put_in_place(spans: &mut Vec<Span>, first: usize, joint: Joint) -> Result<(), NoMemory>
-    requires { first + joint.count ≤ vec_len spans.old }
+fn put_in_place(spans: &mut Spans, first: usize, joint: Joint) -> Result<(), NoMemory>
+    requires { first + joint.count ≤ small_vec_len spans.old }
     ensures ok { OnOk result (spans.new.items ≡ take first spans.old.items ++ joint.range
         ∷ drop (first + joint.count) spans.old.items) }
     ensures err { OnErr result (spans.new.items ≡ spans.old.items) }
@@ -84,9 +85,9 @@ fn put_in_place(spans: &mut Vec<Span>, first: usize, joint: Joint) -> Result<(),
 }
 
 // Takes out the ranges from the place `first` up to the place `last`.
-fn take_out(spans: &mut Vec<Span>, first: usize, last: usize)
+fn take_out(spans: &mut Spans, first: usize, last: usize)
     requires order { first ≤ last }
-    requires within { last ≤ vec_len spans.old }
+    requires within { last ≤ small_vec_len spans.old }
     ensures { spans.new.items ≡ take first spans.old.items ++ drop last spans.old.items }
 {
     if first < last {
@@ -97,7 +98,7 @@ fn take_out(spans: &mut Vec<Span>, first: usize, last: usize)
 }
 
 /// Takes out the tenths of `from` up to but without `to`.
-pub fn remove(spans: &mut Vec<Span>, from: Tenth, to: Tenth) -> Result<(), NoMemory>
+pub fn remove(spans: &mut Spans, from: Tenth, to: Tenth) -> Result<(), NoMemory>
     requires { from <ℤ to }
     ensures ok { OnOk result (spans.new.items ≡ cut from to spans.old.items) }
     ensures err { OnErr result (spans.new.items ≡ spans.old.items) }
@@ -120,14 +121,14 @@ struct Places {
 // Keeps what the range at `first` has before the tenth, and answers the places that are to be
 // taken out of those from `first` up to `last`.
 fn keep_before(
-    spans: &mut Vec<Span>,
+    spans: &mut Spans,
     first: usize,
     last: usize,
     from: Tenth,
 ) -> Result<Places, NoMemory>
     requires order { first ≤ last }
-    requires within { last ≤ vec_len spans.old }
-    ensures order { IfOk result (λ p. (p.first ≤ p.last) × (p.last ≤ vec_len spans.new)) }
+    requires within { last ≤ small_vec_len spans.old }
+    ensures order { IfOk result (λ p. (p.first ≤ p.last) × (p.last ≤ small_vec_len spans.new)) }
     ensures kept { IfOk result (λ p. take p.first spans.new.items ≡ take first spans.old.items
         ++ part_before from (drop first spans.old.items)) }
     ensures rest { IfOk result (λ p. drop p.last spans.new.items ≡ drop last spans.old.items) }
@@ -159,8 +160,8 @@ fn keep_before(
 }
 
 // Lets the range at the place begin no earlier than the tenth.
-fn begin_at(spans: &mut Vec<Span>, at: usize, to: Tenth)
-    requires { at ≤ vec_len spans.old }
+fn begin_at(spans: &mut Spans, at: usize, to: Tenth)
+    requires { at ≤ small_vec_len spans.old }
     ensures { spans.new.items ≡ take at spans.old.items ++ from_on to (drop at spans.old.items) }
 {
     if at < spans.len() {
@@ -173,7 +174,7 @@ fn begin_at(spans: &mut Vec<Span>, at: usize, to: Tenth)
 }
 
 /// Takes out all from the tenth on.
-pub fn cut_from(spans: &mut Vec<Span>, from: Tenth)
+pub fn cut_from(spans: &mut Spans, from: Tenth)
     ensures { spans.new.items ≡ keep_to from spans.old.items }
 {
     let kept = ended_by(spans, from);
@@ -181,8 +182,8 @@ pub fn cut_from(spans: &mut Vec<Span>, from: Tenth)
 }
 
 // Keeps the ranges before the place, and what the one there has before the tenth.
-fn trim(spans: &mut Vec<Span>, kept: usize, from: Tenth)
-    requires { kept ≤ vec_len spans.old }
+fn trim(spans: &mut Spans, kept: usize, from: Tenth)
+    requires { kept ≤ small_vec_len spans.old }
     ensures { spans.new.items ≡ take kept spans.old.items
         ++ part_before from (drop kept spans.old.items) }
 {
@@ -200,7 +201,7 @@ fn trim(spans: &mut Vec<Span>, kept: usize, from: Tenth)
 }
 
 /// Puts the limit in place of all below it.
-pub fn clamp(spans: &mut Vec<Span>, limit: Tenth)
+pub fn clamp(spans: &mut Spans, limit: Tenth)
     requires low { negsuc (2 ^ 40) <ℤ limit }
     requires high { limit ≤ℤ pos (2 ^ 40) }
     requires below { BeginsBelow limit spans.old.items }
@@ -223,9 +224,9 @@ pub fn clamp(spans: &mut Vec<Span>, limit: Tenth)
 }
 
 // Puts the range in place of the first ones.
-fn put_front(spans: &mut Vec<Span>, count: usize, s: Span)
+fn put_front(spans: &mut Spans, count: usize, s: Span)
     requires some { 0 < count }
-    requires within { count ≤ vec_len spans.old }
+    requires within { count ≤ small_vec_len spans.old }
     ensures { spans.new.items ≡ s ∷ drop count spans.old.items }
 {
     spans[0] = s;

@@ -6,11 +6,12 @@ ghost use Rattle.span_set.specs.Changes.{span};
 
 use crate::{change, search};
 use sig_base::{NoMemory, Tenth};
+use smallvec::SmallVec;
 use std::alloc::Global;
 use std::marker::Model;
 
 /// A range of tenths.
-#[derive(Clone, Copy, Debug, PartialEq, Eq)]
+#[derive(Clone, Copy, Debug, Default, PartialEq, Eq)]
 pub struct Span {
     /// Its first tenth.
     pub from: Tenth,
@@ -18,10 +19,13 @@ pub struct Span {
     pub to: Tenth,
 }
 
-/// A set of tenths, seen as the list of its ranges.
+/// Ranges, of which one is kept in the value itself, since nearly all sets have no more.
+pub(crate) type Spans = SmallVec<Span, 1>;
+
+/// A set of tenths, seen as the list of its ranges. It takes no memory until it has two ranges.
 #[derive(Drop)]
 pub struct SpanSet {
-    spans: Vec<Span>,
+    spans: Spans,
     alloc: Global,
 }
 
@@ -43,7 +47,7 @@ impl SpanSet {
         ensures { result ≡ [] }
     {
         SpanSet {
-            spans: Vec::new(alloc),
+            spans: SmallVec::new(alloc),
             alloc,
         }
     }
@@ -57,7 +61,8 @@ impl SpanSet {
     }
 
     /// Adds the tenths from `from` up to but without `to`. It takes memory only where the set
-    /// then has one range more, and moves only the ranges after the one that it adds.
+    /// then has one range more, and not that one alone, and moves only the ranges after the one
+    /// that it adds.
     #[tactic(auto, using(crate::proofs::Adding::add_above, crate::proofs::Adding::add_members))]
     pub fn add(&mut self, from: Tenth, to: Tenth) -> Result<(), NoMemory>
         requires low { negsuc (2 ^ 40) <ℤ from }
@@ -83,12 +88,12 @@ impl SpanSet {
         change::remove(&mut self.spans, from, to)
     }
 
-    /// A set with the same members. It takes memory for all ranges.
+    /// A set with the same members. It takes memory for all ranges, and none for a single one.
     pub fn copy(&self) -> Result<SpanSet, NoMemory>
         ensures { IfOk result (λ s. s ≡ self.now) }
     {
         Ok(SpanSet {
-            spans: Vec::from_slice(self.alloc, &self.spans)?,
+            spans: SmallVec::from_slice(self.alloc, &self.spans)?,
             alloc: self.alloc,
         })
     }

@@ -8,7 +8,7 @@ pub returns-then-all_ended-clause-ok : goal.returns-then-all_ended-clause-ok
 returns-then-all_ended-clause-ok c =
     let rf = c.ranges.from in
     let r1 : FitsSigned w64 (c.args.from -ℤ pos 1) = search (rules, ints) in
-    let ended = simp (to_z-of_z, c.deref.ensures.value) at (c.all_ended.ensures c.if-all_ended.true) in
+    let ended = simp (to_z-of_z, c.deref.ensures) at (c.all_ended.ensures c.if-all_ended.true) in
     let rt = c.ranges.to in
-    let pushed = simp to_z-of_z at c.in_ok-push.ensures.items in
+    let pushed = simp to_z-of_z at c.in_ok-push.ensures.ok in
     pushed ∙ sym (add_end c.args.from c.args.to (c.args.from -ℤ pos 1) c.args.spans.now.items (omega (arith, ints)) ended)

@@ -5,4 +5,4 @@ use Rattle.span_set.proofs.set.SpanSet.contains.Goals as goal
 pub returns-clause-value : goal.returns-clause-value
 returns-clause-value c =
     let r = c.ranges.at in
-    rw (← c.self.view_is) (tested c.contains_in.result c.self.inside.spans.items c.args.at (simp (to_z-of_z, c.deref.ensures.value) at c.contains_in.ensures))
+    rw (← c.self.view_is) (tested c.contains_in.result c.self.inside.spans.items c.args.at (simp (to_z-of_z, c.deref.ensures) at c.contains_in.ensures))

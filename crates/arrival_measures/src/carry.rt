@@ -141,6 +141,18 @@ fn no_flags(alloc: Global, config: &Config) -> Result<Vec<Option<Flag>>, NoMemor
 }
 
 impl ArrivalCarry {
+    /// Room for what crosses a point of which nothing is known yet: no approach and no detector.
+    /// Can't run out of memory.
+    pub fn nothing(alloc: Global) -> ArrivalCarry
+        ensures { result ≡ record { crossings = []; flags = all_flags [] } }
+    {
+        ArrivalCarry {
+            crossings: Vec::new(alloc),
+            flags: Vec::new(alloc),
+            alloc,
+        }
+    }
+
     /// What crosses the window's start: nothing.
     pub fn start(alloc: Global, config: &Config) -> Result<ArrivalCarry, NoMemory>
         ensures { IfOk result (λ carry. (known : ℕ → Bool) → IsCarry known config.now [] 0 carry) }

@@ -22,6 +22,7 @@ mod ahead;
 mod approach;
 mod arrivals;
 mod carry;
+mod carry_over;
 mod chains;
 mod cycles;
 mod faults;
@@ -38,6 +39,7 @@ mod under_way;
 
 pub use arrivals::arrival_points;
 pub use carry::ArrivalCarry;
+pub use carry_over::arrivals_carried;
 pub use hour::{ArrivalSums, arrivals_hour, arrivals_unseen};
 pub use laws::diagrams_fit;
 pub use open::Open;

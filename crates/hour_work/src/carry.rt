@@ -81,7 +81,7 @@ impl Carry {
         let closing = Closing::start(alloc);
         let splits = SplitCarry::start(alloc, config)?;
         let others = OtherCarry::start(alloc, config)?;
-        let arrivals = ArrivalCarry::start(alloc, config)?;
+        let arrivals = ArrivalCarry::nothing(alloc);
         Ok(Carry {
             pasts,
             known: false,

@@ -15,7 +15,9 @@ ghost use Rattle.hour_work.specs.Rows.{earlier_rows, own_rows};
 
 use crate::Carry;
 use crate::stop_bars::splits_over;
-use arrival_measures::{ArrivalCarry, ArrivalSums, arrivals_hour, arrivals_unseen};
+use arrival_measures::{
+    ArrivalCarry, ArrivalSums, arrivals_carried, arrivals_hour, arrivals_unseen,
+};
 use board::HourView;
 use other_measures::{OtherCarry, OtherSums, others_hour, others_unseen};
 use ring_config::Config;
@@ -86,6 +88,34 @@ pub(crate) fn measures_over(
     })
 }
 
+/// What is under way of each measure at the point after an hour, without the hour's numbers.
+pub(crate) fn way_over(
+    alloc: Global,
+    config: &Config,
+    place: &Place<'_>,
+    before: &Carry,
+) -> Result<UnderWay, NoMemory>
+    requires { AreBefore config.now.specs before.now.pasts }
+    ensures way { IfOk result (λ w. (s : Store) → HasPlace s place.now
+        → IsCarryAt config.now s place.now.hour before.now
+        → AreUnderWayAt config.now s (place.now.hour + 1) w) }
+    ensures sound { IfOk result (λ _. IsSound config.now) }
+    ensures opened { IfOk result (λ _. IsOpened place.now) }
+{
+    let (cut, cuts) = cuts_over(alloc, config, place, before)?;
+    let closing = Closing::of(alloc, &cut, end_of(place))?;
+    let (_sums, splits) = splits_over(alloc, config, place, before, &cut)?;
+    let (_numbers, others) = others_over(alloc, config, place, before, None)?;
+    let arrivals = arrivals_after(alloc, config, place, before, &cut)?;
+    Ok(UnderWay {
+        cuts,
+        closing,
+        splits,
+        others,
+        arrivals,
+    })
+}
+
 // The first tenth after an hour.
 fn end_of(place: &Place<'_>) -> u32
     ensures { result ≡ end_tenth place.now.hour }
@@ -147,6 +177,25 @@ fn arrivals_over(
         None => arrivals_unseen(alloc, config, &mut carry, cut, rows, parts)?,
     };
     Ok((sums, carry))
+}
+
+// What is under way of its arrivals at the point after it.
+fn arrivals_after(
+    alloc: Global,
+    config: &Config,
+    place: &Place<'_>,
+    before: &Carry,
+    cut: &Cuts,
+) -> Result<ArrivalCarry, NoMemory>
+    ensures { IfOk result (λ a. (s : Store)
+        → IsCutAtPlace config.now s place.now before.now cut.now
+        → AreOpenAt config.now s (place.now.hour + 1) a) }
+{
+    let rows = place.rows();
+    let parts = place.stretches();
+    let mut carry = before.arrivals.copy()?;
+    arrivals_carried(alloc, config, &mut carry, cut, rows, parts)?;
+    Ok(carry)
 }
 
 // The numbers of its pedestrian signals, preempts and coordination, and what is under way of them

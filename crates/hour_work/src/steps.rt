@@ -16,7 +16,7 @@ ghost use Rattle.signal_log.specs.Over.{AreAheadsOver, AreCoursesOver, ArePastsO
 ghost use Rattle.hour_work.specs.declared.steps.ForwardError.TheVariants.{Memory};
 ghost use Rattle.hour_work.specs.Points.{AreUnderWayAt, FitPoint, IsCarryAt, IsFutureAt, NamesRow, NamesStop};
 
-use crate::measures::{Measured, UnderWay, measures_over};
+use crate::measures::{UnderWay, way_over};
 use crate::{Carry, Future};
 use board::{About, Courses, Pasts, PastsError};
 use ring_config::Config;
@@ -125,7 +125,7 @@ pub fn carry_over(
         → IsCarryAt config.now s place.now.hour before.now
         → IsCarryAt config.now s (place.now.hour + 1) c) }
 {
-    let Measured { way, .. } = measures_over(alloc, config, place, before, None)?;
+    let way = way_over(alloc, config, place, before)?;
     Ok(kept(place, pasts, way))
 }
 

@@ -112,10 +112,9 @@ fn work_through(
     let touched = Touched {
         first: 0,
         last: hours - 1,
+        may_wait: false,
     };
-    match renew(
-        alloc, config, rules, &store, worked, touched, false, &mut reads,
-    ) {
+    match renew(alloc, config, rules, &store, worked, touched, &mut reads) {
         Ok(fresh) => {
             adopt(worked, fresh);
             Ok(())

@@ -261,14 +261,18 @@ impl<L> Draft<L> {
         ensures grow { Grow reads.old reads.new }
     {
         let before = exchange(&mut self.store, put);
+        let touched = Touched {
+            first,
+            last,
+            may_wait,
+        };
         match renew(
             self.alloc,
             &self.config,
             &self.rules,
             &self.store,
             &self.worked,
-            Touched { first, last },
-            may_wait,
+            touched,
             reads,
         ) {
             Ok(fresh) => {

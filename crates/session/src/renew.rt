@@ -61,11 +61,13 @@ pub struct Fresh {
     pub numbers: Option<Numbered>,
 }
 
-/// The hours from the first to the last that an edit touches.
+/// The hours from the first to the last that an edit touches, and whether the numbers of those that
+/// change may wait.
 #[derive(Clone, Copy)]
 pub struct Touched {
     pub first: Hour,
     pub last: Hour,
+    pub may_wait: bool,
 }
 
 /// The hours between the points at which nothing changes.
@@ -353,7 +355,7 @@ fn ways_of<L>(
     ensures opens_to_row { IfErr result (OpensToRow touched.first reads.old reads.new) }
     ensures grow { Grow reads.old reads.new }
 {
-    let Touched { first, last } = touched;
+    let Touched { first, last, .. } = touched;
     let Forth { states, courses } = go_forward(
         alloc,
         config,
@@ -455,7 +457,7 @@ fn put_off<L>(
     ensures opens_to_row { IfErr result (OpensToRow touched.first reads.old reads.new) }
     ensures grow { Grow reads.old reads.new }
 {
-    let Touched { first, last } = touched;
+    let Touched { first, last, .. } = touched;
     let Across { carries, courses } = go_across(
         alloc,
         config,
@@ -498,7 +500,6 @@ pub fn renew<L>(
     store: &HourStore<L>,
     worked: &Worked,
     touched: Touched,
-    may_wait: bool,
     reads: &mut Reads<L>,
 ) -> Result<Fresh, ForwardError>
     requires rules { rules.now ≡ rules_for config.now }
@@ -515,16 +516,16 @@ pub fn renew<L>(
     ensures fresh { IfOk result (λ f. IsRenewed config.now store.now worked.now.waiting.items
         worked.now.carries.items f.points.first f.points.carries.items worked.now.futures.items
         f.points.from f.points.futures.items worked.now.report f.start f.numbers) }
-    ensures numbers { IfOk result (λ f. do_wait f.numbers ≡ may_wait) }
+    ensures numbers { IfOk result (λ f. do_wait f.numbers ≡ touched.may_wait) }
     ensures history { OnOk result (HasHistory (log_of config.now.specs store.now)) }
     ensures stop { IfErr result (NamesRow (log_of config.now.specs store.now)) }
     ensures opens { IfOk result (λ f. AreOpened f.points.from
-        (f.points.first + length f.points.carries.items) 1 (most_opens may_wait) reads.old
-        reads.new) }
+        (f.points.first + length f.points.carries.items) 1 (most_opens touched.may_wait)
+        reads.old reads.new) }
     ensures opens_to_row { IfErr result (OpensToRow touched.first reads.old reads.new) }
     ensures grow { Grow reads.old reads.new }
 {
-    if may_wait {
+    if touched.may_wait {
         put_off(alloc, config, store, worked, touched, reads)
     } else {
         work_out(alloc, config, rules, store, worked, touched, reads)

@@ -11,6 +11,7 @@ use crate::carry::{Crossing, Tenths};
 use crate::chains::{Chain, chain_rows};
 use crate::cycles::{CycleSum, cycle_sum, no_cycles, open_after};
 use crate::sources::Sources;
+use crate::under_way::rows_from;
 use ring_config::Approach;
 use service_cut::Cuts;
 use sig_base::{NoMemory, Row};
@@ -93,14 +94,6 @@ pub(crate) fn merged(alloc: Global, turns: &[Row], arriving: &[Row]) -> Result<V
     }
     all.extend_from_slice(left)?;
     Ok(all)
-}
-
-/// Those of the rows that are at this tenth or later; they stand by tenth.
-pub(crate) fn rows_from(rows: &[Row], from: u32) -> &[Row]
-    ensures { (a b : ℕ) → AreOrdered a b rows.now → result.now ≡ from_tenth from rows.now }
-{
-    let (_, later) = rows.split_at(rows.partition_point(|row| row.at < from));
-    later
 }
 
 /// The tenths of those of the rows that are at this tenth or later; they stand by tenth.

@@ -3,13 +3,14 @@ ghost use Rattle.std.specs.Prelude.{◌≡◌, IfOk, OnOk, OnErr};
 ghost use Rattle.arrival_measures.specs.Onward.{CrossNext, IsNextCrossing, counts_from};
 ghost use Rattle.arrival_measures.specs.Results.{IsCarriedOn};
 
-use crate::ahead::{arriving, merged, pending, rows_from};
+use crate::ahead::{arriving, merged, pending};
 use crate::approach::approach_of;
 use crate::carry::{ArrivalCarry, Crossing};
 use crate::chains::{Chain, rows_in};
 use crate::cycles::{open_after, open_cycle_of};
 use crate::faults::{detect, is_faultless, put_flags};
 use crate::hour::crossing_at;
+use crate::under_way::rows_from;
 use gap_map::{Stretch, first_of};
 use ring_config::{Approach, Config};
 use service_cut::{Cuts, OpenCycle};

@@ -4,7 +4,7 @@ use Rattle.std.proofs.lemmas.List.Sorted.{IsPartitionPoint-from_clause, IsPartit
 use Rattle.sig_base.specs.declared.values.Row.{Row}
 use Rattle.arrival_measures.proofs.Filters.{cut_at}
 use Rattle.arrival_measures.proofs.Between.{never_falls, not_before}
-use Rattle.arrival_measures.proofs.ahead.rows_from.Goals as goal
+use Rattle.arrival_measures.proofs.under_way.rows_from.Goals as goal
 
 pub returns : goal.returns
 returns c = λ a b or.

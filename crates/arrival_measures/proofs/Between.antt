@@ -1,18 +1,18 @@
 -- An hour's rows at some of its tenths.
-use Rattle.std.proofs.Common.{◌≡◌, inl, inr, ℕ, zero, suc, ◌<◌, ◌≤◌, Bool, true, not, ◌&&◌, leb, ltb, List, [], ◌∷◌, ◌++◌, Option, Some, length, get_or, take, drop, refl, ap, sym, subst, ◌∙◌, arith}
+use Rattle.std.proofs.Common.{◌≡◌, inl, inr, ℕ, zero, suc, ◌<◌, ◌≤◌, Bool, true, not, ◌&&◌, leb, ltb, List, [], ◌∷◌, ◌++◌, Option, Some, length, get_or, refl, ap, sym, subst, ◌∙◌, arith}
 use Rattle.std.specs.Prelude.{All, max}
 use Rattle.std.specs.List.{filter}
 use Rattle.std.specs.List.Sorted.{IsNonDecreasingBy}
 use Rattle.std.proofs.lemmas.Bool.{cases_Bool, cases_lt, ltb-true, ltb-false, lt-ltb, le-leb, leb-true, and_parts}
-use Rattle.std.proofs.lemmas.List.Elements.{All-nil, All-cons, All-weaker, filter_agree, filter-append}
+use Rattle.std.proofs.lemmas.List.Elements.{All-nil, All-cons, All-weaker, filter-append}
 use Rattle.sig_base.specs.declared.values.Row.{Row}
 use Rattle.hour_sweep.specs.Rows.{known_rows}
 use Rattle.hour_sweep.specs.Hours.{AreOrdered}
-use Rattle.hour_sweep.proofs.Orders.{ordered_from}
 use Rattle.service_cut.proofs.YellowEnds.{from_first}
 use Rattle.arrival_measures.specs.declared.open.Open.{Open}
 use Rattle.arrival_measures.specs.Arrivals.{rows_within}
 use Rattle.arrival_measures.specs.Opens.{open_at}
+use Rattle.arrival_measures.specs.Travel.{from_tenth}
 use Rattle.arrival_measures.proofs.Within.{filter_same, within_none}
 use Rattle.arrival_measures.specs.Steps.{IsUnderWay}
 use Rattle.arrival_measures.proofs.Own.{filter_filter}
@@ -33,11 +33,6 @@ never_falls a b (x ∷ xs) h zero (suc j) d le lt = at_least x.at b xs j d h.2 (
 never_falls a b (x ∷ xs) h (suc i) zero d le lt = absurd (omega arith)
 never_falls a b (x ∷ xs) h (suc i) (suc j) d le lt = never_falls x.at b xs h.2 i j d (omega arith) (omega arith)
 
-pub drop_ordered : (a b : ℕ) (xs : List Row) (i : ℕ) → AreOrdered a b xs → AreOrdered a b (drop i xs)
-drop_ordered a b xs zero h = h
-drop_ordered a b [] (suc i) h = h
-drop_ordered a b (x ∷ xs) (suc i) h = let l = h.0 in ordered_from a x.at b (drop i xs) l (drop_ordered x.at b xs i h.2)
-
 -- the rows between two tenths
 
 pub not_before : (x f : ℕ) → not (ltb x f) ≡ leb f x
@@ -46,11 +41,8 @@ not_before x f = elim (cases_Bool (ltb x f)) [
   | inr e ↦ rw e (sym (le-leb f x (ltb-false x f e)))
 ]
 
-pub between_is : (f t i j : ℕ) (rows later between : List Row) → later ≡ drop i rows → drop i rows ≡ filter (λ x. not (ltb x.at f)) rows → between ≡ take j later → take j later ≡ filter (λ x. ltb x.at t) later → between ≡ rows_within f t rows
-between_is f t i j rows later between el ed eb et =
-    eb ∙ et ∙ ap (λ zs. filter (λ x. ltb x.at t) zs) (el ∙ ed)
-    ∙ filter_filter (λ x. ltb x.at t) (λ x. not (ltb x.at f)) rows
-    ∙ filter_agree (λ x. not (ltb x.at f) && ltb x.at t) (λ x. leb f x.at && ltb x.at t) (λ x. ap (λ v. v && ltb x.at t) (not_before x.at f)) rows
+pub between_is : (f t : ℕ) (rows later between : List Row) → later ≡ from_tenth f rows → between ≡ filter (λ x. ltb x.at t) later → between ≡ rows_within f t rows
+between_is f t rows later between el eb = eb ∙ ap (λ zs. filter (λ x. ltb x.at t) zs) el ∙ filter_filter (λ x. ltb x.at t) (λ x. leb f x.at) rows
 
 within_from : (a b f t c : ℕ) (xs : List Row) → AreOrdered a b xs → c ≤ t → c ≤ max a f → AreOrdered c t (rows_within f t xs)
 within_from a b f t c [] h le m = le

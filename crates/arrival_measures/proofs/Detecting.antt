@@ -33,14 +33,14 @@ after_row : (known : ℕ → Bool) (x : Row) (o : Option Row) (v : Bool) → fau
 after_row known x o true = ap (λ v. begins_fault x.code && v) (live_here known x.at x.at (omega arith)) ∙ and_true (begins_fault x.code)
 after_row known x o false = refl
 
-pushed : (known : ℕ → Bool) (before : List Row) (x : Row) → faulty known x.at (before ++ x ∷ []) x.param ≡ cond (is_own x.code) (begins_fault x.code) (faulty known x.at before x.param)
+pub pushed : (known : ℕ → Bool) (before : List Row) (x : Row) → faulty known x.at (before ++ x ∷ []) x.param ≡ cond (is_own x.code) (begins_fault x.code) (faulty known x.at before x.param)
 unfolding faulty
 pushed known before x =
     let itself : is_of x.param x ≡ is_own x.code = ap (λ v. v && is_own x.code) (eq-eqb x.param x.param refl) in
     ap (λ o. faulty_since known x.at o) (last-push (is_of x.param) before x ∙ ap (λ v. cond v (Some x) (last (is_of x.param) before)) itself)
     ∙ after_row known x (last (is_of x.param) before) (is_own x.code)
 
-passed : (known : ℕ → Bool) (p : ℕ) (before : List Row) (x : Row) → x.param ≢ p → faulty known x.at (before ++ x ∷ []) p ≡ faulty known x.at before p
+pub passed : (known : ℕ → Bool) (p : ℕ) (before : List Row) (x : Row) → x.param ≢ p → faulty known x.at (before ++ x ∷ []) p ≡ faulty known x.at before p
 unfolding faulty
 passed known p before x ne =
     let other : is_of p x ≡ false = ap (λ v. v && is_own x.code) (ne_eqb x.param p ne) in
@@ -50,7 +50,7 @@ pub same_since : (known : ℕ → Bool) (t u : ℕ) (o : Option Row) → since k
 same_since known t u None e = refl
 same_since known t u (Some x) e = ap (λ v. begins_fault x.code && v) (live_same known x.at t u e)
 
-kept_on : (known : ℕ → Bool) (t u p : ℕ) (before : List Row) → since known t ≡ since known u → faulty known t before p ≡ faulty known u before p
+pub kept_on : (known : ℕ → Bool) (t u p : ℕ) (before : List Row) → since known t ≡ since known u → faulty known t before p ≡ faulty known u before p
 unfolding faulty
 kept_on known t u p before e = same_since known t u (last (is_of p) before) e
 
@@ -99,7 +99,7 @@ faults_split known has before (x ∷ xs) = fault_step (λ z. has z.param) (has x
 
 -- ---- the hour
 
-room : (c : Settings) (p : ℕ) → has_detector c p ≡ true → p < 129
+pub room : (c : Settings) (p : ℕ) → has_detector c p ≡ true → p < 129
 room c p e = ltb-true p 129 (and_parts (ltb p 129) _ e).0
 
 tracked : (known : ℕ → Bool) (c : Settings) (n : ℕ) (within : (p : ℕ) → has_detector c p ≡ true → p < n) (before : List Row) (hour : ℕ) (rows : List Row) (ss : List Stretch) (flags : List (Option Flag)) (end : Tracking Flag Detection) → end ≡ swept (tracking_after flag_after detected_by) (tracking_cleared flag_cleared) ss rows (record { parts = flags; outs = [] }) → IsHour known hour rows ss → All (λ x. x.at < point hour) before → flags ≡ table (has_detector c) n (flag_of known (point hour) before) → IsTracked known (flag_of known) (detected_at known) (has_detector c) n before rows (point hour + 36000) end.outs end.parts

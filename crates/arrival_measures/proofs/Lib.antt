@@ -29,3 +29,5 @@ pub mod Parts
 pub mod Bare
 pub mod Quiet
 pub mod Padding
+pub mod Onward
+pub mod Faultless

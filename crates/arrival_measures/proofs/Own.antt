@@ -23,7 +23,7 @@ and_swap false false = refl
 pub filter_swap : {X : Type 0} (p q : X → Bool) (xs : List X) → filter p (filter q xs) ≡ filter q (filter p xs)
 filter_swap p q xs = filter_filter p q xs ∙ filter_agree (λ x. q x && p x) (λ x. p x && q x) (λ x. and_swap (q x) (p x)) xs ∙ sym (filter_filter q p xs)
 
-and_part : (o q : Bool) → (q ≡ true → o ≡ true) → (o && q) ≡ q
+pub and_part : (o q : Bool) → (q ≡ true → o ≡ true) → (o && q) ≡ q
 and_part true q h = refl
 and_part false true h = h refl
 and_part false false h = refl

@@ -16,7 +16,7 @@ use Rattle.arrival_measures.specs.Faults.{is_own}
 use Rattle.arrival_measures.specs.Passing.{others_pass}
 use Rattle.arrival_measures.specs.Steps.{detected_by, flag_after, flag_cleared, is_clear, is_quiet}
 
-unset : (b : Bool) → not b ≡ true → b ≡ false
+pub unset : (b : Bool) → not b ≡ true → b ≡ false
 unset true e = sym e
 unset false e = refl
 

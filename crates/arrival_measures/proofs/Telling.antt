@@ -80,7 +80,7 @@ module _ (known : ℕ → Bool) (p d v t : ℕ) (before rows : List Row) (first 
   all_on : AllOn d all
   all_on = at_on known d v (before ++ seen)
 
-  late_on : AllOn d late
+  pub late_on : AllOn d late
   late_on = All-filter (λ x. leb t x.at) (λ x. is_on d x ≡ true) all all_on
 
   old_on : AllOn d old
@@ -89,7 +89,7 @@ module _ (known : ℕ → Bool) (p d v t : ℕ) (before rows : List Row) (first 
   early_on : AllOn d (filter (λ x. ltb x.at t) old)
   early_on = All-filter (λ x. ltb x.at t) (λ x. is_on d x ≡ true) old old_on
 
-  turns_ordered : AreOrdered t (t + 36300) (filter (turns_green p) rows)
+  pub turns_ordered : AreOrdered t (t + 36300) (filter (turns_green p) rows)
   turns_ordered = wider t (t + 36000) (t + 36300) (filter (turns_green p) rows) (omega arith) (kept_ordered (turns_green p) t (t + 36000) t rows (omega arith) ordered)
 
   pub in_order : AreOrdered t (t + 36300) late

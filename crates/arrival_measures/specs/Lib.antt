@@ -15,3 +15,4 @@ pub mod Green
 pub mod Own
 pub mod Opens
 pub mod InTenths
+pub mod Onward

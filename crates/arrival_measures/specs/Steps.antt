@@ -91,6 +91,14 @@ is_clear (Some f) = not f.fault
 abbrev pub is_quiet : List (Option Flag) → List Row → List Stretch → Bool
 is_quiet flags rows ss = list_all (λ x. not (is_own x.code)) rows && (list_all (λ s. s.known) ss || list_all is_clear flags)
 
+-- the row begins no fault of a detector
+abbrev pub is_harmless : Row → Bool
+is_harmless x = not (is_own x.code && begins_fault x.code)
+
+-- no detector is sure to have a fault at any row of the hour: each tenth is known, no flag tells of a fault, and no row begins one
+abbrev pub is_faultless : List (Option Flag) → List Row → List Stretch → Bool
+is_faultless flags rows ss = list_all (λ s. s.known) ss && (list_all is_clear flags && list_all is_harmless rows)
+
 -- ---- the hour of an approach
 
 -- what is told of an approach: its phase and its detectors are configured

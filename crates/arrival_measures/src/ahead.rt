@@ -11,6 +11,7 @@ use crate::carry::{Crossing, Tenths};
 use crate::chains::{Chain, chain_rows};
 use crate::cycles::{CycleSum, cycle_sum, no_cycles, open_after};
 use crate::sources::Sources;
+use crate::under_way::rows_from;
 use ring_config::Approach;
 use service_cut::Cuts;
 use sig_base::{NoMemory, Row};
@@ -50,8 +51,8 @@ fn moved(travel: u32, row: &Row) -> Row
     }
 }
 
-// The arrivals whose rows stand before the hour, by their arrival tenths, and those of the hour.
-fn arriving(
+/// The arrivals whose rows stand before the hour, by their arrival tenths, and those of the hour.
+pub(crate) fn arriving(
     alloc: Global,
     detector: u8,
     travel: u32,
@@ -79,8 +80,8 @@ fn count_below(rows: &[Row], to: u32) -> usize
     rows.iter().take_while(|row| row.at < to).count()
 }
 
-// The rows of both lists by tenth.
-fn merged(alloc: Global, turns: &[Row], arriving: &[Row]) -> Result<Vec<Row>, NoMemory>
+/// The rows of both lists by tenth.
+pub(crate) fn merged(alloc: Global, turns: &[Row], arriving: &[Row]) -> Result<Vec<Row>, NoMemory>
     ensures { IfOk result (λ v. v.items ≡ merged turns.now arriving.now) }
 {
     let mut all = Vec::with_capacity(alloc, turns.len() + arriving.len())?;
@@ -95,13 +96,13 @@ fn merged(alloc: Global, turns: &[Row], arriving: &[Row]) -> Result<Vec<Row>, No
     Ok(all)
 }
 
-// The tenths of those of the rows that are at this tenth or later; they stand by tenth.
-fn pending(alloc: Global, rows: &[Row], from: u32) -> Result<Tenths, NoMemory>
+/// The tenths of those of the rows that are at this tenth or later; they stand by tenth.
+pub(crate) fn pending(alloc: Global, rows: &[Row], from: u32) -> Result<Tenths, NoMemory>
     ensures { IfOk result (λ v. (a b : ℕ) → AreOrdered a b rows.now
         → v ≡ map (λ x. x.at) (from_tenth from rows.now)) }
 {
     let mut tenths = Tenths::new(alloc);
-    let (_, later) = rows.split_at(rows.partition_point(|row| row.at < from));
+    let later = rows_from(rows, from);
     for row in later {
         tenths.push(row.at)?;
     }

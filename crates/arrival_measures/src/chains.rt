@@ -30,6 +30,16 @@ impl Chain {
             Chain::On(detector) => 2 * usize::from(detector) + 1,
         }
     }
+
+    // Whether it has the row.
+    fn has(self, row: &Row) -> bool
+        ensures { result ≡ is_in self row.now }
+    {
+        match self {
+            Chain::Green(phase) => row.param == u16::from(phase) && is_turn(row),
+            Chain::On(detector) => row.code == 82 && row.param == u16::from(detector),
+        }
+    }
 }
 
 // The chain that has the row.
@@ -175,5 +185,17 @@ pub(crate) fn chain_rows(
         own.push(chains.row(place))?;
         place = chains.next(place);
     }
+    Ok(own)
+}
+
+/// Those of the rows that the chain has, in their order, where the rows are few.
+pub(crate) fn rows_in(alloc: Global, rows: &[Row], chain: Chain) -> Result<Vec<Row>, NoMemory>
+    ensures { IfOk result (λ v. v.items ≡ filter (is_in chain) rows.now) }
+{
+    let own = rows
+        .iter()
+        .copied()
+        .filter(|row| chain.has(row))
+        .collect(alloc)?;
     Ok(own)
 }

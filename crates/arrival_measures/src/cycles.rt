@@ -73,8 +73,8 @@ pub(crate) fn cycle_sum(
     sum
 }
 
-// The cycle of the phase among these.
-fn open_cycle_of(cycles: &[OpenCycle], phase: u8) -> Option<OpenCycle>
+/// The cycle of the phase among these.
+pub(crate) fn open_cycle_of(cycles: &[OpenCycle], phase: u8) -> Option<OpenCycle>
     ensures { result ≡ find (λ y. y.phase == phase) cycles.now }
 {
     cycles.iter().copied().find(|one| one.phase == phase)

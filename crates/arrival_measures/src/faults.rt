@@ -8,7 +8,7 @@ ghost use Rattle.ring_config.specs.Settings.{Settings};
 ghost use Rattle.arrival_measures.specs.Crossing.{all_flags, flags_of};
 ghost use Rattle.arrival_measures.specs.Faults.{begins_fault, is_own};
 ghost use Rattle.arrival_measures.specs.Passing.{others_pass};
-ghost use Rattle.arrival_measures.specs.Steps.{AreDetections, FlagsGoOn, arrival_in, detected_by, fault_in, flag_after, flag_cleared, flags_in, is_clear, is_quiet};
+ghost use Rattle.arrival_measures.specs.Steps.{AreDetections, FlagsGoOn, arrival_in, detected_by, fault_in, flag_after, flag_cleared, flags_in, is_clear, is_faultless, is_harmless, is_quiet};
 
 use gap_map::Stretch;
 use hour_sweep::{Track, track_hour};
@@ -163,6 +163,21 @@ fn is_quiet(flags: &[Option<Flag>], rows: &[Row], stretches: &[Stretch]) -> bool
     ensures { result ≡ is_quiet flags.now rows.now stretches.now }
 {
     has_no_own(rows) && (all_known(stretches) || all_clear(flags))
+}
+
+// Whether no row begins a fault of a detector.
+fn has_no_fault(rows: &[Row]) -> bool
+    ensures { result ≡ list_all is_harmless rows.now }
+{
+    rows.iter()
+        .all(|row| !(is_own(row.code) && begins_fault(row.code)))
+}
+
+/// Whether no detector is sure to have a fault at any row of the hour, and each tenth is known.
+pub(crate) fn is_faultless(flags: &[Option<Flag>], rows: &[Row], stretches: &[Stretch]) -> bool
+    ensures { result ≡ is_faultless flags.now rows.now stretches.now }
+{
+    all_known(stretches) && all_clear(flags) && has_no_fault(rows)
 }
 
 /// The hour's known rows at which detectors of approaches go on, by the flags at the point before

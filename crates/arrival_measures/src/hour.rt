@@ -177,8 +177,12 @@ struct HourNumbers {
     crossings: Vec<Crossing>,
 }
 
-// What crosses the point of the approach with this place.
-fn crossing_at<'a>(crossings: &'a [Crossing], place: u32, none: &'a Crossing) -> &'a Crossing
+/// What crosses the point of the approach with this place.
+pub(crate) fn crossing_at<'a>(
+    crossings: &'a [Crossing],
+    place: u32,
+    none: &'a Crossing,
+) -> &'a Crossing
     ensures { result.now ≡ slice_index_or crossings.now place none.now }
 {
     let place = place as usize;

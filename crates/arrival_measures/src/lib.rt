@@ -16,6 +16,10 @@
 //!
 //! An approach goes over its own rows alone: one pass puts the rows of an hour into chains, from
 //! each row of a phase or of a detector to the next one.
+//!
+//! What crosses the point after an hour is had without the hour's numbers too: of an approach only
+//! the rows since its open cycle began are gone over, and where no detector can have a fault each
+//! row at which one goes on is an arrival.
 #![tactic(auto)]
 
 mod ahead;

@@ -7,16 +7,25 @@ ghost use Rattle.hour_sweep.specs.Hours.{AreOrdered};
 ghost use Rattle.arrival_measures.specs.Arrivals.{rows_within};
 ghost use Rattle.arrival_measures.specs.Opens.{open_at};
 ghost use Rattle.arrival_measures.specs.Steps.{IsUnderWay};
+ghost use Rattle.arrival_measures.specs.Travel.{from_tenth};
 
 use crate::open::Open;
 use gap_map::Stretch;
 use sig_base::Row;
 
+/// Those of the rows that are at this tenth or later; they stand by tenth.
+pub(crate) fn rows_from(rows: &[Row], from: u32) -> &[Row]
+    ensures { (a b : ℕ) → AreOrdered a b rows.now → result.now ≡ from_tenth from rows.now }
+{
+    let (_, later) = rows.split_at(rows.partition_point(|row| row.at < from));
+    later
+}
+
 // The rows at the tenths from one up to another; an hour's rows stand by tenth.
 fn rows_between(rows: &[Row], from: u32, to: u32) -> &[Row]
     ensures { (a b : ℕ) → AreOrdered a b rows.now → result.now ≡ rows_within from to rows.now }
 {
-    let (_, later) = rows.split_at(rows.partition_point(|row| row.at < from));
+    let later = rows_from(rows, from);
     let (between, _) = later.split_at(later.partition_point(|row| row.at < to));
     between
 }

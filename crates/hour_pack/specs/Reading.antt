@@ -142,6 +142,18 @@ param_by row param = if nat_lt param.0 65536 then Ok param else Err (BadRow row)
 abbrev pub fresh : List Row → Row → List ℕ → Result (Row × List ℕ) PackError
 fresh kept row bytes = if is_repeat kept row then Err (BadRow (length kept + 1)) else Ok (row, bytes)
 
+-- the row of this place, behind a row at this tenth, and the bytes behind it; it may be a repeat
+unfoldable pub any_row_at : ℕ → ℕ → ℕ → List ℕ → Result (Row × List ℕ) PackError
+any_row_at place to last bytes = do
+  at ← tenth_at place to last bytes
+  code ← code_at at.1
+  param ← param_at place code.1
+  let row : Row = record { at = at.0; code = code.0; param = param.0 } in Ok (row, param.1)
+
+-- the rows that are kept and this one, which isn't a repeat of these
+abbrev pub with_row : List Row → Row → Result (List Row) PackError
+with_row kept row = if is_repeat kept row then Err (BadRow (length kept + 1)) else Ok (kept ++ row ∷ [])
+
 -- nothing may follow the last row
 abbrev pub at_end : List Row × List ℕ → Result (List Row) PackError
 at_end rows = if length rows.1 == 0 then Ok rows.0 else Err Extra

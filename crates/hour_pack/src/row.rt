@@ -1,7 +1,7 @@
 // One row of a packed hour.
 ghost use Rattle.std.specs.Prelude.{◌≡◌, ◌+◌, ◌*◌, ◌^◌, ◌<◌, ◌≤◌, IfOk, length};
 ghost use Rattle.sig_base.specs.HourRows.{RiseIn};
-ghost use Rattle.hour_pack.specs.Reading.{Gives, code_at, fresh, param_at, row_at, tenth_at};
+ghost use Rattle.hour_pack.specs.Reading.{Gives, GivesInMemory, any_row_at, code_at, param_at, tenth_at, with_row};
 
 use crate::PackError;
 use crate::number::number_at;
@@ -46,38 +46,36 @@ fn param_at(row: u32, bytes: &[u8]) -> Result<(u16, &[u8]), PackError>
     }
 }
 
-fn fresh<'a>(kept: &KeptRows, row: Row, bytes: &'a [u8]) -> Result<(Row, &'a [u8]), PackError>
-    requires rise { RiseIn 0 (row.at + 1) kept.now }
-    requires few { length kept.now < 400000 }
-    ensures value { Gives (λ x. (x.0, x.1.now)) result (fresh kept.now row bytes.now) }
-    ensures same { IfOk result (λ x. x.0 ≡ row) }
-{
-    if kept.is_repeat(row) {
-        return Err(PackError::Row(kept.len() as u32 + 1));
-    }
-    Ok((row, bytes))
-}
-
-/// The row behind those that are kept, and the bytes behind it. `last` is the tenth of the last row
-/// that is kept, or that of the hour's start.
-#[tactic(auto, unfolding(crate::specs::Reading::row_at))]
-pub(crate) fn row_at<'a>(
+/// The row of this place, and the bytes behind it. `last` is the tenth of the row before it, or
+/// that of the hour's start.
+#[tactic(auto, unfolding(crate::specs::Reading::any_row_at))]
+pub(crate) fn row_at(
     hour: Hour,
     last: u32,
-    kept: &KeptRows,
-    bytes: &'a [u8],
-) -> Result<(Row, &'a [u8]), PackError>
+    place: u32,
+    bytes: &[u8],
+) -> Result<(Row, &[u8]), PackError>
     requires hour { hour < 744 }
     requires last { last < 36000 * hour + 36000 }
-    requires rise { RiseIn 0 (last + 1) kept.now }
-    requires few { length kept.now < 400000 }
     ensures value { Gives (λ x. (x.0, x.1.now)) result
-        (row_at (36000 * hour + 36000) last kept.now bytes.now) }
+        (any_row_at place (36000 * hour + 36000) last bytes.now) }
     ensures range { IfOk result (λ x. (last ≤ x.0.at) × (x.0.at < 36000 * hour + 36000)) }
 {
-    let place = kept.len() as u32 + 1;
     let (at, rest) = tenth_at(place, 36_000 * hour + 36_000, last, bytes)?;
     let (code, rest) = code_at(rest)?;
     let (param, rest) = param_at(place, rest)?;
-    fresh(kept, Row { at, code, param }, rest)
+    Ok((Row { at, code, param }, rest))
+}
+
+/// The rows and this one behind them, of which it is no repeat.
+pub(crate) fn with_row(kept: KeptRows, row: Row) -> Result<KeptRows, PackError>
+    requires rise { RiseIn 0 (row.at + 1) kept }
+    requires few { length kept < 400000 }
+    ensures { GivesInMemory (λ k. k) result (with_row kept row) }
+{
+    let place = kept.len() as u32 + 1;
+    match kept.with(row)? {
+        Some(kept) => Ok(kept),
+        None => Err(PackError::Row(place)),
+    }
 }

@@ -9,7 +9,7 @@ ghost use Rattle.hour_pack.specs.Reading.{Gives, GivesInMemory, count_at, hour_r
 
 use crate::PackError;
 use crate::head::after_head;
-use crate::row::row_at;
+use crate::row::{row_at, with_row};
 use row_reader::KeptRows;
 use sig_base::{Hour, HourRows, Row, Window};
 use std::alloc::Global;
@@ -48,8 +48,8 @@ fn rows_at(
     let mut last = 36_000 * hour;
     let mut rest = bytes;
     for _ in 0..count {
-        let (row, after) = row_at(hour, last, &kept, rest)?;
-        kept = kept.push(row)?;
+        let (row, after) = row_at(hour, last, kept.len() as u32 + 1, rest)?;
+        kept = with_row(kept, row)?;
         last = row.at;
         rest = after;
     }

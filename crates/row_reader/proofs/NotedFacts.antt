@@ -8,12 +8,12 @@ use Rattle.event_codes.specs.declared.channels.Group.{Group}
 use Rattle.event_codes.specs.declared.channels.Group.TheVariants.{Of, Alone}
 use Rattle.event_codes.specs.Cells.{cell_of}
 use Rattle.event_codes.specs.Channels.{same_group}
-use Rattle.event_codes.proofs.Groups.{same_group-symm}
+use Rattle.event_codes.proofs.Groups.{same_group-is, same_group-symm}
 use Rattle.sig_base.specs.declared.values.Row.{Row}
 use Rattle.sig_base.specs.HourRows.{RiseIn}
-use Rattle.sig_base.proofs.Common.{or_none}
+use Rattle.sig_base.proofs.Common.{and_first, and_last, or_none}
 use Rattle.row_reader.specs.Repeats.{group_of_row, last_where}
-use Rattle.row_reader.specs.Last.{no_row, if_at, last_of, looked_up, IsWithAll, IsWithLast, Knows, StartsAt}
+use Rattle.row_reader.specs.Last.{no_row, is_row, if_at, last_of, looked_up, IsWithAll, IsWithLast, Knows, StartsAt}
 use Rattle.row_reader.proofs.RepeatFacts.{last_where-more, last-at, or-assoc, rise-below, rise-end, rise-lower}
 
 abbrev no_one : Option Row
@@ -58,6 +58,35 @@ knows-noted until old new kept row here h w = (
       ∙ at-one t row (same_group (group_of_row row) g) (same_group g (group_of_row row)) (old g) _ (same_group-symm (group_of_row row) g) same
       (h.1 t e (rise-front 0 until kept (row ∷ []) rise) g)
       ∙ sym (last_where-more (λ r. (r.at == t) && same_group g (group_of_row r)) kept row),
+)
+
+same_parts : (a b : Row) → a.at ≡ b.at → a.code ≡ b.code → a.param ≡ b.param → a ≡ b
+same_parts a b p q r =
+    let made : ℕ → ℕ → ℕ → Row = λ at code param. record { at = at; code = code; param = param } in
+    ap (λ (n : ℕ). made n a.code a.param) p ∙ ap (λ (n : ℕ). made b.at n a.param) q ∙ ap (λ (n : ℕ). made b.at b.code n) r
+
+is_row-some : (row : Row) (o : Option Row) → is_row row o ≡ true → o ≡ Some row
+is_row-some row None h = cc
+is_row-some row (Some r) h =
+    let parts : (r.code == row.code) && (r.param == row.param) ≡ true = and_last (r.at == row.at) _ h in
+    let at : (r.at == row.at) ≡ true = and_first _ _ h in
+    let code : (r.code == row.code) ≡ true = and_first _ _ parts in
+    let param : (r.param == row.param) ≡ true = and_last (r.code == row.code) _ parts in
+    ap (λ (q : Row). Some q) (same_parts r row (grind (arith, nat_tests)) (grind (arith, nat_tests)) (grind (arith, nat_tests)))
+
+-- the last row of its group was noted once more, which changes nothing
+same_looks : (old new : Group → Option Row) (row : Row) → IsWithLast row old new → is_row row (old (group_of_row row)) ≡ true → (g : Group) → new g ≡ old g
+same_looks old new row w h g = w g ∙ go (same_group (group_of_row row) g) refl
+  where
+    go : (b : Bool) → same_group (group_of_row row) g ≡ b → (if b then Some row else old g) ≡ old g
+    go true e = sym (is_row-some row (old (group_of_row row)) h) ∙ ap old ((same_group-is (group_of_row row) g).0 e)
+    go false e = refl
+
+pub knows-again : (until : ℕ) (old new : Group → Option Row) (kept : List Row) (row : Row) → Knows until old kept → IsWithLast row old new
+    → is_row row (old (group_of_row row)) ≡ true → Knows until new kept
+knows-again until old new kept row h w same = (
+  λ b rise g r e. h.0 b rise g r (sym (same_looks old new row w same g) ∙ e),
+  λ t e rise g. ap (if_at t) (same_looks old new row w same g) ∙ h.1 t e rise g,
 )
 
 -- a row of another tenth changes nothing

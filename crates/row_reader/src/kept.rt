@@ -1,5 +1,5 @@
 // Rows that are kept, with what is noted of them.
-ghost use Rattle.std.specs.Prelude.{◌≡◌, ◌+◌, ◌++◌, ◌∷◌, [], length, IfOk};
+ghost use Rattle.std.specs.Prelude.{◌≡◌, ◌+◌, ◌++◌, ◌∷◌, [], true, false, length, IfOk, MatchOption};
 ghost use Rattle.sig_base.specs.HourRows.{RiseIn};
 ghost use Rattle.row_reader.specs.Repeats.{is_repeat};
 
@@ -48,25 +48,22 @@ impl KeptRows {
         self.rows.len()
     }
 
-    /// Whether this row, before which none of them is later, is a repeat behind them.
-    pub fn is_repeat(&self, row: Row) -> bool
-        requires { RiseIn 0 (row.at + 1) self.now }
-        ensures { result ≡ is_repeat self.now row }
-    {
-        self.noted.is_repeat(&self.rows, row)
-    }
-
-    /// The rows and this one behind them.
-    pub fn push(self, row: Row) -> Result<KeptRows, NoMemory>
-        ensures { IfOk result (λ k. k ≡ self ++ row ∷ []) }
+    /// The rows and this one behind them, none of which is later, or nothing where it is a repeat
+    /// behind them.
+    pub fn with(self, row: Row) -> Result<Option<KeptRows>, NoMemory>
+        requires { RiseIn 0 (row.at + 1) self }
+        ensures { IfOk result (λ o. MatchOption o (is_repeat self row ≡ true)
+            (λ k. (is_repeat self row ≡ false) × (k ≡ self ++ row ∷ []))) }
     {
         let KeptRows {
             mut rows,
             mut noted,
         } = self;
-        noted.note(&rows, row)?;
+        if noted.note_new(&rows, row)? {
+            return Ok(None);
+        }
         rows.push(row)?;
-        Ok(KeptRows { rows, noted })
+        Ok(Some(KeptRows { rows, noted }))
     }
 
     /// The rows alone.

@@ -3,10 +3,10 @@ ghost use Rattle.std.specs.Prelude.{◌≡◌, ◌≤◌, ◌*◌, List, Option,
 ghost use Rattle.event_codes.specs.declared.channels.Group.{Group as Group_type};
 ghost use Rattle.sig_base.specs.declared.values.Row.{Row as Row_type};
 ghost use Rattle.row_reader.specs.Repeats.{group_of_row};
-ghost use Rattle.row_reader.specs.Last.{IsWithAll, IsWithLast};
+ghost use Rattle.row_reader.specs.Last.{IsWithAll, IsWithLast, is_row};
 ghost use Rattle.row_reader.specs.Noted.{look_up};
 
-use crate::repeats::group_of_row;
+use crate::repeats::{group_of_row, is_row};
 use event_codes::Group;
 use sig_base::{NoMemory, Row};
 use std::alloc::Global;
@@ -34,19 +34,6 @@ impl Lasts {
         }
     }
 
-    /// The last row of a group.
-    pub fn last(&self, group: Group) -> Option<Row>
-        ensures { result ≡ look_up self.now group }
-    {
-        match group {
-            Group::Of(channel) => match self.of.get(channel.cell()) {
-                Some(cell) => *cell,
-                None => None,
-            },
-            Group::Alone { code, param } => self.alone.get(&(code, param)).copied(),
-        }
-    }
-
     // Makes the table, where there is none yet.
     fn make_table(&mut self) -> Result<(), NoMemory>
         ensures full { OnOk result (2048 ≤ length self.new.of.items) }
@@ -58,28 +45,29 @@ impl Lasts {
         Ok(())
     }
 
+    // Puts this row in place of the last one of its group, which it answers.
     #[tactic(auto, unfolding(event_codes::specs::Channels::same_group))]
-    fn put(&mut self, group: Group, row: Row) -> Result<(), NoMemory>
+    fn put(&mut self, group: Group, row: Row) -> Result<Option<Row>, NoMemory>
         requires full { 2048 ≤ length self.old.of.items }
         requires group { group ≡ group_of_row row }
-        ensures { OnOk result (IsWithLast row (look_up self.old) (look_up self.new)) }
+        ensures with { OnOk result (IsWithLast row (look_up self.old) (look_up self.new)) }
+        ensures was { IfOk result (λ last. last ≡ look_up self.old group) }
     {
         match group {
-            Group::Of(channel) => self.of[channel.cell()] = Some(row),
-            Group::Alone { code, param } => {
-                self.alone.insert((code, param), row)?;
-            }
+            Group::Of(channel) => Ok(self.of[channel.cell()].replace(row)),
+            Group::Alone { code, param } => Ok(self.alone.insert((code, param), row)?),
         }
-        Ok(())
     }
 
-    /// Notes that this row is the last one of its group.
+    /// Notes that this row is the last one of its group, and tells whether it was that before.
     #[inline(never)]
-    pub fn note(&mut self, row: Row) -> Result<(), NoMemory>
-        ensures { OnOk result (IsWithLast row (look_up self.old) (look_up self.new)) }
+    pub fn note(&mut self, row: Row) -> Result<bool, NoMemory>
+        ensures with { OnOk result (IsWithLast row (look_up self.old) (look_up self.new)) }
+        ensures was { IfOk result (λ b. b ≡ is_row row (look_up self.old (group_of_row row))) }
     {
         self.make_table()?;
-        self.put(group_of_row(row), row)
+        let last = self.put(group_of_row(row), row)?;
+        Ok(is_row(row, last))
     }
 
     /// Notes these rows, one after another.

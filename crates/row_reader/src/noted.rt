@@ -1,13 +1,12 @@
 // What is noted of the rows that are kept, to tell of a further row whether it repeats one.
-ghost use Rattle.std.specs.Prelude.{◌≡◌, ◌+◌, ◌++◌, ◌∷◌, ◌↔◌, ℕ, [], drop, IsTrue, IfSome, OnOk};
+ghost use Rattle.std.specs.Prelude.{◌≡◌, ◌≢◌, ◌+◌, ◌++◌, ◌∷◌, ◌↔◌, ℕ, [], true, false, drop, IsTrue, IfSome, IfOk, OnOk};
 ghost use Rattle.sig_base.specs.HourRows.{RiseIn};
-ghost use Rattle.row_reader.specs.Repeats.{group_of_row, is_repeat};
-ghost use Rattle.row_reader.specs.Last.{IsWithAll, StartsAt, is_row};
+ghost use Rattle.row_reader.specs.Repeats.{is_repeat};
+ghost use Rattle.row_reader.specs.Last.{IsWithAll, StartsAt};
 ghost use Rattle.row_reader.specs.Noted.{IsNoted, look_up};
 
 use crate::lasts::Lasts;
 use crate::look_back::is_repeat_behind;
-use crate::repeats::{group_of_row, is_row};
 use sig_base::{NoMemory, Row};
 use std::alloc::Global;
 
@@ -55,27 +54,6 @@ impl Noted {
         u64::from(at) + 1 == self.until
     }
 
-    // Whether the last row of this row's group that is noted is this very row.
-    #[inline(never)]
-    fn has_row(&self, row: Row) -> bool
-        ensures { result ≡ is_row row (look_up self.now.lasts (group_of_row row)) }
-    {
-        is_row(row, self.lasts.last(group_of_row(row)))
-    }
-
-    /// Whether this row is a repeat behind those that are kept, none of which is later.
-    pub fn is_repeat(&self, kept: &[Row], row: Row) -> bool
-        requires noted { IsNoted self.now kept.now }
-        requires rise { RiseIn 0 (row.at + 1) kept.now }
-        ensures { result ≡ is_repeat kept.now row }
-    {
-        if self.has(row.at) {
-            self.has_row(row)
-        } else {
-            is_repeat_behind(kept, row)
-        }
-    }
-
     // Notes these rows and this one, from now on as those of its tenth.
     #[inline(never)]
     fn begin(&mut self, run: &[Row], row: Row) -> Result<(), NoMemory>
@@ -89,15 +67,13 @@ impl Noted {
         Ok(())
     }
 
-    /// Takes note of this row, which is to be kept behind those that are.
-    pub fn note(&mut self, kept: &[Row], row: Row) -> Result<(), NoMemory>
-        requires { IsNoted self.old kept.now }
+    // Takes note of this row, which is to be kept behind those that are. Those of its tenth aren't
+    // noted.
+    fn note_other(&mut self, kept: &[Row], row: Row) -> Result<(), NoMemory>
+        requires noted { IsNoted self.old kept.now }
+        requires other { row.at + 1 ≢ self.old.until }
         ensures { OnOk result (IsNoted self.new (kept.now ++ row ∷ [])) }
     {
-        if self.has(row.at) {
-            self.lasts.note(row)?;
-            return Ok(());
-        }
         let Some(run) = few_rows(kept, row.at) else {
             return Ok(());
         };
@@ -106,5 +82,25 @@ impl Noted {
         }
         self.begin(run, row)?;
         Ok(())
+    }
+
+    /// Whether this row is a repeat behind those that are kept, none of which is later. Where it is
+    /// none, it is noted, since it is to be kept behind them.
+    pub fn note_new(&mut self, kept: &[Row], row: Row) -> Result<bool, NoMemory>
+        requires noted { IsNoted self.old kept.now }
+        requires rise { RiseIn 0 (row.at + 1) kept.now }
+        ensures repeat { IfOk result (λ b. b ≡ is_repeat kept.now row) }
+        ensures dropped { IfOk result (λ b. b ≡ true → IsNoted self.new kept.now) }
+        ensures kept { IfOk result (λ b. b ≡ false → IsNoted self.new (kept.now ++ row ∷ [])) }
+    {
+        if self.has(row.at) {
+            let repeats = self.lasts.note(row)?;
+            return Ok(repeats);
+        }
+        if is_repeat_behind(kept, row) {
+            return Ok(true);
+        }
+        self.note_other(kept, row)?;
+        Ok(false)
     }
 }

@@ -39,10 +39,10 @@ pub fn drop_repeats(alloc: Global, hour: Hour, rows: &[Row]) -> Result<Vec<Row>,
     let mut noted = Noted::none(alloc);
     let mut kept = Vec::with_capacity(alloc, rows.len())?;
     for row in rows {
-        if noted.is_repeat(&kept, *row) {
+        let repeats = noted.note_new(&kept, *row)?;
+        if repeats {
             continue;
         }
-        noted.note(&kept, *row)?;
         kept.push(*row)?;
     }
     Ok(kept)

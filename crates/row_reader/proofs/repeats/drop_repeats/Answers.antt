@@ -4,23 +4,26 @@ use Rattle.row_reader.specs.Repeats.{without_repeats}
 use Rattle.row_reader.proofs.RepeatFacts.{kept-start, kept-rise, kept-dropped, kept-added, kept-end, kept-part, kept-no_repeat}
 use Rattle.row_reader.proofs.repeats.drop_repeats.Goals as goal
 
-pub is_repeat-requires-clause-rise : goal.is_repeat-requires-clause-rise
-is_repeat-requires-clause-rise c =
+pub note_new-requires-clause-rise : goal.note_new-requires-clause-rise
+note_new-requires-clause-rise c =
     rw c.deref.ensures.value (kept-rise _ _ c.args.rows.now c.loop-row.kept.items c.loop-row.row-index no_row c.loop-row-test.true c.loop-row.invariant.kept)
 
-pub loop-row-preserved-then-is_repeat : goal.loop-row-preserved-then-is_repeat
-loop-row-preserved-then-is_repeat c = record {
-  noted = c.loop-row.invariant.noted;
-  kept = kept-dropped _ _ c.args.rows.now c.loop-row.kept.items c.loop-row.row-index no_row c.loop-row-test.true c.loop-row.invariant.kept
-      (sym (rw c.deref.ensures.value at c.is_repeat.ensures) ∙ c.if-is_repeat.true);
-}
+pub loop-row-preserved-then-repeats : goal.loop-row-preserved-then-repeats
+loop-row-preserved-then-repeats c =
+    let told = rw c.deref.ensures.value at c.in_ok-repeats.ensures in
+    record {
+      noted = told.dropped c.if-repeats.true;
+      kept = kept-dropped _ _ c.args.rows.now c.loop-row.kept.items c.loop-row.row-index no_row c.loop-row-test.true c.loop-row.invariant.kept
+          (sym told.repeat ∙ c.if-repeats.true);
+    }
 
 pub loop-row-preserved : goal.loop-row-preserved
 loop-row-preserved c =
+    let told = rw c.deref.ensures.value at c.in_ok-repeats.ensures in
     rw c.in_ok-push.ensures.items record {
-      noted = rw c.deref-in-loop-row.ensures.value at c.in_ok-note.ensures;
+      noted = told.kept c.if-repeats.false;
       kept = kept-added _ _ c.args.rows.now c.loop-row.kept.items c.loop-row.row-index no_row c.loop-row-test.true c.loop-row.invariant.kept
-          (sym (rw c.deref.ensures.value at c.is_repeat.ensures) ∙ c.if-is_repeat.false);
+          (sym told.repeat ∙ c.if-repeats.false);
     }
 
 pub loop-row-init : goal.loop-row-init

@@ -21,7 +21,7 @@ use Rattle.arrival_measures.proofs.Opens.{from_is, open_same}
 
 -- rows in order don't fall
 
-at_least : (a b : ℕ) (xs : List Row) (j : ℕ) (d : Row) → AreOrdered a b xs → j < length xs → a ≤ (get_or xs j d).at
+pub at_least : (a b : ℕ) (xs : List Row) (j : ℕ) (d : Row) → AreOrdered a b xs → j < length xs → a ≤ (get_or xs j d).at
 at_least a b [] j d h lt = absurd (omega arith)
 at_least a b (x ∷ xs) zero d h lt = h.0
 at_least a b (x ∷ xs) (suc j) d h lt = let l = h.0 in let r = at_least x.at b xs j d h.2 (omega arith) in omega arith

@@ -50,7 +50,7 @@ pub same_since : (known : ℕ → Bool) (t u : ℕ) (o : Option Row) → since k
 same_since known t u None e = refl
 same_since known t u (Some x) e = ap (λ v. begins_fault x.code && v) (live_same known x.at t u e)
 
-pub kept_on : (known : ℕ → Bool) (t u p : ℕ) (before : List Row) → since known t ≡ since known u → faulty known t before p ≡ faulty known u before p
+kept_on : (known : ℕ → Bool) (t u p : ℕ) (before : List Row) → since known t ≡ since known u → faulty known t before p ≡ faulty known u before p
 unfolding faulty
 kept_on known t u p before e = same_since known t u (last (is_of p) before) e
 

@@ -68,11 +68,11 @@ green_of May known c a before seen hour place g r fault red_fault s due faults (
 
 -- rows that are all seen
 
-all_kept : (T : Row → Bool) (xs : List Row) → All (λ x. T x ≡ true) xs → filter T xs ≡ xs
+pub all_kept : (T : Row → Bool) (xs : List Row) → All (λ x. T x ≡ true) xs → filter T xs ≡ xs
 all_kept T [] h = refl
 all_kept T (x ∷ xs) h = rw (All-head (λ z. T z ≡ true) x xs h) (ap (λ zs. x ∷ zs) (all_kept T xs (All-tail (λ z. T z ≡ true) x xs h)))
 
-passing_all : (P : Row → Type 0) (test : List Row → Row → Bool) (before xs : List Row) → All P xs → All P (passing_from test before xs)
+pub passing_all : (P : Row → Type 0) (test : List Row → Row → Bool) (before xs : List Row) → All P xs → All P (passing_from test before xs)
 passing_all P test before [] h = All-nil P
 passing_all P test before (x ∷ xs) h =
     let more = passing_all P test (before ++ x ∷ []) xs (All-tail P x xs h) in

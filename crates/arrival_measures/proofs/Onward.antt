@@ -3,9 +3,8 @@ use Rattle.std.proofs.Common.{◌≡◌, ℕ, ◌+◌, ◌-◌, ◌^◌, ◌<◌
 use Rattle.std.specs.Prelude.{All, IfSome, max}
 use Rattle.std.specs.List.{filter}
 use Rattle.std.proofs.lemmas.Bool.{and_parts, cases_lt, le-leb, leb-true, lt-leb}
-use Rattle.std.proofs.lemmas.List.Elements.{All-append, All-filter, filter-append}
+use Rattle.std.proofs.lemmas.List.Elements.{All-append, All-filter, filter-append, filter_passes}
 use Rattle.sig_base.specs.declared.values.Row.{Row}
-use Rattle.gap_map.specs.declared.stretch.Stretch.{Stretch}
 use Rattle.hour_sweep.specs.Rows.{known_rows}
 use Rattle.hour_sweep.specs.Hours.{AreOrdered, IsHour, point}
 use Rattle.hour_sweep.proofs.Orders.{ordered-append, ordered_from}
@@ -26,7 +25,7 @@ use Rattle.arrival_measures.specs.Travel.{arrivals_at, from_tenth, shifted, told
 use Rattle.arrival_measures.specs.Steps.{AreDetections, IsCycleOf, IsOpenUnderWay, is_faultless, merged, moved, of_approaches, row_on}
 use Rattle.arrival_measures.proofs.Arriving.{ons_kept}
 use Rattle.arrival_measures.proofs.Faultless.{ons_all}
-use Rattle.arrival_measures.proofs.Hours.{hour_ordered}
+use Rattle.arrival_measures.proofs.Hours.{all_kept, hour_ordered, passing_all}
 use Rattle.arrival_measures.proofs.Merging.{merged_first, merged_ordered, merged_second}
 use Rattle.arrival_measures.proofs.Own.{and_part, filter_filter, filter_swap}
 use Rattle.arrival_measures.proofs.Parts.{open_by_parts}
@@ -115,11 +114,16 @@ module _ (known : ℕ → Bool) (p d v t u : ℕ) (before rows : List Row) (firs
   turns_ordered : AreOrdered t (t + 36300) turns
   turns_ordered = wider t (t + 36000) (t + 36300) turns (omega arith) (kept_ordered (turns_green p) t (t + 36000) t (from_tenth u rows) (omega arith) (kept_ordered (λ x. leb u x.at) t (t + 36000) t rows (omega arith) ordered))
 
-  -- the arrivals as the code makes them, where among the rows that it takes those of the detector are its arrivals
-  pub arriving_late : (pending : List ℕ) (passing ons arriving : List Row) → t + 36300 < 2 ^ 32 → ons_of d passing ≡ ons_of d (arrivals_from known before seen) → pending ≡ map (λ (x : Row). x.at) old → ons ≡ ons_of d (from_tenth (u - v) passing) → arriving ≡ map (row_on d) pending ++ map (moved v) ons → arriving ≡ last
+  -- the arrivals as the code makes them, where at known tenths among the rows that it takes those of the detector are its arrivals
+  pub arriving_late : (pending : List ℕ) (passing ons arriving : List Row) → t + 36300 < 2 ^ 32 → ons_of d (known_rows known passing) ≡ ons_of d (arrivals_from known before seen) → pending ≡ map (λ (x : Row). x.at) old → ons ≡ known_rows known (ons_of d (from_tenth (u - v) passing)) → arriving ≡ map (row_on d) pending ++ map (moved v) ons → arriving ≡ last
   arriving_late pending passing ons arriving high same ep eo e =
       let of_hour = ons_of d (arrivals_from known before seen) in
-      let few_ons : ons ≡ from_tenth (u - v) of_hour = eo ∙ filter_swap (is_on d) (λ x. leb (u - v) x.at) passing ∙ ap (λ zs. from_tenth (u - v) zs) same in
+      let K : Row → Bool = λ x. known x.at in
+      let few_ons : ons ≡ from_tenth (u - v) of_hour =
+      eo
+      ∙ ap (λ zs. known_rows known zs) (filter_swap (is_on d) (λ x. leb (u - v) x.at) passing)
+      ∙ filter_swap K (λ x. leb (u - v) x.at) (ons_of d passing)
+      ∙ ap (λ zs. from_tenth (u - v) zs) (filter_swap K (is_on d) passing ∙ same) in
       let hour_ordered = kept_ordered (is_on d) t (t + 36000) t (arrivals_from known before seen) (omega arith) (passing_ordered (is_arrival known) before t (t + 36000) t seen (omega arith) seen_ordered) in
       e
       ∙ ap (λ ts. map (row_on d) ts ++ map (moved v) ons) ep
@@ -179,29 +183,35 @@ counts_early known p d t u rows begun to None e end h = omega arith
 counts_early known p d t u rows begun to (Some y) e end h = let order = h.order in omega arith
 
 -- the hour's rows with the arrivals that were found among them
-pub rows_found : (known : ℕ → Bool) (c : Settings) (before : List Row) (hour : ℕ) (ss : List Stretch) (carry : CarryParts) (s : HourRows) (found : Detections) → IsHour known hour s.rows.now ss → IsCarry known c before hour carry → AreDetections known c before (known_rows known s.rows.now) found → s.passing.now ≡ found.arrivals.items → s.first ≡ point hour → AreHourRows known c before hour s
-rows_found known c before hour ss carry s found h is are e first =
+pub rows_found : (known : ℕ → Bool) (c : Settings) (before : List Row) (hour : ℕ) (carry : CarryParts) (s : HourRows) (found : Detections) → IsHour known hour s.rows.now s.stretches.now → IsCarry known c before hour carry → AreDetections known c before (known_rows known s.rows.now) found → s.passing.now ≡ found.arrivals.items → s.first ≡ point hour → AreHourRows known c before hour s
+rows_found known c before hour carry s found h is are e first =
     let t = point hour in
     let rows = s.rows.now in
-    let seen = kept_ordered (λ x. known x.at) t (t + 36000) t rows (omega arith) (hour_ordered known hour rows ss h) in
-    let of_hour = arrivals_from known before (known_rows known rows) in
+    let seen = known_rows known rows in
+    let seen_in_order = kept_ordered (λ x. known x.at) t (t + 36000) t rows (omega arith) (hour_ordered known hour rows s.stretches.now h) in
+    let of_hour = arrivals_from known before seen in
     let here : s.passing.now ≡ of_approaches c of_hour = e ∙ are.arrivals in
+    let K : Row → Type 0 = λ x. known x.at ≡ true in
+    let all_known : known_rows known of_hour ≡ of_hour = all_kept (λ x. known x.at) of_hour (passing_all K (is_arrival known) before seen (filter_passes (λ (x : Row). known x.at) rows)) in
     record {
-      are_rows = h.are_rows;
+      is_hour = h;
       ordered = is.ordered;
       earlier = is.earlier;
-      in_order = subst (λ (zs : List Row). AreOrdered t (t + 36000) zs) (sym here) (kept_ordered (λ x. has_detector c x.param) t (t + 36000) t of_hour (omega arith) (passing_ordered (is_arrival known) before t (t + 36000) t (known_rows known rows) (omega arith) seen));
-      arrivals = λ d has. ap (λ zs. ons_of d zs) here ∙ ons_kept c d of_hour has;
+      in_order = subst (λ (zs : List Row). AreOrdered t (t + 36000) zs) (sym here) (kept_ordered (λ x. has_detector c x.param) t (t + 36000) t of_hour (omega arith) (passing_ordered (is_arrival known) before t (t + 36000) t seen (omega arith) seen_in_order));
+      arrivals = λ d has.
+          ap (λ zs. ons_of d (known_rows known zs)) here
+          ∙ ap (λ zs. ons_of d zs) (filter_swap (λ x. known x.at) (λ x. has_detector c x.param) of_hour ∙ ap (λ zs. of_approaches c zs) all_known)
+          ∙ ons_kept c d of_hour has;
       first = first;
     }
 
--- and where each row at which a detector goes on is one
-pub rows_all : (known : ℕ → Bool) (c : Settings) (before : List Row) (hour : ℕ) (ss : List Stretch) (carry : CarryParts) (flags : List (Option Flag)) (s : HourRows) → IsHour known hour s.rows.now ss → IsCarry known c before hour carry → all_flags flags ≡ flags_of known c (point hour) before → is_faultless flags s.rows.now ss ≡ true → s.passing.now ≡ s.rows.now → s.first ≡ point hour → AreHourRows known c before hour s
-rows_all known c before hour ss carry flags s h is told none e first = record {
-  are_rows = h.are_rows;
+-- and where each known row at which a detector goes on is one
+pub rows_all : (known : ℕ → Bool) (c : Settings) (before : List Row) (hour : ℕ) (carry : CarryParts) (flags : List (Option Flag)) (s : HourRows) → IsHour known hour s.rows.now s.stretches.now → IsCarry known c before hour carry → all_flags flags ≡ flags_of known c (point hour) before → is_faultless flags s.rows.now ≡ true → s.passing.now ≡ s.rows.now → s.first ≡ point hour → AreHourRows known c before hour s
+rows_all known c before hour carry flags s h is told none e first = record {
+  is_hour = h;
   ordered = is.ordered;
   earlier = is.earlier;
-  in_order = subst (λ (zs : List Row). AreOrdered (point hour) (point hour + 36000) zs) (sym e) (hour_ordered known hour s.rows.now ss h);
-  arrivals = λ d has. ap (λ zs. ons_of d zs) e ∙ ons_all known c before hour s.rows.now ss flags h told none d has;
+  in_order = subst (λ (zs : List Row). AreOrdered (point hour) (point hour + 36000) zs) (sym e) (hour_ordered known hour s.rows.now s.stretches.now h);
+  arrivals = λ d has. ap (λ zs. ons_of d (known_rows known zs)) e ∙ ons_all known c before hour s.rows.now s.stretches.now flags h told none d has;
   first = first;
 }

@@ -1,9 +1,8 @@
 -- What crosses the point after an hour, from the hour's rows and its open cycles alone.
 use Rattle.std.specs.Prelude.{ℕ, ◌≡◌, ◌+◌, ◌-◌, ◌^◌, ◌<◌, ◌++◌, min, max, Bool, true, List, Option, Some, None, All, map}
 use Rattle.sig_base.specs.declared.values.Row.{Row}
-use Rattle.sig_base.specs.HourRows.{AreRowsOf}
 use Rattle.hour_sweep.specs.Rows.{known_rows}
-use Rattle.hour_sweep.specs.Hours.{AreOrdered, point}
+use Rattle.hour_sweep.specs.Hours.{AreOrdered, IsHour, point}
 use Rattle.service_cut.specs.declared.items.OpenCycle.{OpenCycle}
 use Rattle.service_cut.specs.Cut.{CutLists, IsCut}
 use Rattle.ring_config.specs.Settings.{Settings}
@@ -20,13 +19,13 @@ abbrev pub counts_from : ℕ → Option OpenCycle → ℕ
 counts_from first None = min (first + 36000) (2 ^ 32 - 1)
 counts_from first (Some y) = max y.from first
 
--- these are the rows of the hour, where the others are the known rows before it, and its arrivals
+-- these are the rows and stretches of the hour, where the others are the known rows before it, and at the known tenths among these the detectors' rows are the arrivals
 pub record AreHourRows (known : ℕ → Bool) (c : Settings) (before : List Row) (hour : ℕ) (s : HourRows) : Type 0 where
-  pub are_rows : AreRowsOf hour s.rows.now
+  pub is_hour : IsHour known hour s.rows.now s.stretches.now
   pub ordered : AreOrdered 0 (point hour) before
   pub earlier : All (λ x. x.at < point hour) before
   pub in_order : AreOrdered (point hour) (point hour + 36000) s.passing.now
-  pub arrivals : (d : ℕ) → has_detector c d ≡ true → ons_of d s.passing.now ≡ ons_of d (arrivals_from known before (known_rows known s.rows.now))
+  pub arrivals : (d : ℕ) → has_detector c d ≡ true → ons_of d (known_rows known s.passing.now) ≡ ons_of d (arrivals_from known before (known_rows known s.rows.now))
   pub first : s.first ≡ point hour
 
 -- what crosses the point after the hour of an approach, where the cuts are the hour's and this crosses the point before it

@@ -95,9 +95,9 @@ is_quiet flags rows ss = list_all (λ x. not (is_own x.code)) rows && (list_all 
 abbrev pub is_harmless : Row → Bool
 is_harmless x = not (is_own x.code && begins_fault x.code)
 
--- no detector is sure to have a fault at any row of the hour: each tenth is known, no flag tells of a fault, and no row begins one
-abbrev pub is_faultless : List (Option Flag) → List Row → List Stretch → Bool
-is_faultless flags rows ss = list_all (λ s. s.known) ss && (list_all is_clear flags && list_all is_harmless rows)
+-- no detector is sure to have a fault at any row of the hour: no flag tells of a fault, and no row begins one
+abbrev pub is_faultless : List (Option Flag) → List Row → Bool
+is_faultless flags rows = list_all is_clear flags && list_all is_harmless rows
 
 -- ---- the hour of an approach
 

@@ -1,5 +1,8 @@
 // What crosses the point after an hour, without the hour's numbers.
-ghost use Rattle.std.specs.Prelude.{◌≡◌, IfOk, OnOk, OnErr};
+ghost use Rattle.std.specs.Prelude.{◌≡◌, ℕ, Bool, IfOk, OnOk, OnErr};
+ghost use Rattle.gap_map.specs.Stretches.{AreStretches};
+ghost use Rattle.hour_sweep.specs.Hours.{AreOrdered};
+ghost use Rattle.hour_sweep.specs.Rows.{known_rows};
 ghost use Rattle.arrival_measures.specs.Onward.{CrossNext, IsNextCrossing, counts_from};
 ghost use Rattle.arrival_measures.specs.Results.{IsCarriedOn};
 
@@ -10,6 +13,7 @@ use crate::chains::{Chain, rows_in};
 use crate::cycles::{open_after, open_cycle_of};
 use crate::faults::{detect, is_faultless, put_flags};
 use crate::hour::crossing_at;
+use crate::judged::is_known;
 use crate::under_way::rows_from;
 use gap_map::{Stretch, first_of};
 use ring_config::{Approach, Config};
@@ -21,8 +25,10 @@ use std::alloc::Global;
 #[derive(Clone, Copy)]
 pub(crate) struct HourRows<'a> {
     pub(crate) rows: &'a [Row],
-    /// Of them those at which a detector of an approach goes on are its arrivals.
+    /// Of these, by tenth, the known ones at which a detector of an approach goes on are its
+    /// arrivals.
     pub(crate) passing: &'a [Row],
+    pub(crate) stretches: &'a [Stretch],
     /// The hour's first tenth.
     pub(crate) first: u32,
 }
@@ -36,6 +42,20 @@ fn counts_from(cycle: Option<OpenCycle>, first: u32) -> u32
         Some(cycle) => cycle.from.max(first),
         None => first.saturating_add(36_000),
     }
+}
+
+// Those of the hour's rows whose tenth is known.
+fn known_among(alloc: Global, rows: &[Row], stretches: &[Stretch]) -> Result<Vec<Row>, NoMemory>
+    ensures { IfOk result (λ v. (known : ℕ → Bool) (a b : ℕ) → AreStretches known a b stretches.now
+        → AreOrdered a b rows.now → v.items ≡ known_rows known rows.now) }
+{
+    let mut own = Vec::new(alloc);
+    for row in rows {
+        if is_known(stretches, row.at) {
+            own.push(*row)?;
+        }
+    }
+    Ok(own)
 }
 
 // Of an approach with this advance detector. An arrival counts from its arrival tenth on.
@@ -56,7 +76,8 @@ fn detector_after(
     let from = counts_from(open_cycle_of(cuts.open_cycles(), phase), first);
     let turns = rows_in(alloc, rows_from(hour.rows, from), Chain::Green(phase))?;
     let passing = rows_from(hour.passing, from.saturating_sub(travel));
-    let ons = rows_in(alloc, passing, Chain::On(detector))?;
+    let passes = rows_in(alloc, passing, Chain::On(detector))?;
+    let ons = known_among(alloc, &passes, hour.stretches)?;
     let arriving = arriving(alloc, detector, travel, crossing.pending.list(), &ons)?;
     let own = merged(alloc, &turns, &arriving)?;
     let begun = open_after(phase, detector, crossing.begun, cuts, &own, first);
@@ -118,10 +139,11 @@ pub fn arrivals_carried(
         return Ok(());
     }
     let first = first_of(stretches);
-    if is_faultless(&carry.flags, rows, stretches) {
+    if is_faultless(&carry.flags, rows) {
         let hour = HourRows {
             rows,
             passing: rows,
+            stretches,
             first,
         };
         let crossings = crossings_after(alloc, config, &carry.crossings, cuts, &hour)?;
@@ -133,6 +155,7 @@ pub fn arrivals_carried(
         let hour = HourRows {
             rows,
             passing: &found.arrivals,
+            stretches,
             first,
         };
         crossings_after(alloc, config, &carry.crossings, cuts, &hour)?

@@ -173,11 +173,11 @@ fn has_no_fault(rows: &[Row]) -> bool
         .all(|row| !(is_own(row.code) && begins_fault(row.code)))
 }
 
-/// Whether no detector is sure to have a fault at any row of the hour, and each tenth is known.
-pub(crate) fn is_faultless(flags: &[Option<Flag>], rows: &[Row], stretches: &[Stretch]) -> bool
-    ensures { result ≡ is_faultless flags.now rows.now stretches.now }
+/// Whether no detector is sure to have a fault at any row of the hour.
+pub(crate) fn is_faultless(flags: &[Option<Flag>], rows: &[Row]) -> bool
+    ensures { result ≡ is_faultless flags.now rows.now }
 {
-    all_known(stretches) && all_clear(flags) && has_no_fault(rows)
+    all_clear(flags) && has_no_fault(rows)
 }
 
 /// The hour's known rows at which detectors of approaches go on, by the flags at the point before

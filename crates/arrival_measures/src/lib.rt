@@ -19,7 +19,7 @@
 //!
 //! What crosses the point after an hour is had without the hour's numbers too: of an approach only
 //! the rows since its open cycle began are gone over, and where no detector can have a fault each
-//! row at which one goes on is an arrival.
+//! known row at which one goes on is an arrival.
 #![tactic(auto)]
 
 mod ahead;

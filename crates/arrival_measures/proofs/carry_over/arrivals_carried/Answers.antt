@@ -22,13 +22,13 @@ returns-then-is_faultless-clause-carry c = λ known before hour h is cut.
     let ss = c.args.stretches.now in
     let old = c.args.carry.now in
     let flags = c.carry.inside.flags.items in
-    let s : HourRows = record { rows = c.args.rows; passing = c.args.rows; first = c.first_of-first.result } in
+    let s : HourRows = record { rows = c.args.rows; passing = c.args.rows; stretches = c.args.stretches; first = c.first_of-first.result } in
     let first : s.first ≡ point hour = c.first_of-first.ensures (point hour) (point hour + 36000) (follows known (point hour) (point hour + 36000) ss h.are_stretches) (omega arith) in
     let told : all_flags flags ≡ flags_of known cfg (point hour) before = ap (λ (z : CarryParts). z.flags) c.carry.view_is ∙ is.flags_are in
-    let none : is_faultless flags rows ss ≡ true = ap (λ zs. is_faultless zs rows ss) (sym c.deref.ensures.value) ∙ sym c.is_faultless.ensures ∙ c.if-is_faultless.true in
+    let none : is_faultless flags rows ≡ true = ap (λ zs. is_faultless zs rows) (sym c.deref.ensures.value) ∙ sym c.is_faultless.ensures ∙ c.if-is_faultless.true in
     let new : CarryParts = record { crossings = c.in_ok-crossings.crossings.items; flags = all_flags flags } in
     carry_is known cfg before hour rows ss old new (all_flags flags) h is (flags_stay known cfg before hour rows ss flags h told none)
-    (c.in_ok-crossings.ensures known before hour (rows_all known cfg before hour ss old flags s h is told none refl first) cut
+    (c.in_ok-crossings.ensures known before hour (rows_all known cfg before hour old flags s h is told none refl first) cut
     (c.deref-then-is_faultless.ensures.value ∙ ap (λ (z : CarryParts). z.crossings) c.carry.view_is ∙ is.crossings_are))
     refl
 
@@ -40,10 +40,10 @@ returns-clause-carry c = λ known before hour h is cut.
     let old = c.args.carry.now in
     let found = c.in_ok-found.found in
     let flags = c.deref-2.result.now in
-    let s : HourRows = record { rows = c.args.rows; passing = c.deref-3.result; first = c.first_of-first.result } in
+    let s : HourRows = record { rows = c.args.rows; passing = c.deref-3.result; stretches = c.args.stretches; first = c.first_of-first.result } in
     let first : s.first ≡ point hour = c.first_of-first.ensures (point hour) (point hour + 36000) (follows known (point hour) (point hour + 36000) ss h.are_stretches) (omega arith) in
     let told : all_flags flags ≡ flags_of known cfg (point hour) before = ap (λ zs. all_flags zs) c.deref-2.ensures.value ∙ ap (λ (z : CarryParts). z.flags) c.carry.view_is ∙ is.flags_are in
-    let are = rows_found known cfg before hour ss old s found h is (c.in_ok-found.ensures.found known cfg before hour h is.earlier told) c.deref-3.ensures.value first in
+    let are = rows_found known cfg before hour old s found h is (c.in_ok-found.ensures.found known cfg before hour h is.earlier told) c.deref-3.ensures.value first in
     let new : CarryParts = record { crossings = c.in_ok-crossings-2.crossings.items; flags = all_flags c.put_flags.new.flags.items } in
     carry_is known cfg before hour rows ss old new (all_flags (flags_in flags found.flags)) h is (c.in_ok-found.ensures.flags known cfg before hour h is.earlier told)
     (c.in_ok-crossings-2.ensures known before hour are cut (c.deref-4.ensures.value ∙ ap (λ (z : CarryParts). z.crossings) c.carry.view_is ∙ is.crossings_are))

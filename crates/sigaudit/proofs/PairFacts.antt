@@ -22,7 +22,7 @@ use Rattle.script_lines.specs.Lines.{lines_of}
 use Rattle.report_text.specs.Pairs.{AreFillsIn, AreStrandsIn, IsPairIn, found_text, nothing_text}
 use Rattle.sigaudit.specs.Aims.{for_rule}
 use Rattle.sigaudit.specs.Pairs.{AreFound, place_of}
-use Rattle.sigaudit.specs.Run.{IsCarriedOut, PutsOne, RunsAs, ScriptCause, world}
+use Rattle.sigaudit.specs.Run.{CountsGrow, IsCarriedOut, NeverFall, PutsOne, RunsAs, ScriptCause, world}
 use Rattle.sigaudit.specs.Status.{status_of_run}
 use Rattle.sigaudit.specs.Transcript.{IsAimOutcome, ended_by, outcome}
 use Rattle.sigaudit.specs.declared.status.Ended.{Ended}
@@ -126,6 +126,13 @@ pub shown_cause : (Is : List ℕ → Type 0) (refused : Bool) (k k' : Counts) (w
 shown_cause Is refused k k' w w' (Ok e) failed same put = subst (λ (x : Ended). ScriptCause (world k w) (world k' w') (status_of_run (Ok x))) (sym same) (told_cause Is refused k k' w w' failed put)
 shown_cause Is refused k k' w w' (Err stopped.Fault) failed same put = inr put.2.rose
 shown_cause Is refused k k' w w' (Err stopped.Memory) failed same put = tt
+
+-- no count falls
+pub shown_never : (Is : List ℕ → Type 0) (k k' : Counts) (w w' : Taken) (r : Result Ended Stopped) → CountsGrow k k' → PutsOne Is w w' r → NeverFall (world k w) (world k' w')
+shown_never Is k k' w w' (Ok e) grow put = record { missing = grow.missing; failed = grow.failed; long = grow.long; faults = let same = put.2.same in omega arith }
+shown_never Is k k' w w' (Err stopped.Fault) grow put = record { missing = grow.missing; failed = grow.failed; long = grow.long; faults = put.2.grew }
+shown_never Is k k' w w' (Err stopped.Memory) grow put =
+    record { missing = grow.missing; failed = grow.failed; long = grow.long; faults = let same = ap (λ (t : Taken). t.faults) put in omega arith }
 
 -- what cuts it off
 pub cut_shown : (Is : List ℕ → Type 0) (w w' : Taken) (s : Stopped) → PutsOne {T = Unit {0}} Is w w' (Err s) → PutsOne {T = Ended} Is w w' (Err s)

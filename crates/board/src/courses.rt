@@ -7,6 +7,7 @@ ghost use Rattle.board.specs.Channels.{letter_in, track, AreSpecs};
 ghost use Rattle.board.specs.Moves.{count_before, with_letter, letter_moves, stretch_moves};
 ghost use Rattle.board.specs.Courses.{AreAdded, AreCourses, course_log};
 ghost use Rattle.board.specs.Finding.{IsFinder};
+ghost use Rattle.board.specs.Stops.{moves_at};
 
 use crate::finder::Finder;
 use crate::slice_view::SliceView;
@@ -105,6 +106,15 @@ impl Courses {
             stretches: SliceView::of(stretches),
             list,
         })
+    }
+
+    /// What happens to the channel with this place among the specs, from 0.
+    pub fn moves(&self, spec: u16) -> &[Move]
+        requires { spec < length self.now.specs }
+        ensures { (d : Spec) → result.now ≡ moves_at self.now.specs self.now.rows self.now.stretches
+            spec d }
+    {
+        self.list[spec as usize].moves()
     }
 
     /// They, in the order of the channels.

@@ -10,28 +10,14 @@ ghost use Rattle.board.specs.Stops.{IsFirstStop, AreBefore};
 ghost use Rattle.board.specs.Places.{AllEarly, AreAheadsOf};
 ghost use Rattle.board.specs.Hours.{AreAheadsBefore, AreClampedPasts, ArePastsOf, NamesStop};
 
-use crate::aheads::{Aheads, ahead_before};
+use crate::aheads::Aheads;
 use crate::courses::{Course, courses_of};
-use crate::meeting::aheads_meeting;
-use crate::pasts::{After, Pasts, PastsError, clamp_past, earlier, end_of, pasts_hour, walk_spec};
+use crate::meeting::ahead_meeting;
+use crate::pasts::{After, Pasts, PastsError, clamp_past, earlier, end_of, walk_spec};
 use channel_tables::Spec;
 use gap_map::{Stretch, first_of};
 use sig_base::{NoMemory, Row};
 use std::alloc::Global;
-
-// Up to so many channels are gone through one by one.
-const FEW: usize = 6;
-
-// Whether at most so many of the channels are others.
-fn are_few(others: &[bool]) -> bool {
-    let mut count = 0;
-    for other in others {
-        if *other && count <= FEW {
-            count += 1;
-        }
-    }
-    count <= FEW
-}
 
 // The specs that are wanted, in their order.
 fn specs_among(alloc: Global, specs: &[Spec], wanted: &[bool]) -> Result<Vec<Spec>, NoMemory>
@@ -94,7 +80,8 @@ fn other_aheads(alloc: Global, a: &Aheads, b: &Aheads, count: usize) -> Result<V
 
 /// The same as `aheads_hour` of an hour for which it was answered already, from `was_after`
 /// `was_before`: the channels that admit the same states after the hour as then admit the same
-/// before it.
+/// before it, and of each other one only the moves after the place where both come to the same states
+/// are walked back again, where that place is near the end of the hour.
 pub fn aheads_again(
     alloc: Global,
     specs: &[Spec],
@@ -115,9 +102,6 @@ pub fn aheads_again(
         a) }
 {
     let others = other_aheads(alloc, after, was_after, specs.len())?;
-    if !are_few(&others) {
-        return aheads_meeting(alloc, specs, after, was_after, was_before, rows, stretches);
-    }
     let courses = courses_among(alloc, specs, &others, rows, stretches)?;
     let first = first_of(stretches);
     let mut aheads = Vec::new(alloc);
@@ -127,7 +111,14 @@ pub fn aheads_again(
             aheads.push(was_before.aheads[i].copy())?;
             continue;
         }
-        let ahead = ahead_before(&specs[i], &after.aheads[i], courses[next].moves(), first);
+        let ahead = ahead_meeting(
+            &specs[i],
+            &after.aheads[i],
+            &was_after.aheads[i],
+            &was_before.aheads[i],
+            courses[next].moves(),
+            first,
+        );
         aheads.push(ahead)?;
         next += 1;
     }
@@ -233,9 +224,6 @@ pub fn pasts_again(
         → AllEarly (end_tenth h) p) }
 {
     let others = other_pasts(alloc, before, was_before, specs.len())?;
-    if !are_few(&others) {
-        return pasts_hour(alloc, specs, before, rows, stretches);
-    }
     let after = pasts_kept(alloc, specs, &others, before, was_after, rows, stretches)?;
     match after.stop {
         Some(stop) => Err(PastsError::NoState(rows[stop as usize])),

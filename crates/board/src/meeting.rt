@@ -1,31 +1,23 @@
-// The states before an hour, from other states after it than before: a channel's moves are walked
-// back with the new and with the old side by side until the two meet.
-ghost use Rattle.std.specs.Prelude.{◌≡◌, ◌↔◌, ℕ, pos, ◌<ℤ◌, length, IfOk};
+// The states of a channel before an hour, from other states after it than before: its moves are
+// walked back with the new and with the old side by side until the two meet.
+ghost use Rattle.std.specs.Prelude.{◌≡◌, ◌↔◌, ℕ, pos, ◌<ℤ◌, length};
 ghost use Rattle.channel_tables.specs.Spec.{IsSpec, rules_of};
 ghost use Rattle.reach.specs.Runs.{State};
 ghost use Rattle.reach.specs.Ahead.{Admits};
 ghost use Rattle.channel_path.specs.Walks.{InOrder, BeforeMoves};
 ghost use Rattle.channel_path.specs.Places.{EntersBefore};
-ghost use Rattle.board.specs.Channels.{AreSpecs};
-ghost use Rattle.board.specs.Logs.{IsHour};
-ghost use Rattle.board.specs.Places.{AreAheadsOf};
-ghost use Rattle.board.specs.Hours.{AreAheadsBefore};
 
-use crate::aheads::{Aheads, lower_before};
-use crate::courses::courses_of;
+use crate::aheads::lower_before;
 use channel_path::{Move, walk_ahead};
 use channel_tables::{Spec, machine_of};
-use gap_map::{Stretch, first_of};
 use reach::Ahead;
-use sig_base::{NoMemory, Row};
-use std::alloc::Global;
 
 // So many moves at most are walked back side by side.
 const NEAR: usize = 12;
 
-// The same as `ahead_before`, where from `was_after` came `was_before`: once the two are equal on
-// the way back, the rest is as it was.
-fn ahead_meeting(
+/// The same as `ahead_before`, where from `was_after` came `was_before`: once the two are equal on
+/// the way back, the rest is as it was.
+pub(crate) fn ahead_meeting(
     spec: &Spec,
     after: &Ahead,
     was_after: &Ahead,
@@ -60,43 +52,4 @@ fn ahead_meeting(
     walk_ahead(&machine, &mut now, &moves[..place]);
     lower_before(&mut now, first);
     now
-}
-
-/// `aheads_hour` of an hour for which it was answered already, from `was_after` `was_before`: of
-/// each channel only the moves after the place where both come to the same states are walked back
-/// again, where that place is near the end of the hour.
-pub fn aheads_meeting(
-    alloc: Global,
-    specs: &[Spec],
-    after: &Aheads,
-    was_after: &Aheads,
-    was_before: &Aheads,
-    rows: &[Row],
-    stretches: &[Stretch],
-) -> Result<Aheads, NoMemory>
-    requires specs { AreSpecs specs.now }
-    requires hour { (h : ℕ) × IsHour h rows.now stretches.now }
-    requires after { AreAheadsOf specs.now after.now }
-    requires shape { AreAheadsOf specs.now was_before.now }
-    requires was_shape { AreAheadsOf specs.now was_after.now }
-    requires was { AreAheadsBefore specs.now rows.now stretches.now was_after.now was_before.now }
-    ensures shape { IfOk result (λ a. AreAheadsOf specs.now a) }
-    ensures before { IfOk result (λ a. AreAheadsBefore specs.now rows.now stretches.now after.now
-        a) }
-{
-    let courses = courses_of(alloc, specs, rows, stretches)?;
-    let first = first_of(stretches);
-    let mut aheads = Vec::new(alloc);
-    for i in 0..specs.len() {
-        let ahead = ahead_meeting(
-            &specs[i],
-            &after.aheads[i],
-            &was_after.aheads[i],
-            &was_before.aheads[i],
-            courses[i].moves(),
-            first,
-        );
-        aheads.push(ahead)?;
-    }
-    Ok(Aheads { aheads, alloc })
 }

@@ -7,7 +7,7 @@ use Rattle.board.proofs.Within.{one_hour}
 use Rattle.board.proofs.again.pasts_again.Goals as goal
 
 pub pasts_kept-requires-clause-was : goal.pasts_kept-requires-clause-was
-pasts_kept-requires-clause-was c = (c.args.was_before.now, c.requires.was, rw c.deref-2.ensures.value c.in_ok-others.ensures.same)
+pasts_kept-requires-clause-was c = (c.args.was_before.now, c.requires.was, rw c.deref.ensures.value c.in_ok-others.ensures.same)
 
 pub bounds-rows-stop : goal.bounds-rows-stop
 bounds-rows-stop c =

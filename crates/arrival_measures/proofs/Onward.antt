@@ -11,14 +11,14 @@ use Rattle.hour_sweep.proofs.Orders.{ordered-append, ordered_from}
 use Rattle.service_cut.specs.declared.items.OpenCycle.{OpenCycle}
 use Rattle.service_cut.proofs.YellowEnds.{from_first}
 use Rattle.ring_config.specs.Settings.{Settings}
-use Rattle.arrival_measures.specs.declared.carry_over.HourRows.{HourRows}
+use Rattle.arrival_measures.specs.declared.carry_over.PassingRows.{PassingRows}
 use Rattle.arrival_measures.specs.declared.faults.Detections.{Detections}
 use Rattle.arrival_measures.specs.declared.faults.Flag.{Flag}
 use Rattle.arrival_measures.specs.declared.open.Open.{Open}
 use Rattle.arrival_measures.specs.Arrivals.{is_on, ons_of, rows_within}
 use Rattle.arrival_measures.specs.Crossing.{CarryParts, IsCarry, all_flags, flags_of, has_detector, open_since}
 use Rattle.arrival_measures.specs.Faults.{arrivals_from, is_arrival}
-use Rattle.arrival_measures.specs.Onward.{AreHourRows, counts_from}
+use Rattle.arrival_measures.specs.Onward.{ArePassingRows, counts_from}
 use Rattle.arrival_measures.specs.Opens.{open_at}
 use Rattle.arrival_measures.specs.Own.{turns_green}
 use Rattle.arrival_measures.specs.Travel.{arrivals_at, from_tenth, shifted, told}
@@ -183,7 +183,7 @@ counts_early known p d t u rows begun to None e end h = omega arith
 counts_early known p d t u rows begun to (Some y) e end h = let order = h.order in omega arith
 
 -- the hour's rows with the arrivals that were found among them
-pub rows_found : (known : ℕ → Bool) (c : Settings) (before : List Row) (hour : ℕ) (carry : CarryParts) (s : HourRows) (found : Detections) → IsHour known hour s.rows.now s.stretches.now → IsCarry known c before hour carry → AreDetections known c before (known_rows known s.rows.now) found → s.passing.now ≡ found.arrivals.items → s.first ≡ point hour → AreHourRows known c before hour s
+pub rows_found : (known : ℕ → Bool) (c : Settings) (before : List Row) (hour : ℕ) (carry : CarryParts) (s : PassingRows) (found : Detections) → IsHour known hour s.rows.now s.stretches.now → IsCarry known c before hour carry → AreDetections known c before (known_rows known s.rows.now) found → s.passing.now ≡ found.arrivals.items → s.first ≡ point hour → ArePassingRows known c before hour s
 rows_found known c before hour carry s found h is are e first =
     let t = point hour in
     let rows = s.rows.now in
@@ -206,7 +206,7 @@ rows_found known c before hour carry s found h is are e first =
     }
 
 -- and where each known row at which a detector goes on is one
-pub rows_all : (known : ℕ → Bool) (c : Settings) (before : List Row) (hour : ℕ) (carry : CarryParts) (flags : List (Option Flag)) (s : HourRows) → IsHour known hour s.rows.now s.stretches.now → IsCarry known c before hour carry → all_flags flags ≡ flags_of known c (point hour) before → is_faultless flags s.rows.now ≡ true → s.passing.now ≡ s.rows.now → s.first ≡ point hour → AreHourRows known c before hour s
+pub rows_all : (known : ℕ → Bool) (c : Settings) (before : List Row) (hour : ℕ) (carry : CarryParts) (flags : List (Option Flag)) (s : PassingRows) → IsHour known hour s.rows.now s.stretches.now → IsCarry known c before hour carry → all_flags flags ≡ flags_of known c (point hour) before → is_faultless flags s.rows.now ≡ true → s.passing.now ≡ s.rows.now → s.first ≡ point hour → ArePassingRows known c before hour s
 rows_all known c before hour carry flags s h is told none e first = record {
   is_hour = h;
   ordered = is.ordered;

@@ -8,7 +8,7 @@ use Rattle.service_cut.specs.Cut.{CutLists, IsCut}
 use Rattle.ring_config.specs.Settings.{Settings}
 use Rattle.ring_config.specs.declared.items.Approach.{Approach}
 use Rattle.arrival_measures.specs.declared.carry.Crossing.{Crossing}
-use Rattle.arrival_measures.specs.declared.carry_over.HourRows.{HourRows}
+use Rattle.arrival_measures.specs.declared.carry_over.PassingRows.{PassingRows}
 use Rattle.arrival_measures.specs.Arrivals.{ons_of}
 use Rattle.arrival_measures.specs.Crossing.{crossing_of, has_detector}
 use Rattle.arrival_measures.specs.Faults.{arrivals_from}
@@ -20,7 +20,7 @@ counts_from first None = min (first + 36000) (2 ^ 32 - 1)
 counts_from first (Some y) = max y.from first
 
 -- these are the rows and stretches of the hour, where the others are the known rows before it, and at the known tenths among these the detectors' rows are the arrivals
-pub record AreHourRows (known : ℕ → Bool) (c : Settings) (before : List Row) (hour : ℕ) (s : HourRows) : Type 0 where
+pub record ArePassingRows (known : ℕ → Bool) (c : Settings) (before : List Row) (hour : ℕ) (s : PassingRows) : Type 0 where
   pub is_hour : IsHour known hour s.rows.now s.stretches.now
   pub ordered : AreOrdered 0 (point hour) before
   pub earlier : All (λ x. x.at < point hour) before
@@ -29,13 +29,13 @@ pub record AreHourRows (known : ℕ → Bool) (c : Settings) (before : List Row)
   pub first : s.first ≡ point hour
 
 -- what crosses the point after the hour of an approach, where the cuts are the hour's and this crosses the point before it
-abbrev pub IsNextCrossing : HourRows → CutLists → Approach → Crossing → Crossing → Type 0
+abbrev pub IsNextCrossing : PassingRows → CutLists → Approach → Crossing → Crossing → Type 0
 IsNextCrossing s cuts a old new =
-    (known : ℕ → Bool) (c : Settings) (before : List Row) (hour : ℕ) → AreHourRows known c before hour s → IsCut known c.phases before hour s.rows.now cuts → IsOwnOf c a
+    (known : ℕ → Bool) (c : Settings) (before : List Row) (hour : ℕ) → ArePassingRows known c before hour s → IsCut known c.phases before hour s.rows.now cuts → IsOwnOf c a
     → old ≡ crossing_of known (point hour) before a → new ≡ crossing_of known (point (hour + 1)) (before ++ known_rows known s.rows.now) a
 
 -- of all approaches
-abbrev pub CrossNext : Settings → HourRows → CutLists → List Crossing → List Crossing → Type 0
+abbrev pub CrossNext : Settings → PassingRows → CutLists → List Crossing → List Crossing → Type 0
 CrossNext c s cuts old new =
-    (known : ℕ → Bool) (before : List Row) (hour : ℕ) → AreHourRows known c before hour s → IsCut known c.phases before hour s.rows.now cuts → old ≡ map (crossing_of known (point hour) before) c.approaches
+    (known : ℕ → Bool) (before : List Row) (hour : ℕ) → ArePassingRows known c before hour s → IsCut known c.phases before hour s.rows.now cuts → old ≡ map (crossing_of known (point hour) before) c.approaches
     → new ≡ map (crossing_of known (point (hour + 1)) (before ++ known_rows known s.rows.now)) c.approaches

@@ -21,9 +21,9 @@ use service_cut::{Cuts, OpenCycle};
 use sig_base::{NoMemory, Row};
 use std::alloc::Global;
 
-/// The rows of an hour.
+/// The rows of an hour, and of these the ones that may pass a detector.
 #[derive(Clone, Copy)]
-pub(crate) struct HourRows<'a> {
+pub(crate) struct PassingRows<'a> {
     pub(crate) rows: &'a [Row],
     /// Of these, by tenth, the known ones at which a detector of an approach goes on are its
     /// arrivals.
@@ -65,7 +65,7 @@ fn detector_after(
     detector: u8,
     crossing: &Crossing,
     cuts: &Cuts,
-    hour: &HourRows<'_>,
+    hour: &PassingRows<'_>,
 ) -> Result<Crossing, NoMemory>
     requires { approach.now.advance ≡ Some detector }
     ensures { IfOk result (IsNextCrossing hour.now cuts.now approach.now crossing.now) }
@@ -91,7 +91,7 @@ fn approach_after(
     approach: &Approach,
     crossing: &Crossing,
     cuts: &Cuts,
-    hour: &HourRows<'_>,
+    hour: &PassingRows<'_>,
 ) -> Result<Crossing, NoMemory>
     ensures { IfOk result (IsNextCrossing hour.now cuts.now approach.now crossing.now) }
 {
@@ -107,7 +107,7 @@ fn crossings_after(
     config: &Config,
     crossings: &[Crossing],
     cuts: &Cuts,
-    hour: &HourRows<'_>,
+    hour: &PassingRows<'_>,
 ) -> Result<Vec<Crossing>, NoMemory>
     ensures { IfOk result (λ v. CrossNext config.now hour.now cuts.now crossings.now v.items) }
 {
@@ -140,7 +140,7 @@ pub fn arrivals_carried(
     }
     let first = first_of(stretches);
     if is_faultless(&carry.flags, rows) {
-        let hour = HourRows {
+        let hour = PassingRows {
             rows,
             passing: rows,
             stretches,
@@ -152,7 +152,7 @@ pub fn arrivals_carried(
     }
     let found = detect(alloc, &carry.flags, rows, stretches)?;
     let crossings = {
-        let hour = HourRows {
+        let hour = PassingRows {
             rows,
             passing: &found.arrivals,
             stretches,

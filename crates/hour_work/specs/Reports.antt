@@ -14,6 +14,8 @@ use Rattle.signal_log.specs.Log.{HasHistory, log_of}
 use Rattle.signal_log.specs.Opened.{Opened}
 use Rattle.signal_log.specs.Points.{HasHour, rows_or_none}
 use Rattle.service_cut.specs.Cut.{CutLists, IsCut as IsCutOf}
+use Rattle.detector_state.specs.declared.part.Part.{Part}
+use Rattle.stop_bar.specs.All.{AreTold, IsHourHeld}
 use Rattle.rule_audit.specs.declared.lines.AuditLine.{AuditLine}
 use Rattle.rule_audit.specs.Rules.{rules_for}
 use Rattle.hour_work.specs.Numbers.{Numbers, count_in_hour}
@@ -81,3 +83,7 @@ IsCutAtPlace c s o before cuts = IsHourCut c s o.hour before (rows_or_none o.row
 abbrev pub IsSeenBy : Settings → Store → Opened → Carried → Option HourLog → Type 0
 IsSeenBy c s o before (Some view) = IsSeenAt c s o before view
 IsSeenBy c s o before None = rows_at s o.hour ≡ None
+
+-- For contracts alone: these are the tenths of the detectors of the stop bars in the opened hour of each store of which this is said at the point before it.
+abbrev pub AreToldAt : Settings → Opened → Carried → List (List Part) → Type 0
+AreToldAt c o before told = (s : Store) → IsHourHeld c s o.hour (rows_or_none o.rows) o.stretches before.pasts → AreTold (log_of c.specs s) c o.hour told

@@ -13,7 +13,8 @@ ghost use Rattle.hour_work.specs.Reports.{IsBetweenAt, IsHourBetween, IsHourPart
 
 use crate::counts::counts_of;
 use crate::measures::{Measured, UnderWay, measures_over};
-use crate::seen::{known_in, lines_over, view_over};
+use crate::seen::{courses_over, known_in, lines_over, view_over};
+use crate::stop_bars::told_over;
 use crate::{Between, Carry, Future, Partial};
 use board::Courses;
 use ring_config::Config;
@@ -144,9 +145,11 @@ pub(crate) fn hour_done(
     ensures opened { IfOk result (λ _. IsOpened place.now) }
 {
     let before = between.before;
+    let courses = courses_over(alloc, config, place, courses)?;
+    let told = told_over(alloc, config, place, before, courses.as_ref())?;
     let view = view_over(alloc, config, place, between, courses)?;
     let lines = lines_over(alloc, config, rules, place, before, view.as_ref())?;
-    let measured = measures_over(alloc, config, place, before, view.as_ref())?;
+    let measured = measures_over(alloc, config, place, before, &told, view.as_ref())?;
     let Measured {
         splits,
         others,

@@ -2,7 +2,6 @@
 ghost use Rattle.std.specs.Prelude.{◌≡◌, ◌+◌, length, option_copied, IfOk, IfSome};
 ghost use Rattle.hour_store.specs.Store.{Store, is_known};
 ghost use Rattle.board.specs.Logs.{end_tenth, first_tenth};
-ghost use Rattle.board.specs.Stops.{AreBefore};
 ghost use Rattle.ring_config.specs.Sound.{IsSound};
 ghost use Rattle.signal_log.specs.Log.{HasHistory, log_of};
 ghost use Rattle.signal_log.specs.Opened.{HasPlace, IsOpened};
@@ -10,7 +9,7 @@ ghost use Rattle.arrival_measures.specs.Hours.{AreAllJudged, HaveCycles};
 ghost use Rattle.other_measures.specs.Hours.{AreNumbers, AreStates};
 ghost use Rattle.hour_work.specs.Measures.{AreMeasures, MayBeIn, MeetsIn};
 ghost use Rattle.hour_work.specs.Points.{AreCrossingAt, AreCutsAt, AreOpenAt, AreUnderWayAt, IsCarryAt};
-ghost use Rattle.hour_work.specs.Reports.{IsCutAtPlace, IsSeenBy};
+ghost use Rattle.hour_work.specs.Reports.{AreToldAt, IsCutAtPlace, IsSeenBy};
 ghost use Rattle.hour_work.specs.Rows.{earlier_rows, own_rows};
 
 use crate::Carry;
@@ -19,6 +18,7 @@ use arrival_measures::{
     ArrivalCarry, ArrivalSums, arrivals_carried, arrivals_hour, arrivals_unseen,
 };
 use board::HourView;
+use detector_state::Switched;
 use other_measures::{OtherCarry, OtherSums, others_hour, others_unseen};
 use ring_config::Config;
 use service_cut::{Closing, CutCarry, Cuts, cut_hour};
@@ -46,16 +46,17 @@ pub(crate) struct Measured {
     pub(crate) way: UnderWay,
 }
 
-/// The measures of an hour, by the view of it where it is held. What is under way after it needs no
-/// view.
+/// The measures of an hour, by the tenths of the detectors at stop bars and, where it is held, by the
+/// view of it. What is under way after it needs no view.
 pub(crate) fn measures_over(
     alloc: Global,
     config: &Config,
     place: &Place<'_>,
     before: &Carry,
+    told: &[Switched],
     view: Option<&HourView>,
 ) -> Result<Measured, NoMemory>
-    requires shape { AreBefore config.now.specs before.now.pasts }
+    requires told { AreToldAt config.now place.now before.now told.now }
     requires view { IfSome view (λ v. length v.now.specs ≡ length config.now.specs) }
     ensures value { IfOk result (λ m. (s : Store) → HasHistory (log_of config.now.specs s)
         → HasPlace s place.now → IsCarryAt config.now s place.now.hour before.now
@@ -70,7 +71,7 @@ pub(crate) fn measures_over(
 {
     let (cut, cuts) = cuts_over(alloc, config, place, before)?;
     let closing = Closing::of(alloc, &cut, end_of(place))?;
-    let (splits, bars) = splits_over(alloc, config, place, before, &cut)?;
+    let (splits, bars) = splits_over(alloc, config, place, before, &cut, told)?;
     let (others, crossing) = others_over(alloc, config, place, before, view)?;
     let (arrivals, opens) = arrivals_over(alloc, config, place, before, &cut, view)?;
     let way = UnderWay {
@@ -94,8 +95,9 @@ pub(crate) fn way_over(
     config: &Config,
     place: &Place<'_>,
     before: &Carry,
+    told: &[Switched],
 ) -> Result<UnderWay, NoMemory>
-    requires { AreBefore config.now.specs before.now.pasts }
+    requires { AreToldAt config.now place.now before.now told.now }
     ensures way { IfOk result (λ w. (s : Store) → HasPlace s place.now
         → IsCarryAt config.now s place.now.hour before.now
         → AreUnderWayAt config.now s (place.now.hour + 1) w) }
@@ -104,7 +106,7 @@ pub(crate) fn way_over(
 {
     let (cut, cuts) = cuts_over(alloc, config, place, before)?;
     let closing = Closing::of(alloc, &cut, end_of(place))?;
-    let (_sums, splits) = splits_over(alloc, config, place, before, &cut)?;
+    let (_sums, splits) = splits_over(alloc, config, place, before, &cut, told)?;
     let (_numbers, others) = others_over(alloc, config, place, before, None)?;
     let arrivals = arrivals_after(alloc, config, place, before, &cut)?;
     Ok(UnderWay {

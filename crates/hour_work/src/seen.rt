@@ -17,22 +17,23 @@ use sig_base::NoMemory;
 use signal_log::Place;
 use std::alloc::Global;
 
-// The hour's courses: these, where they are made already.
-fn courses_over(
+/// The hour's courses: these, where they are made already; else they are made where it is held.
+pub(crate) fn courses_over(
     alloc: Global,
     config: &Config,
     place: &Place<'_>,
     courses: Option<Courses>,
-) -> Result<Courses, NoMemory>
+) -> Result<Option<Courses>, NoMemory>
     requires { IfSome courses (AreCoursesOver config.now.specs place.now.hour place.now.rows
         place.now.blanks) }
-    ensures { IfOk result (AreCoursesOver config.now.specs place.now.hour place.now.rows
-        place.now.blanks) }
+    ensures { IfOk result (λ o. IfSome o (AreCoursesOver config.now.specs place.now.hour
+        place.now.rows place.now.blanks)) }
 {
-    match courses {
-        Some(courses) => Ok(courses),
-        None => place.courses(alloc, config.specs()),
+    if courses.is_some() || !place.is_held() {
+        return Ok(courses);
     }
+    let own = place.courses(alloc, config.specs())?;
+    Ok(Some(own))
 }
 
 /// The view of an hour between the points before and after it, where it is held. These are its
@@ -57,7 +58,10 @@ pub(crate) fn view_over(
     }
     let before = between.before;
     let after = between.after;
-    let courses = courses_over(alloc, config, place, courses)?;
+    let courses = match courses {
+        Some(courses) => courses,
+        None => place.courses(alloc, config.specs())?,
+    };
     let view = HourView::along(
         alloc,
         config.specs(),

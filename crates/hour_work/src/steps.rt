@@ -17,6 +17,7 @@ ghost use Rattle.hour_work.specs.declared.steps.ForwardError.TheVariants.{Memory
 ghost use Rattle.hour_work.specs.Points.{AreUnderWayAt, FitPoint, IsCarryAt, IsFutureAt, NamesRow, NamesStop};
 
 use crate::measures::{UnderWay, way_over};
+use crate::stop_bars::told_over;
 use crate::{Carry, Future};
 use board::{About, Courses, Pasts, PastsError};
 use ring_config::Config;
@@ -101,19 +102,23 @@ fn forward_over(
         place.now.blanks before.now.pasts) }
 {
     let pasts = states_over(alloc, config, place, before)?;
-    let carry = carry_over(alloc, config, place, before, pasts)?;
+    let carry = carry_over(alloc, config, place, before, None, pasts)?;
     Ok(carry)
 }
 
 /// What is kept at the point after an hour that is opened, where these are the states of each
-/// channel there. It needs no view, and makes no numbers.
+/// channel there, and these its courses, where they are made already. It needs no view, and makes no
+/// numbers.
 pub fn carry_over(
     alloc: Global,
     config: &Config,
     place: &Place<'_>,
     before: &Carry,
+    courses: Option<&Courses>,
     pasts: Pasts,
 ) -> Result<Carry, NoMemory>
+    requires courses { IfSome courses (λ c. AreCoursesOver config.now.specs place.now.hour
+        place.now.rows place.now.blanks c.now) }
     requires before { AreBefore config.now.specs before.now.pasts }
     requires over { ArePastsOver config.now.specs place.now.hour place.now.rows place.now.blanks
         before.now.pasts pasts }
@@ -125,7 +130,8 @@ pub fn carry_over(
         → IsCarryAt config.now s place.now.hour before.now
         → IsCarryAt config.now s (place.now.hour + 1) c) }
 {
-    let way = way_over(alloc, config, place, before)?;
+    let told = told_over(alloc, config, place, before, courses)?;
+    let way = way_over(alloc, config, place, before, &told)?;
     Ok(kept(place, pasts, way))
 }
 

@@ -1,16 +1,19 @@
 // The services at stop bars in an hour of a store.
-ghost use Rattle.std.specs.Prelude.{◌≡◌, ◌<◌, ◌+◌, ◌++◌, IfOk};
+ghost use Rattle.std.specs.Prelude.{◌≡◌, ◌<◌, ◌+◌, ◌++◌, IfOk, IfSome};
 ghost use Rattle.hour_store.specs.Store.{Store};
 ghost use Rattle.board.specs.Stops.{AreBefore};
 ghost use Rattle.signal_log.specs.Log.{HasHistory, log_of};
+ghost use Rattle.signal_log.specs.Over.{AreCoursesOver};
 ghost use Rattle.split_measures.specs.Phases.{phase_sums};
 ghost use Rattle.split_measures.specs.Hours.{AreSplitSums};
 ghost use Rattle.hour_work.specs.Rows.{earlier_rows, own_rows};
 ghost use Rattle.hour_work.specs.Measures.{cycles_in, services_in};
 ghost use Rattle.hour_work.specs.Points.{AreBarsAt};
-ghost use Rattle.hour_work.specs.Reports.{IsCutAtPlace};
+ghost use Rattle.hour_work.specs.Reports.{AreToldAt, IsCutAtPlace};
 
 use crate::Carry;
+use board::Courses;
+use detector_state::Switched;
 use ring_config::Config;
 use service_cut::Cuts;
 use sig_base::NoMemory;
@@ -19,16 +22,43 @@ use split_measures::{SplitCarry, SplitSums, splits_hour};
 use std::alloc::Global;
 use stop_bar::detectors_hour;
 
+/// The tenths of the detector of each stop bar in an hour, of which these are the courses, where they
+/// are made already.
+pub(crate) fn told_over(
+    alloc: Global,
+    config: &Config,
+    place: &Place<'_>,
+    before: &Carry,
+    courses: Option<&Courses>,
+) -> Result<Vec<Switched>, NoMemory>
+    requires shape { AreBefore config.now.specs before.now.pasts }
+    requires courses { IfSome courses (λ c. AreCoursesOver config.now.specs place.now.hour
+        place.now.rows place.now.blanks c.now) }
+    ensures { IfOk result (λ v. AreToldAt config.now place.now before.now v.items) }
+{
+    if config.approach_count() == 0 {
+        return Ok(Vec::new(alloc));
+    }
+    match courses {
+        Some(courses) => detectors_hour(alloc, config, &before.pasts, courses, place.hour()),
+        None => {
+            let own = place.courses(alloc, config.specs())?;
+            detectors_hour(alloc, config, &before.pasts, &own, place.hour())
+        }
+    }
+}
+
 /// The numbers of the hour's phases, and of the services at the stop bars of approaches, and what
-/// crosses the point after the hour there.
+/// crosses the point after the hour there, by the tenths of their detectors.
 pub(crate) fn splits_over(
     alloc: Global,
     config: &Config,
     place: &Place<'_>,
     before: &Carry,
     cuts: &Cuts,
+    told: &[Switched],
 ) -> Result<(SplitSums, SplitCarry), NoMemory>
-    requires shape { AreBefore config.now.specs before.now.pasts }
+    requires { AreToldAt config.now place.now before.now told.now }
     ensures phases { IfOk result (λ v. (s : Store)
         → IsCutAtPlace config.now s place.now before.now cuts.now
         → v.0.phases ≡ phase_sums config.now.phases (services_in config.now s place.now.hour)
@@ -41,9 +71,7 @@ pub(crate) fn splits_over(
         → IsCutAtPlace config.now s place.now before.now cuts.now
         → AreBarsAt config.now s (place.now.hour + 1) v.1) }
 {
-    let parts = place.stretches();
-    let detectors = detectors_hour(alloc, config, &before.pasts, place.rows(), parts)?;
     let mut carry = before.splits.copy()?;
-    let sums = splits_hour(alloc, config, &mut carry, cuts, &detectors, place.hour())?;
+    let sums = splits_hour(alloc, config, &mut carry, cuts, told, place.hour())?;
     Ok((sums, carry))
 }

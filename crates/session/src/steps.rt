@@ -197,7 +197,7 @@ pub fn carry_after<L>(
     let place = Place::new(alloc, hour, rows, store.blanked())?;
     let reached = reached_over(alloc, config, &place, before.pasts(), was)?;
     let Reached { pasts, courses } = reached;
-    let carry = carry_over(alloc, config, &place, before, pasts)?;
+    let carry = carry_over(alloc, config, &place, before, courses.as_ref(), pasts)?;
     Ok(Crossed { carry, courses })
 }
 

@@ -2,7 +2,7 @@ use Rattle.std.proofs.Common.{◌≡◌, ◌∙◌, ◌+◌, true, ap, sym, refl
 use Rattle.std.proofs.lemmas.List.{nil_from_length}
 use Rattle.gap_map.proofs.Following.{follows}
 use Rattle.hour_sweep.specs.Hours.{point}
-use Rattle.arrival_measures.specs.declared.carry_over.HourRows.{HourRows}
+use Rattle.arrival_measures.specs.declared.carry_over.PassingRows.{PassingRows}
 use Rattle.arrival_measures.specs.Crossing.{CarryParts, all_flags, flags_of}
 use Rattle.arrival_measures.specs.Steps.{flags_in, is_faultless}
 use Rattle.arrival_measures.proofs.Bare.{carried_over}
@@ -22,7 +22,7 @@ returns-then-is_faultless-clause-carry c = λ known before hour h is cut.
     let ss = c.args.stretches.now in
     let old = c.args.carry.now in
     let flags = c.carry.inside.flags.items in
-    let s : HourRows = record { rows = c.args.rows; passing = c.args.rows; stretches = c.args.stretches; first = c.first_of-first.result } in
+    let s : PassingRows = record { rows = c.args.rows; passing = c.args.rows; stretches = c.args.stretches; first = c.first_of-first.result } in
     let first : s.first ≡ point hour = c.first_of-first.ensures (point hour) (point hour + 36000) (follows known (point hour) (point hour + 36000) ss h.are_stretches) (omega arith) in
     let told : all_flags flags ≡ flags_of known cfg (point hour) before = ap (λ (z : CarryParts). z.flags) c.carry.view_is ∙ is.flags_are in
     let none : is_faultless flags rows ≡ true = ap (λ zs. is_faultless zs rows) (sym c.deref.ensures.value) ∙ sym c.is_faultless.ensures ∙ c.if-is_faultless.true in
@@ -40,7 +40,7 @@ returns-clause-carry c = λ known before hour h is cut.
     let old = c.args.carry.now in
     let found = c.in_ok-found.found in
     let flags = c.deref-2.result.now in
-    let s : HourRows = record { rows = c.args.rows; passing = c.deref-3.result; stretches = c.args.stretches; first = c.first_of-first.result } in
+    let s : PassingRows = record { rows = c.args.rows; passing = c.deref-3.result; stretches = c.args.stretches; first = c.first_of-first.result } in
     let first : s.first ≡ point hour = c.first_of-first.ensures (point hour) (point hour + 36000) (follows known (point hour) (point hour + 36000) ss h.are_stretches) (omega arith) in
     let told : all_flags flags ≡ flags_of known cfg (point hour) before = ap (λ zs. all_flags zs) c.deref-2.ensures.value ∙ ap (λ (z : CarryParts). z.flags) c.carry.view_is ∙ is.flags_are in
     let are = rows_found known cfg before hour old s found h is (c.in_ok-found.ensures.found known cfg before hour h is.earlier told) c.deref-3.ensures.value first in

@@ -12,13 +12,13 @@ use Rattle.board.proofs.Bridge.{event_not_here, none_at, cut_rows, known_here, k
 use Rattle.detector_state.specs.Ranges.{IsQuiet, IsCutBy}
 
 -- a row of another channel has no letter at any tenth
-passed : (k : Track) (r : Row) (rs : List Row) (x : ℕ) → k.letter r.code r.param ≡ None → letters k (events_at (r ∷ rs) x) ≡ letters k (events_at rs x)
+pub passed : (k : Track) (r : Row) (rs : List Row) (x : ℕ) → k.letter r.code r.param ≡ None → letters k (events_at (r ∷ rs) x) ≡ letters k (events_at rs x)
 passed k r rs x none = elim (eqb_tells r.at x) [
   | inl (e, _) ↦ rw (e, none) refl
   | inr (e, _) ↦ rw e refl
 ]
 
-option_cases : (o : Option ℕ) → (o ≡ None) ⊎ ((z : ℕ) × (o ≡ Some z))
+pub option_cases : (o : Option ℕ) → (o ≡ None) ⊎ ((z : ℕ) × (o ≡ Some z))
 option_cases None = inl refl
 option_cases (Some z) = inr (z, refl)
 

@@ -80,13 +80,13 @@ pub record AreTenths (log : Log) (i a b : ℕ) (t : OnTenths) : Type 0 where
   pub greatest : Counts (IsColourReached log i 1) a b t.greatest
   pub fault : IsTrue t.fault ↔ ((x : ℕ) × (a ≤ x) × (x < b) × IsSure log i 2 x)
 
--- the parts cover each hour that has these rows and stretches
-abbrev pub CoversHour : List Row → List Stretch → List Part → Type 0
-CoversHour rows ss parts = (hour : ℕ) → IsHour hour rows ss → FollowOn (first_tenth hour) (end_tenth hour) parts
+-- where these rows and stretches are the hour's, the parts cover it
+abbrev pub CoversHour : ℕ → List Row → List Stretch → List Part → Type 0
+CoversHour hour rows ss parts = IsHour hour rows ss → FollowOn (first_tenth hour) (end_tenth hour) parts
 
 -- they tell of the hour of each log that has the channel, these rows and stretches, and these states before the hour
-abbrev pub TellsColours : Channel → List (List Span) → List Row → List Stretch → List Part → Type 0
-TellsColours channel before rows ss parts = (log : Log) (i hour : ℕ) → IsChannelOf log i channel → IsHourIn log (switch_track channel) hour rows ss → IsPastAt log i hour before → IsSwitched log i hour parts
+abbrev pub TellsColours : Channel → List (List Span) → ℕ → List Row → List Stretch → List Part → Type 0
+TellsColours channel before hour rows ss parts = (log : Log) (i : ℕ) → IsChannelOf log i channel → IsHourIn log (switch_track channel) hour rows ss → IsPastAt log i hour before → IsSwitched log i hour parts
 
 -- of the tenths from `from` up to `to` of each log of whose tenths about them the parts tell: at how many the channel is sure to be on
 abbrev pub IsLeastOn : List Part → ℕ → ℕ → ℕ → Type 0

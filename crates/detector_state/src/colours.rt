@@ -5,37 +5,19 @@ ghost use Rattle.colour_machine.specs.Rules.{Goes};
 ghost use Rattle.reach.specs.Runs.{State};
 ghost use Rattle.reach.specs.Past.{Holds};
 ghost use Rattle.channel_path.specs.Walks.{EnteredBefore};
-ghost use Rattle.board.specs.Channels.{letter_in as track_letter};
 ghost use Rattle.channel_tables.specs.Any.{any_rules};
 ghost use Rattle.channel_tables.specs.Spec.{rules_of};
 ghost use Rattle.detector_state.specs.Switches.{switch_spec};
 ghost use Rattle.detector_state.specs.Masks.{HasStates, IsImage};
 
-use channel_tables::{AnyMachine, Spec, letter_of_kind, machine_of};
+use channel_tables::{AnyMachine, Spec, machine_of};
 use colour_machine::{Machine, Mask};
-use event_codes::{Channel, channel_of};
+use event_codes::Channel;
 use reach::{AgeBound, Ahead, Past, Test, possible};
-use sig_base::{Row, Tenth};
+use sig_base::Tenth;
 
 // Later than each tenth of a window.
 const LATE: Tenth = 4_294_967_296;
-
-fn is_same(own: Channel, channel: Channel) -> bool
-    ensures { IsTrue result ↔ (own ≡ channel) }
-{
-    own == channel
-}
-
-/// The letter of the channel that the row is, if it is one.
-pub fn letter_in(channel: Channel, row: Row) -> Option<u8>
-    ensures { result ≡ track_letter (switch_spec channel) row.code row.param }
-{
-    let own = channel_of(row.code, row.param)?;
-    if is_same(own, channel) {
-        return letter_of_kind(own.kind, row.code, row.param);
-    }
-    None
-}
 
 /// The machine of the channel.
 pub fn machine(channel: Channel) -> AnyMachine

@@ -4,7 +4,6 @@ pub mod Hours
 pub mod Places
 pub mod AllBars
 pub mod ToldAt
-pub mod Owning
 pub mod Common
 pub mod Going
 pub mod Fitting

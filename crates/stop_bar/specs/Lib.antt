@@ -2,7 +2,6 @@ pub mod Crossing
 pub mod Bars
 pub mod Lists
 pub mod All
-pub mod Own
 pub mod Windows
 pub mod Going
 pub mod Staying

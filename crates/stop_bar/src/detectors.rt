@@ -1,5 +1,5 @@
 // The detectors of all stop bars in one hour.
-ghost use Rattle.std.specs.Prelude.{◌≡◌, ℕ, Some, [], slice_index_or, IfOk};
+ghost use Rattle.std.specs.Prelude.{◌≡◌, ◌<◌, ℕ, Some, [], slice_index_or, IfOk};
 ghost use Rattle.event_codes.specs.declared.channels.Kind.TheVariants.{Detector};
 ghost use Rattle.board.specs.Stops.{AreBefore};
 ghost use Rattle.hour_store.specs.Store.{Store};
@@ -9,59 +9,53 @@ ghost use Rattle.detector_state.specs.Hours.{TellsColours};
 ghost use Rattle.stop_bar.specs.All.{AreTold, IsHourHeld};
 
 use crate::bars::stop_bars;
-use crate::own::{rows_by_detector, wanted_by};
-use board::Pasts;
+use board::{Courses, Pasts};
 use detector_state::{Switched, switched};
 use event_codes::{Channel, Kind};
-use gap_map::Stretch;
-use reach::Past;
 use ring_config::Config;
-use sig_base::{NoMemory, Row};
+use sig_base::{Hour, NoMemory};
 use std::alloc::Global;
 
-/// The tenths of the detector of each stop bar in an hour, in file order: by the hour's rows, none
-/// where it isn't held, its stretches, and the states in which each channel may be before it.
-/// Goes over the rows once, and over the own rows of each of these detectors.
+/// The tenths of the detector of each stop bar in an hour, in file order: by what happens to each
+/// channel in the hour, and the states in which each may be before it.
 pub fn detectors_hour(
     alloc: Global,
     config: &Config,
     pasts: &Pasts,
-    rows: &[Row],
-    stretches: &[Stretch],
+    courses: &Courses,
+    hour: Hour,
 ) -> Result<Vec<Switched>, NoMemory>
-    requires { AreBefore config.now.specs pasts.now }
-    ensures { IfOk result (λ v. (s : Store) (hour : ℕ)
-        → IsHourHeld config.now s hour rows.now stretches.now pasts.now
+    requires before { AreBefore config.now.specs pasts.now }
+    requires specs { courses.now.specs ≡ config.now.specs }
+    requires hour { hour < 744 }
+    ensures { IfOk result (λ v. (s : Store)
+        → IsHourHeld config.now s hour courses.now.rows courses.now.stretches pasts.now
         → AreTold (log_of config.now.specs s) config.now hour v.items) }
 {
     let list = stop_bars(alloc, config)?;
     let mut told = Vec::new(alloc);
-    if list.is_empty() {
-        return Ok(told);
-    }
-    let table = rows_by_detector(alloc, &wanted_by(&list), rows)?;
     for bar in &list {
-        let own = table[usize::from(bar.detector)].list();
-        told.push(detector_hour(alloc, config, bar.detector, pasts, own, stretches)?)?;
+        told.push(detector_hour(alloc, config, bar.detector, pasts, courses, hour)?)?;
     }
     Ok(told)
 }
 
-// One of them, by the detector's own rows. A detector that isn't tracked has no place, so nothing is
-// said of it.
+// One of them. A detector that isn't tracked has no place, so nothing is said of it.
 fn detector_hour(
     alloc: Global,
     config: &Config,
     number: u8,
     pasts: &Pasts,
-    rows: &[Row],
-    stretches: &[Stretch],
+    courses: &Courses,
+    hour: Hour,
 ) -> Result<Switched, NoMemory>
-    requires { AreBefore config.now.specs pasts.now }
+    requires before { AreBefore config.now.specs pasts.now }
+    requires specs { courses.now.specs ≡ config.now.specs }
+    requires hour { hour < 744 }
     ensures { IfOk result (λ v. (i : ℕ)
         → spec_place config.now.specs (record { kind = Detector; number = number }) ≡ Some i
         → TellsColours (record { kind = Detector; number = number })
-        (slice_index_or pasts.now i []) rows.now stretches.now v) }
+        (slice_index_or pasts.now i []) hour courses.now.rows courses.now.stretches v) }
 {
     let channel = Channel {
         kind: Kind::Detector,
@@ -69,13 +63,9 @@ fn detector_hour(
     };
     match config.spec_of(channel) {
         Some(spec) => {
-            let told = switched(alloc, channel, pasts.at(spec), rows, stretches)?;
+            let told = switched(alloc, channel, pasts.at(spec), courses, spec, hour)?;
             Ok(told)
         }
-        None => {
-            let any = Past::start(alloc, 3)?;
-            let told = switched(alloc, channel, &any, rows, stretches)?;
-            Ok(told)
-        }
+        None => Ok(Switched::none(alloc)),
     }
 }

@@ -18,7 +18,6 @@ mod bars;
 mod detectors;
 mod hour;
 mod laws;
-mod own;
 mod same;
 mod window_hour;
 mod window_laws;

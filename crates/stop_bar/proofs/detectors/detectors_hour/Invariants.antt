@@ -7,4 +7,4 @@ use Rattle.stop_bar.specs.All.{IsHourHeld, IsPlaceOf, bars_of}
 use Rattle.stop_bar.proofs.detectors.detectors_hour.Given as goal
 
 abbrev pub invariant-loop-bar : goal.invariant-loop-bar
-invariant-loop-bar l = (s : Store) (hour : ℕ) → IsHourHeld l.config s hour l.rows l.stretches l.pasts → Each (λ b parts. (i : ℕ) → IsPlaceOf l.config b i → IsSwitched (log_of l.config.specs s) i hour parts) (take l.bar-index (bars_of l.config.approaches)) l.told.items
+invariant-loop-bar l = (s : Store) → IsHourHeld l.config s l.hour l.courses.rows l.courses.stretches l.pasts → Each (λ b parts. (i : ℕ) → IsPlaceOf l.config b i → IsSwitched (log_of l.config.specs s) i l.hour parts) (take l.bar-index (bars_of l.config.approaches)) l.told.items

@@ -1,11 +1,12 @@
 -- The clauses that are due at the end of a tenth, one after another.
 use Rattle.std.proofs.Common.{◌≡◌, refl, sym, ℕ, ◌+◌, ◌<◌, ◌≤◌, Bool, true, List, [], ◌∷◌, length, get_or, drop, arith}
+use Rattle.gap_map.specs.Stretches.{known_at}
 use Rattle.rule_audit.specs.declared.hour.AuditedHour.{AuditedHour}
 use Rattle.rule_audit.specs.declared.lines.AuditLine.{AuditLine}
 use Rattle.rule_audit.specs.Obligations.{end_obligations, is_due}
 use Rattle.rule_audit.specs.Judged.{HasVerdict}
 use Rattle.rule_audit.specs.Index.{no_rule, IsNext, IsNextDue}
-use Rattle.rule_audit.specs.Pass.{log_of, AddsAfter, AddsIn, AddsUpTo, AreChannelsAt, Ends, IsCutAt, IsLogOf, IsReady}
+use Rattle.rule_audit.specs.Pass.{log_of, row_at, AddsAfter, AddsIn, AddsUpTo, AreChannelsAt, Ends, IsCutAt, IsKnownRow, IsLogOf, IsReady}
 use Rattle.rule_audit.proofs.Adding.{end_rules, end_rules_over, upto_end, upto_same, upto_start, upto_step}
 use Rattle.rule_audit.proofs.Indexing.{due_next, due_none, due_there, end_skip, is_of_channel, IsNextOver}
 
@@ -38,8 +39,17 @@ module _ (h : AuditedHour) (at : ℕ) where
     passes = due_there h.specs.now h.rules.now h.rows.now at f t low high k m next;
   }
 
-  pub due_one : (c k m : ℕ) → IsReady h → AreChannelsAt h at (c ∷ []) → IsNext (is_of_channel h.specs.now h.rules.now c) (length h.rules.now) k m → IsNext (is_due_at h at) (length h.rules.now) k m
-  due_one c k m ready (f, t, low, high, are) next = due_at f t k m low high (due_next h.specs.now h.rules.now h.rows.now h.own.now ready.own f t high.0 (c ∷ []) are k m (over_one (is_of_channel h.specs.now h.rules.now) (length h.rules.now) c k m next))
+  -- the rows of a known tenth
+  pub known_rows : (f t : ℕ) → known_at h.stretches.now at ≡ true → IsCutAt h.rows.now at f → IsCutAt h.rows.now (at + 1) t → (j : ℕ) → f ≤ j → j < t → IsKnownRow h j
+  known_rows f t known low high j a b =
+      let top = high.0 in
+      let p = low.2 j a (omega arith) in
+      let q = high.1 j b in
+      let same : (row_at h j).at ≡ at = omega arith in
+      rw same known
+
+  pub due_one : (c k m : ℕ) → IsReady h → known_at h.stretches.now at ≡ true → AreChannelsAt h at (c ∷ []) → IsNext (is_of_channel h.specs.now h.rules.now c) (length h.rules.now) k m → IsNext (is_due_at h at) (length h.rules.now) k m
+  due_one c k m ready known (f, t, low, high, are) next = due_at f t k m low high (due_next h.specs.now h.rules.now h.rows.now h.own.now f t (λ j a b. let top = high.0 in ready.own.1 j (omega arith) (known_rows f t known low high j a b)) high.0 (c ∷ []) are k m (over_one (is_of_channel h.specs.now h.rules.now) (length h.rules.now) c k m next))
 
   pub due_first : (m : ℕ) (old : List AuditLine) → IsNext (is_due_at h at) (length h.rules.now) 0 m → IsDueUpTo h at m old old
   due_first m old next = record {

@@ -1,5 +1,5 @@
 -- Which rule comes next, and which are passed over.
-use Rattle.std.proofs.Common.{suc, zero, ◌⊎◌, ◌≡◌, ◌≢◌, refl, ap, sym, ◌∙◌, subst, inl, inr, ℕ, ◌+◌, ◌-◌, ◌<◌, ◌≤◌, Bool, true, false, ◌&&◌, nat_eq, Option, Some, List, [], ◌∷◌, ◌++◌, length, get_or, drop, arith}
+use Rattle.std.proofs.Common.{suc, zero, ◌⊎◌, ◌≡◌, refl, ap, sym, ◌∙◌, subst, inl, inr, ℕ, ◌+◌, ◌-◌, ◌<◌, ◌≤◌, Bool, true, false, ◌&&◌, nat_eq, Option, Some, List, [], ◌∷◌, ◌++◌, length, get_or, drop, arith}
 use Rattle.std.specs.List.{list_any, All}
 use Rattle.std.proofs.lemmas.Bool.{cases_lt, cases_Bool, eq-eqb, ne_eqb}
 use Rattle.std.proofs.lemmas.List.{get_or_append_left, get_or-append_right, length-append}
@@ -13,12 +13,11 @@ use Rattle.board.specs.declared.clause.Term.{Term}
 use Rattle.board.specs.Channels.{is_channel}
 use Rattle.board.specs.Logs.{no_row, no_spec}
 use Rattle.board.specs.Verdicts.{AreWithin}
-use Rattle.board.proofs.Tracks.{found_channel}
 use Rattle.ring_config.proofs.TrackLaws.{or_true}
 use Rattle.rule_audit.specs.declared.rules.Rule.{Rule}
 use Rattle.rule_audit.specs.declared.rules.Rule.TheVariants.{Interval, Conflict, Companion, Parents}
 use Rattle.rule_audit.specs.Obligations.{has_row_at, is_clause, is_due, is_row_of_some, is_timed_by, terms_of, row_obligations, end_obligations}
-use Rattle.rule_audit.specs.Index.{is_clause_on, is_due_by, is_picked, is_timed_on, no_rule, AreChannels, AreOwn, AreSkips, HasNoRule, IsNext, IsNextDue, IsOwn, IsOwnOf, IsRuledPlace, IsSkips}
+use Rattle.rule_audit.specs.Index.{is_clause_on, is_due_by, is_picked, is_timed_on, no_rule, AreChannels, AreSkips, HasNoRule, IsNext, IsNextDue, IsOwn, IsSkips}
 use Rattle.rule_audit.specs.Pass.{FitsRule, IsCutAt}
 use Rattle.rule_audit.proofs.Adding.{row_rules, row_rules_over, end_rules}
 
@@ -114,12 +113,6 @@ module _ (specs : List Spec) (o : Option Channel) (none : (i : ℕ) → i < leng
       let fits = All-get_or (FitsRule specs) rules x no_rule lt fit in
       (none_timed (get_or rules x no_rule) fits, none_clause (get_or rules x no_rule) fits)
 
-pub absent_channel : (c d : Channel) → c ≢ d → is_channel c (Some d) ≡ false
-absent_channel c d other = elim (cases_Bool (is_channel c (Some d))) [
-  | inl is ↦ absurd (other (let e : Some d ≡ Some c = found_channel c (Some d) is in let s : d ≡ c = cc in sym s))
-  | inr off ↦ off
-]
-
 -- the same places pass
 pub skips_same : (p q : ℕ → Bool) (n : ℕ) (xs : List ℕ) → ((x : ℕ) → p x ≡ q x) → IsSkips p n xs → IsSkips q n xs
 skips_same p q n xs same (size, each) = (
@@ -128,21 +121,6 @@ skips_same p q n xs same (size, each) = (
       let next = each k le in
       record { from = next.from; within = next.within; none = λ x a b. sym (same x) ∙ next.none x a b; passes = λ lt. sym (same (get_or xs (n - k) 0)) ∙ next.passes lt },
 )
-
-module _ (specs : List Spec) (rules : List Rule) (i : ℕ) (timed clauses : List (List ℕ)) (are_timed : AreSkips specs rules false (length specs) timed) (are_clauses : AreSkips specs rules true (length specs) clauses) (lt : i < length specs) where
-  -- neither list of the channel has a rule
-  pub none_listed : ((p : ℕ → Bool) → IsSkips p (length rules) (get_or timed i []) → (x : ℕ) → x < length rules → p x ≡ false) → ((p : ℕ → Bool) → IsSkips p (length rules) (get_or clauses i []) → (x : ℕ) → x < length rules → p x ≡ false) → HasNoRule specs rules (Some (get_or specs i no_spec).channel)
-  none_listed a b x less = (
-    a (is_picked specs rules false (get_or specs i no_spec).channel) (are_timed.1 i lt) x less,
-    b (is_picked specs rules true (get_or specs i no_spec).channel) (are_clauses.1 i lt) x less,
-  )
-
--- the channel with this place
-pub own_place : (specs : List Spec) (rules : List Rule) (o : Option Channel) (i s : ℕ) → i < length specs → o ≡ Some (get_or specs i no_spec).channel → IsRuledPlace specs rules i s → IsOwnOf specs rules o s
-own_place specs rules o i s lt e place = elim place [
-  | inl same ↦ inl (omega arith, e ∙ ap (λ (k : ℕ). Some (get_or specs k no_spec).channel) (sym same))
-  | inr (last, none) ↦ inr (last, subst (λ (p : Option Channel). HasNoRule specs rules p) (sym e) none)
-]
 
 module _ (specs : List Spec) (rules : List Rule) (r : Row) (s : ℕ) (own : IsOwn specs rules r s) where
   own_channel : s < length specs → channel_in_table r.code r.param ≡ Some (get_or specs s no_spec).channel
@@ -265,9 +243,9 @@ abbrev pub is_of_channel : List Spec → List Rule → ℕ → ℕ → Bool
 is_of_channel specs rules s = is_picked specs rules true (get_or specs s no_spec).channel
 
 -- what is next for the channels of the rows is next for the rows
-module _ (specs : List Spec) (rules : List Rule) (rows : List Row) (own : List ℕ) (are : AreOwn specs rules rows (length rows) own) (f t : ℕ) (top : t ≤ length rows) (channels : List ℕ) (is : AreChannels own (length specs) f t channels) where
-  row_picked : (j x : ℕ) → j < length rows → get_or own j 0 < length specs → is_due_by specs rules (get_or rows j no_row) x ≡ is_of_channel specs rules (get_or own j 0) x
-  row_picked j x lt few = ap (λ (o : Option Channel). is_clause_on specs o (get_or rules x no_rule)) (own_channel specs rules (get_or rows j no_row) (get_or own j 0) (are.1 j lt) few)
+module _ (specs : List Spec) (rules : List Rule) (rows : List Row) (own : List ℕ) (f t : ℕ) (are : (j : ℕ) → f ≤ j → j < t → IsOwn specs rules (get_or rows j no_row) (get_or own j 0)) (top : t ≤ length rows) (channels : List ℕ) (is : AreChannels own (length specs) f t channels) where
+  row_picked : (j x : ℕ) → f ≤ j → j < t → get_or own j 0 < length specs → is_due_by specs rules (get_or rows j no_row) x ≡ is_of_channel specs rules (get_or own j 0) x
+  row_picked j x a b few = ap (λ (o : Option Channel). is_clause_on specs o (get_or rules x no_rule)) (own_channel specs rules (get_or rows j no_row) (get_or own j 0) (are j a b) few)
 
   pub due_next : (k m : ℕ) → IsNextOver (is_of_channel specs rules) (length rules) channels (length channels) k m → IsNextDue specs rules rows f t k m
   due_next k m over =
@@ -276,17 +254,16 @@ module _ (specs : List Spec) (rules : List Rule) (rows : List Row) (own : List �
         from = over.from;
         within = over.within;
         none = λ x j a b c d.
-            let lt : j < length rows = omega arith in
             elim (cases_lt (get_or own j 0) (length specs)) [
-              | inl few ↦ let (i, li, e) = is.all j c d few in row_picked j x lt few ∙ (ap (λ (s : ℕ). is_of_channel specs rules s x) (sym e) ∙ over.none x i a b li)
-              | inr ge ↦ (own_none specs rules (get_or rows j no_row) (get_or own j 0) (are.1 j lt) ge x (omega arith)).1
+              | inl few ↦ let (i, li, e) = is.all j c d few in row_picked j x c d few ∙ (ap (λ (s : ℕ). is_of_channel specs rules s x) (sym e) ∙ over.none x i a b li)
+              | inr ge ↦ (own_none specs rules (get_or rows j no_row) (get_or own j 0) (are j c d) ge x (omega arith)).1
             ];
         passes = λ lt.
             let (i, li, on) = over.passes lt in
             let (j, a, b, e) = is.rows i li in
             let less = is.within i li in
             let few : get_or own j 0 < length specs = omega arith in
-            (j, a, b, row_picked j m (omega arith) few ∙ (ap (λ (s : ℕ). is_of_channel specs rules s m) e ∙ on));
+            (j, a, b, row_picked j m a b few ∙ (ap (λ (s : ℕ). is_of_channel specs rules s m) e ∙ on));
       }
 
 -- ---- the channels of rows

@@ -3,6 +3,7 @@ pub mod Rows
 pub mod Judging
 pub mod Adding
 pub mod Indexing
+pub mod Owning
 pub mod Dues
 pub mod Tenths
 pub mod Histories

@@ -1,10 +1,14 @@
 -- The rules by channel: which rule comes next for it, and of which channel each row is.
-use Rattle.std.specs.Prelude.{◌≡◌, ◌⊎◌, ℕ, ◌+◌, ◌-◌, ◌<◌, ◌≤◌, Bool, true, false, if◌then◌else◌, Option, Some, List, [], length, slice_index_or}
+use Rattle.std.specs.Prelude.{◌≡◌, ◌⊎◌, ℕ, ◌+◌, ◌-◌, ◌<◌, ◌≤◌, Bool, true, false, nat_eq, if◌then◌else◌, Option, Some, List, [], length, slice_index_or}
 use Rattle.std.specs.List.{list_any}
 use Rattle.sig_base.specs.declared.values.Row.{Row}
 use Rattle.event_codes.specs.declared.channels.Channel.{Channel}
 use Rattle.event_codes.specs.Channels.{channel_in_table}
+use Rattle.channel_path.specs.declared.moves.Move.{Move}
+use Rattle.channel_path.specs.declared.moves.Move.TheVariants.{Letter, Gap}
 use Rattle.channel_tables.specs.declared.spec.Spec.{Spec}
+use Rattle.gap_map.specs.declared.stretch.Stretch.{Stretch}
+use Rattle.gap_map.specs.Stretches.{known_at}
 use Rattle.board.specs.Channels.{is_channel}
 use Rattle.board.specs.Logs.{no_row, no_spec}
 use Rattle.rule_audit.specs.declared.rules.Rule.{Rule}
@@ -51,25 +55,26 @@ AreSkips specs rules clauses n lists = (length lists ≡ n) × ((s : ℕ) → s 
 abbrev pub HasNoRule : List Spec → List Rule → Option Channel → Type 0
 HasNoRule specs rules o = (x : ℕ) → x < length rules → (is_timed_on specs o (slice_index_or rules x no_rule) ≡ false) × (is_clause_on specs o (slice_index_or rules x no_rule) ≡ false)
 
--- the place i of a channel among the specs, or their number where no rule is of that channel
-abbrev pub IsRuledPlace : List Spec → List Rule → ℕ → ℕ → Type 0
-IsRuledPlace specs rules i s = (s ≡ i) ⊎ ((s ≡ length specs) × HasNoRule specs rules (Some (slice_index_or specs i no_spec).channel))
-
--- for each of the first n specs
-abbrev pub AreRuledPlaces : List Spec → List Rule → ℕ → List ℕ → Type 0
-AreRuledPlaces specs rules n places = (length places ≡ n) × ((i : ℕ) → i < n → IsRuledPlace specs rules i (slice_index_or places i 0))
-
--- this is the channel with this place, or no rule is of it where that is the number of specs
-abbrev pub IsOwnOf : List Spec → List Rule → Option Channel → ℕ → Type 0
-IsOwnOf specs rules o s = ((s < length specs) × (o ≡ Some (slice_index_or specs s no_spec).channel)) ⊎ ((s ≡ length specs) × HasNoRule specs rules o)
-
 -- the row is of the channel with this place, or no rule is of its channel where that is the number of specs
 abbrev pub IsOwn : List Spec → List Rule → Row → ℕ → Type 0
-IsOwn specs rules r s = IsOwnOf specs rules (channel_in_table r.code r.param) s
+IsOwn specs rules r s = ((s < length specs) × (channel_in_table r.code r.param ≡ Some (slice_index_or specs s no_spec).channel)) ⊎ ((s ≡ length specs) × HasNoRule specs rules (channel_in_table r.code r.param))
 
--- each of the first n rows
-abbrev pub AreOwn : List Spec → List Rule → List Row → ℕ → List ℕ → Type 0
-AreOwn specs rules rows n own = (length own ≡ n) × ((i : ℕ) → i < n → IsOwn specs rules (slice_index_or rows i no_row) (slice_index_or own i 0))
+-- each row of a known tenth
+abbrev pub AreOwn : List Spec → List Rule → List Row → List Stretch → List ℕ → Type 0
+AreOwn specs rules rows ss own = (length own ≡ length rows) × ((i : ℕ) → i < length rows → known_at ss (slice_index_or rows i no_row).at ≡ true → IsOwn specs rules (slice_index_or rows i no_row) (slice_index_or own i 0))
+
+-- the move is a letter, and this is its row
+abbrev pub is_row : ℕ → Move → Bool
+is_row n (Letter at l m) = nat_eq m n
+is_row n (Gap f t) = false
+
+-- the row is that of a letter among the moves
+abbrev pub has_row : ℕ → List Move → Bool
+has_row n moves = list_any (is_row n) moves
+
+-- the place stands at the rows of the moves, and at the others what stood there before
+abbrev pub IsWritten : List Move → ℕ → List ℕ → List ℕ → Type 0
+IsWritten moves place old new = (length new ≡ length old) × ((n : ℕ) → slice_index_or new n 0 ≡ (if has_row n moves then place else slice_index_or old n 0))
 
 -- the row is of a channel of the clause with this place
 abbrev pub is_due_by : List Spec → List Rule → Row → ℕ → Bool

@@ -5,4 +5,3 @@ pub mod Judged
 pub mod Lines
 pub mod Index
 pub mod Pass
-pub mod Owners

@@ -76,7 +76,7 @@ pub record IsReady (h : AuditedHour) : Type 0 where
   pub are_specs : All IsSpec h.specs.now
   pub are_rules : All (FitsRule h.specs.now) h.rules.now
   pub seen : length h.view.now.specs ≡ length h.specs.now
-  pub own : AreOwn h.specs.now h.rules.now h.rows.now (length h.rows.now) h.own.now
+  pub own : AreOwn h.specs.now h.rules.now h.rows.now h.stretches.now h.own.now
   pub timed : AreSkips h.specs.now h.rules.now false (length h.specs.now) h.timed.now
   pub clauses : AreSkips h.specs.now h.rules.now true (length h.specs.now) h.clauses.now
 
@@ -137,6 +137,10 @@ AddsAfter h at place old new = (e : Ends) (before : Bool) → IsLogOf h e → (i
 -- the tenth of a row is known
 abbrev pub IsKnownRow : AuditedHour → ℕ → Type 0
 IsKnownRow h n = known_at h.stretches.now (row_at h n).at ≡ true
+
+-- those of the rows from row i on that are before tenth t are known
+abbrev pub AreKnown : AuditedHour → ℕ → ℕ → Type 0
+AreKnown h i t = (k : ℕ) → i ≤ k → k < length h.rows.now → (row_at h k).at < t → IsKnownRow h k
 
 -- the lines of the first of the obligations come after those of before, and these obligations are left
 abbrev pub AddsUpTo : (Obligation → Verdict → Type 0) → List Obligation → List Obligation → List AuditLine → List AuditLine → Type 0

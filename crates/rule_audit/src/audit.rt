@@ -40,7 +40,7 @@ pub fn audit_rows(
     let specs = config.specs();
     let timed = all_skips(alloc, specs, rules, false)?;
     let clauses = all_skips(alloc, specs, rules, true)?;
-    let own = own_places(alloc, specs, rules, &timed, &clauses, rows)?;
+    let own = own_places(alloc, rules, &timed, &clauses, view, rows)?;
     let hour = AuditedHour {
         specs,
         rules,

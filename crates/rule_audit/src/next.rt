@@ -1,7 +1,7 @@
 // Which clause comes next at the end of a tenth.
 ghost use Rattle.std.specs.Prelude.{◌≡◌, ◌↔◌, ◌+◌, ◌<◌, ◌≤◌, ℕ, List, [], ◌∷◌, true, IsTrue, IfSome, length, slice_index_or, IfOk, OnOk};
 ghost use Rattle.rule_audit.specs.Index.{is_picked, AreChannels, IsNext, IsNextDue};
-ghost use Rattle.rule_audit.specs.Pass.{spec_at, IsReady};
+ghost use Rattle.rule_audit.specs.Pass.{spec_at, IsKnownRow, IsReady};
 
 use crate::hour::AuditedHour;
 use sig_base::NoMemory;
@@ -130,6 +130,7 @@ pub(crate) fn next_due(hour: &AuditedHour<'_>, channels: &[u16], from: usize) ->
         → slice_index_or channels.now k 0 < length hour.now.specs.now }
     requires from { from ≤ length hour.now.rules.now }
     ensures { (f t : ℕ) → t ≤ length hour.now.rows.now
+        → ((j : ℕ) → f ≤ j → j < t → IsKnownRow hour.now j)
         → AreChannels hour.now.own.now (length hour.now.specs.now) f t channels.now
         → IsNextDue hour.now.specs.now hour.now.rules.now hour.now.rows.now f t from result }
 {

@@ -6,7 +6,7 @@ ghost use Rattle.rule_audit.specs.declared.rules.Rule.{Rule};
 ghost use Rattle.rule_audit.specs.declared.rules.Rule.TheVariants.{Interval};
 ghost use Rattle.rule_audit.specs.Obligations.{end_obligations, is_clause, is_row_of, is_timed_by, row_obligation, row_obligations, rows_obligations, tenth_obligations, terms_of};
 ghost use Rattle.rule_audit.specs.Index.{IsSkips};
-ghost use Rattle.rule_audit.specs.Pass.{row_at, rule_at, Adds, AddsAfter, AddsAt, AddsEnd, AddsIn, AreChannelsAt, Ends, FitsItem, IsCutAt, IsDueAt, IsLogOf, IsReady};
+ghost use Rattle.rule_audit.specs.Pass.{row_at, rule_at, Adds, AddsAfter, AddsAt, AddsEnd, AddsIn, AreChannelsAt, Ends, FitsItem, IsCutAt, IsDueAt, IsKnownRow, IsLogOf, IsReady};
 
 use crate::hour::AuditedHour;
 use crate::index::Skips;
@@ -100,6 +100,7 @@ fn judge_timed(
 fn judge_row(lines: &mut Vec<AuditLine>, hour: &AuditedHour<'_>, index: u32) -> Result<(), NoMemory>
     requires ready { IsReady hour.now }
     requires index { index < length hour.now.rows.now }
+    requires known { IsKnownRow hour.now index }
     ensures { OnOk result (AddsAt hour.now (row_at hour.now index).at
         (row_obligations hour.now.specs.now index (row_at hour.now index) 1 hour.now.rules.now)
         lines.old.items lines.new.items) }

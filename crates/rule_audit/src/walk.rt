@@ -4,7 +4,7 @@ ghost use Rattle.gap_map.specs.Stretches.{known_at};
 ghost use Rattle.board.specs.Logs.{end_tenth, first_tenth, no_row};
 ghost use Rattle.rule_audit.specs.Judged.{HasVerdict};
 ghost use Rattle.rule_audit.specs.Lines.{AreLinesOf};
-ghost use Rattle.rule_audit.specs.Pass.{AddsUpTo, Ends, IsCutAt, IsLogOf, IsNextRuled, IsReady, IsStart, PassesOver, Rises, log_of, obligations_in};
+ghost use Rattle.rule_audit.specs.Pass.{AddsUpTo, AreKnown, Ends, IsCutAt, IsLogOf, IsNextRuled, IsReady, IsStart, PassesOver, Rises, log_of, obligations_in};
 
 use crate::hour::AuditedHour;
 use crate::lines::AuditLine;
@@ -32,6 +32,7 @@ fn until(rows: &[Row], first: usize, tenth: u32) -> usize
 fn next_ruled(hour: &AuditedHour<'_>, first: usize, to: u32) -> usize
     requires ready { IsReady hour.now }
     requires first { first ≤ length hour.now.rows.now }
+    requires known { AreKnown hour.now first to }
     ensures { IsNextRuled hour.now first to result }
 {
     let count = hour.specs.len();
@@ -67,6 +68,7 @@ fn start_of(rows: &[Row], first: usize, index: usize) -> usize
 fn pass_over(hour: &AuditedHour<'_>, first: usize, to: u32) -> usize
     requires ready { IsReady hour.now }
     requires first { first ≤ length hour.now.rows.now }
+    requires known { AreKnown hour.now first to }
     ensures { PassesOver hour.now first to result }
 {
     let ruled = next_ruled(hour, first, to);

@@ -19,14 +19,14 @@ loop-index-preserved c =
     ]
 
 pub returns-then-next-from : goal.returns-then-next-from
-returns-then-next-from c = λ f t top is.
+returns-then-next-from c = λ f t top known is.
     let h = c.args.hour.now in
-    due_next h.specs.now h.rules.now h.rows.now h.own.now c.requires.ready.own f t top c.args.channels.now is c.args.from c.args.from (over_here (is_of_channel h.specs.now h.rules.now) (length h.rules.now) c.args.channels.now c.args.from (length c.args.channels.now) c.loop-index.index c.next_of-next.result c.loop-index-test.true c.if-next-from.true c.next_of-next.ensures)
+    due_next h.specs.now h.rules.now h.rows.now h.own.now f t (λ j a b. c.requires.ready.own.1 j (omega arith) (known j a b)) top c.args.channels.now is c.args.from c.args.from (over_here (is_of_channel h.specs.now h.rules.now) (length h.rules.now) c.args.channels.now c.args.from (length c.args.channels.now) c.loop-index.index c.next_of-next.result c.loop-index-test.true c.if-next-from.true c.next_of-next.ensures)
 
 pub returns : goal.returns
-returns c = λ f t top is.
+returns c = λ f t top known is.
     let h = c.args.hour.now in
     let low = c.loop-index.auto.index-end in
     let high = c.loop-index-test.false in
     let same : c.loop-index.index ≡ length c.args.channels.now = omega arith in
-    due_next h.specs.now h.rules.now h.rows.now h.own.now c.requires.ready.own f t top c.args.channels.now is c.args.from c.loop-index.least (subst (λ (i : ℕ). IsNextOver (is_of_channel h.specs.now h.rules.now) (length h.rules.now) c.args.channels.now i c.args.from c.loop-index.least) same c.loop-index.invariant)
+    due_next h.specs.now h.rules.now h.rows.now h.own.now f t (λ j a b. c.requires.ready.own.1 j (omega arith) (known j a b)) top c.args.channels.now is c.args.from c.loop-index.least (subst (λ (i : ℕ). IsNextOver (is_of_channel h.specs.now h.rules.now) (length h.rules.now) c.args.channels.now i c.args.from c.loop-index.least) same c.loop-index.invariant)

@@ -16,7 +16,7 @@ judge_timed-requires-clause-timed c =
     let own = get_or h.own.now c.args.index 0 in
     let size = c.requires.ready.timed.0 in
     let lt : own < length h.timed.now = c.if-own-hour.true in
-    subst (λ (xs : List ℕ). IsSkips (λ x. is_timed_by h.specs.now row (get_or h.rules.now x no_rule)) (length h.rules.now) xs) (get_or_default h.timed.now own [] c.index-hour-own.result lt) (timed_skips h.specs.now h.rules.now row own (c.requires.ready.own.1 c.args.index c.requires.index) (length h.specs.now) h.timed.now c.requires.ready.timed (omega arith) refl)
+    subst (λ (xs : List ℕ). IsSkips (λ x. is_timed_by h.specs.now row (get_or h.rules.now x no_rule)) (length h.rules.now) xs) (get_or_default h.timed.now own [] c.index-hour-own.result lt) (timed_skips h.specs.now h.rules.now row own (c.requires.ready.own.1 c.args.index c.requires.index c.requires.known) (length h.specs.now) h.timed.now c.requires.ready.timed (omega arith) refl)
 
 pub returns : goal.returns
 returns c = λ e is known.
@@ -25,4 +25,4 @@ returns c = λ e is known.
     let own = get_or h.own.now c.args.index 0 in
     let size = c.requires.ready.timed.0 in
     let over : length h.timed.now ≤ own = c.if-own-hour.false in
-    rw (row_none h.specs.now c.args.index row h.rules.now (none_timed_by h.specs.now h.rules.now row own (c.requires.ready.own.1 c.args.index c.requires.index) (omega arith))) (adds_none (HasVerdict (log_of h e)) c.args.lines.now.items)
+    rw (row_none h.specs.now c.args.index row h.rules.now (none_timed_by h.specs.now h.rules.now row own (c.requires.ready.own.1 c.args.index c.requires.index c.requires.known) (omega arith))) (adds_none (HasVerdict (log_of h e)) c.args.lines.now.items)

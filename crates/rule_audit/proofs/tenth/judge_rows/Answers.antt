@@ -5,6 +5,7 @@ use Rattle.rule_audit.specs.Obligations.{rows_obligations}
 use Rattle.rule_audit.specs.Judged.{HasVerdict}
 use Rattle.rule_audit.specs.Pass.{log_of}
 use Rattle.rule_audit.proofs.Adding.{upto_start, upto_step, upto_end, upto_same}
+use Rattle.rule_audit.proofs.Dues.{known_rows}
 use Rattle.rule_audit.proofs.Tenths.{cut_le, rows_from, rows_more, rows_over}
 use Rattle.rule_audit.proofs.tenth.judge_rows.Goals as goal
 
@@ -15,6 +16,9 @@ loop-index-init c = λ e is.
 
 pub judge_row-requires-clause-index : goal.judge_row-requires-clause-index
 judge_row-requires-clause-index c = let top = c.requires.end.0 in omega arith
+
+pub judge_row-requires-clause-known : goal.judge_row-requires-clause-known
+judge_row-requires-clause-known c = known_rows c.args.hour.now c.args.at c.args.first c.args.end c.requires.known c.requires.first c.requires.end c.loop-index.index c.loop-index.auto.index c.loop-index-test.true
 
 pub loop-index-preserved : goal.loop-index-preserved
 loop-index-preserved c = λ e is.

@@ -70,3 +70,13 @@ judge_tenth-requires-clause-first c =
     let at = (get_or h.rows.now c.tenths.next no_row).at in
     let from : y ≤ at = cut.2 c.tenths.next (omega arith) c.tenths-test.true in
     cut_further h.rows.now y at c.tenths.next c.requires.ready.rises from (λ lt. omega arith) cut
+
+pub pass_over-next-requires-clause-known : goal.pass_over-next-requires-clause-known
+pass_over-next-requires-clause-known c = λ k a b less. c.requires.known (get_or c.args.hour.now.rows.now k no_row).at (c.requires.first.2 k a b) less
+
+pub pass_over-next-requires-in-tenths-clause-known : goal.pass_over-next-requires-in-tenths-clause-known
+pass_over-next-requires-in-tenths-clause-known c = λ k a b less.
+    let (y, low, high, cut, added) = c.tenths.invariant in
+    let from = cut.2 c.tenths.next (omega arith) c.tenths-test.true in
+    let later = c.until-end.ensures.2 k a b in
+    c.requires.known (get_or c.args.hour.now.rows.now k no_row).at (omega arith) less

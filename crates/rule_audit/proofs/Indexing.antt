@@ -4,6 +4,7 @@ use Rattle.std.specs.List.{list_any, All}
 use Rattle.std.proofs.lemmas.Bool.{cases_lt, cases_Bool, eq-eqb, ne_eqb}
 use Rattle.std.proofs.lemmas.List.{get_or_append_left, get_or-append_right, length-append}
 use Rattle.std.proofs.lemmas.List.Elements.{All-get_or}
+use Rattle.std.proofs.lemmas.List.Folds.{list_any_at}
 use Rattle.sig_base.specs.declared.values.Row.{Row}
 use Rattle.sig_base.proofs.Common.{and_first, and_last, and_false}
 use Rattle.event_codes.specs.declared.channels.Channel.{Channel}
@@ -13,7 +14,6 @@ use Rattle.board.specs.declared.clause.Term.{Term}
 use Rattle.board.specs.Channels.{is_channel}
 use Rattle.board.specs.Logs.{no_row, no_spec}
 use Rattle.board.specs.Verdicts.{AreWithin}
-use Rattle.ring_config.proofs.TrackLaws.{or_true}
 use Rattle.rule_audit.specs.declared.rules.Rule.{Rule}
 use Rattle.rule_audit.specs.declared.rules.Rule.TheVariants.{Interval, Conflict, Companion, Parents}
 use Rattle.rule_audit.specs.Obligations.{has_row_at, is_clause, is_due, is_row_of_some, is_timed_by, terms_of, row_obligations, end_obligations}
@@ -144,11 +144,6 @@ pub any_none : {X : Type 0} → (p : X → Bool) (xs : List X) (d : X) → ((k :
 any_none p [] d none = refl
 any_none p (x ∷ xs) d none = rw (none 0 (omega arith)) (any_none p xs d (λ k lt. none (suc k) (omega arith)))
 
-any_some : {X : Type 0} → (p : X → Bool) (xs : List X) (d : X) (k : ℕ) → k < length xs → p (get_or xs k d) ≡ true → list_any p xs ≡ true
-any_some p [] d k lt is = absurd (omega arith)
-any_some p (x ∷ xs) d zero lt is = rw is refl
-any_some p (x ∷ xs) d (suc k) lt is = rw (any_some p xs d k (omega arith) is) (or_true (p x))
-
 pub off_by : (a b : Bool) → (a && b) ≡ false → a ≡ true → b ≡ false
 off_by true b e is = e
 off_by false b e is = absurd (let bad : false ≡ true = is in cc)
@@ -185,7 +180,7 @@ module _ (specs : List Spec) (rules : List Rule) (rows : List Row) (t f e : ℕ)
       let both = clause_by specs (get_or rows j no_row) x ∙ on in
       let row : is_row_of_some specs (get_or rows j no_row) (terms_of x) ≡ true = and_last (is_clause x) (is_row_of_some specs (get_or rows j no_row) (terms_of x)) both in
       let top = high.0 in
-      let has : has_row_at specs rows t (terms_of x) ≡ true = any_some (λ (r : Row). nat_eq r.at t && is_row_of_some specs r (terms_of x)) rows no_row j (omega arith) (rw (here j a b) row) in
+      let has : has_row_at specs rows t (terms_of x) ≡ true = list_any_at (λ (r : Row). nat_eq r.at t && is_row_of_some specs r (terms_of x)) rows j no_row (omega arith) (rw (here j a b) row) in
       rw (and_first (is_clause x) (is_row_of_some specs (get_or rows j no_row) (terms_of x)) both) has
 
   -- up to the next due place none is, and it is
@@ -196,6 +191,9 @@ module _ (specs : List Spec) (rules : List Rule) (rows : List Row) (t f e : ℕ)
   due_there k m next lt = let (j, a, b, on) = next.passes lt in some_due (get_or rules m no_rule) j a b on
 
 -- ---- the next due place of several channels
+
+one_more : (t j : ℕ) → j < t + 1 → (j < t) ⊎ (j ≡ t)
+one_more t j lt = elim (cases_lt j t) [ inl less ↦ inl less | inr ge ↦ inr (omega arith) ]
 
 -- m is the first place from k on, of the n places, that passes for one of the first i channels of the list, or n where none does
 pub record IsNextOver (p : ℕ → ℕ → Bool) (n : ℕ) (xs : List ℕ) (i k m : ℕ) : Type 0 where
@@ -218,9 +216,6 @@ module _ (p : ℕ → ℕ → Bool) (n : ℕ) (xs : List ℕ) (k : ℕ) where
         none = λ x j a b. absurd (omega arith);
         passes = λ few. (j, lt, subst (λ (x : ℕ). p (get_or xs j 0) x ≡ true) same (next.passes (omega arith)));
       }
-
-  one_more : (t j : ℕ) → j < t + 1 → (j < t) ⊎ (j ≡ t)
-  one_more t j lt = elim (cases_lt j t) [ inl less ↦ inl less | inr ge ↦ inr (omega arith) ]
 
   pub over_keep : (i m q : ℕ) → m ≤ q → IsNextOver p n xs i k m → IsNext (p (get_or xs i 0)) n k q → IsNextOver p n xs (i + 1) k m
   over_keep i m q le over next = record {
@@ -269,15 +264,12 @@ module _ (specs : List Spec) (rules : List Rule) (rows : List Row) (own : List �
 -- ---- the channels of rows
 
 module _ (own : List ℕ) (n f : ℕ) where
-  before_or_at : (t j : ℕ) → j < t + 1 → (j < t) ⊎ (j ≡ t)
-  before_or_at t j lt = elim (cases_lt j t) [ inl less ↦ inl less | inr ge ↦ inr (omega arith) ]
-
   -- a row without a rule, or of a channel that is there already
   pub channels_keep : (t : ℕ) (xs : List ℕ) → (get_or own t 0 < n → (k : ℕ) × (k < length xs) × (get_or xs k 0 ≡ get_or own t 0)) → AreChannels own n f t xs → AreChannels own n f (t + 1) xs
   channels_keep t xs there are = record {
     within = are.within;
     rows = λ k lt. let (j, a, b, e) = are.rows k lt in (j, a, omega arith, e);
-    all = λ j a b few. elim (before_or_at t j b) [ inl less ↦ are.all j a less few | inr same ↦ let few2 : get_or own t 0 < n = rw (← same) few in let (k, lt, e) = there few2 in (k, lt, rw same e) ];
+    all = λ j a b few. elim (one_more t j b) [ inl less ↦ are.all j a less few | inr same ↦ let few2 : get_or own t 0 < n = rw (← same) few in let (k, lt, e) = there few2 in (k, lt, rw same e) ];
   }
 
   -- a channel more
@@ -287,12 +279,12 @@ module _ (own : List ℕ) (n f : ℕ) where
       let last : get_or (xs ++ c ∷ []) (length xs) 0 ≡ c = get_or-append_right xs (c ∷ []) (length xs) (length xs) 0 refl (omega arith) ∙ ap (λ (k : ℕ). get_or (c ∷ []) k 0) (let zero : length xs - length xs ≡ 0 = omega arith in zero) in
       let old : (k : ℕ) → k < length xs → get_or (xs ++ c ∷ []) k 0 ≡ get_or xs k 0 = λ k lt. get_or_append_left xs (c ∷ []) 0 k lt in
       record {
-        within = λ k lt. elim (before_or_at (length xs) k (omega arith)) [ inl less ↦ rw (old k less) (are.within k less) | inr same ↦ rw (same, last) few ];
-        rows = λ k lt. elim (before_or_at (length xs) k (omega arith)) [
+        within = λ k lt. elim (one_more (length xs) k (omega arith)) [ inl less ↦ rw (old k less) (are.within k less) | inr same ↦ rw (same, last) few ];
+        rows = λ k lt. elim (one_more (length xs) k (omega arith)) [
           | inl less ↦ let (j, a, b, e) = are.rows k less in (j, a, omega arith, rw (old k less) e)
           | inr same ↦ (t, ft, omega arith, rw (same, last) at)
         ];
-        all = λ j a b few2. elim (before_or_at t j b) [
+        all = λ j a b few2. elim (one_more t j b) [
           | inl less ↦ let (k, lt, e) = are.all j a less few2 in (k, omega arith, rw (old k lt) e)
           | inr same ↦ (length xs, omega arith, rw (same, last) (sym at))
         ];

@@ -49,12 +49,6 @@ module _ (k : Track) where
     | inr more ↦ let (j, e, (lt, is)) = rows_lettered (i + 1) n rs more in (suc j, omega arith, (omega arith, is))
   ]
 
-  part_lettered : (i n : ℕ) (rows : List Row) (s : Stretch) → has_row n (stretch_moves k i rows s) ≡ true → (j : ℕ) × (n ≡ i + j) × IsLettered rows j
-  part_lettered i n rows s h = elim (cases_Bool s.known) [
-    | inl is ↦ rows_lettered i n rows (rw is at h)
-    | inr off ↦ let bad : false ≡ true = rw off at h in absurd (cc)
-  ]
-
   own_lettered : (i n : ℕ) (rows : List Row) (ss : List Stretch) → has_row n (own k i rows ss) ≡ true → (j : ℕ) × (n ≡ i + j) × IsLettered rows j
   own_lettered i n rows [] h = absurd (cc)
   own_lettered i n rows (s ∷ ss) h =
@@ -65,7 +59,10 @@ module _ (k : Track) where
       let one = stretch_moves k i (take c rows) s in
       let two = own k (i + c) (drop c rows) ss in
       elim (or_cases (has_row n one) (has_row n two) (sym (list_any-append (is_row n) one two) ∙ h)) [
-        | inl here ↦ let (j, e, (lt, is)) = part_lettered i n (take c rows) s here in (j, e, (omega arith, rw (get_or-take c rows j no_row (omega arith)) at is))
+        | inl here ↦ elim (cases_Bool s.known) [
+          | inl known ↦ let (j, e, (lt, is)) = rows_lettered i n (take c rows) (rw known at here) in (j, e, (omega arith, rw (get_or-take c rows j no_row (omega arith)) at is))
+          | inr off ↦ let bad : false ≡ true = rw off at here in absurd (cc)
+        ]
         | inr there ↦ let (j, e, (lt, is)) = own_lettered (i + c) n (drop c rows) ss there in (c + j, omega arith, (omega arith, rw (get_or-drop c rows j no_row) at is))
       ]
 
@@ -82,19 +79,23 @@ or_none : (b : Bool) → (b || false) ≡ b
 or_none true = refl
 or_none false = refl
 
--- the moves so far, and one more
-module _ (moves : List Move) (i : ℕ) (d : Move) (lt : i < length moves) (place : ℕ) (old new : List ℕ) (is : IsWritten (take i moves) place old new) where
-  pub written_letter : (at l m : ℕ) → get_or moves i d ≡ Letter at l m → m < length old → IsWritten (take (i + 1) moves) place old (set new m place)
-  written_letter at l m e less = (
-    length-set new m place ∙ is.0,
-    λ n. rw (list_any_more (is_row n) moves i d lt, e) (elim (cases_eq n m) [
-      | inl same ↦ rw (same, eq-eqb m m refl, or_true (has_row m (take i moves))) (get_or-set_same new m place 0 (let size = is.0 in omega arith))
-      | inr other ↦ rw (get_or-set_other new m n place 0 other, ne_eqb m n (λ same. other (sym same)), or_none (has_row n (take i moves))) (is.1 n)
-    ]),
-  )
+module _ (moves : List Move) (i : ℕ) (d : Move) (lt : i < length moves) where
+  pub letter_there : (at l m : ℕ) → get_or moves i d ≡ Letter at l m → has_row m moves ≡ true
+  letter_there at l m e = list_any_at (is_row m) moves i d lt (rw e (eq-eqb m m refl))
 
-  pub written_gap : (f t : ℕ) → get_or moves i d ≡ Gap f t → IsWritten (take (i + 1) moves) place old new
-  written_gap f t e = (is.0, λ n. rw (list_any_more (is_row n) moves i d lt, e, or_none (has_row n (take i moves))) (is.1 n))
+  -- the moves so far, and one more
+  module _ (place : ℕ) (old new : List ℕ) (is : IsWritten (take i moves) place old new) where
+    pub written_letter : (at l m : ℕ) → m < length old → get_or moves i d ≡ Letter at l m → IsWritten (take (i + 1) moves) place old (set new m place)
+    written_letter at l m less e = (
+      length-set new m place ∙ is.0,
+      λ n. rw (list_any_more (is_row n) moves i d lt, e) (elim (cases_eq n m) [
+        | inl same ↦ rw (same, eq-eqb m m refl, or_true (has_row m (take i moves))) (get_or-set_same new m place 0 (let size = is.0 in omega arith))
+        | inr other ↦ rw (get_or-set_other new m n place 0 other, ne_eqb m n (λ same. other (sym same)), or_none (has_row n (take i moves))) (is.1 n)
+      ]),
+    )
+
+    pub written_gap : (f t : ℕ) → get_or moves i d ≡ Gap f t → IsWritten (take (i + 1) moves) place old new
+    written_gap f t e = (is.0, λ n. rw (list_any_more (is_row n) moves i d lt, e, or_none (has_row n (take i moves))) (is.1 n))
 
 -- ---- the places of the channels
 

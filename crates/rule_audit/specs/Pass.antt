@@ -119,10 +119,6 @@ Adds Has os old new = (ls : List AuditLine) × AreLinesOf Has os ls × (new ≡ 
 abbrev pub AddsIn : AuditedHour → List Obligation → List AuditLine → List AuditLine → Type 0
 AddsIn h os old new = (e : Ends) → IsLogOf h e → Adds (HasVerdict (log_of h e)) os old new
 
--- the same where the tenth is known
-abbrev pub AddsAt : AuditedHour → ℕ → List Obligation → List AuditLine → List AuditLine → Type 0
-AddsAt h at os old new = (e : Ends) → IsLogOf h e → known_at h.stretches.now at ≡ true → Adds (HasVerdict (log_of h e)) os old new
-
 -- a rule is due at the end of the tenth, and what it adds there
 abbrev pub IsDueAt : AuditedHour → Bool → ℕ → Rule → Type 0
 IsDueAt h before at rule = is_due h.specs.now h.rows.now before at rule ≡ true

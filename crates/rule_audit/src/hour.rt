@@ -17,7 +17,8 @@ pub(crate) struct AuditedHour<'a> {
     pub(crate) clauses: &'a [Skips],
     pub(crate) view: &'a HourView,
     pub(crate) rows: &'a [Row],
-    // For each row the place of its channel among the specs, or their number where it has no rule.
+    // For each row of a known tenth the place of its channel among the specs, or their number where
+    // no rule is of it.
     pub(crate) own: &'a [u16],
     pub(crate) stretches: &'a [Stretch],
 }

@@ -17,10 +17,7 @@ fn is_ruled(timed: &Skips, clauses: &Skips, count: usize) -> bool
     ensures { (p q : ℕ → Bool) → IsSkips p count timed.now → IsSkips q count clauses.now
         → result ≡ false → (x : ℕ) → x < count → (p x ≡ false) × (q x ≡ false) }
 {
-    if timed.is_empty(count) {
-        return !clauses.is_empty(count);
-    }
-    true
+    !timed.is_empty(count) || !clauses.is_empty(count)
 }
 
 // Writes the place of a channel at the rows of its letters.

@@ -6,7 +6,7 @@ ghost use Rattle.rule_audit.specs.declared.rules.Rule.{Rule};
 ghost use Rattle.rule_audit.specs.declared.rules.Rule.TheVariants.{Interval};
 ghost use Rattle.rule_audit.specs.Obligations.{end_obligations, is_clause, is_row_of, is_timed_by, row_obligation, row_obligations, rows_obligations, tenth_obligations, terms_of};
 ghost use Rattle.rule_audit.specs.Index.{IsSkips};
-ghost use Rattle.rule_audit.specs.Pass.{row_at, rule_at, Adds, AddsAfter, AddsAt, AddsEnd, AddsIn, AreChannelsAt, Ends, FitsItem, IsCutAt, IsDueAt, IsKnownRow, IsLogOf, IsReady};
+ghost use Rattle.rule_audit.specs.Pass.{row_at, rule_at, Adds, AddsAfter, AddsEnd, AddsIn, AreChannelsAt, Ends, FitsItem, IsCutAt, IsDueAt, IsKnownRow, IsLogOf, IsReady};
 
 use crate::hour::AuditedHour;
 use crate::index::Skips;
@@ -38,9 +38,9 @@ fn judge_interval(
     requires item { FitsItem hour.now.specs.now item.now }
     requires index { index < length hour.now.rows.now }
     requires own { is_row_of hour.now.specs.now (row_at hour.now index) item.now.spec ≡ true }
-    ensures { OnOk result (AddsAt hour.now (row_at hour.now index).at
-        (row_obligation hour.now.specs.now index (row_at hour.now index) number (Interval item.now))
-        lines.old.items lines.new.items) }
+    requires known { IsKnownRow hour.now index }
+    ensures { OnOk result (AddsIn hour.now (row_obligation hour.now.specs.now index
+        (row_at hour.now index) number (Interval item.now)) lines.old.items lines.new.items) }
 {
     let at = hour.rows[index as usize].at;
     let verdict = interval_verdict(hour, index, item);
@@ -59,9 +59,10 @@ fn judge_before(
     requires place { place < length hour.now.rules.now }
     requires own { is_timed_by hour.now.specs.now (row_at hour.now index) (rule_at hour.now place)
         ≡ true }
-    ensures { OnOk result (AddsAt hour.now (row_at hour.now index).at
-        (row_obligation hour.now.specs.now index (row_at hour.now index) (place + 1)
-        (rule_at hour.now place)) lines.old.items lines.new.items) }
+    requires known { IsKnownRow hour.now index }
+    ensures { OnOk result (AddsIn hour.now (row_obligation hour.now.specs.now index
+        (row_at hour.now index) (place + 1) (rule_at hour.now place)) lines.old.items
+        lines.new.items) }
 {
     let number = number_of(place);
     match &hour.rules[place] {
@@ -83,9 +84,9 @@ fn judge_timed(
     requires index { index < length hour.now.rows.now }
     requires timed { IsSkips (λ x. is_timed_by hour.now.specs.now (row_at hour.now index)
         (rule_at hour.now x)) (length hour.now.rules.now) timed.now }
-    ensures { OnOk result (AddsAt hour.now (row_at hour.now index).at
-        (row_obligations hour.now.specs.now index (row_at hour.now index) 1 hour.now.rules.now)
-        lines.old.items lines.new.items) }
+    requires known { IsKnownRow hour.now index }
+    ensures { OnOk result (AddsIn hour.now (row_obligations hour.now.specs.now index
+        (row_at hour.now index) 1 hour.now.rules.now) lines.old.items lines.new.items) }
 {
     let count = hour.rules.len();
     let mut place = timed.next(count, 0);
@@ -101,9 +102,8 @@ fn judge_row(lines: &mut Vec<AuditLine>, hour: &AuditedHour<'_>, index: u32) -> 
     requires ready { IsReady hour.now }
     requires index { index < length hour.now.rows.now }
     requires known { IsKnownRow hour.now index }
-    ensures { OnOk result (AddsAt hour.now (row_at hour.now index).at
-        (row_obligations hour.now.specs.now index (row_at hour.now index) 1 hour.now.rules.now)
-        lines.old.items lines.new.items) }
+    ensures { OnOk result (AddsIn hour.now (row_obligations hour.now.specs.now index
+        (row_at hour.now index) 1 hour.now.rules.now) lines.old.items lines.new.items) }
 {
     let own = hour.own[index as usize] as usize;
     if own < hour.timed.len() {

@@ -15,17 +15,11 @@ use Rattle.rule_audit.proofs.Logs.{ends_of, lines_there, log_there}
 use Rattle.rule_audit.proofs.Walking.{hour_rises, if_ok}
 use Rattle.rule_audit.proofs.audit.audit_rows.Goals as goal
 
-pub all_skips-requires-clause-fit : goal.all_skips-requires-clause-fit
-all_skips-requires-clause-fit c = rw (c.requires.rules, c.specs-specs.ensures.value) (rules_fit c.args.config.now c.specs-specs.ensures.sound)
+pub all_skips-requires : goal.all_skips-requires
+all_skips-requires c = record { fit = rw (c.requires.rules, c.specs-specs.ensures.value) (rules_fit c.args.config.now c.specs-specs.ensures.sound); few = rw c.requires.rules (few_rules c.args.config.now c.specs-specs.ensures.sound) }
 
-pub all_skips-requires-clause-few : goal.all_skips-requires-clause-few
-all_skips-requires-clause-few c = rw c.requires.rules (few_rules c.args.config.now c.specs-specs.ensures.sound)
-
-pub all_skips-requires-2-clause-fit : goal.all_skips-requires-2-clause-fit
-all_skips-requires-2-clause-fit c = rw (c.requires.rules, c.specs-specs.ensures.value) (rules_fit c.args.config.now c.specs-specs.ensures.sound)
-
-pub all_skips-requires-2-clause-few : goal.all_skips-requires-2-clause-few
-all_skips-requires-2-clause-few c = rw c.requires.rules (few_rules c.args.config.now c.specs-specs.ensures.sound)
+pub all_skips-requires-2 : goal.all_skips-requires-2
+all_skips-requires-2 c = record { fit = rw (c.requires.rules, c.specs-specs.ensures.value) (rules_fit c.args.config.now c.specs-specs.ensures.sound); few = rw c.requires.rules (few_rules c.args.config.now c.specs-specs.ensures.sound) }
 
 -- the view is of these channels, rows and stretches
 parts : (c : Settings) (view log : HourLog) (rows : List Row) (ss : List Stretch) → IsAudited c view rows ss log → (view.specs ≡ c.specs) × (view.rows ≡ rows) × (view.stretches ≡ ss)

@@ -18,19 +18,19 @@ returns-in-Interval c =
     rw (rule, ← c.number_of-number.ensures) c.judge_interval.ensures
 
 pub returns-in-Conflict : goal.returns-in-Conflict
-returns-in-Conflict c = λ e is known.
+returns-in-Conflict c = λ e is.
     let h = c.args.hour.now in
     let rule = rule_at h.rules.now c.args.place c.index-hour-place.result _ c.requires.place c.in-Conflict.is in
     rw rule (adds_none (HasVerdict (log_of h e)) c.args.lines.now.items)
 
 pub returns-in-Companion : goal.returns-in-Companion
-returns-in-Companion c = λ e is known.
+returns-in-Companion c = λ e is.
     let h = c.args.hour.now in
     let rule = rule_at h.rules.now c.args.place c.index-hour-place.result _ c.requires.place c.in-Companion.is in
     rw rule (adds_none (HasVerdict (log_of h e)) c.args.lines.now.items)
 
 pub returns-in-Parents : goal.returns-in-Parents
-returns-in-Parents c = λ e is known.
+returns-in-Parents c = λ e is.
     let h = c.args.hour.now in
     let rule = rule_at h.rules.now c.args.place c.index-hour-place.result _ c.requires.place c.in-Parents.is in
     rw rule (adds_none (HasVerdict (log_of h e)) c.args.lines.now.items)

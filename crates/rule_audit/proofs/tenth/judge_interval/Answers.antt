@@ -19,4 +19,4 @@ interval_verdict-verdict-requires-clause-own c =
 pub returns : goal.returns
 returns c =
     let row = get_or c.args.hour.now.rows.now c.args.index no_row in
-    on_ok c.push_line.result _ _ (λ f e is known. rw c.requires.own (adds_one (HasVerdict (log_of c.args.hour.now e)) (obligation c.args.number (Interval c.args.item.now) row.at (BeforeRow c.args.index)) c.interval_verdict-verdict.result c.args.lines.now.items _ (c.interval_verdict-verdict.ensures e is known) (f (Interval c.args.item.now)))) c.push_line.ensures
+    on_ok c.push_line.result _ _ (λ f e is. rw c.requires.own (adds_one (HasVerdict (log_of c.args.hour.now e)) (obligation c.args.number (Interval c.args.item.now) row.at (BeforeRow c.args.index)) c.interval_verdict-verdict.result c.args.lines.now.items _ (c.interval_verdict-verdict.ensures e is c.requires.known) (f (Interval c.args.item.now)))) c.push_line.ensures

@@ -19,7 +19,7 @@ judge_timed-requires-clause-timed c =
     subst (λ (xs : List ℕ). IsSkips (λ x. is_timed_by h.specs.now row (get_or h.rules.now x no_rule)) (length h.rules.now) xs) (get_or_default h.timed.now own [] c.index-hour-own.result lt) (timed_skips h.specs.now h.rules.now row own (c.requires.ready.own.1 c.args.index c.requires.index c.requires.known) (length h.specs.now) h.timed.now c.requires.ready.timed (omega arith) refl)
 
 pub returns : goal.returns
-returns c = λ e is known.
+returns c = λ e is.
     let h = c.args.hour.now in
     let row = get_or h.rows.now c.args.index no_row in
     let own = get_or h.own.now c.args.index 0 in

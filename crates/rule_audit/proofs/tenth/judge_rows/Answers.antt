@@ -1,5 +1,4 @@
-use Rattle.std.proofs.Common.{arith, refl, ap, ◌∙◌, ◌≡◌, ◌+◌, ◌<◌, true, drop, get_or, length, ℕ}
-use Rattle.gap_map.specs.Stretches.{known_at}
+use Rattle.std.proofs.Common.{arith, refl, ap, ◌∙◌, ◌≡◌, ◌+◌, ◌<◌, drop, get_or, length, ℕ}
 use Rattle.board.specs.Logs.{no_row}
 use Rattle.rule_audit.specs.Obligations.{rows_obligations}
 use Rattle.rule_audit.specs.Judged.{HasVerdict}
@@ -29,8 +28,7 @@ loop-index-preserved c = λ e is.
     let low = c.requires.first.2 i c.loop-index.auto.index lt in
     let high = c.requires.end.1 i c.loop-index-test.true in
     let here : (get_or h.rows.now i no_row).at ≡ c.args.at = omega arith in
-    let known : known_at h.stretches.now (get_or h.rows.now i no_row).at ≡ true = rw here c.requires.known in
-    upto_step (HasVerdict (log_of h e)) (rows_obligations h.specs.now h.rules.now c.args.at 0 h.rows.now) _ _ _ c.args.lines.now.items c.loop-index.lines.items _ (rows_more h.specs.now h.rules.now c.args.at h.rows.now i lt here) (c.loop-index.invariant e is) (c.in_ok-judge_row.ensures e is known)
+    upto_step (HasVerdict (log_of h e)) (rows_obligations h.specs.now h.rules.now c.args.at 0 h.rows.now) _ _ _ c.args.lines.now.items c.loop-index.lines.items _ (rows_more h.specs.now h.rules.now c.args.at h.rows.now i lt here) (c.loop-index.invariant e is) (c.in_ok-judge_row.ensures e is)
 
 pub returns : goal.returns
 returns c = λ e is.

@@ -4,6 +4,7 @@ use Rattle.sig_base.specs.declared.values.Row.{Row}
 use Rattle.span_set.specs.declared.set.Span.{Span}
 use Rattle.gap_map.specs.declared.stretch.Stretch.{Stretch}
 use Rattle.gap_map.specs.Stretches.{IsCut, known_in}
+use Rattle.board.specs.Courses.{CourseLog, course_log}
 use Rattle.board.specs.Logs.{HourLog, hour_log}
 use Rattle.board.specs.Places.{IsViewOf}
 use Rattle.hour_store.specs.Store.{Store, count_in, held_at, is_known, rows_at}
@@ -83,6 +84,10 @@ IsCutAtPlace c s o before cuts = IsHourCut c s o.hour before (rows_or_none o.row
 abbrev pub IsSeenBy : Settings → Store → Opened → Carried → Option HourLog → Type 0
 IsSeenBy c s o before (Some view) = IsSeenAt c s o before view
 IsSeenBy c s o before None = rows_at s o.hour ≡ None
+
+-- For contracts alone: the courses of the opened hour.
+abbrev pub courses_at : Settings → Opened → CourseLog
+courses_at c o = course_log c.specs (rows_or_none o.rows) o.stretches
 
 -- For contracts alone: these are the tenths of the detectors of the stop bars in the opened hour of each store of which this is said at the point before it.
 abbrev pub AreToldAt : Settings → Opened → Carried → List (List Part) → Type 0

@@ -13,7 +13,7 @@ ghost use Rattle.hour_work.specs.Reports.{IsBetweenAt, IsHourBetween, IsHourPart
 
 use crate::counts::counts_of;
 use crate::measures::{Measured, UnderWay, measures_over};
-use crate::seen::{courses_over, known_in, lines_over, view_over};
+use crate::seen::{held_courses, known_in, lines_over, view_over};
 use crate::stop_bars::told_over;
 use crate::{Between, Carry, Future, Partial};
 use board::Courses;
@@ -145,7 +145,8 @@ pub(crate) fn hour_done(
     ensures opened { IfOk result (λ _. IsOpened place.now) }
 {
     let before = between.before;
-    let courses = courses_over(alloc, config, place, courses)?;
+    let parts = place.stretches();
+    let courses = held_courses(alloc, config, place, courses)?;
     let told = told_over(alloc, config, place, before, courses.as_ref())?;
     let view = view_over(alloc, config, place, between, courses)?;
     let lines = lines_over(alloc, config, rules, place, before, view.as_ref())?;
@@ -159,7 +160,7 @@ pub(crate) fn hour_done(
     let part = Partial {
         held_hours: u64::from(place.is_held()),
         held_rows: place.rows().len() as u64,
-        known_tenths: known_in(place.stretches()) as u64,
+        known_tenths: known_in(parts) as u64,
         rules: counts_of(alloc, rules.len(), &lines)?,
         splits,
         others,

@@ -2,9 +2,11 @@
 ghost use Rattle.std.specs.Prelude.{◌≡◌, ◌+◌, length, option_copied, IfOk, IfSome};
 ghost use Rattle.hour_store.specs.Store.{Store, is_known};
 ghost use Rattle.board.specs.Logs.{end_tenth, first_tenth};
+ghost use Rattle.board.specs.Stops.{AreBefore};
 ghost use Rattle.ring_config.specs.Sound.{IsSound};
 ghost use Rattle.signal_log.specs.Log.{HasHistory, log_of};
 ghost use Rattle.signal_log.specs.Opened.{HasPlace, IsOpened};
+ghost use Rattle.signal_log.specs.Over.{AreCoursesOver};
 ghost use Rattle.arrival_measures.specs.Hours.{AreAllJudged, HaveCycles};
 ghost use Rattle.other_measures.specs.Hours.{AreNumbers, AreStates};
 ghost use Rattle.hour_work.specs.Measures.{AreMeasures, MayBeIn, MeetsIn};
@@ -13,11 +15,11 @@ ghost use Rattle.hour_work.specs.Reports.{AreToldAt, IsCutAtPlace, IsSeenBy};
 ghost use Rattle.hour_work.specs.Rows.{earlier_rows, own_rows};
 
 use crate::Carry;
-use crate::stop_bars::splits_over;
+use crate::stop_bars::{splits_over, told_over};
 use arrival_measures::{
     ArrivalCarry, ArrivalSums, arrivals_carried, arrivals_hour, arrivals_unseen,
 };
-use board::HourView;
+use board::{Courses, HourView};
 use detector_state::Switched;
 use other_measures::{OtherCarry, OtherSums, others_hour, others_unseen};
 use ring_config::Config;
@@ -89,15 +91,18 @@ pub(crate) fn measures_over(
     })
 }
 
-/// What is under way of each measure at the point after an hour, without the hour's numbers.
+/// What is under way of each measure at the point after an hour, without the hour's numbers. These
+/// are the hour's courses, where they are made already.
 pub(crate) fn way_over(
     alloc: Global,
     config: &Config,
     place: &Place<'_>,
     before: &Carry,
-    told: &[Switched],
+    courses: Option<&Courses>,
 ) -> Result<UnderWay, NoMemory>
-    requires { AreToldAt config.now place.now before.now told.now }
+    requires shape { AreBefore config.now.specs before.now.pasts }
+    requires courses { IfSome (option_copied courses) (AreCoursesOver config.now.specs place.now.hour
+        place.now.rows place.now.blanks) }
     ensures way { IfOk result (λ w. (s : Store) → HasPlace s place.now
         → IsCarryAt config.now s place.now.hour before.now
         → AreUnderWayAt config.now s (place.now.hour + 1) w) }
@@ -106,7 +111,8 @@ pub(crate) fn way_over(
 {
     let (cut, cuts) = cuts_over(alloc, config, place, before)?;
     let closing = Closing::of(alloc, &cut, end_of(place))?;
-    let (_sums, splits) = splits_over(alloc, config, place, before, &cut, told)?;
+    let told = told_over(alloc, config, place, before, courses)?;
+    let (_sums, splits) = splits_over(alloc, config, place, before, &cut, &told)?;
     let (_numbers, others) = others_over(alloc, config, place, before, None)?;
     let arrivals = arrivals_after(alloc, config, place, before, &cut)?;
     Ok(UnderWay {

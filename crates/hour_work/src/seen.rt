@@ -17,8 +17,26 @@ use sig_base::NoMemory;
 use signal_log::Place;
 use std::alloc::Global;
 
-/// The hour's courses: these, where they are made already; else they are made where it is held.
-pub(crate) fn courses_over(
+// The hour's courses: these, where they are made already.
+fn courses_over(
+    alloc: Global,
+    config: &Config,
+    place: &Place<'_>,
+    courses: Option<Courses>,
+) -> Result<Courses, NoMemory>
+    requires { IfSome courses (AreCoursesOver config.now.specs place.now.hour place.now.rows
+        place.now.blanks) }
+    ensures { IfOk result (AreCoursesOver config.now.specs place.now.hour place.now.rows
+        place.now.blanks) }
+{
+    match courses {
+        Some(courses) => Ok(courses),
+        None => place.courses(alloc, config.specs()),
+    }
+}
+
+/// They, or where the hour isn't held these alone.
+pub(crate) fn held_courses(
     alloc: Global,
     config: &Config,
     place: &Place<'_>,
@@ -29,10 +47,10 @@ pub(crate) fn courses_over(
     ensures { IfOk result (λ o. IfSome o (AreCoursesOver config.now.specs place.now.hour
         place.now.rows place.now.blanks)) }
 {
-    if courses.is_some() || !place.is_held() {
+    if !place.is_held() {
         return Ok(courses);
     }
-    let own = place.courses(alloc, config.specs())?;
+    let own = courses_over(alloc, config, place, courses)?;
     Ok(Some(own))
 }
 
@@ -58,10 +76,7 @@ pub(crate) fn view_over(
     }
     let before = between.before;
     let after = between.after;
-    let courses = match courses {
-        Some(courses) => courses,
-        None => place.courses(alloc, config.specs())?,
-    };
+    let courses = courses_over(alloc, config, place, courses)?;
     let view = HourView::along(
         alloc,
         config.specs(),

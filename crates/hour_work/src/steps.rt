@@ -17,7 +17,6 @@ ghost use Rattle.hour_work.specs.declared.steps.ForwardError.TheVariants.{Memory
 ghost use Rattle.hour_work.specs.Points.{AreUnderWayAt, FitPoint, IsCarryAt, IsFutureAt, NamesRow, NamesStop};
 
 use crate::measures::{UnderWay, way_over};
-use crate::stop_bars::told_over;
 use crate::{Carry, Future};
 use board::{About, Courses, Pasts, PastsError};
 use ring_config::Config;
@@ -117,8 +116,8 @@ pub fn carry_over(
     courses: Option<&Courses>,
     pasts: Pasts,
 ) -> Result<Carry, NoMemory>
-    requires courses { IfSome courses (λ c. AreCoursesOver config.now.specs place.now.hour
-        place.now.rows place.now.blanks c.now) }
+    requires courses { IfSome (option_copied courses) (AreCoursesOver config.now.specs place.now.hour
+        place.now.rows place.now.blanks) }
     requires before { AreBefore config.now.specs before.now.pasts }
     requires over { ArePastsOver config.now.specs place.now.hour place.now.rows place.now.blanks
         before.now.pasts pasts }
@@ -130,8 +129,7 @@ pub fn carry_over(
         → IsCarryAt config.now s place.now.hour before.now
         → IsCarryAt config.now s (place.now.hour + 1) c) }
 {
-    let told = told_over(alloc, config, place, before, courses)?;
-    let way = way_over(alloc, config, place, before, &told)?;
+    let way = way_over(alloc, config, place, before, courses)?;
     Ok(kept(place, pasts, way))
 }
 

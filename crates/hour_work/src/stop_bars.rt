@@ -1,15 +1,14 @@
 // The services at stop bars in an hour of a store.
-ghost use Rattle.std.specs.Prelude.{◌≡◌, ◌<◌, ◌+◌, ◌++◌, IfOk, IfSome};
+ghost use Rattle.std.specs.Prelude.{◌≡◌, ◌<◌, ◌+◌, ◌++◌, option_copied, IfOk, IfSome};
 ghost use Rattle.hour_store.specs.Store.{Store};
 ghost use Rattle.board.specs.Stops.{AreBefore};
 ghost use Rattle.signal_log.specs.Log.{HasHistory, log_of};
-ghost use Rattle.signal_log.specs.Over.{AreCoursesOver};
 ghost use Rattle.split_measures.specs.Phases.{phase_sums};
 ghost use Rattle.split_measures.specs.Hours.{AreSplitSums};
 ghost use Rattle.hour_work.specs.Rows.{earlier_rows, own_rows};
 ghost use Rattle.hour_work.specs.Measures.{cycles_in, services_in};
 ghost use Rattle.hour_work.specs.Points.{AreBarsAt};
-ghost use Rattle.hour_work.specs.Reports.{AreToldAt, IsCutAtPlace};
+ghost use Rattle.hour_work.specs.Reports.{AreToldAt, IsCutAtPlace, courses_at};
 
 use crate::Carry;
 use board::Courses;
@@ -22,8 +21,24 @@ use split_measures::{SplitCarry, SplitSums, splits_hour};
 use std::alloc::Global;
 use stop_bar::detectors_hour;
 
-/// The tenths of the detector of each stop bar in an hour, of which these are the courses, where they
-/// are made already.
+// The tenths of the detector of each stop bar in an hour, of which these are the courses.
+fn detectors_over(
+    alloc: Global,
+    config: &Config,
+    place: &Place<'_>,
+    before: &Carry,
+    courses: &Courses,
+) -> Result<Vec<Switched>, NoMemory>
+    requires shape { AreBefore config.now.specs before.now.pasts }
+    requires courses { courses.now ≡ courses_at config.now place.now }
+    ensures { IfOk result (λ v. AreToldAt config.now place.now before.now v.items) }
+{
+    let told = detectors_hour(alloc, config, &before.pasts, courses, place.hour())?;
+    Ok(told)
+}
+
+/// The tenths of the detector of each stop bar in an hour. These are its courses, where they are made
+/// already.
 pub(crate) fn told_over(
     alloc: Global,
     config: &Config,
@@ -32,18 +47,17 @@ pub(crate) fn told_over(
     courses: Option<&Courses>,
 ) -> Result<Vec<Switched>, NoMemory>
     requires shape { AreBefore config.now.specs before.now.pasts }
-    requires courses { IfSome courses (λ c. AreCoursesOver config.now.specs place.now.hour
-        place.now.rows place.now.blanks c.now) }
+    requires courses { IfSome (option_copied courses) (λ x. x ≡ courses_at config.now place.now) }
     ensures { IfOk result (λ v. AreToldAt config.now place.now before.now v.items) }
 {
     if config.approach_count() == 0 {
         return Ok(Vec::new(alloc));
     }
     match courses {
-        Some(courses) => detectors_hour(alloc, config, &before.pasts, courses, place.hour()),
+        Some(courses) => detectors_over(alloc, config, place, before, courses),
         None => {
-            let own = place.courses(alloc, config.specs())?;
-            detectors_hour(alloc, config, &before.pasts, &own, place.hour())
+            let own = Courses::of(alloc, config.specs(), place.rows(), place.stretches())?;
+            detectors_over(alloc, config, place, before, &own)
         }
     }
 }

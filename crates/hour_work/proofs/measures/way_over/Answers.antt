@@ -1,4 +1,9 @@
+use Rattle.std.proofs.Common.{List, subst, sym}
+use Rattle.std.specs.Prelude.{option_copied}
+use Rattle.std.proofs.lemmas.Option.{IfSome_then}
 use Rattle.signal_log.specs.Points.{rows_or_none}
+use Rattle.detector_state.specs.declared.part.Part.{Part}
+use Rattle.hour_work.specs.Reports.{AreToldAt}
 use Rattle.hour_work.proofs.BarLaws.{closing_next}
 use Rattle.hour_work.proofs.measures.way_over.Goals as goal
 
@@ -13,6 +18,14 @@ returns-clause-way c = λ s has is.
       others = c.in_ok-_numbers.ensures.carry s has is;
       arrivals = c.in_ok-arrivals.ensures s cut;
     }
+
+pub told_over-requires-clause-courses : goal.told_over-requires-clause-courses
+told_over-requires-clause-courses c =
+    let opened = c.in_ok-cut.ensures.opened in
+    IfSome_then (option_copied c.args.courses) c.requires.courses (λ x is. is c.args.place.now.stretches opened.cut)
+
+pub splits_over-requires : goal.splits_over-requires
+splits_over-requires c = subst (λ (v : List (List Part)). AreToldAt c.args.config.now c.args.place.now c.args.before.now v) (sym c.deref.ensures.value) c.in_ok-told.ensures
 
 pub returns-clause-sound : goal.returns-clause-sound
 returns-clause-sound c = c.in_ok-cut.ensures.sound

@@ -69,3 +69,6 @@ pub returns-clause-courses : goal.returns-clause-courses
 returns-clause-courses g c =
     let (at, held, blanked) = c.in_ok-place.ensures in
     rw (at, held, blanked, c.open_hour-rows.ensures.rows, c.blanked.ensures.value) at c.in_ok-reached.ensures.courses
+
+pub carry_over-requires-clause-courses : goal.carry_over-requires-clause-courses
+carry_over-requires-clause-courses g c = rw c.as_ref.ensures.value c.in_ok-reached.ensures.courses

@@ -30,7 +30,7 @@ use Rattle.detector_state.specs.Free.{IsMixed}
 use Rattle.detector_state.proofs.Among.{look_back_among_rows}
 use Rattle.detector_state.specs.Switches.{IsSwitch}
 use Rattle.detector_state.proofs.Switching.{spec_fits}
-use Rattle.stop_bar.specs.Own.{detector}
+use Rattle.arrival_measures.specs.Points.{detector_channel as detector}
 use Rattle.stop_bar.proofs.ToldAt.{place_channel}
 use Rattle.rule_audit.proofs.Tracked.{channels_are}
 use Rattle.arrival_measures.specs.Faults.{begins_fault, faulty, is_arrival, is_fault_row, is_of}

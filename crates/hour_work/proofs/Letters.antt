@@ -11,7 +11,7 @@ use Rattle.event_codes.specs.Channels.{Line, channel_by, channel_in_table, chann
 use Rattle.channel_tables.specs.Letters.{letter_in_table}
 use Rattle.board.specs.Channels.{is_channel}
 use Rattle.detector_state.proofs.Tables.{below_eight}
-use Rattle.stop_bar.specs.Own.{detector}
+use Rattle.arrival_measures.specs.Points.{detector_channel as detector}
 use Rattle.arrival_measures.specs.Faults.{begins_fault, is_of, is_own}
 
 -- the letter of a channel that a code and a parameter are

@@ -32,7 +32,7 @@ use Rattle.stop_bar.specs.declared.bars.StopBar.{StopBar}
 use Rattle.stop_bar.specs.All.{AreAtBars, IsPlaceOf, bar_with, bars_of}
 use Rattle.stop_bar.specs.Bars.{IsAtBar}
 use Rattle.stop_bar.specs.Lists.{Each}
-use Rattle.stop_bar.specs.Own.{detector}
+use Rattle.arrival_measures.specs.Points.{detector_channel as detector}
 use Rattle.stop_bar.proofs.Hours.{crosses_once}
 use Rattle.stop_bar.proofs.ToldAt.{place_channel}
 use Rattle.split_measures.proofs.Approaches.{place_there, some_there}

@@ -29,7 +29,7 @@ use Rattle.hour_sweep.specs.Rows.{known_rows}
 use Rattle.hour_sweep.specs.Hours.{AreOrdered, point}
 use Rattle.hour_sweep.proofs.Orders.{below_end, rise_ordered}
 use Rattle.service_cut.proofs.YellowEnds.{from_first}
-use Rattle.stop_bar.specs.Own.{detector}
+use Rattle.arrival_measures.specs.Points.{detector_channel as detector}
 use Rattle.arrival_measures.specs.declared.points.Point.{Point}
 use Rattle.arrival_measures.specs.Faults.{arrivals_from, faulty, is_arrival}
 use Rattle.arrival_measures.specs.Judged.{AllPass}

@@ -9,7 +9,7 @@ use Rattle.signal_log.specs.Log.{HasHistory, Log, log_of, window_end}
 use Rattle.signal_log.specs.States.{IsReached, MayBeAfter}
 use Rattle.ring_config.specs.Settings.{Settings, spec_place}
 use Rattle.ring_config.specs.Sound.{IsSound}
-use Rattle.stop_bar.specs.Own.{detector}
+use Rattle.arrival_measures.specs.Points.{detector_channel}
 use Rattle.arrival_measures.specs.Arrivals.{is_on}
 use Rattle.arrival_measures.specs.Faults.{faulty, is_arrival, is_fault_row}
 
@@ -33,14 +33,14 @@ MayWork log i before x = (v : State) × MayBeBefore log i before x v × (v.colou
 abbrev pub FaultyIsSure : Type 0
 FaultyIsSure = (c : Settings) (s : Store) (d i : ℕ) (before : List Row) (x : Row) (rest : List Row)
     → IsSound c → IsStore s → HasHistory (log_of c.specs s)
-    → spec_place c.specs (detector d) ≡ Some i → known_rows s ≡ before ++ x ∷ rest
+    → spec_place c.specs (detector_channel d) ≡ Some i → known_rows s ≡ before ++ x ∷ rest
     → (faulty (is_known s) x.at before d ≡ true) ↔ IsInFault (log_of c.specs s) i before x
 
 -- a row 82 of a detector is a fault row exactly where that is so before it, and an arrival where the detector may work
 abbrev pub FaultRowsAreSure : Type 0
 FaultRowsAreSure = (c : Settings) (s : Store) (d i : ℕ) (before : List Row) (x : Row) (rest : List Row)
     → IsSound c → IsStore s → HasHistory (log_of c.specs s)
-    → spec_place c.specs (detector d) ≡ Some i → known_rows s ≡ before ++ x ∷ rest → is_on d x ≡ true
+    → spec_place c.specs (detector_channel d) ≡ Some i → known_rows s ≡ before ++ x ∷ rest → is_on d x ≡ true
     → ((is_fault_row (is_known s) before x ≡ true) ↔ IsInFault (log_of c.specs s) i before x)
     × ((is_arrival (is_known s) before x ≡ true) ↔ MayWork (log_of c.specs s) i before x)
 
@@ -51,6 +51,6 @@ LeadsToFault log i t = (v : State) → IsReached log i t v → v.colour ≡ faul
 -- at the start of a tenth, as at an hour point, a detector is faulty by the known rows before it exactly where each run up to it that agrees leads to a fault
 abbrev pub FaultyByStates : Type 0
 FaultyByStates = (c : Settings) (s : Store) (d i t : ℕ) (before rest : List Row)
-    → IsSound c → IsStore s → spec_place c.specs (detector d) ≡ Some i
+    → IsSound c → IsStore s → spec_place c.specs (detector_channel d) ≡ Some i
     → known_rows s ≡ before ++ rest → RowsIn 0 t before → RowsIn t (window_end (log_of c.specs s)) rest
     → (faulty (is_known s) t before d ≡ true) ↔ LeadsToFault (log_of c.specs s) i t

@@ -29,11 +29,10 @@ use Rattle.hour_sweep.specs.Rows.{known_rows}
 use Rattle.hour_sweep.specs.Hours.{AreOrdered, point}
 use Rattle.hour_sweep.proofs.Orders.{below_end, rise_ordered}
 use Rattle.service_cut.proofs.YellowEnds.{from_first}
-use Rattle.arrival_measures.specs.Points.{detector_channel as detector}
 use Rattle.arrival_measures.specs.declared.points.Point.{Point}
 use Rattle.arrival_measures.specs.Faults.{arrivals_from, faulty, is_arrival}
 use Rattle.arrival_measures.specs.Judged.{AllPass}
-use Rattle.arrival_measures.specs.Points.{ArePicked, ArePointsOf, IsArrival, is_ahead, is_fault, is_on_at, points_at, points_from}
+use Rattle.arrival_measures.specs.Points.{ArePicked, ArePointsOf, IsArrival, detector_channel as detector, is_ahead, is_fault, is_on_at, points_at, points_from}
 use Rattle.arrival_measures.specs.Views.{IsSeen}
 use Rattle.arrival_measures.proofs.Carried.{points_same}
 use Rattle.arrival_measures.proofs.Each.{length_push}

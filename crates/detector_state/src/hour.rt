@@ -1,6 +1,7 @@
 // The hour cut into ranges of tenths at the end of which a channel may have the same colours.
-ghost use Rattle.std.specs.Prelude.{◌≡◌, ◌<◌, ◌++◌, length, slice_index_or, IfOk, OnOk};
+ghost use Rattle.std.specs.Prelude.{◌≡◌, ℕ, ◌<◌, ◌++◌, length, slice_index_or, IfOk, OnOk};
 ghost use Rattle.channel_tables.specs.Any.{any_rules};
+ghost use Rattle.channel_tables.specs.Letters.{IsNumber};
 ghost use Rattle.channel_tables.specs.Spec.{rules_of};
 ghost use Rattle.board.specs.Logs.{no_spec};
 ghost use Rattle.detector_state.specs.Switches.{IsSwitch, colours_of, switch_spec};
@@ -12,12 +13,16 @@ use crate::colours::{all, image, machine, of_states};
 use crate::part::{Part, Switched};
 use board::Courses;
 use channel_path::Move;
-use channel_tables::AnyMachine;
+use channel_tables::{AnyMachine, Spec};
 use colour_machine::Mask;
 use event_codes::Channel;
+use gap_map::{Stretch, first_of};
 use reach::Past;
-use sig_base::{Hour, NoMemory};
+use sig_base::{Hour, NoMemory, Row};
 use std::alloc::Global;
+
+// No hour has more rows.
+const MOST_ROWS: usize = 400_000;
 
 /// From tenth `at` on the channel may have these colours.
 #[derive(Clone, Copy, Debug, PartialEq, Eq)]
@@ -26,10 +31,39 @@ pub struct Cursor {
     pub mask: Mask,
 }
 
+/// Which colours an hour's rows and stretches, and the states before the hour, leave the channel at
+/// the end of each tenth. The channel is a detector, a pedestrian detector or a preempt input.
+pub fn switched(
+    alloc: Global,
+    channel: Channel,
+    before: &Past,
+    rows: &[Row],
+    stretches: &[Stretch],
+) -> Result<Switched, NoMemory>
+    requires switch { IsSwitch channel.kind }
+    requires number { IsNumber channel.kind channel.number }
+    requires colours { length before.now ≡ colours_of channel }
+    ensures covers { IfOk result (λ v. (hour : ℕ) → CoversHour hour rows.now stretches.now v) }
+    ensures colours { IfOk result (λ v. (hour : ℕ)
+        → TellsColours channel before.now hour rows.now stretches.now v) }
+{
+    let hour = first_of(stretches) / 36_000;
+    if rows.len() > MOST_ROWS || hour >= 744 {
+        return Ok(Switched::none(alloc));
+    }
+    let specs = [Spec {
+        channel,
+        floors: [0; 16],
+    }];
+    let courses = Courses::of(alloc, &specs, rows, stretches)?;
+    let told = switched_along(alloc, channel, before, &courses, 0, hour)?;
+    Ok(told)
+}
+
 /// Which colours what happens to the channel with this place among the specs, from 0, and its states
 /// before the hour leave it at the end of each tenth of the hour. The channel is a detector, a
 /// pedestrian detector or a preempt input.
-pub fn switched(
+pub fn switched_along(
     alloc: Global,
     channel: Channel,
     before: &Past,

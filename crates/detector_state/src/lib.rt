@@ -32,7 +32,7 @@ pub use free_laws::{
     colours_stay, colours_tell, extremes, look_back, look_back_among_rows, numbers_are_one,
     numbers_bound, numbers_reached, numbers_stay, stores_tell, tables_are_ordered,
 };
-pub use hour::switched;
+pub use hour::{switched, switched_along};
 pub use laws::{hours_fit, switches_are_ordered};
 pub use part::Switched;
 pub use state_asked::Asked;

@@ -41,7 +41,7 @@ fn cut(alloc: Global, rows: &[Row]) -> Result<Cuts, NoMemory> {
 
 fn over(alloc: Global) -> Result<OverBar, NoMemory> {
     let rows = two_greens();
-    let told = told(alloc, 0, &rows, &WHOLE)?;
+    let told = told(alloc, &rows, &WHOLE)?;
     let cuts = cut(alloc, &rows)?;
     bar_hour(alloc, 2, &AtBar::start(alloc), &cuts, &told, 0)
 }

@@ -7,7 +7,7 @@ use std::test::Fail;
 // It comes on at tenth 100.
 #[test]
 fn a_detector_that_comes_on(rt: HostRuntime) -> Result<(), Fail> {
-    let told = told(rt.alloc(), 0, &[at_detector(100, 82)], &WHOLE)?;
+    let told = told(rt.alloc(), &[at_detector(100, 82)], &WHOLE)?;
     let found = (least_on(&told, 0, 200), greatest_on(&told, 0, 200));
     assert_eq!(rt; found, (100, 200));
     Ok(())
@@ -51,7 +51,7 @@ fn a_detector_with_a_fault(rt: HostRuntime) -> Result<(), Fail> {
         at_detector(300, 82),
         at_detector(1_000, 83),
     ];
-    let told = told(rt.alloc(), 0, &rows, &CUT)?;
+    let told = told(rt.alloc(), &rows, &CUT)?;
     assert_eq!(rt; faults(&told), [false, true, true, false]);
     let found = (
         greatest_on(&told, 100, 300),

@@ -1,14 +1,13 @@
-ghost use Rattle.std.specs.Prelude.{◌≡◌, ◌<◌, ◌^◌, length};
+ghost use Rattle.std.specs.Prelude.{◌≡◌};
 ghost use Rattle.channel_tables.specs.Spec.{IsSpec};
 
-use board::Courses;
 use channel_tables::Spec;
 use detector_state::{Switched, switched};
 use event_codes::{Channel, Kind};
 use gap_map::Stretch;
 use reach::Past;
 use ring_config::{Config, read_config};
-use sig_base::{Hour, NoMemory, Row};
+use sig_base::{NoMemory, Row};
 use std::alloc::Global;
 use std::test::Fail;
 
@@ -58,19 +57,13 @@ pub fn row(at: u32, code: u8) -> Row
 }
 
 /// What is told of detector 5 in an hour before which nothing is known of it.
-pub fn told(
-    alloc: Global,
-    hour: Hour,
-    rows: &[Row],
-    stretches: &[Stretch],
-) -> Result<Switched, NoMemory>
-    requires hour { hour < 744 }
-    requires few { length rows.now < 2 ^ 32 }
-{
-    let specs = [free(Kind::Detector, 5)];
-    let courses = Courses::of(alloc, &specs, rows, stretches)?;
+pub fn told(alloc: Global, rows: &[Row], stretches: &[Stretch]) -> Result<Switched, NoMemory> {
+    let detector = Channel {
+        kind: Kind::Detector,
+        number: 5,
+    };
     let before = Past::start(alloc, 3)?;
-    switched(alloc, specs[0].channel, &before, &courses, 0, hour)
+    switched(alloc, detector, &before, rows, stretches)
 }
 
 /// A row of detector 5.

@@ -54,7 +54,7 @@ fn on(least: u32, greatest: u32) -> OnTenths {
 
 #[test]
 fn the_hour_before_a_point(rt: HostRuntime) -> Result<(), Fail> {
-    let told = told(rt.alloc(), 0, &[at_detector(35_990, 82)], &WHOLE)?;
+    let told = told(rt.alloc(), &[at_detector(35_990, 82)], &WHOLE)?;
     let services = [EARLY, WAITING];
     let over = windows_hour(rt.alloc(), None, &[], &services, &told, 0)?;
     let early = [Windows {
@@ -74,7 +74,7 @@ fn the_hour_before_a_point(rt: HostRuntime) -> Result<(), Fail> {
 
 #[test]
 fn a_green_at_the_point(rt: HostRuntime) -> Result<(), Fail> {
-    let told = told(rt.alloc(), 0, &[at_detector(35_990, 82)], &WHOLE)?;
+    let told = told(rt.alloc(), &[at_detector(35_990, 82)], &WHOLE)?;
     let green = OpenGreen {
         b: 35_985,
         to: 36_000,
@@ -87,7 +87,7 @@ fn a_green_at_the_point(rt: HostRuntime) -> Result<(), Fail> {
 #[test]
 fn the_hour_after_it(rt: HostRuntime) -> Result<(), Fail> {
     let rows = [at_detector(36_000, 82), at_detector(36_010, 81)];
-    let told = told(rt.alloc(), 1, &rows, &SECOND)?;
+    let told = told(rt.alloc(), &rows, &SECOND)?;
     let begun = Some(OpenGreen {
         b: 35_985,
         to: 36_000,

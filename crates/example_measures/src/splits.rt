@@ -1,6 +1,4 @@
 // A green of phase 2 with its yellow, and detector 5 at its stop bar.
-ghost use Rattle.std.specs.Prelude.{◌<◌, ◌^◌, length};
-
 use crate::given::{WHOLE, at_detector, row, told};
 use ring_config::{Config, read_config};
 use service_cut::{CutCarry, Cuts, Service, Termination, cut_hour};
@@ -90,10 +88,8 @@ const EMPTY: SplitSum = SplitSum {
 
 // The verdict of a green from tenth 1,000 up to 1,200 with its end of yellow at 1,235, at a detector
 // of which nothing is known before the rows.
-fn verdict_of_rows(alloc: Global, rows: &[Row]) -> Result<SplitSum, NoMemory>
-    requires { length rows.now < 2 ^ 32 }
-{
-    let told = told(alloc, 0, rows, &WHOLE)?;
+fn verdict_of_rows(alloc: Global, rows: &[Row]) -> Result<SplitSum, NoMemory> {
+    let told = told(alloc, rows, &WHOLE)?;
     let services = [Service {
         phase: 2,
         b: 1_000,

@@ -10,7 +10,7 @@ ghost use Rattle.stop_bar.specs.All.{AreTold, IsHourHeld};
 
 use crate::bars::stop_bars;
 use board::{Courses, Pasts};
-use detector_state::{Switched, switched};
+use detector_state::{Switched, switched_along};
 use event_codes::{Channel, Kind};
 use ring_config::Config;
 use sig_base::{Hour, NoMemory};
@@ -63,7 +63,7 @@ fn detector_hour(
     };
     match config.spec_of(channel) {
         Some(spec) => {
-            let told = switched(alloc, channel, pasts.at(spec), courses, spec, hour)?;
+            let told = switched_along(alloc, channel, pasts.at(spec), courses, spec, hour)?;
             Ok(told)
         }
         None => Ok(Switched::none(alloc)),

@@ -258,8 +258,38 @@ fn path_of(
         × (l.moves ≡ moves.items) × (l.after ≡ after.now)) }
 {
     let machine = machine_of(spec);
-    let path = Path::new(alloc, &machine, before, moves, after)?;
+    let path = path_any(alloc, &machine, before, moves, after)?;
     Ok(path)
+}
+
+// The path for a machine of any kind: each kind works out the places by itself.
+fn path_any(
+    alloc: Global,
+    machine: &AnyMachine,
+    before: &Past,
+    moves: Vec<Move>,
+    after: &Ahead,
+) -> Result<Path<AnyMachine>, NoMemory>
+    requires order { (low : ℕ) × EnteredBefore before.now low
+        × InOrder (any_rules machine.now) low moves.items }
+    requires colours { length before.now ≡ (any_rules machine.now).colours }
+    requires ahead { length after.now ≡ (any_rules machine.now).colours }
+    ensures { IfOk result (λ l. l ≡ record {
+      machine = machine.now;
+      before = before.now;
+      moves = moves.items;
+      after = after.now;
+    }) }
+{
+    match machine {
+        AnyMachine::Phase(own) => Path::by(alloc, machine, own, before, moves, after),
+        AnyMachine::Ped(own) => Path::by(alloc, machine, own, before, moves, after),
+        AnyMachine::Overlap(own) => Path::by(alloc, machine, own, before, moves, after),
+        AnyMachine::Switch(own) => Path::by(alloc, machine, own, before, moves, after),
+        AnyMachine::Detector(own) => Path::by(alloc, machine, own, before, moves, after),
+        AnyMachine::Preempt(own) => Path::by(alloc, machine, own, before, moves, after),
+        AnyMachine::Coord(own) => Path::by(alloc, machine, own, before, moves, after),
+    }
 }
 
 // The number of moves that come before the place. The search begins between the marks about it,

@@ -62,7 +62,32 @@ impl<M: Machine> Path<M> {
           after = after.now;
         }) }
     {
-        let places = places_of(alloc, machine, before, moves.as_slice(), after)?;
+        Path::by(alloc, machine, machine, before, moves, after)
+    }
+
+    /// The same, with the places worked out by another machine that has its rules: one that is
+    /// quicker.
+    pub fn by<N: Machine>(
+        alloc: Global,
+        machine: &M,
+        own: &N,
+        before: &Past,
+        moves: Vec<Move>,
+        after: &Ahead,
+    ) -> Result<Path<M>, NoMemory>
+        requires same { N.rules own.now ≡ M.rules machine.now }
+        requires order { (low : ℕ) × EnteredBefore before.now low
+            × InOrder (M.rules machine.now) low moves.items }
+        requires colours { length before.now ≡ (M.rules machine.now).colours }
+        requires ahead { length after.now ≡ (M.rules machine.now).colours }
+        ensures { IfOk result (λ l. l ≡ record {
+          machine = machine.now;
+          before = before.now;
+          moves = moves.items;
+          after = after.now;
+        }) }
+    {
+        let places = places_of(alloc, own, before, moves.as_slice(), after)?;
         Ok(Path {
             machine: Snapshot::of(machine),
             before: Snapshot::of(before),

@@ -67,6 +67,10 @@ script_text hours =
 
 -- ---- for contracts alone
 
+-- how the record of a row at this tenth begins
+abbrev pub record_start : ℕ → List ℕ
+record_start at = codes "9000," ++ spaced_stamp at ++ codes ","
+
 -- the row is of this hour
 abbrev pub is_of_hour : ℕ → Row → Bool
 is_of_hour hour r = nat_le (36000 * hour) r.at && nat_lt r.at (36000 * hour + 36000)

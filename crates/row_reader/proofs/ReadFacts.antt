@@ -1,5 +1,10 @@
 -- What the loop over the records knows.
-use Rattle.std.proofs.Common.{◌≡◌, ◌≤◌, ◌<◌, ◌+◌, ℕ, true, false, List, [], ◌∷◌, ◌++◌, Option, Some, Result, Ok, Err, Bor, refl, ◌∙◌, inl}
+use Rattle.std.proofs.Common.{◌≡◌, ◌≤◌, ◌<◌, ◌+◌, ℕ, Bool, true, false, List, [], ◌∷◌, ◌++◌, Option, Some, Result, Ok, Err, Bor, length, get_or, arith, refl, ◌∙◌, inl, inr}
+use Rattle.std.proofs.lemmas.Bool.{cases_Bool, cases_lt}
+use Rattle.std.proofs.lemmas.Bool.Decides.{nat_tests}
+use Rattle.std.specs.Prelude.{◌&&◌, nat_le}
+use Rattle.std.proofs.lemmas.List.{get_or_append_left, get_or_push, length_push}
+use Rattle.std.specs.List.Sorted.{IsNonDecreasingBy}
 use Rattle.csv.specs.Machine.{Read, next_record, ends_at_end}
 use Rattle.csv.specs.Reading.{Ready, Reached, ReadRecord, default_config, source_of}
 use Rattle.csv.specs.declared.reader.Reader.{Reader}
@@ -114,3 +119,32 @@ is_refusal want (OutsideHour n) h = h
 is_refusal want (Code n) h = h
 is_refusal want (Param n) h = h
 is_refusal want Memory h = tt
+
+-- no row is before the one in front of it, and none is after this tenth
+abbrev pub RisesTo : ℕ → List Row → Type 0
+RisesTo last rows = IsNonDecreasingBy (λ (r : Row). r.at) rows × ((i : ℕ) (d : Row) → i < length rows → (get_or rows i d).at ≤ last)
+
+rise-below : (last : ℕ) (rows : List Row) (row : Row) (i : ℕ) (d : Row) → RisesTo last rows → last ≤ row.at → i < length (rows ++ row ∷ []) → (get_or (rows ++ row ∷ []) i d).at ≤ row.at
+rise-below last rows row i d h le lt =
+    let len = length_push rows row in
+    elim (cases_lt i (length rows)) [
+      | inl below ↦ rw (get_or_append_left rows (row ∷ []) d i below) (let b = h.1 i d below in omega arith)
+      | inr above ↦ rw (get_or_push rows row d i (omega arith)) (omega arith)
+    ]
+
+rise-on : (last : ℕ) (rows : List Row) (row : Row) → RisesTo last rows → last ≤ row.at → RisesTo row.at (rows ++ row ∷ [])
+rise-on last rows row h le =
+    let len = length_push rows row in (
+      λ i j d ij lt. elim (cases_lt j (length rows)) [
+        | inl below ↦ rw (get_or_append_left rows (row ∷ []) d i (omega arith), get_or_append_left rows (row ∷ []) d j below) (h.0 i j d ij below)
+        | inr above ↦ rw (get_or_push rows row d j (omega arith)) (rise-below last rows row i d h le (omega arith))
+      ],
+      λ i d lt. rise-below last rows row i d h le lt,
+    )
+
+-- one row more, where so far they rise and it isn't before the last
+pub rise-more : (last : ℕ) (rows : List Row) (row : Row) (rise : Bool) → (rise ≡ true → RisesTo last rows) → (rise && nat_le last row.at) ≡ true → RisesTo row.at (rows ++ row ∷ [])
+rise-more last rows row rise h is = elim (cases_Bool rise) [
+  | inl on ↦ let t : nat_le last row.at ≡ true = rw on at is in rise-on last rows row (h on) (grind (arith, nat_tests, t))
+  | inr off ↦ let bad : false ≡ true = rw off at is in absurd (cc)
+]

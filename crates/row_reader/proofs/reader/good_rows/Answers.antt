@@ -3,7 +3,7 @@ use Rattle.std.specs.Result.{is_ok}
 use Rattle.std.proofs.lemmas.List.{length-append}
 use Rattle.csv.specs.Records.{fields_of}
 use Rattle.row_reader.specs.Request.{wanted}
-use Rattle.row_reader.proofs.ReadFacts.{read-on, read-header, read-ended, read-refused, within-more, is_refusal}
+use Rattle.row_reader.proofs.ReadFacts.{read-on, read-header, read-ended, read-refused, within-more, rise-more, is_refusal}
 use Rattle.row_reader.proofs.reader.good_rows.Goals as goal
 
 pub returns-in-Ok-false-clause-ok : goal.returns-in-Ok-false-clause-ok
@@ -25,6 +25,7 @@ loop-number-preserved-then-is_header c =
       headers = omega arith;
       count = omega (arith, inv.count);
       few = omega arith;
+      rise = inv.rise;
     }
 
 pub returns-in-Err-record_row-clause-err : goal.returns-in-Err-record_row-clause-err
@@ -49,4 +50,5 @@ loop-number-preserved c =
       headers = inv.headers;
       count = omega (arith, inv.count, length-append c.loop-number.rows.items (c.in-Ok.row ∷ []));
       few = omega (arith, c.in-Ok.ensures.few);
+      rise = rise-more c.loop-number.last c.loop-number.rows.items c.in-Ok.row c.loop-number.rise inv.rise;
     }

@@ -1,7 +1,7 @@
-use Rattle.std.proofs.Common.{◌≡◌, ◌+◌, ◌*◌, ◌≤◌, length}
+use Rattle.std.proofs.Common.{◌≡◌, ◌+◌, ◌*◌, ◌≤◌, true, length}
 use Rattle.row_reader.specs.Order.{AreWithin}
 use Rattle.row_reader.specs.Request.{wanted}
-use Rattle.row_reader.proofs.ReadFacts.{IsAt}
+use Rattle.row_reader.proofs.ReadFacts.{IsAt, RisesTo}
 use Rattle.row_reader.proofs.reader.good_rows.Given as goal
 
 abbrev pub invariant-loop-number : goal.invariant-loop-number
@@ -11,4 +11,5 @@ invariant-loop-number l = record {
   headers : l.headers ≤ 1;
   count : length l.rows.items + l.headers + 1 ≡ l.number;
   few : l.number ≤ l.headers + 400001;
+  rise : l.rise ≡ true → RisesTo l.last l.rows.items;
 }

@@ -7,10 +7,10 @@ use Rattle.channel_path.specs.declared.moves.Move.{Move}
 use Rattle.sig_base.specs.declared.values.Row.{Row}
 use Rattle.gap_map.specs.declared.stretch.Stretch.{Stretch}
 use Rattle.channel_tables.specs.declared.spec.Spec.{Spec}
-use Rattle.board.specs.Channels.{AreSpecs}
-use Rattle.board.specs.Courses.{AreAmong, AreCourses, AreCoursesAmong, chosen_before}
+use Rattle.board.specs.Channels.{AreSpecs, track}
+use Rattle.board.specs.Courses.{AreAmong, AreCoursesAmong, AreCoursesFrom, chosen_before}
 use Rattle.board.specs.Logs.{no_spec}
-use Rattle.board.specs.Stops.{moves_at}
+use Rattle.board.specs.Moves.{own}
 
 pub chosen_one : (wanted : List Bool) (i : ℕ) → get_or wanted i false ≡ true → chosen_before wanted (i + 1) ≡ chosen_before wanted i + 1
 chosen_one wanted i is = rw (add-one i, add-one (chosen_before wanted i), is) refl
@@ -88,20 +88,20 @@ specs_more specs n few s are below old of is =
       ];
     }
 
-pub courses_among : (specs : List Spec) (wanted : List Bool) (few : List Spec) (rows : List Row) (ss : List Stretch) (courses : List (List Move)) → AreAmong specs wanted (length specs) few → AreCourses few rows ss courses → AreCoursesAmong specs wanted rows ss courses
-courses_among specs wanted few rows ss courses among are i d lt on =
+pub courses_among : (specs : List Spec) (wanted : List Bool) (few : List Spec) (n : ℕ) (rows : List Row) (ss : List Stretch) (courses : List (List Move)) → AreAmong specs wanted (length specs) few → AreCoursesFrom few n rows ss courses → AreCoursesAmong specs wanted n rows ss courses
+courses_among specs wanted few n rows ss courses among are i d lt on =
     let (below, at) = among i d lt on in
     ((let l = are.0 in omega arith), are.1 (chosen_before wanted i) d below ∙ rw at refl)
 
 -- the moves of a spec that is wanted stand at its turn
-pub turn_within : (specs : List Spec) (wanted : List Bool) (rows : List Row) (ss : List Stretch) (courses : List (List Move)) (i next : ℕ) → AreCoursesAmong specs wanted rows ss courses → i < length specs → get_or wanted i false ≡ true → next ≡ chosen_before wanted i → next < length courses
-turn_within specs wanted rows ss courses i next are lt on e = rw e (are i no_spec lt on).0
+pub turn_within : (specs : List Spec) (wanted : List Bool) (n : ℕ) (rows : List Row) (ss : List Stretch) (courses : List (List Move)) (i next : ℕ) → AreCoursesAmong specs wanted n rows ss courses → i < length specs → get_or wanted i false ≡ true → next ≡ chosen_before wanted i → next < length courses
+turn_within specs wanted n rows ss courses i next are lt on e = rw e (are i no_spec lt on).0
 
-pub turn_is : (specs : List Spec) (wanted : List Bool) (rows : List Row) (ss : List Stretch) (courses : List (List Move)) (i next : ℕ) (course : List Move) → AreCoursesAmong specs wanted rows ss courses → i < length specs → get_or wanted i false ≡ true → next ≡ chosen_before wanted i → course ≡ get_or courses next course → (d : Spec) → course ≡ moves_at specs rows ss i d
-turn_is specs wanted rows ss courses i next course are lt on e is d =
+pub turn_is : (specs : List Spec) (wanted : List Bool) (n : ℕ) (rows : List Row) (ss : List Stretch) (courses : List (List Move)) (i next : ℕ) (course : List Move) → AreCoursesAmong specs wanted n rows ss courses → i < length specs → get_or wanted i false ≡ true → next ≡ chosen_before wanted i → course ≡ get_or courses next course → (d : Spec) → course ≡ own (track (get_or specs i d)) n rows ss
+turn_is specs wanted n rows ss courses i next course are lt on e is d =
     let (below, at) = are i d lt on in
-    is ∙ (get_or_default courses next course [] (turn_within specs wanted rows ss courses i next are lt on e) ∙ (ap (λ n. get_or courses n []) e ∙ at))
+    is ∙ (get_or_default courses next course [] (turn_within specs wanted n rows ss courses i next are lt on e) ∙ (ap (λ j. get_or courses j []) e ∙ at))
 
 -- where none of these is there, none is wanted
-pub none_among : (specs : List Spec) (wanted : List Bool) (few : List Spec) (rows : List Row) (ss : List Stretch) → length few ≡ 0 → AreAmong specs wanted (length specs) few → AreCoursesAmong specs wanted rows ss []
-none_among specs wanted few rows ss none among i d lt on = let (below, at) = among i d lt on in absurd (omega arith)
+pub none_among : (specs : List Spec) (wanted : List Bool) (few : List Spec) (n : ℕ) (rows : List Row) (ss : List Stretch) → length few ≡ 0 → AreAmong specs wanted (length specs) few → AreCoursesAmong specs wanted n rows ss []
+none_among specs wanted few n rows ss none among i d lt on = let (below, at) = among i d lt on in absurd (omega arith)

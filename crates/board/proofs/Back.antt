@@ -1,14 +1,15 @@
 -- Moves walked back from two ends, until both have come to the same states.
-use Rattle.std.proofs.Common.{refl, sym, subst, ◌↔◌, ℕ, ◌-◌, ◌≤◌, ℤ, pos, ◌<ℤ◌, List, [], ◌∷◌, ◌++◌, take, drop, Option, arith}
+use Rattle.std.proofs.Common.{refl, sym, subst, ◌↔◌, ℕ, ◌-◌, ◌≤◌, ℤ, List, [], ◌∷◌, ◌++◌, take, drop, Option, arith}
 use Rattle.std.proofs.lemmas.List.{take-append-drop}
 use Rattle.colour_machine.specs.Rules.{Rules}
 use Rattle.reach.specs.Runs.{State}
 use Rattle.reach.specs.Ahead.{Admits}
 use Rattle.channel_path.specs.declared.moves.Move.{Move}
-use Rattle.channel_path.specs.Walks.{InOrder, BeforeMoves}
+use Rattle.channel_path.specs.Walks.{InOrder, BeforeMoves, Walk}
 use Rattle.channel_path.specs.Places.{EntersBefore, limit_of}
 use Rattle.channel_path.proofs.Legs.{rest_join}
-use Rattle.channel_path.proofs.Moving.{ahead_over, earlier_low, enters_on, order_drop, order_take}
+use Rattle.channel_path.proofs.Moving.{ahead_over, earlier_low, enters_on, order_drop, order_take, walk_join}
+use Rattle.board.specs.Hours.{AreAlike}
 
 -- the states before the moves, entered early enough for the first of them, from which they lead to one that was admitted
 abbrev pub IsBack : Rules → List (Option ℤ) → List Move → List (Option ℤ) → Type 0
@@ -39,13 +40,6 @@ back_slice m after now new xs j b o le inv step =
     let order = subst (λ (zs : List Move). InOrder m low zs) rest (order_drop m 0 j xs o) in
     subst (λ (zs : List Move). IsBack m after zs new) (sym rest) (back_join m after now new low (take (b - j) (drop j xs)) (drop b xs) order inv step)
 
--- walked back from a place to the front
-pub back_rest : (m : Rules) (after now new : List (Option ℤ)) (xs : List Move) (p : ℕ) → InOrder m 0 xs → IsBack m after (drop p xs) now → IsBack m now (take p xs) new → IsBack m after xs new
-back_rest m after now new xs p o inv step =
-    let whole = take-append-drop p xs in
-    let order = subst (λ (zs : List Move). InOrder m 0 zs) (sym whole) o in
-    subst (λ (zs : List Move). IsBack m after zs new) whole (back_join m after now new 0 (take p xs) (drop p xs) order inv step)
-
 -- a slice of the moves is in order
 pub slice_order : (m : Rules) (xs : List Move) (j n : ℕ) → InOrder m 0 xs → InOrder m 0 (take n (drop j xs))
 slice_order m xs j n o = order_take m 0 n (drop j xs) (earlier_low m 0 (limit_of 0 (take j xs)) (drop j xs) (omega arith) (order_drop m 0 j xs o))
@@ -58,9 +52,17 @@ met m after now xs p o inv s e =
     let enters = subst (λ (zs : List Move). EntersBefore zs s) (sym whole) e in
     subst (λ (zs : List Move). BeforeMoves m now (take p xs) s ↔ BeforeMoves m after zs s) whole (back_over m after now 0 (take p xs) (drop p xs) s order inv enters)
 
--- so the answer that one of them had is the other's
-pub met_before : (m : Rules) (after was now before : List (Option ℤ)) (xs : List Move) (p first : ℕ) → InOrder m 0 xs → IsBack m after (drop p xs) now → IsBack m was (drop p xs) now → ((s : State) → Admits before s ↔ ((EntersBefore xs s × BeforeMoves m was xs s) × (s.entry <ℤ pos first))) → (s : State) → Admits before s ↔ ((EntersBefore xs s × BeforeMoves m after xs s) × (s.entry <ℤ pos first))
-met_before m after was now before xs p first o new old told s = (
-  λ a. let ((e, b), early) = (told s).0 a in ((e, (met m after now xs p o new s e).0 ((met m was now xs p o old s e).1 b)), early),
-  λ ((e, b), early). (told s).1 ((e, (met m was now xs p o old s e).0 ((met m after now xs p o new s e).1 b)), early),
-)
+-- so both lead alike to where they met
+pub met_alike : (m : Rules) (after was now : List (Option ℤ)) (xs : List Move) (p : ℕ) → InOrder m 0 xs → IsBack m after (drop p xs) now → IsBack m was (drop p xs) now → AreAlike m after was xs
+met_alike m after was now xs p o new old s e =
+    let a = met m after now xs p o new s e in
+    let b = met m was now xs p o old s e in
+    ((λ h. b.0 (a.1 h)), λ h. a.0 (b.1 h))
+
+-- and moves in front of these do too
+pub alike_over : (m : Rules) (a b : List (Option ℤ)) (low : ℕ) (ys zs : List Move) → InOrder m low (ys ++ zs) → AreAlike m a b zs → AreAlike m a b (ys ++ zs)
+alike_over m a b low ys zs o alike s e =
+    let later = λ (v : State) (w : Walk m ys s v). alike v (enters_on m low ys zs s v o w e) in (
+      (λ (u, w, h). let (v, p, q) = (walk_join m ys zs s u).0 w in let (z, r, g) = (later v p).0 (u, q, h) in (z, (walk_join m ys zs s z).1 (v, p, r), g)),
+      λ (u, w, h). let (v, p, q) = (walk_join m ys zs s u).0 w in let (z, r, g) = (later v p).1 (u, q, h) in (z, (walk_join m ys zs s z).1 (v, p, r), g),
+    )

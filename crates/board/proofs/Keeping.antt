@@ -9,26 +9,44 @@ use Rattle.reach.specs.Runs.{State, state}
 use Rattle.reach.specs.Past.{Holds, AreClamped}
 use Rattle.channel_path.specs.declared.moves.Move.{Move}
 use Rattle.channel_path.specs.Walks.{AfterMoves}
-use Rattle.gap_map.specs.Stretches.{FollowOn}
+use Rattle.channel_path.proofs.Moving.{not_after}
+use Rattle.gap_map.specs.Stretches.{FollowOn, known_at}
 use Rattle.reach.specs.Ahead.{Admits}
 use Rattle.sig_base.specs.declared.values.Row.{Row}
 use Rattle.gap_map.specs.declared.stretch.Stretch.{Stretch}
 use Rattle.channel_tables.specs.Spec.{rules_of}
 use Rattle.channel_tables.specs.declared.spec.Spec.{Spec}
-use Rattle.board.specs.History.{Track}
+use Rattle.board.specs.History.{Track, events_at}
 use Rattle.board.specs.Channels.{track}
 use Rattle.board.specs.Logs.{IsHour, first_tenth, end_tenth, no_spec}
 use Rattle.board.specs.Moves.{RowsIn, own}
 use Rattle.board.specs.Stops.{GoesOnAt, IsEarlier, IsFirstStop, IsWalked, StopRow, StopsAtRow, Survives, moves_at, rules_at}
-use Rattle.board.specs.Hours.{AreHourAheads, ArePastsOf, Clamped, IsAfterHour, IsBeforeHour, IsHourStop}
+use Rattle.board.specs.Hours.{AreAlike, AreHourAheads, ArePastsOf, Clamped, IsAfterHour, IsBeforeHour, IsHourStop}
+use Rattle.board.proofs.Bridge.{own_walk}
+use Rattle.board.proofs.Ordering.{own_order}
+use Rattle.board.proofs.Tracks.{spec_lettered}
 use Rattle.board.proofs.Plain.{after_hour, hour_stop}
 use Rattle.board.proofs.Stopping.{first_more, stop_row_once, no_stop}
 use Rattle.board.proofs.Within.{hour_rows}
 
--- a channel with the same states after the hour keeps those before it
-pub ahead_kept : (specs : List Spec) (rows : List Row) (ss : List Stretch) (f t : ℕ) (was_after after was_before : List (List (Option ℤ))) (i : ℕ) (new : List (Option ℤ)) → i < length specs → AreHourAheads specs rows ss f t was_after (length specs) was_before → get_or after i [] ≡ get_or was_after i [] → new ≡ get_or was_before i []
-    → (length new ≡ (rules_at specs i no_spec).colours) × ((s : State) → Admits new s ↔ ((s.entry <ℤ pos f) × IsBeforeHour (track (get_or specs i no_spec)) rows ss f t (get_or after i []) s))
-ahead_kept specs rows ss f t was_after after was_before i new lt was same e = rw (e, same) (was i lt)
+-- what leads alike over the hour's moves does over its runs
+alike_hour : (s : Spec) (f t : ℕ) (rows : List Row) (ss : List Stretch) (a b : List (Option ℤ)) → FollowOn f t ss → RowsIn f t rows → AreAlike (rules_of s) a b (own (track s) 0 rows ss) → (u : State) → u.entry <ℤ pos f → IsBeforeHour (track s) rows ss f t a u ↔ IsBeforeHour (track s) rows ss f t b u
+alike_hour s f t rows ss a b follow in_rows alike u early =
+    let k = track s in
+    let order = (own_order k f t 0 rows ss (spec_lettered s) follow in_rows).0 in
+    let w = λ (v : State). own_walk k (known_at ss) (events_at rows) f t 0 rows ss u v follow in_rows (λ x l1 l2. refl) (λ x l1 l2. refl) in
+    let both = alike u (not_after k.rules f (own k 0 rows ss) u order early) in (
+      (λ (v, g, h). let (z, x, y) = both.0 (v, (w v).0 g, h) in (z, (w z).1 x, y)),
+      λ (v, g, h). let (z, x, y) = both.1 (v, (w v).0 g, h) in (z, (w z).1 x, y),
+    )
+
+-- a channel that is led alike from before the hour keeps its states there
+pub ahead_kept : (specs : List Spec) (rows : List Row) (ss : List Stretch) (h : ℕ) (was_after after was_before : List (List (Option ℤ))) (i : ℕ) (new : List (Option ℤ)) → IsHour h rows ss → i < length specs → AreHourAheads specs rows ss (first_tenth h) (end_tenth h) was_after (length specs) was_before → AreAlike (rules_at specs i no_spec) (get_or after i []) (get_or was_after i []) (moves_at specs rows ss i no_spec) → new ≡ get_or was_before i []
+    → (length new ≡ (rules_at specs i no_spec).colours) × ((s : State) → Admits new s ↔ ((s.entry <ℤ pos (first_tenth h)) × IsBeforeHour (track (get_or specs i no_spec)) rows ss (first_tenth h) (end_tenth h) (get_or after i []) s))
+ahead_kept specs rows ss h was_after after was_before i new is lt was alike e =
+    let (width, states) = was i lt in
+    let both = alike_hour (get_or specs i no_spec) (first_tenth h) (end_tenth h) rows ss (get_or after i []) (get_or was_after i []) is.follow (hour_rows h rows ss is) alike in
+    rw e (width, λ s. ((λ a. let (early, b) = (states s).0 a in (early, (both s early).1 b)), λ (early, b). (states s).1 (early, (both s early).0 b)))
 
 -- the row at which a channel stops, without its states
 pub walked_stops : (m : Rules) (old : List (List Span)) (xs : List Move) (new : List (List Span)) (r : Option ℕ) → IsWalked m old xs new r → MatchOption r (Survives m old xs) (StopRow m old xs)

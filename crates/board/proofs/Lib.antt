@@ -23,6 +23,7 @@ pub mod Cells
 pub mod Few
 pub mod Suiting
 pub mod Back
+pub mod Ending
 pub mod Twins
 pub mod Repeating
 pub mod Among

@@ -15,6 +15,10 @@ AreAdded old new more = (length new ≡ length old) × ((i : ℕ) → i < length
 abbrev pub AreCourses : List Spec → List Row → List Stretch → List (List Move) → Type 0
 AreCourses specs rows ss courses = (length courses ≡ length specs) × ((i : ℕ) (d : Spec) → i < length specs → slice_index_or courses i [] ≡ own (track (slice_index_or specs i d)) 0 rows ss)
 
+-- For contracts alone: each list has the moves of its spec over rows of which the first has number n
+abbrev pub AreCoursesFrom : List Spec → ℕ → List Row → List Stretch → List (List Move) → Type 0
+AreCoursesFrom specs n rows ss courses = (length courses ≡ length specs) × ((i : ℕ) (d : Spec) → i < length specs → slice_index_or courses i [] ≡ own (track (slice_index_or specs i d)) n rows ss)
+
 -- the channels, the rows and the stretches that courses are cut out of
 pub record CourseLog : Type 0 where
   pub specs : List Spec
@@ -33,6 +37,6 @@ chosen_before wanted (suc n) = if slice_index_or wanted n false then suc (chosen
 abbrev pub AreAmong : List Spec → List Bool → ℕ → List Spec → Type 0
 AreAmong specs wanted n few = (i : ℕ) (d : Spec) → i < n → slice_index_or wanted i false ≡ true → (chosen_before wanted i < length few) × (slice_index_or few (chosen_before wanted i) d ≡ slice_index_or specs i d)
 
--- each spec that is wanted has its moves among these at its turn
-abbrev pub AreCoursesAmong : List Spec → List Bool → List Row → List Stretch → List (List Move) → Type 0
-AreCoursesAmong specs wanted rows ss courses = (i : ℕ) (d : Spec) → i < length specs → slice_index_or wanted i false ≡ true → (chosen_before wanted i < length courses) × (slice_index_or courses (chosen_before wanted i) [] ≡ own (track (slice_index_or specs i d)) 0 rows ss)
+-- each spec that is wanted has its moves, over rows of which the first has number n, among these at its turn
+abbrev pub AreCoursesAmong : List Spec → List Bool → ℕ → List Row → List Stretch → List (List Move) → Type 0
+AreCoursesAmong specs wanted n rows ss courses = (i : ℕ) (d : Spec) → i < length specs → slice_index_or wanted i false ≡ true → (chosen_before wanted i < length courses) × (slice_index_or courses (chosen_before wanted i) [] ≡ own (track (slice_index_or specs i d)) n rows ss)

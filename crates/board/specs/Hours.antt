@@ -1,10 +1,13 @@
 -- The states of all channels after an hour.
-use Rattle.std.specs.Prelude.{◌≡◌, ℕ, ◌<◌, ◌↔◌, ◌⊎◌, ℤ, pos, negsuc, ◌-ℤ◌, ◌≤ℤ◌, ◌<ℤ◌, Option, Some, None, List, [], length, slice_index_or}
+use Rattle.std.specs.Prelude.{◌≡◌, ℕ, ◌<◌, ◌↔◌, ◌⊎◌, ℤ, pos, negsuc, ◌-ℤ◌, ◌≤ℤ◌, ◌<ℤ◌, Bool, false, Option, Some, None, List, [], length, slice_index_or}
 use Rattle.span_set.specs.declared.set.Span.{Span}
 use Rattle.colour_machine.specs.Rules.{Rules}
 use Rattle.reach.specs.Runs.{State, state}
 use Rattle.reach.specs.Past.{Holds, AreClamped}
 use Rattle.reach.specs.Ahead.{Admits}
+use Rattle.channel_path.specs.declared.moves.Move.{Move}
+use Rattle.channel_path.specs.Walks.{BeforeMoves}
+use Rattle.channel_path.specs.Places.{EntersBefore}
 use Rattle.sig_base.specs.declared.values.Row.{Row}
 use Rattle.gap_map.specs.declared.stretch.Stretch.{Stretch}
 use Rattle.channel_tables.specs.declared.spec.Spec.{Spec}
@@ -13,7 +16,7 @@ use Rattle.board.specs.declared.pasts.PastsError.{PastsError}
 use Rattle.board.specs.declared.pasts.PastsError.TheVariants.{NoState, Memory}
 use Rattle.board.specs.History.{Agreeing, Track, events_at}
 use Rattle.board.specs.Channels.{track}
-use Rattle.board.specs.Stops.{IsFirst, rules_at}
+use Rattle.board.specs.Stops.{IsFirst, moves_at, rules_at}
 use Rattle.board.specs.Places.{IsStop}
 use Rattle.board.specs.Logs.{IsHour, first_tenth, end_tenth, no_spec, no_row}
 
@@ -73,3 +76,13 @@ AreStarts specs n pasts = (i : ℕ) → i < n → (s : State) → Holds (slice_i
 -- each of the first n Aheads admits every colour with every entry before the point
 abbrev pub AreEnds : List Spec → ℤ → ℕ → List (List (Option ℤ)) → Type 0
 AreEnds specs point n aheads = (i : ℕ) → i < n → (s : State) → Admits (slice_index_or aheads i []) s ↔ ((s.colour < (rules_at specs i no_spec).colours) × (s.entry <ℤ point))
+
+-- ---- For contracts alone: what leads alike to two answers.
+
+-- from the same states that were entered early enough, the moves lead to one that the first and to one that the second admits
+abbrev pub AreAlike : Rules → List (Option ℤ) → List (Option ℤ) → List Move → Type 0
+AreAlike m a b xs = (s : State) → EntersBefore xs s → BeforeMoves m a xs s ↔ BeforeMoves m b xs s
+
+-- so do the hour's moves of each of the first n channels that isn't one of the others
+abbrev pub AreAlikeBut : List Spec → List Row → List Stretch → List (List (Option ℤ)) → List (List (Option ℤ)) → List Bool → ℕ → Type 0
+AreAlikeBut specs rows ss a b others n = (i : ℕ) (d : Spec) → i < n → slice_index_or others i false ≡ false → AreAlike (rules_at specs i d) (slice_index_or a i []) (slice_index_or b i []) (moves_at specs rows ss i d)

@@ -32,6 +32,10 @@ abbrev pub since : ℕ → List Stretch → List Stretch
 since x [] = []
 since x (s ∷ ss) = if nat_lt x s.to then record { from = x; to = s.to; known = s.known } ∷ ss else since x ss
 
+-- For contracts alone: the stretch is known, and is what the stretches are from its first tenth on
+abbrev pub IsEndOf : List Stretch → Stretch → Type 0
+IsEndOf ss s = (f t : ℕ) → FollowOn f t ss → (f ≤ s.from) × (s.from < t) × (known_at ss s.from ≡ true) × (since s.from ss ≡ s ∷ [])
+
 -- a known tenth x of the hour, between the first i rows and the others
 pub record IsPlace (f t : ℕ) (rows : List Row) (ss : List Stretch) (x i : ℕ) : Type 0 where
   pub stretches : FollowOn f t ss

@@ -1,6 +1,6 @@
 // What is said of an hour again, from other states about it: only the channels that differ are gone
 // through anew.
-ghost use Rattle.std.specs.Prelude.{◌≡◌, ℕ, ◌<◌, ◌^◌, [], false, List, None, IsTrue, length, slice_index_or, IfOk, IfErr};
+ghost use Rattle.std.specs.Prelude.{◌≡◌, ℕ, ◌<◌, ◌^◌, ◌≤◌, [], false, List, None, IsTrue, drop, length, slice_index_or, IfOk, IfErr};
 ghost use Rattle.span_set.specs.declared.set.Span.{Span};
 ghost use Rattle.channel_tables.specs.declared.spec.Spec.{Spec};
 ghost use Rattle.board.specs.Channels.{AreSpecs};
@@ -8,11 +8,11 @@ ghost use Rattle.board.specs.Courses.{AreAmong, AreCoursesAmong};
 ghost use Rattle.board.specs.Logs.{IsHour, end_tenth, first_tenth};
 ghost use Rattle.board.specs.Stops.{IsFirstStop, AreBefore};
 ghost use Rattle.board.specs.Places.{AllEarly, AreAheadsOf};
-ghost use Rattle.board.specs.Hours.{AreAheadsBefore, AreClampedPasts, ArePastsOf, NamesStop};
+ghost use Rattle.board.specs.Hours.{AreAheadsBefore, AreAlikeBut, AreClampedPasts, ArePastsOf, NamesStop};
 
-use crate::aheads::Aheads;
-use crate::courses::{Course, courses_of};
-use crate::meeting::ahead_meeting;
+use crate::aheads::{Aheads, ahead_before};
+use crate::courses::{Course, courses_from, rows_before};
+use crate::meeting::{known_end, meets};
 use crate::pasts::{After, Pasts, PastsError, clamp_past, earlier, end_of, walk_spec};
 use channel_tables::Spec;
 use gap_map::{Stretch, first_of};
@@ -36,25 +36,28 @@ fn specs_among(alloc: Global, specs: &[Spec], wanted: &[bool]) -> Result<Vec<Spe
     Ok(few)
 }
 
-// The moves of each channel that is wanted, in one pass, and in none where none is wanted.
+// The moves of each channel that is wanted over the stretches, before which so many of the rows
+// stand: in one pass, and in none where none is wanted.
 fn courses_among(
     alloc: Global,
     specs: &[Spec],
     wanted: &[bool],
     rows: &[Row],
+    first: usize,
     stretches: &[Stretch],
 ) -> Result<Vec<Course>, NoMemory>
     requires specs { AreSpecs specs.now }
     requires same { length wanted.now ≡ length specs.now }
     requires few { length rows.now < 2 ^ 32 }
-    ensures { IfOk result (λ v. AreCoursesAmong specs.now wanted.now rows.now stretches.now
-        v.items) }
+    requires first { first ≤ length rows.now }
+    ensures { IfOk result (λ v. AreCoursesAmong specs.now wanted.now first (drop first rows.now)
+        stretches.now v.items) }
 {
     let few = specs_among(alloc, specs, wanted)?;
     if few.is_empty() {
         return Ok(Vec::new(alloc));
     }
-    courses_of(alloc, &few, rows, stretches)
+    courses_from(alloc, &few, rows, first, stretches)
 }
 
 // Whether the channel with this place admits the same in both.
@@ -78,10 +81,51 @@ fn other_aheads(alloc: Global, a: &Aheads, b: &Aheads, count: usize) -> Result<V
     Ok(others)
 }
 
+// Of the others, the channels that admit other states than then all the way back over the hour's last
+// minutes.
+fn unmet(
+    alloc: Global,
+    specs: &[Spec],
+    others: Vec<bool>,
+    after: &Aheads,
+    was_after: &Aheads,
+    rows: &[Row],
+    stretches: &[Stretch],
+) -> Result<Vec<bool>, NoMemory>
+    requires specs { AreSpecs specs.now }
+    requires hour { (h : ℕ) × IsHour h rows.now stretches.now }
+    requires after { AreAheadsOf specs.now after.now }
+    requires was_shape { AreAheadsOf specs.now was_after.now }
+    requires count { length others.items ≡ length specs.now }
+    requires same { (i : ℕ) → i < length specs.now → slice_index_or others.items i false ≡ false
+        → slice_index_or after.now i [] ≡ slice_index_or was_after.now i [] }
+    ensures count { IfOk result (λ v. length v.items ≡ length specs.now) }
+    ensures alike { IfOk result (λ v. AreAlikeBut specs.now rows.now stretches.now after.now
+        was_after.now v.items (length specs.now)) }
+{
+    let Some(end) = known_end(stretches) else {
+        return Ok(others);
+    };
+    let first = rows_before(rows, end.from);
+    let courses = courses_among(alloc, specs, &others, rows, first, &[end])?;
+    let mut unmet = Vec::new(alloc);
+    let mut next: usize = 0;
+    for i in 0..specs.len() {
+        if !others[i] {
+            unmet.push(false)?;
+            continue;
+        }
+        let moves = courses[next].moves();
+        let met = meets(&specs[i], &after.aheads[i], &was_after.aheads[i], moves);
+        unmet.push(!met)?;
+        next += 1;
+    }
+    Ok(unmet)
+}
+
 /// The same as `aheads_hour` of an hour for which it was answered already, from `was_after`
-/// `was_before`: the channels that admit the same states after the hour as then admit the same
-/// before it, and of each other one only the moves after the place where both come to the same states
-/// are walked back again, where that place is near the end of the hour.
+/// `was_before`: the channels that admit the same states after the hour as then, or at some place of
+/// its last minutes, admit the same before it, and only the others are walked back over all of it.
 pub fn aheads_again(
     alloc: Global,
     specs: &[Spec],
@@ -102,7 +146,8 @@ pub fn aheads_again(
         a) }
 {
     let others = other_aheads(alloc, after, was_after, specs.len())?;
-    let courses = courses_among(alloc, specs, &others, rows, stretches)?;
+    let others = unmet(alloc, specs, others, after, was_after, rows, stretches)?;
+    let courses = courses_among(alloc, specs, &others, rows, 0, stretches)?;
     let first = first_of(stretches);
     let mut aheads = Vec::new(alloc);
     let mut next: usize = 0;
@@ -111,15 +156,8 @@ pub fn aheads_again(
             aheads.push(was_before.aheads[i].copy())?;
             continue;
         }
-        let ahead = ahead_meeting(
-            &specs[i],
-            &after.aheads[i],
-            &was_after.aheads[i],
-            &was_before.aheads[i],
-            courses[next].moves(),
-            first,
-        );
-        aheads.push(ahead)?;
+        let moves = courses[next].moves();
+        aheads.push(ahead_before(&specs[i], &after.aheads[i], moves, first))?;
         next += 1;
     }
     Ok(Aheads { aheads, alloc })
@@ -175,7 +213,7 @@ fn pasts_kept(
         → AreClampedPasts specs.now rows.now stretches.now (first_tenth h) (end_tenth h)
         before.now a.pasts) }
 {
-    let courses = courses_among(alloc, specs, others, rows, stretches)?;
+    let courses = courses_among(alloc, specs, others, rows, 0, stretches)?;
     let end = end_of(stretches);
     let mut pasts = Vec::new(alloc);
     let mut stop = None;

@@ -4,8 +4,8 @@ ghost use Rattle.channel_tables.specs.declared.spec.Spec.{Spec};
 ghost use Rattle.channel_path.specs.declared.moves.Move.{Move};
 ghost use Rattle.channel_path.specs.declared.moves.Move.TheVariants.{Letter, Gap};
 ghost use Rattle.board.specs.Channels.{letter_in, track, AreSpecs};
-ghost use Rattle.board.specs.Moves.{count_before, with_letter, letter_moves, stretch_moves};
-ghost use Rattle.board.specs.Courses.{AreAdded, AreCourses, course_log};
+ghost use Rattle.board.specs.Moves.{RowsIn, count_before, with_letter, letter_moves, stretch_moves};
+ghost use Rattle.board.specs.Courses.{AreAdded, AreCourses, AreCoursesFrom, course_log};
 ghost use Rattle.board.specs.Finding.{IsFinder};
 ghost use Rattle.board.specs.Stops.{moves_at};
 
@@ -136,9 +136,27 @@ pub fn courses_of(
     requires few { length rows.now < 2 ^ 32 }
     ensures { IfOk result (λ v. AreCourses specs.now rows.now stretches.now v.items) }
 {
-    let mut finder = Finder::new(alloc, specs, rows.len())?;
-    let mut courses = empty(alloc, specs.len(), (rows.len() / 16).min(MOST_ROOM))?;
-    let mut next: usize = 0;
+    courses_from(alloc, specs, rows, 0, stretches)
+}
+
+/// The moves of each channel over the stretches, before which so many of the rows stand.
+pub(crate) fn courses_from(
+    alloc: Global,
+    specs: &[Spec],
+    rows: &[Row],
+    first: usize,
+    stretches: &[Stretch],
+) -> Result<Vec<Course>, NoMemory>
+    requires specs { AreSpecs specs.now }
+    requires few { length rows.now < 2 ^ 32 }
+    requires first { first ≤ length rows.now }
+    ensures { IfOk result (λ v. AreCoursesFrom specs.now first (drop first rows.now) stretches.now
+        v.items) }
+{
+    let count = rows.len() - first;
+    let mut finder = Finder::new(alloc, specs, count)?;
+    let mut courses = empty(alloc, specs.len(), (count / 16).min(MOST_ROOM))?;
+    let mut next = first;
     for stretch in stretches {
         next = add_stretch(
             specs,
@@ -206,6 +224,14 @@ pub fn count_before(rows: &[Row], tenth: u32) -> usize
         }
     }
     rows.len()
+}
+
+/// The same of rows in order, by halves.
+pub(crate) fn rows_before(rows: &[Row], tenth: u32) -> usize
+    ensures count { (f t : ℕ) → RowsIn f t rows.now → result ≡ count_before tenth rows.now }
+    ensures within { result ≤ length rows.now }
+{
+    rows.partition_point(|row| row.at < tenth)
 }
 
 // A gap for each channel.

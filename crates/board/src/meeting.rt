@@ -1,55 +1,50 @@
-// The states of a channel before an hour, from other states after it than before: its moves are
-// walked back with the new and with the old side by side until the two meet.
-ghost use Rattle.std.specs.Prelude.{◌≡◌, ◌↔◌, ℕ, pos, ◌<ℤ◌, length};
+// The states of a channel before the last moves of an hour, from two answers about those after it:
+// the moves are walked back with both side by side until the two meet.
+ghost use Rattle.std.specs.Prelude.{◌≡◌, IsTrue, IfSome, length};
 ghost use Rattle.channel_tables.specs.Spec.{IsSpec, rules_of};
-ghost use Rattle.reach.specs.Runs.{State};
-ghost use Rattle.reach.specs.Ahead.{Admits};
-ghost use Rattle.channel_path.specs.Walks.{InOrder, BeforeMoves};
-ghost use Rattle.channel_path.specs.Places.{EntersBefore};
+ghost use Rattle.channel_path.specs.Walks.{InOrder};
+ghost use Rattle.board.specs.Places.{IsEndOf};
+ghost use Rattle.board.specs.Hours.{AreAlike};
 
-use crate::aheads::lower_before;
 use channel_path::{Move, walk_ahead};
 use channel_tables::{Spec, machine_of};
+use gap_map::Stretch;
 use reach::Ahead;
 
-// So many moves at most are walked back side by side.
-const NEAR: usize = 12;
+// So many tenths at the end of an hour are walked back with both.
+const NEAR: u32 = 1_800;
 
-/// The same as `ahead_before`, where from `was_after` came `was_before`: once the two are equal on
-/// the way back, the rest is as it was.
-pub(crate) fn ahead_meeting(
-    spec: &Spec,
-    after: &Ahead,
-    was_after: &Ahead,
-    was_before: &Ahead,
-    moves: &[Move],
-    first: u32,
-) -> Ahead
+/// The end of the last stretch, or all of it where it is shorter, if that stretch is known.
+pub(crate) fn known_end(stretches: &[Stretch]) -> Option<Stretch>
+    ensures { IfSome result (λ s. IsEndOf stretches.now s) }
+{
+    let last = stretches.last()?;
+    if !last.known {
+        return None;
+    }
+    Some(Stretch {
+        from: last.from.max(last.to.saturating_sub(NEAR)),
+        to: last.to,
+        known: true,
+    })
+}
+
+/// Whether on the way back over these moves both come to admit the same states.
+pub(crate) fn meets(spec: &Spec, after: &Ahead, was_after: &Ahead, moves: &[Move]) -> bool
     requires fits { IsSpec spec.now }
     requires order { InOrder (rules_of spec.now) 0 moves.now }
     requires colours { length after.now ≡ (rules_of spec.now).colours }
     requires was_colours { length was_after.now ≡ (rules_of spec.now).colours }
-    requires was_width { length was_before.now ≡ (rules_of spec.now).colours }
-    requires was { (s : State) → Admits was_before.now s ↔ ((EntersBefore moves.now s
-        × BeforeMoves (rules_of spec.now) was_after.now moves.now s) × (s.entry <ℤ pos first)) }
-    ensures before { (s : State) → Admits result s ↔ ((EntersBefore moves.now s
-        × BeforeMoves (rules_of spec.now) after.now moves.now s) × (s.entry <ℤ pos first)) }
-    ensures colours { length result ≡ length after.now }
+    ensures { IsTrue result → AreAlike (rules_of spec.now) after.now was_after.now moves.now }
 {
     let machine = machine_of(spec);
     let mut now = after.copy();
     let mut was = was_after.copy();
-    let near = moves.len().saturating_sub(NEAR);
     let mut place = moves.len();
-    while place > near && !now.same(&was) {
+    while place > 0 && !now.same(&was) {
         walk_ahead(&machine, &mut now, &moves[place - 1..place]);
         walk_ahead(&machine, &mut was, &moves[place - 1..place]);
         place -= 1;
     }
-    if now.same(&was) {
-        return was_before.copy();
-    }
-    walk_ahead(&machine, &mut now, &moves[..place]);
-    lower_before(&mut now, first);
-    now
+    now.same(&was)
 }

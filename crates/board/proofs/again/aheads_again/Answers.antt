@@ -7,7 +7,7 @@ use Rattle.board.specs.Logs.{no_spec, first_tenth, end_tenth}
 use Rattle.board.proofs.Among.{chosen_none, chosen_one, told, turn_is, turn_within}
 use Rattle.board.proofs.Hours.{moves_order}
 use Rattle.board.proofs.Keeping.{ahead_kept}
-use Rattle.board.proofs.Plain.{aheads_push, before_hour, hour_before}
+use Rattle.board.proofs.Plain.{aheads_push, before_hour}
 use Rattle.board.proofs.Starting.{widths_more}
 use Rattle.board.proofs.Viewing.{element}
 use Rattle.board.proofs.Within.{hour_rows}
@@ -17,13 +17,13 @@ pub loop-i-preserved-then-not-index : goal.loop-i-preserved-then-not-index
 loop-i-preserved-then-not-index c =
     let specs = c.args.specs.now in let rows = c.args.rows.now in let ss = c.args.stretches.now in let after = c.args.after.now in
     let was_before = c.args.was_before.now in
-    let others = c.in_ok-others.others.items in
+    let others = c.in_ok-others-2.others.items in
     let i = c.loop-i.i in
     let inv = c.loop-i.invariant in
     let lt = c.loop-i-test.true in
     let new = c.copy.result in
     let items : c.push.new.self.items ≡ c.loop-i.aheads.items ++ new ∷ [] = c.in_ok-push.ensures.items in
-    let lo : i < length others = (let l = c.in_ok-others.ensures.count in let t = c.loop-i-test.true in omega arith) in
+    let lo : i < length others = (let l = c.in_ok-others-2.ensures.count in let t = c.loop-i-test.true in omega arith) in
     let off : get_or others i false ≡ false = told others i c.index.result.now false lo c.index.ensures c.if-not-index.true in
     let lb : i < length was_before = (let l = c.requires.shape.0 in omega arith) in
     let old = c.copy.ensures ∙ element c.was_before.inside.aheads.items was_before i c.index-then-not-index.result.now [] c.was_before.view_is lb c.index-then-not-index.ensures in
@@ -33,78 +33,60 @@ loop-i-preserved-then-not-index c =
       rw items (length_push _ _ ∙ ap (λ n. n + 1) inv.0),
       inv.1 ∙ sym (chosen_none others i off),
       rw items (widths_more specs i spec c.loop-i.aheads.items new is inv.0 (width no_spec) inv.2),
-      λ h is_hour. rw items (aheads_push specs rows ss (first_tenth h) (end_tenth h) after i c.loop-i.aheads.items new inv.0 (inv.3 h is_hour) (ahead_kept specs rows ss (first_tenth h) (end_tenth h) c.args.was_after.now after was_before i new lt (c.requires.was h is_hour) (c.in_ok-others.ensures.same i lt off) old)),
+      λ h is_hour. rw items (aheads_push specs rows ss (first_tenth h) (end_tenth h) after i c.loop-i.aheads.items new inv.0 (inv.3 h is_hour) (ahead_kept specs rows ss h c.args.was_after.now after was_before i new is_hour lt (c.requires.was h is_hour) (c.in_ok-others-2.ensures.alike i no_spec lt off) old)),
     )
 
-pub index-requires-in-loop-i-4 : goal.index-requires-in-loop-i-4
-index-requires-in-loop-i-4 c =
-    let others = c.in_ok-others.others.items in
+pub index-requires-in-loop-i : goal.index-requires-in-loop-i
+index-requires-in-loop-i c =
+    let others = c.in_ok-others-2.others.items in
     let i = c.loop-i.i in
-    let lo : i < length others = (let l = c.in_ok-others.ensures.count in let t = c.loop-i-test.true in omega arith) in
+    let lo : i < length others = (let l = c.in_ok-others-2.ensures.count in let t = c.loop-i-test.true in omega arith) in
     let on : get_or others i false ≡ true = told others i c.index.result.now true lo c.index.ensures c.if-not-index.false in
-    let within : c.loop-i.next < length c.in_ok-courses.courses.items = turn_within c.args.specs.now others c.args.rows.now c.args.stretches.now c.in_ok-courses.courses.items i c.loop-i.next (rw c.deref.ensures.value at c.in_ok-courses.ensures) c.loop-i-test.true on c.loop-i.invariant.1 in
+    let within : c.loop-i.next < length c.in_ok-courses.courses.items = turn_within c.args.specs.now others 0 c.args.rows.now c.args.stretches.now c.in_ok-courses.courses.items i c.loop-i.next (rw c.deref.ensures.value at c.in_ok-courses.ensures) c.loop-i-test.true on c.loop-i.invariant.1 in
     search (rules, within)
 
-pub ahead_meeting-ahead-requires-clause-order : goal.ahead_meeting-ahead-requires-clause-order
-ahead_meeting-ahead-requires-clause-order c =
+pub ahead_before-requires-clause-order : goal.ahead_before-requires-clause-order
+ahead_before-requires-clause-order c =
     let specs = c.args.specs.now in let rows = c.args.rows.now in let ss = c.args.stretches.now in
-    let others = c.in_ok-others.others.items in
+    let others = c.in_ok-others-2.others.items in
     let i = c.loop-i.i in
-    let lo : i < length others = (let l = c.in_ok-others.ensures.count in let t = c.loop-i-test.true in omega arith) in
+    let lo : i < length others = (let l = c.in_ok-others-2.ensures.count in let t = c.loop-i-test.true in omega arith) in
     let on : get_or others i false ≡ true = told others i c.index.result.now true lo c.index.ensures c.if-not-index.false in
     let spec = get_or specs i no_spec in
-    let moves = turn_is specs others rows ss c.in_ok-courses.courses.items i c.loop-i.next c.index-in-loop-i-4.result.now (rw c.deref.ensures.value at c.in_ok-courses.ensures) c.loop-i-test.true on c.loop-i.invariant.1 c.index-in-loop-i-4.ensures no_spec in
+    let moves = turn_is specs others 0 rows ss c.in_ok-courses.courses.items i c.loop-i.next c.index-in-loop-i.result.now (rw c.deref.ensures.value at c.in_ok-courses.ensures) c.loop-i-test.true on c.loop-i.invariant.1 c.index-in-loop-i.ensures no_spec in
     let order = moves_order spec rows ss c.requires.hour.0 c.requires.hour.1 in
-    rw (c.moves.ensures, moves) (earlier_low (rules_of spec) 0 (first_tenth c.requires.hour.0) _ (omega arith) order)
-
-pub ahead_meeting-ahead-requires-clause-was : goal.ahead_meeting-ahead-requires-clause-was
-ahead_meeting-ahead-requires-clause-was c =
-    let specs = c.args.specs.now in let rows = c.args.rows.now in let ss = c.args.stretches.now in
-    let was_after = c.args.was_after.now in let was_before = c.args.was_before.now in
-    let others = c.in_ok-others.others.items in
-    let i = c.loop-i.i in
-    let t = c.loop-i-test.true in
-    let lo : i < length others = (let l = c.in_ok-others.ensures.count in omega arith) in
-    let on : get_or others i false ≡ true = told others i c.index.result.now true lo c.index.ensures c.if-not-index.false in
-    let spec = get_or specs i no_spec in
-    let (h, is) = c.requires.hour in
-    let la : i < length was_after = (let l = c.requires.was_shape.0 in omega arith) in
-    let lb : i < length was_before = (let l = c.requires.shape.0 in omega arith) in
-    let old = element c.was_after.inside.aheads.items was_after i c.index-in-loop-i-2.result.now [] c.was_after.view_is la c.index-in-loop-i-2.ensures in
-    let new = element c.was_before.inside.aheads.items was_before i c.index-in-loop-i-3.result.now [] c.was_before.view_is lb c.index-in-loop-i-3.ensures in
-    let moves = turn_is specs others rows ss c.in_ok-courses.courses.items i c.loop-i.next c.index-in-loop-i-4.result.now (rw c.deref.ensures.value at c.in_ok-courses.ensures) t on c.loop-i.invariant.1 c.index-in-loop-i-4.ensures no_spec in
-    hour_before specs rows ss i spec no_spec c.moves.result.now was_after c.index-in-loop-i-2.result.now c.index-in-loop-i-3.result.now c.first_of-first.result (get_or_default specs i no_spec no_spec t) (c.moves.ensures ∙ moves) old (first_tenth h) (end_tenth h) (c.first_of-first.ensures (first_tenth h) (end_tenth h) is.follow (omega arith)) is.follow (hour_rows h rows ss is) (rw new (c.requires.was h is i t).1)
+    rw (c.moves-moves.ensures, moves) (earlier_low (rules_of spec) 0 (first_tenth c.requires.hour.0) _ (omega arith) order)
 
 pub overflow_add-next : goal.overflow_add-next
 overflow_add-next c =
-    let others = c.in_ok-others.others.items in
+    let others = c.in_ok-others-2.others.items in
     let i = c.loop-i.i in
-    let lo : i < length others = (let l = c.in_ok-others.ensures.count in let t = c.loop-i-test.true in omega arith) in
+    let lo : i < length others = (let l = c.in_ok-others-2.ensures.count in let t = c.loop-i-test.true in omega arith) in
     let on : get_or others i false ≡ true = told others i c.index.result.now true lo c.index.ensures c.if-not-index.false in
-    let within : c.loop-i.next < length c.in_ok-courses.courses.items = turn_within c.args.specs.now others c.args.rows.now c.args.stretches.now c.in_ok-courses.courses.items i c.loop-i.next (rw c.deref.ensures.value at c.in_ok-courses.ensures) c.loop-i-test.true on c.loop-i.invariant.1 in
+    let within : c.loop-i.next < length c.in_ok-courses.courses.items = turn_within c.args.specs.now others 0 c.args.rows.now c.args.stretches.now c.in_ok-courses.courses.items i c.loop-i.next (rw c.deref.ensures.value at c.in_ok-courses.ensures) c.loop-i-test.true on c.loop-i.invariant.1 in
     search (rules, within)
 
 pub loop-i-preserved : goal.loop-i-preserved
 loop-i-preserved c =
     let specs = c.args.specs.now in let rows = c.args.rows.now in let ss = c.args.stretches.now in let after = c.args.after.now in
-    let others = c.in_ok-others.others.items in
+    let others = c.in_ok-others-2.others.items in
     let i = c.loop-i.i in
     let inv = c.loop-i.invariant in
     let lt = c.loop-i-test.true in
-    let lo : i < length others = (let l = c.in_ok-others.ensures.count in let t = c.loop-i-test.true in omega arith) in
+    let lo : i < length others = (let l = c.in_ok-others-2.ensures.count in let t = c.loop-i-test.true in omega arith) in
     let on : get_or others i false ≡ true = told others i c.index.result.now true lo c.index.ensures c.if-not-index.false in
-    let new = c.ahead_meeting-ahead.result in
+    let new = c.ahead_before.result in
     let items : c.push-in-loop-i.new.self.items ≡ c.loop-i.aheads.items ++ new ∷ [] = c.in_ok-push-2.ensures.items in
     let la : i < length after = (let l = c.requires.after.0 in omega arith) in
-    let old = element c.after.inside.aheads.items after i c.index-in-loop-i.result.now [] c.after.view_is la c.index-in-loop-i.ensures in
+    let old = element c.after.inside.aheads.items after i c.index-in-loop-i-2.result.now [] c.after.view_is la c.index-in-loop-i-2.ensures in
     let spec = get_or specs i no_spec in
     let is = λ (d : Spec). get_or_default specs i no_spec d lt in
-    let moves = turn_is specs others rows ss c.in_ok-courses.courses.items i c.loop-i.next c.index-in-loop-i-4.result.now (rw c.deref.ensures.value at c.in_ok-courses.ensures) lt on inv.1 c.index-in-loop-i-4.ensures no_spec in
-    let width = c.ahead_meeting-ahead.ensures.colours ∙ (ap length old ∙ (c.requires.after.1 i no_spec lt)) in (
+    let moves = turn_is specs others 0 rows ss c.in_ok-courses.courses.items i c.loop-i.next c.index-in-loop-i.result.now (rw c.deref.ensures.value at c.in_ok-courses.ensures) lt on inv.1 c.index-in-loop-i.ensures no_spec in
+    let width = c.ahead_before.ensures.colours ∙ (ap length old ∙ (c.requires.after.1 i no_spec lt)) in (
       rw items (length_push _ _ ∙ ap (λ n. n + 1) inv.0),
       ap (λ n. n + 1) inv.1 ∙ sym (chosen_one others i on),
       rw items (widths_more specs i spec c.loop-i.aheads.items new is inv.0 width inv.2),
-      λ h is_hour. rw items (aheads_push specs rows ss (first_tenth h) (end_tenth h) after i c.loop-i.aheads.items new inv.0 (inv.3 h is_hour) (width ∙ ap (λ s. (rules_of s).colours) (is no_spec), before_hour specs rows ss i spec no_spec c.moves.result.now after c.index-in-loop-i.result.now new c.first_of-first.result (is no_spec) (c.moves.ensures ∙ moves) old c.ahead_meeting-ahead.ensures.before (first_tenth h) (end_tenth h) (c.first_of-first.ensures (first_tenth h) (end_tenth h) is_hour.follow (omega arith)) is_hour.follow (hour_rows h rows ss is_hour))),
+      λ h is_hour. rw items (aheads_push specs rows ss (first_tenth h) (end_tenth h) after i c.loop-i.aheads.items new inv.0 (inv.3 h is_hour) (width ∙ ap (λ s. (rules_of s).colours) (is no_spec), before_hour specs rows ss i spec no_spec c.moves-moves.result.now after c.index-in-loop-i-2.result.now new c.first_of-first.result (is no_spec) (c.moves-moves.ensures ∙ moves) old c.ahead_before.ensures.before (first_tenth h) (end_tenth h) (c.first_of-first.ensures (first_tenth h) (end_tenth h) is_hour.follow (omega arith)) is_hour.follow (hour_rows h rows ss is_hour))),
     )
 
 pub returns-clause-before : goal.returns-clause-before

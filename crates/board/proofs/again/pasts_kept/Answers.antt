@@ -38,12 +38,12 @@ loop-i-preserved-then-not-others-i c =
 
 pub index-requires-in-loop-i-2 : goal.index-requires-in-loop-i-2
 index-requires-in-loop-i-2 c =
-    let within : c.loop-i.next < length c.in_ok-courses.courses.items = turn_within c.args.specs.now c.args.others.now c.args.rows.now c.args.stretches.now c.in_ok-courses.courses.items c.loop-i.i c.loop-i.next c.in_ok-courses.ensures c.loop-i-test.true c.if-not-others-i.false c.loop-i.invariant.next in
+    let within : c.loop-i.next < length c.in_ok-courses.courses.items = turn_within c.args.specs.now c.args.others.now 0 c.args.rows.now c.args.stretches.now c.in_ok-courses.courses.items c.loop-i.i c.loop-i.next c.in_ok-courses.ensures c.loop-i-test.true c.if-not-others-i.false c.loop-i.invariant.next in
     search (rules, within)
 
 pub overflow_add-next : goal.overflow_add-next
 overflow_add-next c =
-    let within : c.loop-i.next < length c.in_ok-courses.courses.items = turn_within c.args.specs.now c.args.others.now c.args.rows.now c.args.stretches.now c.in_ok-courses.courses.items c.loop-i.i c.loop-i.next c.in_ok-courses.ensures c.loop-i-test.true c.if-not-others-i.false c.loop-i.invariant.next in
+    let within : c.loop-i.next < length c.in_ok-courses.courses.items = turn_within c.args.specs.now c.args.others.now 0 c.args.rows.now c.args.stretches.now c.in_ok-courses.courses.items c.loop-i.i c.loop-i.next c.in_ok-courses.ensures c.loop-i-test.true c.if-not-others-i.false c.loop-i.invariant.next in
     search (rules, within)
 
 pub walk_spec-requires-clause-order : goal.walk_spec-requires-clause-order
@@ -52,7 +52,7 @@ walk_spec-requires-clause-order c =
     let i = c.loop-i.i in
     let lb : i < length before = (let l = c.requires.before.0 in let t = c.loop-i-test.true in omega arith) in
     let old : c.in_ok-past-2.past ≡ get_or before i [] = c.in_ok-past-2.ensures ∙ element c.before-2.inside.pasts.items before i c.index-in-loop-i.result.now [] c.before-2.view_is lb c.index-in-loop-i.ensures in
-    let moves = c.moves.ensures ∙ turn_is specs c.args.others.now rows ss c.in_ok-courses.courses.items i c.loop-i.next c.index-in-loop-i-2.result.now c.in_ok-courses.ensures c.loop-i-test.true c.if-not-others-i.false c.loop-i.invariant.next c.index-in-loop-i-2.ensures no_spec in
+    let moves = c.moves.ensures ∙ turn_is specs c.args.others.now 0 rows ss c.in_ok-courses.courses.items i c.loop-i.next c.index-in-loop-i-2.result.now c.in_ok-courses.ensures c.loop-i-test.true c.if-not-others-i.false c.loop-i.invariant.next c.index-in-loop-i-2.ensures no_spec in
     let (h, is, early) = c.requires.hour in
     (first_tenth h, rw old (early i), rw moves (moves_order (get_or specs i no_spec) rows ss h is))
 
@@ -76,7 +76,7 @@ loop-i-preserved c =
     let old : c.in_ok-past-2.past ≡ get_or before i [] = c.in_ok-past-2.ensures ∙ element c.before-2.inside.pasts.items before i c.index-in-loop-i.result.now [] c.before-2.view_is lb c.index-in-loop-i.ensures in
     let spec = get_or specs i no_spec in
     let is = λ (d : Spec). get_or_default specs i no_spec d lt in
-    let moves = c.moves.ensures ∙ turn_is specs c.args.others.now rows ss c.in_ok-courses.courses.items i c.loop-i.next c.index-in-loop-i-2.result.now c.in_ok-courses.ensures lt c.if-not-others-i.false inv.next c.index-in-loop-i-2.ensures no_spec in
+    let moves = c.moves.ensures ∙ turn_is specs c.args.others.now 0 rows ss c.in_ok-courses.courses.items i c.loop-i.next c.index-in-loop-i-2.result.now c.in_ok-courses.ensures lt c.if-not-others-i.false inv.next c.index-in-loop-i-2.ensures no_spec in
     let walked = rw moves at c.in_ok-here.ensures.after in
     let stops = walked_stops (rules_of spec) c.in_ok-past-2.past _ c.walk_spec.new.past c.in_ok-here.here walked in
     let width = c.clamp_past.ensures.0 ∙ (c.in_ok-here.ensures.colours ∙ ap length old) in

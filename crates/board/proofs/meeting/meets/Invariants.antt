@@ -1,7 +1,7 @@
-use Rattle.std.proofs.Common.{◌≡◌, ◌≤◌, ◌-◌, length, drop}
+use Rattle.std.proofs.Common.{◌≡◌, ◌≤◌, length, drop}
 use Rattle.channel_tables.specs.Spec.{rules_of}
 use Rattle.board.proofs.Back.{IsBack}
-use Rattle.board.proofs.meeting.ahead_meeting.Given as goal
+use Rattle.board.proofs.meeting.meets.Given as goal
 
 abbrev pub invariant-loop-place : goal.invariant-loop-place
 invariant-loop-place l = record {
@@ -13,4 +13,4 @@ invariant-loop-place l = record {
 }
 
 abbrev pub decreases-loop-place : goal.decreases-loop-place
-decreases-loop-place l = l.place - l.near
+decreases-loop-place l = l.place

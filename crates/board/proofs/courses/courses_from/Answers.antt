@@ -1,7 +1,7 @@
 use Rattle.std.proofs.Common.{rules, arith, ◌∙◌, [], ◌++◌, length-drop, ◌≡◌, length, drop, take, get_or}
 use Rattle.board.proofs.Adding.{count_le, stretch_turn, stretches_done, written_back, no_stretch}
 use Rattle.board.proofs.Few.{few_specs}
-use Rattle.board.proofs.courses.courses_of.Goals as goal
+use Rattle.board.proofs.courses.courses_from.Goals as goal
 use Rattle.board.specs.Channels.{track}
 
 pub new-requires : goal.new-requires

@@ -101,8 +101,8 @@ pub(crate) fn way_over(
     courses: Option<&Courses>,
 ) -> Result<UnderWay, NoMemory>
     requires shape { AreBefore config.now.specs before.now.pasts }
-    requires courses { IfSome (option_copied courses) (AreCoursesOver config.now.specs place.now.hour
-        place.now.rows place.now.blanks) }
+    requires courses { IfSome (option_copied courses) (AreCoursesOver config.now.specs
+        place.now.hour place.now.rows place.now.blanks) }
     ensures way { IfOk result (λ w. (s : Store) → HasPlace s place.now
         → IsCarryAt config.now s place.now.hour before.now
         → AreUnderWayAt config.now s (place.now.hour + 1) w) }

@@ -116,8 +116,8 @@ pub fn carry_over(
     courses: Option<&Courses>,
     pasts: Pasts,
 ) -> Result<Carry, NoMemory>
-    requires courses { IfSome (option_copied courses) (AreCoursesOver config.now.specs place.now.hour
-        place.now.rows place.now.blanks) }
+    requires courses { IfSome (option_copied courses) (AreCoursesOver config.now.specs
+        place.now.hour place.now.rows place.now.blanks) }
     requires before { AreBefore config.now.specs before.now.pasts }
     requires over { ArePastsOver config.now.specs place.now.hour place.now.rows place.now.blanks
         before.now.pasts pasts }

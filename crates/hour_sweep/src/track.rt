@@ -138,8 +138,11 @@ impl<T: Track> Watch for Tracked<T, T::Out> {
     }
 }
 
-// The parts before the first row, which have given nothing.
-fn tracked_of<T: Track>(alloc: Global, parts: &[Option<T>]) -> Result<Tracked<T, T::Out>, NoMemory>
+/// The parts before the first row, which have given nothing.
+pub fn tracked_of<T: Track>(
+    alloc: Global,
+    parts: &[Option<T>],
+) -> Result<Tracked<T, T::Out>, NoMemory>
     ensures { IfOk result (λ t. t ≡ record { parts = parts.now; outs = [] }) }
 {
     Ok(Tracked {

@@ -1,5 +1,5 @@
 -- The hour's numbers and the next point's carry.
-use Rattle.std.proofs.Common.{◌≡◌, ℕ, ◌+◌, ◌<◌, Bool, true, false, List, [], ◌++◌, Option, get_or, refl, ap, sym, subst, ◌∙◌, arith}
+use Rattle.std.proofs.Common.{◌≡◌, ℕ, ◌+◌, ◌<◌, Bool, true, false, List, [], ◌++◌, Option, get_or, refl, ap, subst, ◌∙◌, arith}
 use Rattle.std.proofs.lemmas.List.Elements.{All-nil, All-append, All-weaker, All-filter}
 use Rattle.sig_base.specs.declared.values.Row.{Row}
 use Rattle.sig_base.specs.Numbers.{has_number}
@@ -8,10 +8,11 @@ use Rattle.gap_map.specs.Stretches.{FollowOn}
 use Rattle.hour_sweep.specs.Sums.{AreSums}
 use Rattle.hour_sweep.specs.Rows.{known_rows}
 use Rattle.hour_sweep.specs.Hours.{AreOrdered, IsHour, point}
-use Rattle.hour_sweep.specs.Passes.{swept}
+use Rattle.hour_sweep.specs.Passes.{both_after, both_cleared, swept}
 use Rattle.hour_sweep.specs.Numbers.{Tracking, tracking_after, tracking_cleared, IsTracked}
 use Rattle.hour_sweep.proofs.Orders.{rise_ordered, below_end}
 use Rattle.hour_sweep.proofs.Laws.{hour_tracked}
+use Rattle.hour_sweep.proofs.Pairs.{swept_both}
 use Rattle.hour_sweep.proofs.Counted.{outs_from-append}
 use Rattle.board.specs.Logs.{HourLog, first_tenth, end_tenth}
 use Rattle.hour_sweep.proofs.Common.{next_point}
@@ -35,36 +36,36 @@ use Rattle.other_measures.proofs.PedLaws.{ped_tracks}
 use Rattle.other_measures.proofs.PreemptLaws.{preempt_tracks}
 use Rattle.other_measures.proofs.Starts.{number_low}
 
-pub peds_tracked : (known : ℕ → Bool) (c : Settings) (before : List Row) (hour : ℕ) (rows : List Row) (ss : List Stretch) (carry : Crossing) (start : List (Option PedPart)) (end : Tracking PedPart Delay) → carry.peds ≡ start → end ≡ swept (tracking_after ped_after delay_by) (tracking_cleared ped_cleared) ss rows (record { parts = start; outs = [] }) → IsHour known hour rows ss → IsCarry known c before hour carry → IsTracked known (ped_of known) (delay_at known) (has_number c.peds) (places c.peds) before rows (point hour + 36000) end.outs end.parts
-peds_tracked known c before hour rows ss carry start end same e h is =
-    let or = rise_ordered (point hour) (point hour + 36000) rows (omega arith) h.are_rows.rise in
-    hour_tracked known (ped_of known) ped_after ped_cleared (delay_at known) delay_by (ped_tracks known) (has_number c.peds) (places c.peds) (number_low c.peds) before (point hour) (point hour + 36000) rows ss start end e h.are_stretches or is.earlier (sym same ∙ is.peds_are)
+-- what an hour's rows give in pedestrian signals, and in preempts
+abbrev PedsTracked : (ℕ → Bool) → Settings → List Row → ℕ → List Row → Tracking PedPart Delay → Type 0
+PedsTracked known c before hour rows t = IsTracked known (ped_of known) (delay_at known) (has_number c.peds) (places c.peds) before rows (point hour + 36000) t.outs t.parts
 
-pub preempts_tracked : (known : ℕ → Bool) (c : Settings) (before : List Row) (hour : ℕ) (rows : List Row) (ss : List Stretch) (carry : Crossing) (start : List (Option PreemptPart)) (end : Tracking PreemptPart PreemptEvent) → carry.preempts ≡ start → end ≡ swept (tracking_after preempt_after event_by) (tracking_cleared preempt_cleared) ss rows (record { parts = start; outs = [] }) → IsHour known hour rows ss → IsCarry known c before hour carry → IsTracked known (preempt_of known) (event_at known) (has_number c.preempts) (places c.preempts) before rows (point hour + 36000) end.outs end.parts
-preempts_tracked known c before hour rows ss carry start end same e h is =
-    let or = rise_ordered (point hour) (point hour + 36000) rows (omega arith) h.are_rows.rise in
-    hour_tracked known (preempt_of known) preempt_after preempt_cleared (event_at known) event_by (preempt_tracks known) (has_number c.preempts) (places c.preempts) (number_low c.preempts) before (point hour) (point hour + 36000) rows ss start end e h.are_stretches or is.earlier (sym same ∙ is.preempts_are)
+abbrev PreemptsTracked : (ℕ → Bool) → Settings → List Row → ℕ → List Row → Tracking PreemptPart PreemptEvent → Type 0
+PreemptsTracked known c before hour rows t = IsTracked known (preempt_of known) (event_at known) (has_number c.preempts) (places c.preempts) before rows (point hour + 36000) t.outs t.parts
 
-pub carry_is : (known : ℕ → Bool) (c : Settings) (before : List Row) (hour : ℕ) (rows : List Row) (ss : List Stretch) (carry : Crossing) (ps : List (Option PedPart)) (ds : List Delay) (qs : List (Option PreemptPart)) (es : List PreemptEvent) → IsHour known hour rows ss → IsCarry known c before hour carry
-    → IsTracked known (ped_of known) (delay_at known) (has_number c.peds) (places c.peds) before rows (point hour + 36000) ds ps → IsTracked known (preempt_of known) (event_at known) (has_number c.preempts) (places c.preempts) before rows (point hour + 36000) es qs
-    → IsCarry known c (before ++ known_rows known rows) (hour + 1) (record { peds = ps; preempts = qs })
-carry_is known c before hour rows ss carry ps ds qs es h is a b =
+-- both in one pass, from what crosses the point before the hour
+pub others_tracked : (rows : List Row) (ss : List Stretch) (carry : Crossing) (s : Tracking PedPart Delay) (t : Tracking PreemptPart PreemptEvent) (start end : Tracking PedPart Delay × Tracking PreemptPart PreemptEvent) → s ≡ record { parts = carry.peds; outs = [] } → t ≡ record { parts = carry.preempts; outs = [] } → start ≡ (s, t)
+    → end ≡ swept (both_after (tracking_after ped_after delay_by) (tracking_after preempt_after event_by)) (both_cleared (tracking_cleared ped_cleared) (tracking_cleared preempt_cleared)) ss rows start
+    → (known : ℕ → Bool) (c : Settings) (before : List Row) (hour : ℕ) → IsHour known hour rows ss → IsCarry known c before hour carry → PedsTracked known c before hour rows end.0 × PreemptsTracked known c before hour rows end.1
+others_tracked rows ss carry s t start end es et e passed known c before hour h is =
+    let or = rise_ordered (point hour) (point hour + 36000) rows (omega arith) h.are_rows.rise in
+    let apart = passed ∙ rw (e, es, et) (swept_both (tracking_after ped_after delay_by) (tracking_after preempt_after event_by) (tracking_cleared ped_cleared) (tracking_cleared preempt_cleared) ss rows (record { parts = carry.peds; outs = [] }) (record { parts = carry.preempts; outs = [] })) in (
+      hour_tracked known (ped_of known) ped_after ped_cleared (delay_at known) delay_by (ped_tracks known) (has_number c.peds) (places c.peds) (number_low c.peds) before (point hour) (point hour + 36000) rows ss carry.peds end.0 (ap (λ p. p.0) apart) h.are_stretches or is.earlier is.peds_are,
+      hour_tracked known (preempt_of known) preempt_after preempt_cleared (event_at known) event_by (preempt_tracks known) (has_number c.preempts) (places c.preempts) (number_low c.preempts) before (point hour) (point hour + 36000) rows ss carry.preempts end.1 (ap (λ p. p.1) apart) h.are_stretches or is.earlier is.preempts_are,
+    )
+
+pub carry_by : (known : ℕ → Bool) (c : Settings) (before : List Row) (hour : ℕ) (rows : List Row) (ss : List Stretch) (carry : Crossing) (s : Tracking PedPart Delay) (t : Tracking PreemptPart PreemptEvent) (ps : List (Option PedPart)) (qs : List (Option PreemptPart)) → IsHour known hour rows ss → IsCarry known c before hour carry → ps ≡ s.parts → qs ≡ t.parts
+    → PedsTracked known c before hour rows s × PreemptsTracked known c before hour rows t → IsCarry known c (before ++ known_rows known rows) (hour + 1) (record { peds = ps; preempts = qs })
+carry_by known c before hour rows ss carry s t ps qs h is e f (a, b) =
     let seen = known_rows known rows in
     let or = rise_ordered (point hour) (point hour + 36000) rows (omega arith) h.are_rows.rise in
     let lower = All-weaker (λ (x : Row). x.at < point hour) (λ x. x.at < point (hour + 1)) (λ x l. omega arith) before is.earlier in
     let below = All-weaker (λ (x : Row). x.at < point hour + 36000) (λ x. x.at < point (hour + 1)) (λ x l. omega arith) seen (All-filter (λ (x : Row). known x.at) (λ x. x.at < point hour + 36000) rows (below_end (point hour) (point hour + 36000) rows or)) in
     record {
       earlier = All-append (λ (x : Row). x.at < point (hour + 1)) before seen lower below;
-      peds_are = a.parts_are ∙ ap (λ u. peds_of known u c (before ++ seen)) (next_point hour);
-      preempts_are = b.parts_are ∙ ap (λ u. preempts_of known u c (before ++ seen)) (next_point hour);
+      peds_are = e ∙ a.parts_are ∙ ap (λ u. peds_of known u c (before ++ seen)) (next_point hour);
+      preempts_are = f ∙ b.parts_are ∙ ap (λ u. preempts_of known u c (before ++ seen)) (next_point hour);
     }
-
--- from what the code has
-
-pub carry_by : (known : ℕ → Bool) (c : Settings) (before : List Row) (hour : ℕ) (rows : List Row) (ss : List Stretch) (carry : Crossing) (ps qp : List (Option PedPart)) (ds : List Delay) (qs rq : List (Option PreemptPart)) (es : List PreemptEvent) → IsHour known hour rows ss → IsCarry known c before hour carry → qp ≡ ps → rq ≡ qs
-    → IsTracked known (ped_of known) (delay_at known) (has_number c.peds) (places c.peds) before rows (point hour + 36000) ds ps → IsTracked known (preempt_of known) (event_at known) (has_number c.preempts) (places c.preempts) before rows (point hour + 36000) es qs
-    → IsCarry known c (before ++ known_rows known rows) (hour + 1) (record { peds = qp; preempts = rq })
-carry_by known c before hour rows ss carry ps qp ds qs rq es h is e f a b = rw (e, f) (carry_is known c before hour rows ss carry ps ds qs es h is a b)
 
 -- one number's sum, from the table
 

@@ -11,7 +11,6 @@ use Rattle.other_measures.specs.declared.preempts.PreemptEvent.{PreemptEvent}
 use Rattle.other_measures.specs.declared.sums.PedSum.{PedSum}
 use Rattle.other_measures.specs.declared.sums.PreemptSum.{PreemptSum}
 use Rattle.other_measures.specs.declared.sums.CoordSum.{CoordSum}
-use Rattle.other_measures.specs.declared.coordination.CodeCount.{CodeCount}
 use Rattle.other_measures.specs.Peds.{delay_at}
 use Rattle.other_measures.specs.Preempts.{event_at}
 use Rattle.other_measures.specs.Sums.{ped_sum_of, preempt_sum_of, delays_of, events_of, ped_added, preempt_added, coord_added}
@@ -29,9 +28,13 @@ events_from known c before rows = outs_from (event_at known) (has_number c.preem
 abbrev pub rows_with : ℕ → List Row → ℕ
 rows_with code rows = capped (count_by (λ x. x.code == code) rows)
 
--- one more row
-abbrev pub code_after : CodeCount → Row → CodeCount
-code_after s x = record s { count = if x.code == s.code then capped (s.count + 1) else s.count }
+-- how many rows have this code, after one more row
+abbrev pub code_after : ℕ → ℕ → Row → ℕ
+code_after code n x = if x.code == code then capped (n + 1) else n
+
+-- the counts of the coordination's rows, after one more row
+abbrev pub coord_after : CoordSum → Row → CoordSum
+coord_after s x = record s { patterns = code_after 131 s.patterns x; cycle_changes = code_after 132 s.cycle_changes x; yields = code_after 151 s.yields x; begins = code_after 152 s.begins x }
 
 -- the sum with these tenths of the pedestrian detector: on, and undecided
 abbrev pub with_detector : PedSum → ℕ → ℕ → PedSum

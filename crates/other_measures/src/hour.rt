@@ -7,7 +7,7 @@ ghost use Rattle.hour_sweep.specs.Hours.{IsHour};
 ghost use Rattle.board.specs.Logs.{HourLog, first_tenth};
 ghost use Rattle.ring_config.specs.Settings.{Settings};
 ghost use Rattle.other_measures.specs.Crossing.{IsCarry};
-ghost use Rattle.other_measures.specs.Hours.{AreNumbers, AreStates, HasDelays, HasEvents, delays_from, events_from, no_numbers, others_added, with_detector, with_states};
+ghost use Rattle.other_measures.specs.Hours.{AreNumbers, AreStates, HasDelays, HasEvents, HasRows, delays_from, events_from, no_numbers, others_added, with_detector, with_states};
 ghost use Rattle.other_measures.specs.States.{EachOf, HasDetector, HasStates, IsSeen, IsWhatIsSeen, MetBy};
 ghost use Rattle.detector_state.specs.States.{MeetsAt};
 
@@ -23,7 +23,7 @@ use board::HourView;
 use detector_state::Asked;
 use event_codes::{Channel, Kind};
 use gap_map::{Stretch, first_of};
-use hour_sweep::{Sum, add_each, track_both};
+use hour_sweep::{Both, Sum, add_each, sweep_both, tracked_of};
 use ring_config::Config;
 use sig_base::{NoMemory, Row, has_number};
 use std::alloc::Global;
@@ -197,12 +197,14 @@ fn preempt_sums(
     Ok(sums)
 }
 
-// What crosses the point after an hour, and the delays, entries and exits that end in it.
+// What crosses the point after an hour, the delays, entries and exits that end in it, and the
+// numbers of the coordination's rows.
 #[derive(Drop)]
 struct Tracked {
     carry: OtherCarry,
     delays: Vec<Delay>,
     events: Vec<PreemptEvent>,
+    counted: CoordSum,
 }
 
 // By whatever configuration the carry was kept.
@@ -224,8 +226,15 @@ fn track_others(
         (hour : ℕ) → IsHour known hour rows.now stretches.now
         → IsCarry known c before hour carry.now
         → t.events.items ≡ events_from known c before (known_rows known rows.now)) }
+    ensures counted { IfOk result (λ t. (known : ℕ → Bool) (hour : ℕ)
+        → IsHour known hour rows.now stretches.now
+        → HasRows (known_rows known rows.now) t.counted) }
 {
-    let (peds, preempts) = track_both(alloc, &carry.peds, &carry.preempts, rows, stretches)?;
+    let peds = tracked_of(alloc, &carry.peds)?;
+    let preempts = tracked_of(alloc, &carry.preempts)?;
+    let both = Both::of(peds, preempts);
+    let (both, counted) = sweep_both(both, no_coordination(), rows, stretches)?;
+    let (peds, preempts) = both.into_parts();
     let (peds, delays) = peds.into_parts();
     let (preempts, events) = preempts.into_parts();
     Ok(Tracked {
@@ -236,6 +245,7 @@ fn track_others(
         },
         delays,
         events,
+        counted,
     })
 }
 
@@ -266,10 +276,11 @@ fn over_hour(
         carry: next,
         delays,
         events,
+        counted,
     } = tracked;
     let peds = ped_sums(alloc, config, seen, &delays)?;
     let preempts = preempt_sums(alloc, config, seen, &events)?;
-    let coordination = coordination_of(config, seen, rows, stretches)?;
+    let coordination = coordination_of(config, seen, counted);
     *carry = next;
     Ok(OtherSums {
         peds,

@@ -7,7 +7,6 @@
 #![tactic(auto)]
 
 mod carry;
-mod coordination;
 mod coordination_sums;
 mod hour;
 mod last_rows;

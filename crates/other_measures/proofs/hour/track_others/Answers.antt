@@ -1,21 +1,20 @@
-use Rattle.std.proofs.Common.{ap, sym, ◌∙◌}
+use Rattle.std.proofs.Common.{[], ap, ◌∙◌}
 use Rattle.other_measures.specs.Crossing.{Crossing}
-use Rattle.other_measures.proofs.Hours.{peds_tracked, preempts_tracked, carry_by}
+use Rattle.other_measures.proofs.Hours.{others_tracked, carry_by}
+use Rattle.other_measures.proofs.Rows.{rows_counted}
 use Rattle.other_measures.proofs.hour.track_others.Goals as goal
 
-pub returns-clause-carry : goal.returns-clause-carry
-returns-clause-carry c = λ known cfg before hour h is.
+pub returns : goal.returns
+returns c =
     let rows = c.args.rows.now in
-    let peds = peds_tracked known cfg before hour rows c.args.stretches.now c.args.carry.now c.deref.result.now c.in_ok-peds.peds (sym (c.deref.ensures.value ∙ ap (λ (x : Crossing). x.peds) c.carry.view_is)) c.in_ok-peds.ensures.ones h is in
-    let preempts = preempts_tracked known cfg before hour rows c.args.stretches.now c.args.carry.now c.deref-2.result.now c.in_ok-peds.preempts (sym (c.deref-2.ensures.value ∙ ap (λ (x : Crossing). x.preempts) c.carry.view_is)) c.in_ok-peds.ensures.others h is in
-    carry_by known cfg before hour rows c.args.stretches.now c.args.carry.now c.in_ok-peds.peds.parts c.into_parts-peds.result.0.items c.in_ok-peds.peds.outs c.in_ok-peds.preempts.parts c.into_parts-preempts.result.0.items c.in_ok-peds.preempts.outs h is c.into_parts-peds.ensures.parts c.into_parts-preempts.ensures.parts peds preempts
-
-pub returns-clause-delays : goal.returns-clause-delays
-returns-clause-delays c = λ known cfg before hour h is.
-    let peds = peds_tracked known cfg before hour c.args.rows.now c.args.stretches.now c.args.carry.now c.deref.result.now c.in_ok-peds.peds (sym (c.deref.ensures.value ∙ ap (λ (x : Crossing). x.peds) c.carry.view_is)) c.in_ok-peds.ensures.ones h is in
-    c.into_parts-peds.ensures.outs ∙ peds.outs_are
-
-pub returns-clause-events : goal.returns-clause-events
-returns-clause-events c = λ known cfg before hour h is.
-    let preempts = preempts_tracked known cfg before hour c.args.rows.now c.args.stretches.now c.args.carry.now c.deref-2.result.now c.in_ok-peds.preempts (sym (c.deref-2.ensures.value ∙ ap (λ (x : Crossing). x.preempts) c.carry.view_is)) c.in_ok-peds.ensures.others h is in
-    c.into_parts-preempts.ensures.outs ∙ preempts.outs_are
+    let ss = c.args.stretches.now in
+    let carry = c.args.carry.now in
+    let peds = c.in_ok-peds.ensures ∙ ap (λ ps. record { parts = ps; outs = [] }) (c.deref.ensures.value ∙ ap (λ (x : Crossing). x.peds) c.carry.view_is) in
+    let preempts = c.in_ok-preempts.ensures ∙ ap (λ qs. record { parts = qs; outs = [] }) (c.deref-2.ensures.value ∙ ap (λ (x : Crossing). x.preempts) c.carry.view_is) in
+    let tracked = others_tracked rows ss carry c.in_ok-peds.peds c.in_ok-preempts.preempts c.of-both.result c.into_parts-peds.result peds preempts c.of-both.ensures (c.into_parts-peds.ensures ∙ c.in_ok-both.ensures.one) in
+    record {
+      carry = λ known cfg before hour h is. carry_by known cfg before hour rows ss carry c.into_parts-peds.result.0 c.into_parts-peds.result.1 c.into_parts-peds-2.result.0.items c.into_parts-preempts.result.0.items h is c.into_parts-peds-2.ensures.parts c.into_parts-preempts.ensures.parts (tracked known cfg before hour h is);
+      delays = λ known cfg before hour h is. c.into_parts-peds-2.ensures.outs ∙ (tracked known cfg before hour h is).0.outs_are;
+      events = λ known cfg before hour h is. c.into_parts-preempts.ensures.outs ∙ (tracked known cfg before hour h is).1.outs_are;
+      counted = λ known hour h. rows_counted known hour rows ss c.no_coordination.result c.in_ok-both.counted c.no_coordination.ensures c.in_ok-both.ensures.other h;
+    }

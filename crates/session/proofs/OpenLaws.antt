@@ -1,20 +1,15 @@
 -- How often hours are opened, call after call.
-use Rattle.std.proofs.Common.{◌≡◌, ◌∙◌, inl, inr, ℕ, zero, suc, ◌+◌, ◌-◌, ◌^◌, ◌<◌, ◌≤◌, ◌≢◌, min, List, length, length-set, get_or, get_or-set_same, get_or-set_other, Option, refl, sym, ap, subst, arith, Ok, Err}
+use Rattle.std.proofs.Common.{◌≡◌, ◌∙◌, inl, inr, ℕ, zero, suc, ◌+◌, ◌-◌, ◌^◌, ◌<◌, ◌≤◌, ◌≢◌, min, List, length, length-set, get_or, get_or-set_same, get_or-set_other, Option, refl, sym, ap, subst, arith}
 use Rattle.std.proofs.lemmas.Bool.{cases_lt}
 use Rattle.std.proofs.lemmas.List.{get_or_past}
 use Rattle.sig_base.specs.Reads.{Grow, one_more, raised}
-use Rattle.sig_base.specs.declared.values.Applied.{Applied}
-use Rattle.sig_base.specs.declared.values.EditError.{EditError}
 use Rattle.sig_base.specs.declared.values.Row.{Row}
 use Rattle.span_set.specs.declared.set.Span.{Span}
 use Rattle.channel_tables.specs.declared.spec.Spec.{Spec}
 use Rattle.hour_work.specs.declared.steps.ForwardError.{ForwardError}
 use Rattle.hour_work.specs.declared.steps.ForwardError.TheVariants.{Contradiction, Memory}
 use Rattle.hour_work.specs.Points.{NamesStop}
-use Rattle.session.specs.Edits.{Change}
-use Rattle.session.specs.Moved.{Touches}
-use Rattle.session.specs.Opens.{AreOpened, IsOpened, NamesRowOf, OpensBy, OpensToRow, count_after}
-use Rattle.session.specs.Sessions.{refusal_for}
+use Rattle.session.specs.Opens.{AreOpened, IsOpened, NamesRowOf, OpensToRow, count_after}
 
 -- ---- the count of one hour
 
@@ -199,12 +194,3 @@ opens_to first hour a b (Contradiction row) is p = subst (λ (h : ℕ). AreOpene
 opens_to first hour a b Memory is p = tt
 
 -- ---- an edit
-
-pub opens_made : (change : Change) (f t : ℕ) (moved : Applied) (a b : List ℕ) → moved.from ≡ f → moved.to ≡ t → AreOpened f t 1 3 a b → OpensBy change a b (Ok moved)
-unfolding OpensBy
-opens_made change f t moved a b fe te p = opened_as f moved.from t moved.to 1 3 a b (sym fe) (sym te) p
-
-pub opens_refused : (change : Change) (first last : ℕ) (a b : List ℕ) (e : ForwardError) (refusal : EditError) → refusal ≡ refusal_for e → Touches change first last → OpensToRow first a b e → OpensBy change a b (Err refusal)
-unfolding OpensBy
-opens_refused change first last a b (Contradiction row) refusal is touched p = rw is (first, last, touched, p)
-opens_refused change first last a b Memory refusal is touched p = rw is tt

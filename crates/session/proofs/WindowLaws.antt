@@ -14,7 +14,6 @@ use Rattle.board.specs.Logs.{end_tenth, first_tenth}
 use Rattle.ring_config.specs.Settings.{Settings}
 use Rattle.ring_config.specs.Sound.{IsSound}
 use Rattle.signal_log.specs.Log.{Log, log_of}
-use Rattle.signal_log.specs.Points.{ArePastsAt}
 use Rattle.rule_audit.specs.declared.rules.Rule.{Rule}
 use Rattle.rule_audit.specs.declared.lines.Place.{Place}
 use Rattle.rule_audit.specs.declared.lines.Place.TheVariants.{BeforeRow, EndOfTenth}
@@ -31,7 +30,7 @@ use Rattle.hour_work.specs.Points.{is_known_before}
 use Rattle.signal_log.specs.Rows.{hour_rows}
 use Rattle.hour_work.specs.Verdicts.{AreAuditLines, HasStoreVerdict, obligations_in, states_in}
 use Rattle.hour_work.proofs.PlacedLaws.{FitPlace, IsPlaced, all_placed, each_all, rules_fit}
-use Rattle.session.specs.HourLines.{AreLinesIn, HasOwnWindow, IsLineAfter, IsLineIn}
+use Rattle.session.specs.HourLines.{AreLinesIn, HasOwnWindow, IsLineIn}
 use Rattle.hour_work.specs.Counts.{is_broken}
 use Rattle.session.specs.Windows.{AreHourLines, AreWithWindows, HasWindow, with_window}
 
@@ -194,14 +193,6 @@ windows_turn c s before lines i done new w lt inv has en hour are =
     let step = one_more log rules rows (take i lines) done line w (inv hour are) has2 in
     let step2 = subst (λ (ls : List AuditLine). AreWithWindows log rules rows (take i lines ++ line ∷ []) ls) (sym en) step in
     subst (λ (ps : List AuditLine). AreWithWindows log rules rows ps new) (sym (take_more lines i no_line lt)) step2
-
--- a line of the hour is of its own one
-pub own_hour : (c : Settings) (s : Store) (hour : ℕ) (before : List (List (List Span))) (lines : List AuditLine) (i : ℕ) → i < length lines → AreLinesIn c s hour before lines → IsLineAfter c s before (get_or lines i no_line)
-own_hour c s hour before lines i lt are =
-    let line = get_or lines i no_line in
-    let mine : IsLineIn c s hour line = are.each i no_line lt in
-    let e = sym mine.in_hour in
-    (subst (λ (h : ℕ). ArePastsAt (log_of c.specs s) h before) e are.pasts, subst (λ (h : ℕ). IsLineIn c s h line) e mine)
 
 pub none_yet : (log : Log) (rules : List Rule) (rows : List Row) (ls : List AuditLine) → ls ≡ [] → AreWithWindows log rules rows [] ls
 none_yet log rules rows ls e = subst (λ (xs : List AuditLine). AreWithWindows log rules rows [] xs) (sym e) tt

@@ -1,9 +1,10 @@
 // Back over the hours that an edit changes.
-ghost use Rattle.std.specs.Prelude.{◌≡◌, ◌↔◌, ◌+◌, ◌-◌, ◌≤◌, ◌<◌, length, IfSome, IfOk, IsTrue};
+ghost use Rattle.std.specs.Prelude.{◌≡◌, ◌↔◌, ◌+◌, ◌-◌, ◌≤◌, ◌<◌, length, slice_index_or, IfSome, IfOk, IsTrue};
 ghost use Rattle.hour_store.specs.Store.{IsStore, Store, rows_at};
 ghost use Rattle.ring_config.specs.Settings.{Settings};
+ghost use Rattle.hour_work.specs.Numbers.{patched};
 ghost use Rattle.hour_work.specs.Points.{IsFutureAt};
-ghost use Rattle.session.specs.Links.{AreFuturesBut, Backs, BacksAt, IsGone};
+ghost use Rattle.session.specs.Links.{Ahead, AreFuturesBut, Backs, BacksAt, IsGone};
 ghost use Rattle.session.specs.Opens.{AreOpened};
 ghost use Rattle.session.specs.Renewed.{AreNewFutures};
 ghost use Rattle.sig_base.specs.Reads.{Grow};
@@ -11,10 +12,11 @@ ghost use Rattle.sig_base.specs.Reads.{Grow};
 use crate::steps::{Gone, future_again, future_before};
 use board::About;
 use hour_store::HourStore;
-use hour_work::{Future, pick};
+use hour_work::Future;
 use ring_config::Config;
 use sig_base::{Hour, NoMemory, Reads};
 use std::alloc::Global;
+use std::collections::VecDeque;
 
 // Whether all hours that are changed are passed, and nothing changes at the point before this one.
 fn is_passed(first: Hour, hour: Hour, next: &Future, kept: &Future) -> bool
@@ -82,6 +84,19 @@ fn previous_future<L>(
     future_again(alloc, config, store, hour, after, &was, reads)
 }
 
+// What is kept at the point, once these stand in its place and in that of those after it.
+fn first_or<'a>(kept: &'a [Future], point: usize, fresh: &'a VecDeque<Future>) -> &'a Future
+    requires room { point + length fresh.now.items ≤ length kept.now }
+    requires there { point < length kept.now }
+    ensures { (d : Ahead) → result.now
+        ≡ slice_index_or (patched kept.now point fresh.now.items) point d }
+{
+    match fresh.front() {
+        Some(first) => first,
+        None => &kept[point],
+    }
+}
+
 /// What is kept going back at the points up to the last hour that is changed, from the last one
 /// before the first hour at which nothing changes, or from the window's start.
 pub fn go_back<L>(
@@ -104,16 +119,16 @@ pub fn go_back<L>(
         reads.old reads.new) }
     ensures grow { Grow reads.old reads.new }
 {
-    let mut fresh = Vec::new(alloc);
+    let mut fresh = VecDeque::new(alloc);
     for hour in (0..last + 1).rev() {
         let place = hour as usize;
-        let after = pick(told.kept, place + 1, fresh.as_slice(), place + 1);
+        let after = first_or(told.kept, place + 1, &fresh);
         let next = previous_future(alloc, config, store, told, hour, after, reads)?;
         let done = is_passed(told.first, hour, &next, &told.kept[place]);
-        fresh.insert(0, next)?;
+        fresh.push_front(next)?;
         if done {
-            return Ok(fresh);
+            return Ok(fresh.into_vec());
         }
     }
-    Ok(fresh)
+    Ok(fresh.into_vec())
 }

@@ -11,9 +11,9 @@ loop-hour-init g c =
 
 pub previous_future-requires-clause-after : goal.previous_future-requires-clause-after
 previous_future-requires-clause-after g c =
-    let at = rw c.as_slice.ensures.value at c.pick-after.ensures in
+    let at = c.first_or-after.ensures in
     let fe : c.loop-hour.hour ≡ (c.loop-hour.hour - 1) + 1 = omega arith in
-    returning_here c.args.config.now c.args.store.now c.args.last c.args.told.now.kept.now c.loop-hour.fresh.items (c.loop-hour.hour - 1) c.loop-hour.hour c.pick-after.result.now fe c.loop-hour.invariant.returning at
+    returning_here c.args.config.now c.args.store.now c.args.last c.args.told.now.kept.now c.loop-hour.fresh.items (c.loop-hour.hour - 1) c.loop-hour.hour c.first_or-after.result.now fe c.loop-hour.invariant.returning at
 
 pub returns-in_err-next-clause-grow : goal.returns-in_err-next-clause-grow
 returns-in_err-next-clause-grow g c =
@@ -21,8 +21,8 @@ returns-in_err-next-clause-grow g c =
     let fe : c.loop-hour.hour ≡ (c.loop-hour.hour - 1) + 1 = omega arith in
     grow_opened _ _ _ _ _ _ (opened_before (c.loop-hour.hour - 1) (c.args.last + 1) _ _ _ (let n = c.loop-hour.invariant.size in let some = c.loop-hour.auto.hour in omega arith) (opened_as _ _ _ _ _ _ _ _ fe refl c.loop-hour.invariant.opens) c.previous_future.ensures.once)
 
-pub returns-in_err-insert-clause-grow : goal.returns-in_err-insert-clause-grow
-returns-in_err-insert-clause-grow g c =
+pub returns-in_err-push_front-clause-grow : goal.returns-in_err-push_front-clause-grow
+returns-in_err-push_front-clause-grow g c =
     let size = c.loop-hour.invariant.size in
     let fe : c.loop-hour.hour ≡ (c.loop-hour.hour - 1) + 1 = omega arith in
     grow_opened _ _ _ _ _ _ (opened_before (c.loop-hour.hour - 1) (c.args.last + 1) _ _ _ (let n = c.loop-hour.invariant.size in let some = c.loop-hour.auto.hour in omega arith) (opened_as _ _ _ _ _ _ _ _ fe refl c.loop-hour.invariant.opens) c.previous_future.ensures.once)
@@ -35,22 +35,22 @@ returns-then-done-clause-grow g c =
 
 pub loop-hour-preserved : goal.loop-hour-preserved
 loop-hour-preserved g c =
-    let at = rw c.as_slice.ensures.value at c.pick-after.ensures in
+    let at = c.first_or-after.ensures in
     let fe : c.loop-hour.hour ≡ (c.loop-hour.hour - 1) + 1 = omega arith in
     let within = c.requires.within in
     let low = c.loop-hour.auto.hour in
     let lt : c.loop-hour.hour - 1 < length c.args.store.now.hours = omega arith in
-    let p = returning_on c.args.config.now c.args.store.now c.args.last c.args.told.now.kept.now c.loop-hour.fresh.items c.insert.new.self.items (c.loop-hour.hour - 1) c.loop-hour.hour c.pick-after.result.now c.in_ok-next.next fe
-    c.requires.store c.requires.kept.size lt c.loop-hour.invariant.returning at c.in_ok-next.ensures.backs c.in_ok-insert.ensures.items in
+    let p = returning_on c.args.config.now c.args.store.now c.args.last c.args.told.now.kept.now c.loop-hour.fresh.items c.push_front.new.self.items (c.loop-hour.hour - 1) c.loop-hour.hour c.first_or-after.result.now c.in_ok-next.next fe
+    c.requires.store c.requires.kept.size lt c.loop-hour.invariant.returning at c.in_ok-next.ensures.backs c.in_ok-push_front.ensures.items in
     let size = c.requires.kept.size in
     let there : c.loop-hour.hour - 1 < length c.args.told.now.kept.now = omega arith in
-    let other = other_more c.args.told.now.first c.args.told.now.kept.now c.loop-hour.fresh.items c.insert.new.self.items (c.loop-hour.hour - 1) c.loop-hour.hour c.in_ok-next.next (get_or c.args.told.now.kept.now (c.loop-hour.hour - 1) c.index-told-place.result) fe there c.in_ok-insert.ensures.items
+    let other = other_more c.args.told.now.first c.args.told.now.kept.now c.loop-hour.fresh.items c.push_front.new.self.items (c.loop-hour.hour - 1) c.loop-hour.hour c.in_ok-next.next (get_or c.args.told.now.kept.now (c.loop-hour.hour - 1) c.index-told-place.result) fe there c.in_ok-push_front.ensures.items
     (λ d. get_or_default c.args.told.now.kept.now (c.loop-hour.hour - 1) c.index-told-place.result d there) (λ h. let z = c.if-done.ensures.1 h in cc) c.loop-hour.invariant.other in
     record { returning = p; size = p.size; other = other; opens = opened_before (c.loop-hour.hour - 1) (c.args.last + 1) _ _ _ (let n = c.loop-hour.invariant.size in let some = c.loop-hour.auto.hour in omega arith) (opened_as _ _ _ _ _ _ _ _ fe refl c.loop-hour.invariant.opens) c.previous_future.ensures.once }
 
 pub returns-then-done-clause-futures : goal.returns-then-done-clause-futures
 returns-then-done-clause-futures g c =
-    let at = rw c.as_slice.ensures.value at c.pick-after.ensures in
+    let at = c.first_or-after.ensures in
     let fe : c.loop-hour.hour ≡ (c.loop-hour.hour - 1) + 1 = omega arith in
     let within = c.requires.within in
     let low = c.loop-hour.auto.hour in
@@ -58,21 +58,21 @@ returns-then-done-clause-futures g c =
     let size = c.requires.kept.size in
     let there : c.loop-hour.hour - 1 < length c.args.told.now.kept.now = omega arith in
     let held = c.if-done.ensures.0 refl in
-    let p = returning_on c.args.config.now c.args.store.now c.args.last c.args.told.now.kept.now c.loop-hour.fresh.items c.insert.new.self.items (c.loop-hour.hour - 1) c.loop-hour.hour c.pick-after.result.now c.in_ok-next.next fe
-    c.requires.store size lt c.loop-hour.invariant.returning at c.in_ok-next.ensures.backs c.in_ok-insert.ensures.items in
+    let p = returning_on c.args.config.now c.args.store.now c.args.last c.args.told.now.kept.now c.loop-hour.fresh.items c.push_front.new.self.items (c.loop-hour.hour - 1) c.loop-hour.hour c.first_or-after.result.now c.in_ok-next.next fe
+    c.requires.store size lt c.loop-hour.invariant.returning at c.in_ok-next.ensures.backs c.in_ok-push_front.ensures.items in
     let n = p.size in
-    returning_done c.args.config.now c.args.store.now c.args.told.now.first c.args.last c.args.told.now.kept.now c.insert.new.self.items (c.loop-hour.hour - 1) _ (omega arith) held.0 c.requires.order within c.requires.kept p
-    (other_on c.args.told.now.first c.args.told.now.kept.now c.loop-hour.fresh.items c.insert.new.self.items (c.loop-hour.hour - 1) c.loop-hour.hour c.in_ok-next.next fe there c.in_ok-insert.ensures.items c.loop-hour.invariant.other)
-    (inr (returning_same c.args.told.now.kept.now c.loop-hour.fresh.items c.insert.new.self.items (c.loop-hour.hour - 1) c.in_ok-next.next (get_or c.args.told.now.kept.now (c.loop-hour.hour - 1) c.index-told-place.result) there c.in_ok-insert.ensures.items held.1
-    (λ d. get_or_default c.args.told.now.kept.now (c.loop-hour.hour - 1) c.index-told-place.result d there)))
+    rw c.into_vec.ensures.items (returning_done c.args.config.now c.args.store.now c.args.told.now.first c.args.last c.args.told.now.kept.now c.push_front.new.self.items (c.loop-hour.hour - 1) _ (omega arith) held.0 c.requires.order within c.requires.kept p
+    (other_on c.args.told.now.first c.args.told.now.kept.now c.loop-hour.fresh.items c.push_front.new.self.items (c.loop-hour.hour - 1) c.loop-hour.hour c.in_ok-next.next fe there c.in_ok-push_front.ensures.items c.loop-hour.invariant.other)
+    (inr (returning_same c.args.told.now.kept.now c.loop-hour.fresh.items c.push_front.new.self.items (c.loop-hour.hour - 1) c.in_ok-next.next (get_or c.args.told.now.kept.now (c.loop-hour.hour - 1) c.index-told-place.result) there c.in_ok-push_front.ensures.items held.1
+    (λ d. get_or_default c.args.told.now.kept.now (c.loop-hour.hour - 1) c.index-told-place.result d there))))
 
 pub returns-clause-futures : goal.returns-clause-futures
 returns-clause-futures g c =
     let end : c.loop-hour.hour ≡ 0 = omega arith in
     let n = c.loop-hour.invariant.size in
     let order = c.requires.order in
-    returning_done c.args.config.now c.args.store.now c.args.told.now.first c.args.last c.args.told.now.kept.now c.loop-hour.fresh.items c.loop-hour.hour _ (omega arith) (omega arith) order c.requires.within c.requires.kept c.loop-hour.invariant.returning
-    (other_after c.args.told.now.first c.args.told.now.kept.now c.loop-hour.hour c.loop-hour.fresh.items c.loop-hour.hour (c.loop-hour.hour + 1) (omega arith) c.loop-hour.invariant.other) (inl end)
+    rw c.into_vec-2.ensures.items (returning_done c.args.config.now c.args.store.now c.args.told.now.first c.args.last c.args.told.now.kept.now c.loop-hour.fresh.items c.loop-hour.hour _ (omega arith) (omega arith) order c.requires.within c.requires.kept c.loop-hour.invariant.returning
+    (other_after c.args.told.now.first c.args.told.now.kept.now c.loop-hour.hour c.loop-hour.fresh.items c.loop-hour.hour (c.loop-hour.hour + 1) (omega arith) c.loop-hour.invariant.other) (inl end))
 
 pub returns-clause-grow : goal.returns-clause-grow
 returns-clause-grow g c = grow_opened _ _ _ _ _ _ c.loop-hour.invariant.opens
@@ -81,12 +81,12 @@ pub returns-then-done-clause-opens : goal.returns-then-done-clause-opens
 returns-then-done-clause-opens g c =
     let size = c.loop-hour.invariant.size in
     let fe : c.loop-hour.hour ≡ (c.loop-hour.hour - 1) + 1 = omega arith in
-    let more : length c.insert.new.self.items ≡ length c.loop-hour.fresh.items + 1 = rw c.in_ok-insert.ensures.items (omega arith) in
-    let from : c.loop-hour.hour - 1 ≡ (c.args.last + 1) - length c.insert.new.self.items = omega arith in
-    opened_as _ _ _ _ _ _ _ _ from refl (opened_before (c.loop-hour.hour - 1) (c.args.last + 1) _ _ _ (let n = c.loop-hour.invariant.size in let some = c.loop-hour.auto.hour in omega arith) (opened_as _ _ _ _ _ _ _ _ fe refl c.loop-hour.invariant.opens) c.previous_future.ensures.once)
+    let more : length c.push_front.new.self.items ≡ length c.loop-hour.fresh.items + 1 = rw c.in_ok-push_front.ensures.items (omega arith) in
+    let from : c.loop-hour.hour - 1 ≡ (c.args.last + 1) - length c.push_front.new.self.items = omega arith in
+    rw c.into_vec.ensures.items (opened_as _ _ _ _ _ _ _ _ from refl (opened_before (c.loop-hour.hour - 1) (c.args.last + 1) _ _ _ (let n = c.loop-hour.invariant.size in let some = c.loop-hour.auto.hour in omega arith) (opened_as _ _ _ _ _ _ _ _ fe refl c.loop-hour.invariant.opens) c.previous_future.ensures.once))
 
 pub returns-clause-opens : goal.returns-clause-opens
 returns-clause-opens g c =
     let size = c.loop-hour.invariant.size in
     let from : c.loop-hour.hour ≡ (c.args.last + 1) - length c.loop-hour.fresh.items = omega arith in
-    opened_as _ _ _ _ _ _ _ _ from refl c.loop-hour.invariant.opens
+    rw c.into_vec-2.ensures.items (opened_as _ _ _ _ _ _ _ _ from refl c.loop-hour.invariant.opens)

@@ -188,9 +188,6 @@ no_failing c s hour = refl
 pub record FailingOn (c : Settings) (s : Store) (done : List AuditLine) (hour : ℕ) : Type 0 where
   pub whole : (rest : List AuditLine) → AreFailing c s hour (c.window.hours - hour) rest → AreFailing c s 0 c.window.hours (done ++ rest)
 
-pub failing_start : (c : Settings) (s : Store) → FailingOn c s [] 0
-failing_start c s = record { whole = λ rest h. let e : c.window.hours - 0 ≡ c.window.hours = omega arith in rw e at h }
-
 -- the hours left after one more of them
 left_step : (n hour : ℕ) → hour < n → n - hour ≡ suc (n - (hour + 1))
 left_step n hour h = omega arith
@@ -209,13 +206,6 @@ failing_done c s done hour past on =
     let e : c.window.hours - hour ≡ zero = omega arith in
     let last = on.whole [] (rw e (no_failing c s hour)) in
     rw append-nil at last
-
--- a clean hour adds nothing
-pub adds_nothing : (c : Settings) (s : Store) (hour : ℕ) (old : List AuditLine) → AddsHour c s hour [] [] → AddsHour c s hour old old
-adds_nothing c s hour old h = (h.0, h.1, sym (append-nil old) ∙ ap (λ (zs : List AuditLine). old ++ zs) h.2)
-
-pub adds_lines : (c : Settings) (s : Store) (hour : ℕ) (lines lines' old new : List AuditLine) → AreHourLines c s hour true lines → lines' ≡ lines → new ≡ old ++ failing_of lines' → AddsHour c s hour old new
-adds_lines c s hour lines lines' old new h e n = (lines, h, n ∙ ap (λ (zs : List AuditLine). old ++ failing_of zs) e)
 
 -- ---- an audit
 

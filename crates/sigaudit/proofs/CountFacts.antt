@@ -15,7 +15,6 @@ use Rattle.sig_base.specs.declared.values.EditError.TheVariants.{OutOfWindow, Al
 use Rattle.hour_store.specs.Store.{Store, nothing_held}
 use Rattle.ring_config.specs.Reading.{Read}
 use Rattle.ring_config.specs.Settings.{Settings, config_of}
-use Rattle.ring_config.specs.declared.error.ConfigError.{ConfigError}
 use Rattle.signal_log.specs.Log.{HasHistory, log_of}
 use Rattle.session.specs.Edits.{Change, hour_change, step_of}
 use Rattle.session.specs.Edits as change
@@ -24,7 +23,7 @@ use Rattle.session.specs.Links.{AllSettled, waits}
 use Rattle.session.specs.Opens.{AreOpened, AreOpenedFor, AreOpenedOnce, IsOpened, IsOpenedFor, OpensFor, count_after, still}
 use Rattle.session.specs.Sessions.{Steps}
 use Rattle.session.proofs.OpenLaws.{after_both, opened_not, opened_wider}
-use Rattle.command_line.specs.Words.{Asked, for_run}
+use Rattle.command_line.specs.Words.{Asked}
 use Rattle.script_lines.specs.Lines.{after_line, first_line, lines_of}
 use Rattle.script_lines.specs.Words.{Said, said}
 use Rattle.script_lines.specs.Words as line
@@ -36,7 +35,7 @@ use Rattle.sigaudit.specs.declared.status.Status.TheVariants as outer
 use Rattle.sigaudit.specs.declared.status.Stopped.{Stopped}
 use Rattle.sigaudit.specs.declared.status.Stopped.TheVariants as stopped
 use Rattle.sigaudit.specs.Counting.{AreCounted, AreCountedFor, ArePlain, AreTallied, OpensAnswer, OpensAsked, OpensConfig, OpensFile, OpensText, EditTally, FetchTally, IsPlain, LineTally, MadeTally, ReadTally, ScriptTally, WhereTaken, within}
-use Rattle.sigaudit.specs.Aims.{Aim, for_lines}
+use Rattle.sigaudit.specs.Aims.{for_lines}
 use Rattle.sigaudit.specs.HourFile.{hour_said}
 use Rattle.sigaudit.specs.Offsets.{advance_of}
 use Rattle.sigaudit.specs.Run.{World, Takes}
@@ -412,12 +411,6 @@ taken_by outer.NoFile P Q f p = tt
 -- a text that is there
 pub text_counted : (P : Option (List ℕ) → Type 0) (want : Option (List ℕ)) (bytes bytes' : List ℕ) (st : Status) → want ≡ Some bytes → bytes' ≡ bytes → WhereTaken st (P (Some bytes')) → WhereTaken st (P want)
 text_counted P want bytes bytes' st e eb h = rw e (subst (λ (x : List ℕ). WhereTaken st (P (Some x))) eb h)
-
-pub config_counted : (files : Files) (aim : Aim) (script old : List ℕ) (read : Read Settings) (e : ConfigError) (st : Status) → read ≡ Err e → WhereTaken st (OpensConfig files aim script old old read)
-config_counted files aim script old read e st is = rw is (taken_any st (OpensConfig files aim script old old (Err e)) tt)
-
-pub request_counted : (files : Files) (x : Asked) (config script old now : List ℕ) (st : Status) → x ≡ for_run config script → WhereTaken st (OpensFile files for_lines script old now (limited 1048576 (files config))) → WhereTaken st (OpensAsked files old now (Some x))
-request_counted files x config script old now st e h = rw e h
 
 pub answer_counted : (asked o : Option Asked) (files : Files) (old now : List ℕ) (st : Status) → asked ≡ o → WhereTaken st (OpensAsked files old now o) → WhereTaken st (OpensAsked files old now asked)
 answer_counted asked o files old now st e h = rw e h

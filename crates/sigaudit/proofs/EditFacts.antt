@@ -27,7 +27,7 @@ use Rattle.sigaudit.specs.declared.hour_file.Unread.{Unread}
 use Rattle.sigaudit.specs.HourFile.{hour_said}
 use Rattle.sigaudit.specs.Turns.{refuses, refuses_file}
 use Rattle.session.specs.Moved.{Moves}
-use Rattle.sigaudit.specs.Script.{accepts, is_edit_memory, wanted_for, IsEdited, IsMade, IsRead}
+use Rattle.sigaudit.specs.Script.{accepts, is_edit_memory, wanted_for, IsMade, IsRead}
 use Rattle.sigaudit.specs.Run.{TakesBy, TakesPut}
 use Rattle.sigaudit.specs.declared.status.Stopped.{Stopped}
 use Rattle.sigaudit.specs.declared.status.Stopped.TheVariants as stopped
@@ -135,15 +135,3 @@ bytes_refused c c' n hour make s signal window bytes e w w' r ec es ew h p =
     let p' = rw ec at (p s) in
     let is : IsRead c n make s (hour_said (wanted_for c hour) bytes) (refuses_file c n e s) = rw h' refl in
     by_put (IsRead c n make s (hour_said (wanted_for c hour) bytes)) (refuses_file c n e s) w w' s r is p'
-
--- the rows of a good file, which are loaded or replace the held ones
-pub bytes_loaded : (c c' : Settings) (n hour : ℕ) (make : Shown → Change) (s s' : Store) (signal : List ℕ) (window : Span) (bytes : List ℕ) (shown : Shown) (count repeats : ℕ) (ch : Change) (w w' : Taken) (r : Result Bool Stopped)
-    → c' ≡ c → signal ≡ c'.signal → window ≡ c'.window → hour_said (record { signal = signal; hour = hour; window = window }) bytes ≡ Ok shown
-    → count ≡ length shown.rows → repeats ≡ shown.repeats → ch ≡ make shown
-    → TakesBy (IsEdited c n (Some (count, repeats)) s ch) w w' s' r → TakesBy (IsRead c n make s (hour_said (wanted_for c hour) bytes)) w w' s' r
-bytes_loaded c c' n hour make s s' signal window bytes shown count repeats ch w w' r ec es ew h ek er em p =
-    let sig : signal ≡ c.signal = es ∙ ap (λ (k : Settings). k.signal) ec in
-    let win : window ≡ c.window = ew ∙ ap (λ (k : Settings). k.window) ec in
-    let h' : hour_said (wanted_for c hour) bytes ≡ Ok shown = rw (sig, win) at h in
-    let p' = rw (ek, er, em) at p in
-    rw h' p'

@@ -1,5 +1,5 @@
 -- What single lines of a script tell.
-use Rattle.std.proofs.Common.{◌≡◌, ◌<◌, ◌≤◌, ◌++◌, ℕ, List, [], length, Bool, true, false, Option, Some, None, Result, Ok, Err, refl, subst, nat_lt, IfSome}
+use Rattle.std.proofs.Common.{◌≡◌, ◌<◌, ◌≤◌, ℕ, List, Bool, true, false, Option, Some, None, Result, Ok, Err, refl, subst, nat_lt, IfSome}
 use Rattle.std.proofs.lemmas.Bool.{lt-ltb, le-ltb}
 use Rattle.std.specs.Prelude.{slice_get}
 use Rattle.outside.specs.Shelf.{Counts, Files}
@@ -7,12 +7,11 @@ use Rattle.outside.specs.Sink.{Stops, Taken, Writes}
 use Rattle.outside.proofs.PutsFacts.{appends-nothing}
 use Rattle.sig_base.specs.HourRows.{Shown}
 use Rattle.sig_base.specs.declared.values.EditError.TheVariants.{OutOfWindow}
-use Rattle.sigaudit.specs.HourFile.{hour_said}
 use Rattle.hour_store.specs.Store.{Store}
 use Rattle.hour_work.specs.Numbers.{Numbers, total_of}
 use Rattle.report_text.specs.Measures.{hour_measures, window_measures}
 use Rattle.report_text.specs.declared.refusal.Refusal.{Refusal}
-use Rattle.report_text.specs.declared.refusal.Refusal.TheVariants.{BadLine, FileTooLong, Edit}
+use Rattle.report_text.specs.declared.refusal.Refusal.TheVariants.{BadLine, Edit}
 use Rattle.ring_config.specs.Settings.{Settings}
 use Rattle.session.specs.Edits.{Change, hour_change}
 use Rattle.session.specs.Edits as change
@@ -22,7 +21,7 @@ use Rattle.sigaudit.specs.Turns.{Turn, passes, refuses, writes}
 use Rattle.sigaudit.specs.Audit.{AreVerdicts, IsAudited}
 use Rattle.sigaudit.specs.Points.{points_of_phase}
 use Rattle.sigaudit.specs.Offsets.{offsets_of}
-use Rattle.sigaudit.specs.Script.{edit_said, hour_bytes, hour_file, wanted_for, IsEdited, IsFetched, IsMeasured, IsMeasuredOf, IsRead, IsTurn}
+use Rattle.sigaudit.specs.Script.{edit_said, hour_bytes, hour_file, IsEdited, IsFetched, IsMeasured, IsMeasuredOf, IsTurn}
 use Rattle.sigaudit.specs.Run.{World, world, Takes, TakesBy, TakesPut}
 use Rattle.sigaudit.specs.declared.status.Stopped.{Stopped}
 use Rattle.sigaudit.specs.declared.status.Stopped.TheVariants as stopped
@@ -36,29 +35,11 @@ pub told_file : (P : Files → Type 0) (o : Option Files) (files : Files) → o 
 told_file P None files e h = absurd (cc)
 told_file P (Some x) files e h = let same : x ≡ files = cc in subst P same h
 
-pub file_there : (file : Option (List ℕ)) (bytes old new : List ℕ) → file ≡ Some bytes → length bytes ≤ 33554432 → new ≡ old ++ bytes → old ≡ [] → hour_file file ≡ Ok new
-file_there file bytes old new e short n o =
-    let same : new ≡ bytes = rw o at n in
-    let k : hour_file (Some bytes) ≡ Ok bytes = rw (le-ltb 33554432 (length bytes) short) refl in
-    rw (e, same) k
-
-pub file_long : (file : Option (List ℕ)) (bytes : List ℕ) → file ≡ Some bytes → 33554432 < length bytes → hour_file file ≡ Err FileTooLong
-file_long file bytes e long =
-    let k : hour_file (Some bytes) ≡ Err FileTooLong = rw (lt-ltb 33554432 (length bytes) long) refl in
-    rw e k
-
 -- an hour file that can't be read
 pub fetch_refused : (c c' : Settings) (n hour : ℕ) (make : Shown → Change) (s : Store) (want : Result (List ℕ) Refusal) (refusal : Refusal) (w w' : Taken) (r : Result Bool Stopped)
     → c' ≡ c → want ≡ Err refusal → ((x : Store) → TakesPut (refuses c' n refusal x) w w' x r) → TakesBy (IsFetched c n hour make s want) w w' s r
 fetch_refused c c' n hour make s want refusal w w' r ec e h =
     rw e (by_refusal (IsFetched c n hour make s (Err refusal)) c c' n refusal s w w' r ec refl h)
-
--- one that was read
-pub fetch_read : (c : Settings) (n hour : ℕ) (make : Shown → Change) (s s' : Store) (want : Result (List ℕ) Refusal) (bytes bytes' : List ℕ) (w w' : Taken) (r : Result Bool Stopped)
-    → want ≡ Ok bytes → bytes' ≡ bytes → TakesBy (IsRead c n make s (hour_said (wanted_for c hour) bytes')) w w' s' r → TakesBy (IsFetched c n hour make s want) w w' s' r
-fetch_read c n hour make s s' want bytes bytes' w w' r e eb h =
-    let h' = rw eb at h in
-    rw e h'
 
 -- an hour that the window hasn't, or has
 pub outside_line : (files : Files) (c c' : Settings) (n hour : ℕ) (name : List ℕ) (make : Shown → Change) (s : Store) (w w' : Taken) (r : Result Bool Stopped)

@@ -59,10 +59,6 @@ file-there task a file there bytes e short b =
     let test : nat_le (length there) 33554432 ≡ true = grind (arith, nat_tests) in
     rw (e, test, b) refl
 
-pub if_some-each : {A : Type 0} (o : Option A) (P : A → Type 0) → ((x : A) → P x) → IfSome o P
-if_some-each None P h = tt
-if_some-each (Some x) P h = h x
-
 pub if_some-weaker : {A : Type 0} (o : Option A) (P Q : A → Type 0) → ((x : A) → P x → Q x) → IfSome o P → IfSome o Q
 if_some-weaker None P Q h p = tt
 if_some-weaker (Some x) P Q h p = h x p

@@ -13,8 +13,3 @@ fault_at (Err e) h = ap Err h
 pub memory_at : {T : Type 0} (r : Result T Stopped) → IsErrAnd r (λ e. e ≡ Memory) → r ≡ Err Memory
 memory_at (Ok x) h = absurd h
 memory_at (Err e) h = ap Err h
-
--- where a call was cut off
-pub stopped_at : {T : Type 0} (r : Result T Stopped) (s : Stopped) → IsErrAnd r (λ e. e ≡ s) → r ≡ Err s
-stopped_at (Ok x) s h = absurd h
-stopped_at (Err e) s h = ap Err h

@@ -39,12 +39,6 @@ begins_as : (Is Is' : Turn → Type 0) (w w' : Option (List ℕ)) → ((t : Turn
 begins_as Is Is' w w' k (inl h) = inl h
 begins_as Is Is' w w' k (inr h) = inr (h.0, k h.0 h.1, h.2)
 
--- what is a turn of the line by other words
-pub by_as : (Is Is' : Turn → Type 0) (w w' : Taken) (s : Store) (r : Result Bool Stopped) → ((t : Turn) → Is t → Is' t) → TakesBy Is w w' s r → TakesBy Is' w w' s r
-by_as Is Is' w w' s (Ok b) k h = (h.0, k h.0 h.1, h.2, h.3, h.4)
-by_as Is Is' w w' s (Err stopped.Fault) k h = (h.0, k h.0 h.1, h.2)
-by_as Is Is' w w' s (Err stopped.Memory) k h = (h.0, begins_as Is Is' w.written w'.written k h.1)
-
 pub takes_as : (Is Is' : Turn → Type 0) (old new : World) (s : Store) (r : Result Bool Stopped) → ((t : Turn) → Is t → Is' t) → Takes Is old new s r → Takes Is' old new s r
 takes_as Is Is' old new s (Ok b) k h = (h.0, k h.0 h.1, h.2, h.3, h.4, h.5)
 takes_as Is Is' old new s (Err stopped.Fault) k h = (h.0, begins_as Is Is' old.written new.written k h.1)

@@ -42,9 +42,6 @@ same_told xs ys size same =
 pub places_told : (xs ys : List (Option Flag)) → all_flags xs ≡ all_flags ys → (i : ℕ) → get_or xs i no_one ≡ get_or ys i no_one
 places_told xs ys e i = sym (told_at xs i) ∙ ap (λ zs. get_or zs i no_one) e ∙ told_at ys i
 
-pub sizes_told : (xs ys : List (Option Flag)) → all_flags xs ≡ all_flags ys → length xs + (129 - length xs) ≡ length ys + (129 - length ys)
-sizes_told xs ys e = sym (told_size xs) ∙ ap (λ zs. length zs) e ∙ told_size ys
-
 -- ---- the whole table of 129 numbers, and one that goes as far as there are some
 
 module _ (has : ℕ → Bool) (f : ℕ → Flag) where

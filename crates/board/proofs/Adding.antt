@@ -1,5 +1,5 @@
 -- The moves of each channel, as they are added row by row and stretch by stretch.
-use Rattle.std.proofs.Common.{suc, ◌≡◌, refl, ap, sym, ◌∙◌, subst, inl, inr, ℕ, ◌+◌, ◌<◌, ◌≤◌, true, false, nat_lt, List, [], ◌∷◌, ◌++◌, length, take, drop, set, get_or, get_or-set_same, get_or-set_other, arith, Option, Some, None}
+use Rattle.std.proofs.Common.{◌≡◌, refl, ap, sym, ◌∙◌, subst, inl, inr, ℕ, ◌+◌, ◌<◌, ◌≤◌, true, false, nat_lt, List, [], ◌∷◌, ◌++◌, length, take, drop, set, get_or, get_or-set_same, get_or-set_other, arith, Option, Some, None}
 use Rattle.std.proofs.lemmas.Bool.{cases_eq, cases_Bool}
 use Rattle.std.proofs.lemmas.List.{take_all, drop_all, append-nil, append_assoc, length-set, drop_more, drop-drop, get_or_default}
 use Rattle.channel_path.specs.declared.moves.Move.{Move}
@@ -12,9 +12,6 @@ use Rattle.board.proofs.Tracks.{specs_apart}
 use Rattle.board.specs.Channels.{AreSpecs, letter_in}
 use Rattle.board.specs.Moves.{count_before, letter_moves, own, stretch_moves, with_letter}
 use Rattle.board.specs.Courses.{AreAdded}
-
-pub none_added : (specs : List Spec) (courses : List (List Move)) (c p at n : ℕ) → length courses ≡ length specs → ((i : ℕ) (d : Spec) → i < length specs → letter_in (get_or specs i d) c p ≡ None) → (d : Spec) → AreAdded courses courses (λ i. with_letter (letter_in (get_or specs i d) c p) at n [])
-none_added specs courses c p at n l h d = (refl, λ i lt. rw (h i d (omega arith)) (sym (append-nil (get_or courses i []))))
 
 pub one_added : (specs : List Spec) (courses : List (List Move)) (c p at n l i : ℕ) (r one : List Move) → AreSpecs specs → length courses ≡ length specs → i < length specs → ((d : Spec) → letter_in (get_or specs i d) c p ≡ Some l) → one ≡ get_or courses i r ++ Letter at l n ∷ [] → (d : Spec) → AreAdded courses (set courses i one) (λ j. with_letter (letter_in (get_or specs j d) c p) at n [])
 one_added specs courses c p at n l i r one are len lt mine new d = (
@@ -42,17 +39,6 @@ row_turn k rows i n d old new all lt inv e =
 pub count_le : (t : ℕ) (rows : List Row) → count_before t rows ≤ length rows
 count_le t [] = omega arith
 count_le t (r ∷ rows) = elim (cases_Bool (nat_lt r.at t)) [ inl e ↦ rw e (let k = count_le t rows in omega arith) | inr e ↦ rw e (omega arith) ]
-
--- a row more that is before the tenth, and the first that isn't
-pub count_turn : (t : ℕ) (rows : List Row) (i : ℕ) (d : Row) (all : ℕ) → i < length rows → i + count_before t (drop i rows) ≡ all → nat_lt (get_or rows i d).at t ≡ true → i + 1 + count_before t (drop (i + 1) rows) ≡ all
-count_turn t rows i d all lt inv e =
-    let inv2 : i + count_before t (get_or rows i d ∷ drop (i + 1) rows) ≡ all = subst (λ (xs : List Row). i + count_before t xs ≡ all) (drop_more rows i d lt) inv in
-    let k : i + suc (count_before t (drop (i + 1) rows)) ≡ all = rw e at inv2 in omega arith
-
-pub count_stop : (t : ℕ) (rows : List Row) (i : ℕ) (d : Row) (all : ℕ) → i < length rows → i + count_before t (drop i rows) ≡ all → nat_lt (get_or rows i d).at t ≡ false → i ≡ all
-count_stop t rows i d all lt inv e =
-    let inv2 : i + count_before t (get_or rows i d ∷ drop (i + 1) rows) ≡ all = subst (λ (xs : List Row). i + count_before t xs ≡ all) (drop_more rows i d lt) inv in
-    let k : i + 0 ≡ all = rw e at inv2 in omega arith
 
 -- what is still to be added, a stretch later
 pub stretch_turn : (k : Track) (rows : List Row) (ss : List Stretch) (n j : ℕ) (d : Stretch) (old new all : List Move) → j < length ss → old ++ own k n (drop n rows) (drop j ss) ≡ all → new ≡ old ++ stretch_moves k n (take (count_before (get_or ss j d).to (drop n rows)) (drop n rows)) (get_or ss j d) → new ++ own k (n + count_before (get_or ss j d).to (drop n rows)) (drop (n + count_before (get_or ss j d).to (drop n rows)) rows) (drop (j + 1) ss) ≡ all

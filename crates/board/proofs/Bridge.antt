@@ -188,10 +188,6 @@ known_there s ss x l = past_test s.known (nat_le s.from x) (nat_lt x s.to) (know
 abbrev pub CutAt : ℕ → ℕ → ℕ → List Row → List Row → List Row → Type 0
 CutAt f m t rows before rest = RowsIn f m before × RowsIn m t rest × ((x : ℕ) → x < m → events_at rows x ≡ events_at before x) × ((x : ℕ) → m ≤ x → events_at rows x ≡ events_at rest x)
 
-rows_later : (f m t : ℕ) (rs : List Row) → m ≤ t → RowsIn f t rs → ((r : Row) (qs : List Row) → rs ≡ r ∷ qs → m ≤ r.at) → RowsIn m t rs
-rows_later f m t [] le h late = le
-rows_later f m t (r ∷ rs) le h late = (late r rs refl, h.1, h.2)
-
 pub cut_rows : (f m t : ℕ) (rows : List Row) → f ≤ m → m ≤ t → RowsIn f t rows → CutAt f m t rows (take (count_before m rows) rows) (drop (count_before m rows) rows)
 cut_rows f m t [] a b h = (a, b, (λ x l. refl), λ x l. refl)
 cut_rows f m t (r ∷ rows) a b h = elim (nat_cases r.at m) [

@@ -181,9 +181,6 @@ has_more i cs k d lt other inv =
     let step : HasSpec i (drop k cs) ↔ HasSpec i (drop (k + 1) cs) = rw e ((λ h. elim h [ inl x ↦ absurd (other x) | inr x ↦ x ]), λ x. inr x) in
     then_iff inv step
 
-pub has_here : (i : ℕ) (cs : List Term) (k : ℕ) (d : Term) → k < length cs → (get_or cs k d).spec ≡ i → (HasSpec i cs ↔ HasSpec i (drop k cs)) → HasSpec i cs
-has_here i cs k d lt same inv = inv.1 (rw (drop_more cs k d lt) (inl same))
-
 pub has_none : (i : ℕ) (cs : List Term) (k : ℕ) → length cs ≤ k → (HasSpec i cs ↔ HasSpec i (drop k cs)) → HasSpec i cs → ⊥
 has_none i cs k le inv h = let none : drop k cs ≡ [] = drop_all k cs le in rw none at (inv.0 h)
 

@@ -17,20 +17,6 @@ apart_at : (xs : List Move) (i j : ℕ) (d e : Move) → i < length xs → j < l
 apart_at xs i j d e hi hj p =
     subst (λ (x : Move). AreApart x (get_or xs j e)) (get_or_default xs i d e hi) (subst (λ (y : Move). AreApart (get_or xs i d) y) (get_or_default xs j d e hj) p)
 
--- one move more at the end
-pub leg_more : (xs : List Move) (a b : ℕ) (d : Move) → a < b → b < length xs → InLeg xs a b → AreApart (get_or xs (b - 1) d) (get_or xs b d) → InLeg xs a (b + 1)
-leg_more xs a b d lt h leg p k f le below = elim (cases_eq (k + 1) b) [
-  | inl same ↦ rw same (let at : b - 1 ≡ k = omega arith in rw at at (apart_at xs (b - 1) b d f (omega arith) h p))
-  | inr ne ↦ leg k f le (omega arith)
-]
-
--- one move more at the front
-pub leg_front : (xs : List Move) (a b : ℕ) (d : Move) → 0 < a → a < length xs → InLeg xs a b → AreApart (get_or xs (a - 1) d) (get_or xs a d) → InLeg xs (a - 1) b
-leg_front xs a b d some h leg p k f le below = elim (cases_eq (k + 1) a) [
-  | inl same ↦ rw same (let at : a - 1 ≡ k = omega arith in rw at at (apart_at xs (a - 1) a d f (omega arith) h p))
-  | inr ne ↦ leg k f (omega arith) below
-]
-
 -- two moves that aren't apart part legs
 pub parted : (xs : List Move) (n : ℕ) (d : Move) → 0 < n → n < length xs → (AreApart (get_or xs (n - 1) d) (get_or xs n d) → ⊥) → AreParted xs n
 parted xs n d some h touch e p = touch (apart_at xs (n - 1) n e d (omega arith) h p)
@@ -40,12 +26,6 @@ length_slice xs a b h = let d = length-drop a xs in length-take-le (b - a) (drop
 
 get_slice : (xs : List Move) (a b k : ℕ) (d : Move) → k < b - a → get_or (take (b - a) (drop a xs)) k d ≡ get_or xs (a + k) d
 get_slice xs a b k d lt = get_or-take (b - a) (drop a xs) k d lt ∙ get_or-drop a xs k d
-
-pub leg_slice : (xs : List Move) (a b : ℕ) → b ≤ length xs → InLeg xs a b → IsLeg (take (b - a) (drop a xs))
-leg_slice xs a b h leg k d lt =
-    let n = length_slice xs a b h in
-    let at : a + (k + 1) ≡ (a + k) + 1 = omega arith in
-    rw (get_slice xs a b k d (omega arith), get_slice xs a b (k + 1) d (omega arith), at) (leg (a + k) d (omega arith) (omega arith))
 
 pub slice_leg : (xs : List Move) (a b : ℕ) → b ≤ length xs → IsLeg (take (b - a) (drop a xs)) → InLeg xs a b
 slice_leg xs a b h leg k d le lt =

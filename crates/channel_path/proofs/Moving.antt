@@ -1,7 +1,7 @@
 -- Moves one after another, forward and backward.
 use Rattle.std.proofs.Common.{suc, zero, ◌≡◌, refl, sym, ◌∙◌, subst, inl, inr, ◌↔◌, ℕ, ◌+◌, ◌-◌, ◌<◌, ◌≤◌, ℤ, pos, ◌+ℤ◌, ◌<ℤ◌, Bool, true, false, List, [], ◌∷◌, ◌++◌, length, take, drop, get_or, arith, Option, IsTrue}
 use Rattle.std.proofs.lemmas.Int.{ints}
-use Rattle.std.proofs.lemmas.List.{take_all, take_more, drop_all, drop_more}
+use Rattle.std.proofs.lemmas.List.{take_more, drop_all, drop_more}
 use Rattle.span_set.specs.declared.set.Span.{Span}
 use Rattle.colour_machine.specs.Rules.{Rules}
 use Rattle.reach.specs.Runs.{State, Step, Steps, Run, Fills}
@@ -153,9 +153,6 @@ pub some_after : (m : Rules) (old new : List (List Span)) (x : Move) (f t : ℕ)
 some_after m old new x f t e k (s, h) a =
     let lt = subst (λ (y : Move). IsMove m y) e k in
     (s, (a s).1 (s, h, subst (λ (y : Move). Taken m y s s) (sym e) (gap_keeps m f t s lt)))
-
-pub after_all : (m : Rules) (old now : List (List Span)) (xs : List Move) (i : ℕ) → length xs ≤ i → ((u : State) → Holds now u ↔ AfterMoves m old (take i xs) u) → (u : State) → Holds now u ↔ AfterMoves m old xs u
-after_all m old now xs i h inv = subst (λ (ys : List Move). (u : State) → Holds now u ↔ AfterMoves m old ys u) (take_all i xs h) inv
 
 pub not_after : (m : Rules) (low : ℕ) (xs : List Move) (v : State) → InOrder m low xs → v.entry <ℤ pos low → EntersBefore xs v
 not_after m low [] v o e = tt

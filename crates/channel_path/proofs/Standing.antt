@@ -1,11 +1,10 @@
 -- Aheads that stand for those of the places.
 use Rattle.std.proofs.Common.{◌≡◌, ap, subst, sym, ◌∙◌, inl, inr, ◌↔◌, ℕ, ◌+◌, ◌-◌, ◌≤◌, ◌<◌, ℤ, List, [], ◌∷◌, ◌++◌, length, take, drop, get_or, arith, Option, refl}
 use Rattle.std.proofs.lemmas.Bool.{cases_eq, cases_lt}
-use Rattle.std.proofs.lemmas.List.{drop_all, length_push, get_or_push, get_or_append_left, get_or-append-add, get_or_read, append_assoc, append-nil, length-append}
+use Rattle.std.proofs.lemmas.List.{drop_all, get_or_append_left, get_or-append-add, append_assoc, append-nil, length-append}
 use Rattle.span_set.specs.declared.set.Span.{Span}
 use Rattle.colour_machine.specs.Rules.{Rules}
 use Rattle.reach.specs.Runs.{State}
-use Rattle.reach.specs.Past.{Holds}
 use Rattle.reach.specs.Ahead.{Admits}
 use Rattle.reach.specs.Last.{BeforeGaps}
 use Rattle.reach.proofs.Later.{then_iff}
@@ -14,7 +13,7 @@ use Rattle.channel_path.specs.declared.ahead.PlaceAheads.{PlaceAheads}
 use Rattle.channel_path.specs.Walks.{BeforeMoves}
 use Rattle.channel_path.specs.declared.past.RunPasts.{RunPasts}
 use Rattle.channel_path.specs.Places.{EntersBefore}
-use Rattle.channel_path.specs.Kept.{past_of, HavePasts, HaveAheads, AreMore, AdmitSame, IsAhead, Serves, StandsFor, AreStandIns, AddsPlaces}
+use Rattle.channel_path.specs.Kept.{past_of, HavePasts, HaveAheads, AreMore, IsAhead, Serves, StandsFor, AreStandIns, AddsPlaces}
 use Rattle.channel_path.specs.Runs.{AreGapsOf}
 use Rattle.channel_path.specs.Legs.{IsLeg}
 use Rattle.channel_path.proofs.Legs.{length_slice, slice_leg, slice_end, rest_join}
@@ -23,39 +22,11 @@ use Rattle.channel_path.proofs.Keeping.{leg_run}
 use Rattle.channel_path.proofs.Serving.{serve_over}
 use Rattle.channel_path.proofs.Running.{runs_moves}
 
--- one more Ahead
-pub more_one : (old new : List (List (Option ℤ))) (one : List (Option ℤ)) → new ≡ old ++ one ∷ [] → AreMore old new
-more_one old new one e = rw e ((let l = length_push old one in omega arith), λ i lt. get_or_append_left old (one ∷ []) [] i lt)
-
-pub have_one : (n : ℕ) (old new : List (List (Option ℤ))) (one : List (Option ℤ)) → new ≡ old ++ one ∷ [] → length one ≡ n → HaveAheads n old → HaveAheads n new
-have_one n old new one e l all = rw e (
-  (let k = length_push old one in let some = all.0 in omega arith),
-  λ i lt. elim (cases_eq i (length old)) [
-    | inl same ↦ let at : get_or (old ++ one ∷ []) i [] ≡ one = get_or_push old one [] i (sym same) in rw at l
-    | inr ne ↦ let k = length_push old one in let at : get_or (old ++ one ∷ []) i [] ≡ get_or old i [] = get_or_append_left old (one ∷ []) [] i (omega arith) in rw at (all.1 i (omega arith))
-  ],
-)
-
-pub stands_new : (past : List (List Span)) (old new : List (List (Option ℤ))) (one : List (Option ℤ)) (n : ℕ) → new ≡ old ++ one ∷ [] → n ≡ length old → (n < length new) × AdmitSame past (get_or new n []) one
-stands_new past old new one n e same =
-    let at : get_or (old ++ one ∷ []) n [] ≡ one = get_or_push old one [] n (sym same) in
-    rw (e, at) ((let l = length_push old one in omega arith), (refl, λ s held. ((λ a. a), λ a. a)))
-
 more_same : (old : List (List (Option ℤ))) → AreMore old old
 more_same old = (omega arith, λ i lt. refl)
 
 more_both : (a b c : List (List (Option ℤ))) → AreMore a b → AreMore b c → AreMore a c
 more_both a b c ab bc = ((let x = ab.0 in let y = bc.0 in omega arith), λ i lt. bc.1 i (let x = ab.0 in omega arith) ∙ ab.1 i lt)
-
--- where both admit all of the states
-pub both_sure : (past : List (List Span)) (a b : List (Option ℤ)) → length a ≡ length b → ((s : State) → Holds past s → Admits a s) → ((s : State) → Holds past s → Admits b s) → AdmitSame past a b
-both_sure past a b l x y = (l, λ s held. ((λ _. y s held), λ _. x s held))
-
--- the last is the same
-pub stands_same : (past : List (List Span)) (all : List (List (Option ℤ))) (one other : List (Option ℤ)) (n : ℕ) → n < length all → other ≡ get_or all n other → other ≡ one → (n < length all) × AdmitSame past (get_or all n []) one
-stands_same past all one other n lt read same =
-    let at : get_or all n [] ≡ one = sym (get_or_read all n other lt read []) ∙ same in
-    rw at (lt, (refl, λ s held. ((λ a. a), λ a. a)))
 
 -- no place has got a number yet
 pub adds_none : (colours : ℕ) (past : List (List Span)) (a : ℕ) (goes_on : ℕ → State → Type 0) (old : PlaceAheads) → HaveAheads colours old.aheads.items → AddsPlaces colours past a a goes_on old old

@@ -1,31 +1,27 @@
 -- A way back over moves.
 use Rattle.std.proofs.Common.{◌≡◌, refl, sym, ap, ◌∙◌, subst, inl, inr, ◌↔◌, ℕ, ◌+◌, ◌<◌, ◌≤◌, ◌^◌, ℤ, pos, ◌<ℤ◌, ◌≤ℤ◌, List, [], ◌++◌, length, take, drop, get_or, reverse, append_assoc, Option, arith}
 use Rattle.std.proofs.lemmas.Int.{ints}
-use Rattle.std.proofs.lemmas.List.{get_or_default, take_more, drop_all, drop_more, reverse-append, append-nil, length-reverse}
+use Rattle.std.proofs.lemmas.List.{get_or_default, take_more, drop_more, reverse-append}
 use Rattle.span_set.specs.declared.set.Span.{Span}
 use Rattle.colour_machine.specs.Rules.{Rules}
 use Rattle.gap_ways.specs.declared.states.Fill.{Fill}
 use Rattle.gap_ways.specs.declared.states.Entered.{Entered}
 use Rattle.reach.specs.Runs.{State, state}
-use Rattle.reach.specs.Past.{Holds, AfterRow}
+use Rattle.reach.specs.Past.{Holds}
 use Rattle.reach.specs.Ahead.{Admits}
-use Rattle.gap_ways.specs.Ways.{state_of, Added, IsSource}
+use Rattle.gap_ways.specs.Ways.{state_of}
 use Rattle.channel_path.specs.declared.moves.Move.{Move}
-use Rattle.channel_path.specs.declared.moves.Move.TheVariants.{Letter, Gap}
 use Rattle.channel_path.specs.Walks.{limit_before, InOrder, AfterMoves, BeforeMoves, EnteredBefore, StopsAt}
 use Rattle.channel_path.specs.Places.{EntersBefore, limit_of}
 use Rattle.channel_path.specs.Kept.{letters, IsPast}
 use Rattle.channel_ways.specs.Pasts.{AreRunPasts}
 use Rattle.channel_ways.specs.Moves.{FilledMove, Filled, ComesFrom, IsMoveSource, AddedMoves, ClampedAfter, IsUnclamped}
-use Rattle.channel_path.proofs.Moving.{after_end, walk_early, order_take, order_drop, taken_early}
+use Rattle.channel_path.proofs.Moving.{after_end, walk_early, order_take, order_drop}
 use Rattle.channel_ways.proofs.Running.{walk_prefix}
 
 -- one more move in front, whose fills were added after those of the others
 pub filled_more : (m : Rules) (xs : List Move) (j : ℕ) (d : Move) (hs bs : List Fill) (s v u : State) → j < length xs → FilledMove m (get_or xs j d) hs s v → Filled m (drop (j + 1) xs) bs v u → Filled m (drop j xs) (hs ++ bs) s u
 filled_more m xs j d hs bs s v u lt a w = subst (λ (ys : List Move). Filled m ys (hs ++ bs) s u) (sym (drop_more xs j d lt)) (hs, bs, refl, (v, a, w))
-
-pub filled_none : (m : Rules) (xs : List Move) (j : ℕ) (u : State) → length xs ≤ j → Filled m (drop j xs) [] u u
-filled_none m xs j u h = subst (λ (ys : List Move). Filled m ys [] u u) (sym (drop_all j xs h)) (refl, refl)
 
 -- the moves before a place end before the one at it
 end_before : (m : Rules) (low j : ℕ) (xs : List Move) (d : Move) → j < length xs → InOrder m low xs → limit_of low (take j xs) ≤ limit_before (get_or xs j d)
@@ -57,25 +53,6 @@ added_moves m xs j d old mid new past u v s lt (gs, e, w) (h, en, (ks, q, a)) = 
   subst (λ (z : List Fill). Filled m (drop j xs) z (state_of s) (state_of u)) (sym (reverse-append gs ks)) (filled_more m xs j d (reverse ks) (reverse gs) (state_of s) (state_of v) (state_of u) lt a w),
 )
 
-pub added_no_moves : (m : Rules) (xs : List Move) (j : ℕ) (old : List Fill) (u : Entered) → length xs ≤ j → AddedMoves m (drop j xs) old old u u
-added_no_moves m xs j old u h = ([], sym (append-nil old), filled_none m xs j (state_of u) h)
-
--- ---- a letter
-pub letter_reached : (m : Rules) (sets : List (List Span)) (at l r : ℕ) (u : State) → ComesFrom m sets (Letter at l r) u → AfterRow m sets (pos at) l u
-letter_reached m sets at l r u (s, h, e, t) = (s, h, t)
-
-pub letter_source : (m : Rules) (sets : List (List Span)) (at l r : ℕ) (old : List Fill) (u s : Entered) → ComesFrom m sets (Letter at l r) (state_of u) → IsSource m sets (pos at) l (state_of u) s → IsMoveSource m sets (Letter at l r) old old u s
-letter_source m sets at l r old u s (z, hz, ez, tz) (h, (g, k)) =
-    let late = taken_early m (Letter at l r) z (state_of u) tz ez in (
-      h,
-      elim k [ inl same ↦ let q : u.entry ≡ s.entry = ap (λ (x : State). x.entry) same in omega (arith, ints) | inr (ne, en, o) ↦ omega (arith, ints) ],
-      ([], sym (append-nil old), (refl, (g, k))),
-    )
-
--- ---- a gap
-pub gap_source_is : (m : Rules) (sets : List (List Span)) (f t : ℕ) (old new : List Fill) (u s : Entered) → (Holds sets (state_of s) × (s.entry <ℤ pos f)) → Added m (pos f) (pos t) 16 old new s u → IsMoveSource m sets (Gap f t) old new u s
-gap_source_is m sets f t old new u s (h, e) (gs, q, len, w) = (h, e, (gs, q, ((let n = length-reverse gs in omega arith), w)))
-
 pub at_start : (m : Rules) (before : List (List Span)) (u : State) → AfterMoves m before [] u → Holds before u
 at_start m before u (z, h, e) = rw e h
 
@@ -84,9 +61,6 @@ at_start m before u (z, h, e) = rw e h
 -- a walk over all the moves stops nowhere
 pub no_stop : (m : Rules) (sets : List (List Span)) (after : List (Option ℤ)) (xs : List Move) (s : State) (j : ℕ) → Holds sets s → BeforeMoves m after xs s → StopsAt m sets xs j → ⊥
 no_stop m sets after xs s j h (u, w, a) (lt, some, none) = let (v, r) = walk_prefix m (j + 1) xs s u w in none v (s, h, r)
-
-pub one_before : (sets : List (List Span)) (f : Entered) (low : ℕ) → ((s : State) → Holds sets s ↔ (s ≡ state_of f)) → f.entry <ℤ pos low → EnteredBefore sets low
-one_before sets f low is e s h = let q : s.entry ≡ f.entry = ap (λ (x : State). x.entry) ((is s).0 h) in omega (arith, ints)
 
 -- the source of a walk from one state is that state
 pub from_one : (m : Rules) (sets : List (List Span)) (xs : List Move) (old new : List Fill) (f s u : Entered) → ((s : State) → Holds sets s ↔ (s ≡ state_of f)) → Holds sets (state_of s) → AddedMoves m xs old new s u → AddedMoves m xs old new f u
@@ -103,10 +77,6 @@ some_after_all m sets xs limit u (inr (q, (e, a, l))) = (e, a, omega (arith, int
 
 pub clamped_no_stop : (m : Rules) (sets : List (List Span)) (xs : List Move) (u : State) (j : ℕ) → AfterMoves m sets xs u → StopsAt m sets xs j → ⊥
 clamped_no_stop m sets xs u j (s, h, w) (lt, some, none) = let (v, r) = walk_prefix m (j + 1) xs s u w in none v (s, h, r)
-
-pub late_unclamped : (m : Rules) (sets : List (List Span)) (xs : List Move) (limit : ℤ) (u : Entered) → limit <ℤ u.entry → ClampedAfter m sets xs limit (state_of u) → IsUnclamped m sets xs limit u u
-late_unclamped m sets xs limit u lt (inl (a, l)) = (refl, a, (refl, inl refl))
-late_unclamped m sets xs limit u lt (inr (q, r)) = absurd (let k : u.entry ≡ limit = q in omega (arith, ints))
 
 pub old_unclamped : (m : Rules) (sets past : List (List Span)) (xs : List Move) (limit entry : ℤ) (u : Entered) → u.entry ≤ℤ limit → ClampedAfter m sets xs limit (state_of u) → ((v : State) → Holds past v ↔ AfterMoves m sets xs v) → Holds past (state u.colour entry) → ((e : ℤ) → Holds past (state u.colour e) → entry ≤ℤ e) → IsUnclamped m sets xs limit u (record { colour = u.colour; entry = entry })
 old_unclamped m sets past xs limit entry u le c is h least =

@@ -1,5 +1,5 @@
 -- Facts about the elements of a list, by recursion and by their places.
-use Rattle.std.proofs.Common.{◌≡◌, suc, Bool, true, false, List, [], ◌∷◌, ◌++◌, Any, All, AllPairs, Contains, refl, arith}
+use Rattle.std.proofs.Common.{◌≡◌, suc, Bool, true, false, List, [], ◌∷◌, ◌++◌, Any, All, AllPairs, refl, arith}
 use Rattle.std.specs.List.{AllByRecursion, list_any, list_all}
 use Rattle.std.proofs.lemmas.Bool.{and_parts}
 use Rattle.std.proofs.lemmas.List.Elements.{All-head, All-tail, All-cons, All-nil}
@@ -46,6 +46,3 @@ module _ {X : Type 0} where
 
   pub any_weaker : (P Q : X → Type 0) → ((x : X) → P x → Q x) → (xs : List X) → Any P xs → Any Q xs
   any_weaker P Q f xs h = (h.0, h.1, h.2, h.3, f h.1 h.4)
-
-  pub contains_any : (P : X → Type 0) (x : X) (xs : List X) → Contains xs x → P x → Any P xs
-  contains_any P x xs h p = (h.0, x, h.1, h.2, p)

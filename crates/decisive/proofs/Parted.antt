@@ -40,7 +40,7 @@ use Rattle.decisive.specs.declared.channel_keep.Keep.TheVariants as keeps
 use Rattle.decisive.specs.Moves.{KeepsBy, NoneKeeps, NoneKeepsFrom}
 use Rattle.decisive.specs.Window.{only}
 use Rattle.decisive.specs.Laws.{NoTermHolds, TellsOf}
-use Rattle.decisive.specs.Parts.{AllNone, IsKeepWithin, NoneIs, no_part, term_part}
+use Rattle.decisive.specs.Parts.{AllNone, IsKeepWithin, NoneIs, term_part}
 use Rattle.decisive.proofs.Less.{some_after}
 use Rattle.decisive.proofs.Alone.{alone}
 use Rattle.decisive.proofs.Clauses.{by_terms}
@@ -100,11 +100,6 @@ interval_parts log r i x j item are has e small lt is at leaves = (
         nobody,
       ),
 )
-
-get_term : (k : ℕ) (terms : List Term) → k < length terms → (t : Term) × (get_or (map term_part terms) k no_part ≡ term_part t)
-get_term k [] lt = absurd (omega arith)
-get_term zero (t ∷ ts) lt = (t, refl)
-get_term (suc k) (t ∷ ts) lt = get_term k ts (omega arith)
 
 module _ (log : Log) (x j : ℕ) (are : AreSpecs log.specs) (has : HasHistory log) (lt : x < window_end log) (is : log.known x ≡ true) (le : length (events_at log.rows x) ≤ j) where
   terms_all : (terms : List Term) → AreWithin (length log.specs) terms → NoTermHolds log x terms → AllNone log x j (map term_part terms)

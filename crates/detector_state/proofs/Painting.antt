@@ -14,7 +14,7 @@ use Rattle.reach.specs.declared.seen.Seen.{Seen}
 use Rattle.reach.specs.declared.seen.AgeBound.TheVariants.{Any}
 use Rattle.reach.proofs.Common.{colour_there}
 use Rattle.channel_path.specs.Walks.{EnteredBefore}
-use Rattle.detector_state.specs.Masks.{HasStates, IsImage}
+use Rattle.detector_state.specs.Masks.{HasStates}
 
 -- colours below k that P has
 abbrev pub Below : (ℕ → Type 0) → ℕ → ℕ → Type 0
@@ -36,18 +36,6 @@ module _ (P : ℕ → Type 0) where
 -- where the letter leads from the colours of the mask below k
 abbrev pub ImageBelow : Rules → ℕ → ℕ → ℕ → ℕ → Type 0
 ImageBelow m k mask l d = (c : ℕ) × (c < k) × Has mask c × Goes m c l d
-
-pub image_more : (m : Rules) (k mask l d old new : ℕ) → (Has old d ↔ ImageBelow m k mask l d) → (Has new d ↔ (Has old d ⊎ (Has mask k × Goes m k l d))) → Has new d ↔ ImageBelow m (k + 1) mask l d
-image_more m k mask l d old new a b = (
-  (λ h. elim (b.0 h) [ inl x ↦ (let (c, lt, hc, g) = a.0 x in (c, omega arith, hc, g)) | inr (hk, g) ↦ (k, omega arith, hk, g) ]),
-  λ (c, lt, hc, g). elim (cases_eq c k) [
-    | inl e ↦ b.1 (inr (subst (λ (z : ℕ). Has mask z × Goes m z l d) e (hc, g)))
-    | inr ne ↦ b.1 (inl (a.1 (c, omega arith, hc, g)))
-  ],
-)
-
-pub image_whole : (m : Rules) (k mask l d new : ℕ) → m.colours ≤ k → (Has new d ↔ ImageBelow m k mask l d) → Has new d ↔ IsImage m mask l d
-image_whole m k mask l d new all a = ((λ h. let (c, lt, hc, g) = a.0 h in (c, hc, g)), λ (c, hc, g). a.1 (c, (let lt = g.0 in omega arith), hc, g))
 
 -- one of the states has the colour
 abbrev pub HasState : List (List Span) → ℕ → Type 0

@@ -1,5 +1,5 @@
 -- Rows of a walk one after another, with the fills before them.
-use Rattle.std.proofs.Common.{◌≡◌, refl, sym, ap, ◌∙◌, subst, inl, inr, ◌↔◌, ℕ, ◌+◌, ◌<◌, ◌≤◌, Bool, true, false, List, [], ◌∷◌, ◌++◌, length, drop, get_or, append_assoc, Option, arith}
+use Rattle.std.proofs.Common.{◌≡◌, refl, sym, ap, ◌∙◌, subst, inl, inr, ◌↔◌, ℕ, ◌+◌, ◌<◌, ◌≤◌, Bool, List, [], ◌∷◌, ◌++◌, length, drop, get_or, append_assoc, Option, arith}
 use Rattle.std.specs.Prelude.{filter}
 use Rattle.std.proofs.lemmas.Bool.{cases_Bool}
 use Rattle.std.proofs.lemmas.List.{drop_more, drop_all}
@@ -54,28 +54,12 @@ fill_end k t init here all i le w = subst (λ (xs : List Fill). Walked k t init 
 pub since_turn : (t : ℕ) (all : List Fill) (i : ℕ) (d : Fill) → i < length all → (get_or all i d).at < t → since t (drop i all) ≡ since t all → since t (drop (i + 1) all) ≡ since t all
 since_turn t all i d lt early e = sym (ap (since t) (drop_more all i d lt) ∙ since_first t (get_or all i d) (drop (i + 1) all) early) ∙ e
 
-pub since_stop : (t : ℕ) (all : List Fill) (i : ℕ) (d : Fill) → i < length all → t ≤ (get_or all i d).at → since t (drop i all) ≡ since t all → drop i all ≡ since t all
-since_stop t all i d lt late e = drop_more all i d lt ∙ (sym (since_all t (get_or all i d) (drop (i + 1) all) late) ∙ (sym (ap (since t) (drop_more all i d lt)) ∙ e))
-
-pub since_end : (t : ℕ) (all : List Fill) (i : ℕ) → length all ≤ i → since t (drop i all) ≡ since t all → drop (length all) all ≡ since t all
-since_end t all i le e = drop_all (length all) all (omega arith) ∙ (sym (ap (since t) (drop_all i all le)) ∙ e)
-
 -- the row after the fills before it
 pub row_passed : (k : Track) (init at_row new : Option Stand) (all rest : List Fill) (r : Row) → rest ≡ since r.at all → ((more : List Row) (u : State) → In init (λ s. Walks k (rows_of (before r.at all) ++ more) s u) ↔ In at_row (λ s. Walks k more s u)) → ((more : List Row) (u : State) → In at_row (λ s. Walks k (r ∷ more) s u) ↔ In new (λ s. Walks k more s u)) → (b : ℕ) (more : List Row) (u : State) → Remains k b (r ∷ more) init all u ↔ Remains k b more new rest u
 row_passed k init at_row new all rest r e w m b more u =
     let rows = merged b more (since r.at all) in
     let whole = then_iff (w (r ∷ rows) u) (m rows u) in
     subst (λ (fs : List Fill). Remains k b (r ∷ more) init all u ↔ Remains k b more new fs u) (sym e) whole
-
-pub own_passed : (k : Track) (blanks : List Span) (r : Row) (init new : Option Stand) (all rest : List Fill) → is_own k blanks r ≡ true → ((b : ℕ) (more : List Row) (u : State) → Remains k b (r ∷ more) init all u ↔ Remains k b more new rest u) → (b : ℕ) (more : List Row) (u : State) → Remains k b (own_of k blanks (r ∷ []) ++ more) init all u ↔ Remains k b more new rest u
-own_passed k blanks r init new all rest e h b more u =
-    let one : own_of k blanks (r ∷ []) ++ more ≡ r ∷ more = rw e refl in
-    subst (λ (rs : List Row). Remains k b rs init all u ↔ Remains k b more new rest u) (sym one) (h b more u)
-
-pub other_passed : (k : Track) (blanks : List Span) (r : Row) (init : Option Stand) (all : List Fill) → is_own k blanks r ≡ false → (b : ℕ) (more : List Row) (u : State) → Remains k b (own_of k blanks (r ∷ []) ++ more) init all u ↔ Remains k b more init all u
-other_passed k blanks r init all e b more u =
-    let none : own_of k blanks (r ∷ []) ++ more ≡ more = rw e refl in
-    subst (λ (rs : List Row). Remains k b rs init all u ↔ Remains k b more init all u) (sym none) ((λ x. x), (λ x. x))
 
 pub own_split : (p : Row → Bool) (r : Row) (rs : List Row) → filter p (r ∷ rs) ≡ filter p (r ∷ []) ++ filter p rs
 own_split p r rs = elim (cases_Bool (p r)) [ inl e ↦ rw e refl | inr e ↦ rw e refl ]

@@ -1,31 +1,15 @@
 -- Where a letter leads.
 use Rattle.std.proofs.Common.{◌≡◌, refl, sym, ap, ◌∙◌, subst, inl, inr, ◌↔◌, ℕ, ◌<◌, ◌≤◌, ℤ, pos, ◌+ℤ◌, ◌<ℤ◌, ◌≤ℤ◌, Option, Some, None, arith}
-use Rattle.std.proofs.lemmas.Int.{ints}
 use Rattle.sig_base.proofs.Common.{some_same}
 use Rattle.colour_machine.specs.Rules.{Rules, IsMachine}
 use Rattle.colour_machine.proofs.Ways.{goes_stays}
 use Rattle.reach.specs.Runs.{State, Step}
 use Rattle.reach.proofs.States.{state_same}
 use Rattle.filling_pair.specs.declared.step.Stand.{Stand}
-use Rattle.filling_pair.specs.Walking.{Fits, In, IsEnd, MovesBy, state_of}
+use Rattle.filling_pair.specs.Walking.{In, IsEnd, MovesBy, state_of}
 
 pub no_letter : (m : Rules) (t : ℤ) (s : State) (l : ℕ) → m.letters ≤ l → IsEnd m (Step m t s l) None
 no_letter m t s l h u (g, k) = let lt = g.1 in absurd (omega arith)
-
-pub no_goal : (m : Rules) (t : ℤ) (s : State) (l : ℕ) → None ≡ m.next s.colour l → IsEnd m (Step m t s l) None
-no_goal m t s l e u (g, k) = let q = g.2 in absurd (cc)
-
-pub kept_step : (m : Rules) (t : ℤ) (here : Stand) (l d : ℕ) → here.colour < m.colours → l < m.letters → Some d ≡ m.next here.colour l → d ≡ here.colour → IsEnd m (Step m t (state_of here) l) (Some here)
-kept_step m t here l d lt ll e q = (
-  lt,
-  λ u. (
-    λ (g, k). elim k [ inl same ↦ same | inr (ne, en, o) ↦ absurd (ne (some_same u.colour d (sym (g.2) ∙ sym e) ∙ q)) ],
-    λ same. rw same ((lt, ll, sym e ∙ ap Some q), inl refl),
-  ),
-)
-
-pub young_step : (m : Rules) (t : ℤ) (here : Stand) (l d : ℕ) → Some d ≡ m.next here.colour l → (d ≡ here.colour → ⊥) → t <ℤ (here.entry +ℤ pos (m.floor here.colour)) → IsEnd m (Step m t (state_of here) l) None
-young_step m t here l d e ne late u (g, k) = elim k [ inl same ↦ ne (some_same d u.colour (e ∙ g.2) ∙ ap (λ (x : State). x.colour) same) | inr (n2, en, o) ↦ absurd (omega (arith, ints)) ]
 
 pub changed_step : (m : Rules) (t : ℤ) (here r : Stand) (l : ℕ) → IsMachine m → here.colour < m.colours → l < m.letters → Some r.colour ≡ m.next here.colour l → (r.colour ≡ here.colour → ⊥) → (here.entry +ℤ pos (m.floor here.colour)) ≤ℤ t → r.entry ≡ t → IsEnd m (Step m t (state_of here) l) (Some r)
 changed_step m t here r l laws lt ll e ne old en = (
@@ -39,9 +23,6 @@ changed_step m t here r l laws lt ll e ne old en = (
   ),
 )
 
-pub none_moves : (m : Rules) (t : ℕ) (here : Stand) (o : Option ℕ) → here.colour < m.colours → o ≡ None → IsEnd m (MovesBy m t o (state_of here)) (Some here)
-none_moves m t here o lt e = rw e (lt, λ u. (λ q. q, λ q. q))
-
 pub one_moves : (m : Rules) (t l : ℕ) (here : Stand) (o : Option ℕ) (r : Option Stand) → o ≡ Some l → IsEnd m (Step m (pos t) (state_of here) l) r → IsEnd m (MovesBy m t o (state_of here)) r
 one_moves m t l here o r e h = rw e h
 
@@ -49,7 +30,3 @@ one_moves m t l here o r e h = rw e h
 pub end_in : (m : Rules) (P Q : State → Type 0) (r : Option Stand) → IsEnd m P r → ((v : State) × P v × Q v) ↔ In r Q
 end_in m P Q None h = (λ (v, p, q). h v p, λ x. absurd x)
 end_in m P Q (Some r) h = (λ (v, p, q). subst Q ((h.1 v).0 p) q, λ q. (state_of r, (h.1 (state_of r)).1 refl, q))
-
-pub end_fits : (m : Rules) (P : State → Type 0) (r : Option Stand) → IsEnd m P r → Fits m r
-end_fits m P None h = tt
-end_fits m P (Some r) h = h.0

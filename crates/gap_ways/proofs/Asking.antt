@@ -34,9 +34,6 @@ old_seen sets all n mask floor c t only is lt high = (
 abbrev pub IsSearched : List Span → ℕ → ℤ → ℤ → ℤ → ℤ → Type 0
 IsSearched set floor f t low high = ((e y : ℤ) → Member set e → f ≤ℤ y → (e +ℤ pos floor) ≤ℤ y → y <ℤ t → low ≤ℤ y) × (high <ℤ t → HasOld set floor high)
 
-pub search_begins : (set : List Span) (floor : ℕ) (f t low high : ℤ) → low ≡ f → high ≡ t → IsSearched set floor f t low high
-search_begins set floor f t low high a b = (λ e y m fy o yt. omega (arith, ints), λ lt. absurd (omega (arith, ints)))
-
 pub search_down : (set : List Span) (floor : ℕ) (f t low high x : ℤ) → HasOld set floor x → IsSearched set floor f t low high → IsSearched set floor f t low x
 search_down set floor f t low high x h (a, b) = (a, λ lt. h)
 

@@ -14,13 +14,10 @@ use Rattle.reach.specs.Sets.{at}
 use Rattle.reach.specs.Leaving.{HasOld}
 use Rattle.reach.specs.Arrivals.{IsArrival, IsFirst, IsLeave, StandsIn}
 use Rattle.reach.proofs.Arriving.{within_start, within_step, within_since, within_next, fills_later}
-use Rattle.gap_ways.specs.Ways.{Way, state_of, Added, AllBefore, AfterEarly, IsEarly, NoneOlder}
+use Rattle.gap_ways.specs.Ways.{Way, state_of, Added, AllBefore, AfterEarly, IsEarly}
 use Rattle.gap_ways.specs.Rounds.{NoEdge, IsEdge, AreRounds, InRounds, InGap}
 use Rattle.colour_machine.proofs.Ways.{goes_stays}
 use Rattle.reach.proofs.States.{in_sets}
-
-pub no_rounds : (m : Rules) (f t : ℤ) (dep : List ℤ) (here : Entered) → here.colour < 16 → here.entry <ℤ t → InRounds m f t dep [] here → ⊥
-no_rounds m f t dep here lt e (a, r, l) = let s = r here.colour lt in omega (arith, ints)
 
 pub first_round : (m : Rules) (f t : ℤ) (dep b : List ℤ) (old new : List (List ℤ)) (here : Entered) → old ≡ new ++ b ∷ [] → InRounds m f t dep (reverse old) here → InRounds m f t dep (b ∷ reverse new) here
 first_round m f t dep b old new here e r = let q : reverse old ≡ b ∷ reverse new = ap (λ (z : List (List ℤ)). reverse z) e ∙ reverse-append new (b ∷ []) in subst (λ (z : List (List ℤ)). InRounds m f t dep z here) q r
@@ -72,9 +69,6 @@ added_none m f t n old target = ([], sym (append-nil old), omega arith, refl)
 -- the old entries that let a colour be left
 pub has_some : (set : List Span) (floor : ℕ) (f t x y : ℤ) → IsFirst set floor f t x → x ≤ℤ y → y <ℤ t → HasOld set floor y
 has_some set floor f t x y (a, b, c, d) le lt = let (e, h, o) = d (omega (arith, ints)) in (e, h, omega (arith, ints))
-
-pub oldest_left : (set : List Span) (floor : ℕ) (y least : ℤ) → HasOld set floor y → ((e : ℤ) → Member set e → least ≤ℤ e) → (least +ℤ pos floor) ≤ℤ y
-oldest_left set floor y least (e, h, o) l = let i = l e h in omega (arith, ints)
 
 -- a target of a gap that isn't held is a new state of it
 pub new_in_gap : (m : Rules) (sets : List (List Span)) (f t : ℤ) (best : List ℤ) (target : Entered) → IsMachine m → IsArrival m sets f t best → AfterGap m sets f t (state_of target) → (Holds sets (state_of target) → ⊥) → target.colour < m.colours → InGap m f t target × (at best target.colour ≤ℤ target.entry)
@@ -142,9 +136,6 @@ early_colour m sets f t u laws size (s, h, e, (lists, len, r)) = run_colour m f 
 module _ (sets early : List (List Span)) (f : ℤ) (is : (s : State) → Holds early s ↔ (Holds sets s × (s.entry <ℤ f))) where
   pub cut_before : AllBefore early f
   cut_before s h = ((is s).0 h).1
-
-  pub cut_older : NoneOlder sets → NoneOlder early
-  cut_older older s h = older s ((is s).0 h).0
 
   pub cut_reached : (m : Rules) (t : ℤ) (u : State) → AfterEarly m sets f t u → AfterGap m early f t u
   cut_reached m t u (s, h, e, k) = (s, (is s).1 (h, e), k)

@@ -1,5 +1,5 @@
 -- Hours in their places, and how many rows they have.
-use Rattle.std.proofs.Common.{◌≡◌, ◌∙◌, ℕ, zero, suc, ◌+◌, ◌-◌, ◌*◌, ◌<◌, ◌≤◌, IfSome, List, [], ◌∷◌, length, get_or, set, Option, Some, None, refl, sym, subst, arith, inl, inr, replicate, get_or-set_same, get_or-set_other, length-set}
+use Rattle.std.proofs.Common.{◌≡◌, ◌∙◌, ℕ, zero, suc, ◌+◌, ◌-◌, ◌*◌, ◌<◌, ◌≤◌, List, [], ◌∷◌, length, get_or, set, Option, Some, None, refl, sym, subst, arith, inl, inr, replicate, get_or-set_same, get_or-set_other, length-set}
 use Rattle.std.specs.List.{sum_by}
 use Rattle.std.proofs.lemmas.List.{get_or_default, length-replicate}
 use Rattle.std.proofs.lemmas.List.Sums.{sum_by-cons, sum_by-set}
@@ -34,10 +34,6 @@ nothing_counted n = rw sum_by-replicate (omega arith)
 -- what is found at an hour is of that hour
 pub of_hour : (hours : List (Option Shown)) (h : ℕ) (x : Option Shown) (r : Shown) → AreInPlace hours → h < length hours → x ≡ get_or hours h x → x ≡ Some r → IsOfHour h r
 of_hour hours h x r p lt here e = p h r (get_or_default hours h None x lt ∙ sym here ∙ e)
-
-pub found_of_hour : (hours : List (Option Shown)) (h : ℕ) (x : Option Shown) → AreInPlace hours → h < length hours → x ≡ get_or hours h x → IfSome x (IsOfHour h)
-found_of_hour hours h None p lt here = tt
-found_of_hour hours h (Some r) p lt here = of_hour hours h (Some r) r p lt here refl
 
 -- rows put in the place of their hour
 pub put_is_store : (s : Store) (h : ℕ) (r : Shown) → IsStore s → h < length s.hours → IsOfHour h r → IsStore (with_hour s h (Some r))

@@ -4,7 +4,7 @@ use Rattle.std.proofs.lemmas.List.{drop_more, drop_all}
 use Rattle.std.proofs.lemmas.List.Edits.{map_over_more}
 use Rattle.sig_base.specs.declared.values.Row.{Row}
 use Rattle.gap_map.specs.declared.stretch.Stretch.{Stretch}
-use Rattle.hour_sweep.specs.Passes.{front, back, swept_rows, swept_stretch, swept}
+use Rattle.hour_sweep.specs.Passes.{swept_rows}
 
 -- stand where a list has no row or no stretch
 abbrev pub no_row : Row
@@ -18,12 +18,6 @@ rows_more after rows i s new all lt e inv = rw e (sym (ap (λ xs. swept_rows aft
 
 pub rows_done : {S : Type 0} (after : S → Row → S) (rows : List Row) (i : ℕ) (s all : S) → length rows ≤ i → swept_rows after (drop i rows) s ≡ all → s ≡ all
 rows_done after rows i s all le inv = sym (ap (λ xs. swept_rows after xs s) (drop_all i rows le)) ∙ inv
-
-pub swept_more : {S : Type 0} (after : S → Row → S) (cleared : S → S) (ss : List Stretch) (i : ℕ) (left here rest : List Row) (s new all : S) → i < length ss → here ≡ front (get_or ss i no_stretch).to left → rest ≡ back (get_or ss i no_stretch).to left → new ≡ swept_stretch after cleared (get_or ss i no_stretch).known here s → swept after cleared (drop i ss) left s ≡ all → swept after cleared (drop (i + 1) ss) rest new ≡ all
-swept_more after cleared ss i left here rest s new all lt h r e inv = rw (e, h, r) (sym (ap (λ zs. swept after cleared zs left s) (drop_more ss i no_stretch lt)) ∙ inv)
-
-pub swept_done : {S : Type 0} (after : S → Row → S) (cleared : S → S) (ss : List Stretch) (i : ℕ) (left : List Row) (s all : S) → length ss ≤ i → swept after cleared (drop i ss) left s ≡ all → s ≡ all
-swept_done after cleared ss i left s all le inv = sym (ap (λ zs. swept after cleared zs left s) (drop_all i ss le)) ∙ inv
 
 -- one more element is replaced by f of it
 pub over_more : {X : Type 0} (f : X → X) (xs ys : List X) (i : ℕ) (x y : X) → i < length xs → ys ≡ map f (take i xs) ++ drop i xs → x ≡ get_or ys i x → y ≡ f x → set ys i y ≡ map f (take (i + 1) xs) ++ drop (i + 1) xs

@@ -13,12 +13,6 @@ module _ {A : Type 0} (put : A → A → A) where
   merged_assoc assoc (x ∷ xs) (y ∷ ys) [] = refl
   merged_assoc assoc (x ∷ xs) (y ∷ ys) (z ∷ zs) = ap (λ v. v ∷ merged put (merged put xs ys) zs) (assoc x y z) ∙ ap (λ rest. put x (put y z) ∷ rest) (merged_assoc assoc xs ys zs)
 
-  pub length-sum : (xs ys : List A) (n : ℕ) → length xs ≤ n → length ys ≤ n → length (merged put xs ys) ≤ n
-  length-sum [] ys n a b = b
-  length-sum (x ∷ xs) [] n a b = a
-  length-sum (x ∷ xs) (y ∷ ys) zero a b = absurd (omega arith)
-  length-sum (x ∷ xs) (y ∷ ys) (suc n) a b = let r = length-sum xs ys n (omega arith) (omega arith) in omega arith
-
   -- item by item: so many items of the second list have been added
   pub step_within : (xs ys : List A) (i : ℕ) (d e : A) → i < length xs → i < length ys → set (merged put xs (take i ys)) i (put (get_or (merged put xs (take i ys)) i d) (get_or ys i e)) ≡ merged put xs (take (suc i) ys)
   step_within [] ys i d e a b = absurd (omega arith)

@@ -349,6 +349,3 @@ least_one o k is same = (
   (holds_single o is (state k o.entry)).1 (same, refl),
   λ e h. let s = ((holds_single o is (state k e)).0 h).1 in omega (arith, ints),
 )
-
-pub none_one : (o : Single) (k : ℕ) → IsSingle o → (k ≡ o.colour → ⊥) → (e : ℤ) → Member (get_or (sets_of o) k []) e → ⊥
-none_one o k is ne e h = ne ((holds_single o is (state k e)).0 h).0

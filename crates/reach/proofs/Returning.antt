@@ -1,5 +1,5 @@
 -- A run of holes backward, in one step.
-use Rattle.std.proofs.Common.{◌≡◌, ◌≢◌, refl, sym, ◌∙◌, subst, ◌⊎◌, inl, inr, ◌↔◌, ℕ, ◌+◌, ◌-◌, ◌<◌, ◌≤◌, ℤ, pos, negsuc, ◌^◌, ◌+ℤ◌, ◌-ℤ◌, ◌<ℤ◌, ◌≤ℤ◌, int_le, true, List, [], ◌∷◌, length, take, get_or, set, get_or-set_other, arith, Option, Some, None}
+use Rattle.std.proofs.Common.{◌≡◌, ◌≢◌, refl, sym, ◌∙◌, subst, ◌⊎◌, inl, inr, ◌↔◌, ℕ, ◌+◌, ◌-◌, ◌<◌, ◌≤◌, ℤ, pos, negsuc, ◌^◌, ◌+ℤ◌, ◌-ℤ◌, ◌<ℤ◌, ◌≤ℤ◌, int_le, true, List, [], ◌∷◌, length, take, get_or, arith, Option, Some, None}
 use Rattle.std.specs.Int.{int_min}
 use Rattle.std.proofs.lemmas.Int.{ints, clamps}
 use Rattle.std.proofs.lemmas.Bool.{cases_eq, cases_lt}
@@ -12,10 +12,10 @@ use Rattle.reach.specs.Runs.{State, state, Step, Steps, Run}
 use Rattle.reach.specs.Ahead.{NotLater, Admits, BeforeGap}
 use Rattle.reach.specs.Latest.{entry_of, IsTable}
 use Rattle.reach.specs.Holes.{AreFrom, AreHoles, OnlyIn}
-use Rattle.reach.specs.Last.{BeforeHoles, InHoles, IsPrev, LeftIn, LeftInBelow, IsLaterIn, IsRoundIn, Continues, AreLasts, StaysOrLeaves, AreLast, PlacesAreGaps, IsEntryAt, AreEntriesAt}
+use Rattle.reach.specs.Last.{BeforeHoles, InHoles, IsPrev, LeftIn, LeftInBelow, IsLaterIn, IsRoundIn, Continues, AreLasts, StaysOrLeaves, AreLast, PlacesAreGaps, AreEntriesAt}
 use Rattle.std.specs.Option.{IfSome}
-use Rattle.reach.proofs.Entering.{entry_more, IsLater, ranks, ranks_fall}
-use Rattle.reach.proofs.Later.{take_admits, length_set}
+use Rattle.reach.proofs.Entering.{IsLater, ranks, ranks_fall}
+use Rattle.reach.proofs.Later.{take_admits}
 use Rattle.reach.proofs.Crossing.{gaps_of, holes_of, in_start, in_later, join_in, hole_order, hole_above, number_of, member_at, le_below}
 
 module _ (m : Rules) (latest : List (Option ℤ)) (hs : List Span) (t : ℤ) where
@@ -130,14 +130,6 @@ lasts_fall m latest hs f t a b ft are r w ne = ranks_fall f t ft a b (r.0 ∙ sy
   | inr ge ↦ rw (w.1 d ge, r.2 d ge) tt
 ]) ne
 
-pub lasts_none : (m : Rules) (latest : List (Option ℤ)) (hs : List Span) (t : ℤ) (a : List (Option ℤ)) → length a ≡ 16 → ((c : ℕ) → entry_of a c ≡ None) → AreLasts m latest hs t a
-lasts_none m latest hs t a size none = (
-  size,
-  λ c ge. none c,
-  λ c. subst (λ (o : Option ℤ). InHoles hs o) (sym (none c)) tt,
-  λ c y my n. absurd (subst (λ (o : Option ℤ). NotLater o y) (none c) n),
-)
-
 pub left_in_more : (m : Rules) (latest last : List (Option ℤ)) (c k : ℕ) (y : ℤ) → LeftInBelow m latest last c (k + 1) y ↔ (LeftInBelow m latest last c k y ⊎ LeftIn m latest last c k y)
 left_in_more m latest last c k y = (
   λ (l, lt, b). elim (cases_eq l k) [ inl s ↦ inr (subst (λ (n : ℕ). LeftIn m latest last c n y) s b) | inr ne ↦ inl (l, omega arith, b) ],
@@ -153,9 +145,6 @@ later_in_more m latest last hs c k x new i h one = (
     λ a. n.1 (elim a [ inl b ↦ inl (j.1 (inl b)) | inr b ↦ elim (q.0 b) [ inl d ↦ inl (j.1 (inr d)) | inr d ↦ inr d ] ]),
   ),
 )
-
-pub later_in_none : (m : Rules) (latest last : List (Option ℤ)) (hs : List Span) (c : ℕ) → InHoles hs (entry_of last c) → IsLaterIn m latest hs last c 0 (entry_of last c)
-later_in_none m latest last hs c h = (h, λ y my. (λ a. inl a, λ a. elim a [ inl b ↦ b | inr (l, lt, b) ↦ absurd (omega arith) ]))
 
 -- the tables' first colours tell the same
 pub last_table : (m : Rules) (n : ℕ) (latest now : List (Option ℤ)) (hs : List Span) (f t : ℤ) (last : List (Option ℤ)) → IsTable n latest → take n latest ≡ now → AreLast m latest hs f t last → AreLast m now hs f t last
@@ -193,10 +182,6 @@ prev_is hs y x n d are some within begun after is =
 pub begun_low : (hs : List Span) (k : ℕ) (d : Span) → AreRanges hs → k < length hs → negsuc (2 ^ 40) <ℤ (get_or hs k d).to
 begun_low hs k d are lt = let i = hole_above (negsuc (2 ^ 40)) hs k d are lt in let a = i.0 in let b = i.1 in omega (arith, ints)
 
--- the later of two
-pub best_in : (hs : List Span) (a b r : Option ℤ) → ((r ≡ a) ⊎ (r ≡ b)) → InHoles hs a → InHoles hs b → InHoles hs r
-best_in hs a b r which ha hb = elim which [ inl e ↦ subst (λ (o : Option ℤ). InHoles hs o) (sym e) ha | inr e ↦ subst (λ (o : Option ℤ). InHoles hs o) (sym e) hb ]
-
 -- ---- the states at a place of the run
 pub low_holes : (hs : List Span) (f t low : ℤ) (o : Option ℤ) → low ≤ℤ f → AreHoles f t hs → InHoles hs o → IfSome o (λ x. low ≤ℤ x)
 low_holes hs f t low None h are i = tt
@@ -209,36 +194,8 @@ low_from hs low (Some x) are i = are.1 x i
 pub holes_from : (hs : List Span) (f t low : ℤ) → low ≤ℤ f → AreHoles f t hs → AreFrom low hs
 holes_from hs f t low h are = (are.0, λ y i. let a = (are.1 y i).0 in omega (arith, ints))
 
-pub entries_none : (m : Rules) (latest last : List (Option ℤ)) (x : ℤ) → length latest ≡ 16 → AreEntriesAt m latest last x latest 0
-entries_none m latest last x size = (size, λ c lt. absurd (omega arith), λ c ge. refl)
-
-pub entries_more : (m : Rules) (latest last new : List (Option ℤ)) (x : ℤ) (k : ℕ) (one : Option ℤ) → k < length new → AreEntriesAt m latest last x new k → IsEntryAt (m.floor k) (entry_of latest k) (entry_of last k) x one → AreEntriesAt m latest last x (set new k one) (k + 1)
-entries_more m latest last new x k one h i here = (
-  length_set new k one i.0,
-  entry_more (λ c o. IsEntryAt (m.floor c) (entry_of latest c) (entry_of last c) x o) new k one h i.1 here,
-  λ c ge. let ne : c ≢ k = omega arith in get_or-set_other new k c one None ne ∙ i.2 c (omega arith),
-)
-
 pub table_at : (m : Rules) (n : ℕ) (latest last new : List (Option ℤ)) (x : ℤ) → n ≡ m.colours → IsTable n latest → AreEntriesAt m latest last x new m.colours → IsTable n new
 table_at m n latest last new x same table i = (table.0, λ c ge. i.2 c (omega arith) ∙ table.1 c ge)
-
-pub admits_at : (m : Rules) (n : ℕ) (latest last new now : List (Option ℤ)) (x : ℤ) → n ≡ m.colours → IsTable n latest → take n latest ≡ now → ((c : ℕ) → m.colours ≤ c → entry_of last c ≡ None) → AreEntriesAt m latest last x new m.colours → (s : State) → Admits (take n new) s ↔ StaysOrLeaves m now last x s
-admits_at m n latest last new now x same table view none i s =
-    let a = take_admits n new s (table_at m n latest last new x same table i).1 in
-    let b = take_admits n latest s table.1 in
-    rw (← view) (elim (cases_lt s.colour m.colours) [
-      | inl lt ↦ let k = i.1 s.colour lt s.entry in (
-        λ h. elim (k.0 (a.0 h)) [ inl y ↦ inl (b.1 y) | inr y ↦ inr y ],
-        λ h. a.1 (k.1 (elim h [ inl y ↦ inl (b.0 y) | inr y ↦ inr y ])),
-      )
-      | inr ge ↦ (
-        λ h. inl (b.1 (subst (λ (o : Option ℤ). NotLater o s.entry) (i.2 s.colour ge) (a.0 h))),
-        λ h. elim h [
-          | inl y ↦ a.1 (subst (λ (o : Option ℤ). NotLater o s.entry) (sym (i.2 s.colour ge)) (b.0 y))
-          | inr y ↦ absurd (subst (λ (o : Option ℤ). NotLater o x) (none s.colour ge) y.0)
-        ],
-      )
-    ])
 
 pub places_gaps : PlacesAreGaps
 places_gaps m sets latest hs gs ks f x t before after fx xt parts = (
@@ -257,13 +214,6 @@ places_gaps m sets latest hs gs ks f x t before after fx xt parts = (
 all_in : (hs : List Span) (f t y : ℤ) (lists : List (List ℕ)) → ((z : ℤ) → f ≤ℤ z → z <ℤ t → Member hs z) → f ≤ℤ y → (y +ℤ pos (length lists)) ≤ℤ t → OnlyIn hs y lists
 all_in hs f t y [] h low high = tt
 all_in hs f t y (ls ∷ rest) h low high = (inl (h y low (omega (arith, ints))), all_in hs f t (y +ℤ pos 1) rest h (omega (arith, ints)) (omega (arith, ints)))
-
--- a range is a run of one hole
-pub one_hole : (f t : ℤ) → negsuc (2 ^ 39) ≤ℤ f → f <ℤ t → t ≤ℤ pos (2 ^ 39) → AreHoles f t (span f t ∷ [])
-one_hole f t low some high = (
-  (omega (arith, ints), some, omega (arith, ints), tt),
-  λ y h. elim h [ inl w ↦ w | inr n ↦ absurd n ],
-)
 
 -- what can be met before it is what can be met before the gap
 pub hole_gap : (m : Rules) (latest : List (Option ℤ)) (f t : ℤ) (s : State) → BeforeHoles m latest (span f t ∷ []) f t s ↔ BeforeGap m latest f t s

@@ -8,7 +8,7 @@ use Rattle.span_set.specs.declared.set.Span.{Span}
 use Rattle.colour_machine.specs.Mask.{Has}
 use Rattle.colour_machine.specs.Rules.{Rules, IsMachine, Goes}
 use Rattle.colour_machine.proofs.Ways.{goes_stays}
-use Rattle.reach.specs.Runs.{State, state, Steps, Run, Fills}
+use Rattle.reach.specs.Runs.{State, state, Run, Fills}
 use Rattle.reach.specs.Past.{Holds, AfterRow}
 use Rattle.reach.specs.Leaving.{HasOld, CanLeave}
 use Rattle.reach.specs.Sets.{IsRebuilt}
@@ -23,17 +23,6 @@ none_left m t s u (ls ∷ rest) e r = absurd (omega (arith, ints))
 -- no tenth is left
 pub fills_none : (m : Rules) (t : ℤ) (s u : State) → Fills m t t s u ↔ (u ≡ s)
 fills_none m t s u = (λ f. none_left m t s u f.0 f.1 f.2, λ e. ([], omega (arith, ints), e))
-
-first_left : (m : Rules) (f t : ℤ) (s u : State) (lists : List (List ℕ)) → f <ℤ t → (f +ℤ pos (length lists)) ≡ t → Run m f s lists u → (v : State) × ((ls : List ℕ) × Steps m f s ls v) × Fills m (f +ℤ pos 1) t v u
-first_left m f t s u [] h e r = absurd (omega (arith, ints))
-first_left m f t s u (ls ∷ rest) h e (v, a, r) = (v, (ls, a), (rest, omega (arith, ints), r))
-
--- the first tenth, and the rest
-pub fills_step : (m : Rules) (f t : ℤ) (s u : State) → f <ℤ t → Fills m f t s u ↔ ((v : State) × ((ls : List ℕ) × Steps m f s ls v) × Fills m (f +ℤ pos 1) t v u)
-fills_step m f t s u h = (
-  λ g. first_left m f t s u g.0 h g.1 g.2,
-  λ (v, a, g). (a.0 ∷ g.0, (let e = g.1 in omega (arith, ints)), (v, a.1, g.2)),
-)
 
 -- a state that the sets hold has one of their colours
 pub in_sets : (sets : List (List Span)) (c : ℕ) (e : ℤ) → Member (get_or sets c []) e → c < length sets

@@ -1,7 +1,7 @@
 -- Facts about each element of a list, and about each pair.
-use Rattle.std.proofs.Common.{◌≡◌, zero, suc, ◌<◌, Bool, true, false, cond, List, [], ◌∷◌, ◌++◌, length, filter, All, AllPairs, arith, inl, inr}
+use Rattle.std.proofs.Common.{◌≡◌, zero, suc, ◌<◌, Bool, true, false, cond, List, [], ◌∷◌, ◌++◌, length, filter, All, AllPairs, arith}
 use Rattle.std.specs.List.{AllByRecursion, list_any}
-use Rattle.std.proofs.lemmas.Bool.{cases_Bool, or_parts}
+use Rattle.std.proofs.lemmas.Bool.{or_parts}
 use Rattle.ring_config.specs.Walk.{EachPair, NoneRepeats}
 
 module _ {X : Type 0} where
@@ -58,9 +58,3 @@ module _ {X : Type 0} where
   pub pairs_filter : (R : X → X → Type 0) (p : X → Bool) (xs : List X) → EachPair R xs → EachPair R (filter p xs)
   pairs_filter R p [] h = tt
   pairs_filter R p (x ∷ xs) h = pairs_cond R (p x) x (filter p xs) (all_filter (R x) p xs h.0) (pairs_filter R p xs h.1)
-
-  -- what holds of each element holds of one that passes
-  pub any_holds : (P : Type 0) (p : X → Bool) (xs : List X) → AllByRecursion (λ x. p x ≡ true → P) xs → list_any p xs ≡ true → P
-  any_holds P p [] h e = absurd cc
-  any_holds P p (x ∷ xs) h e =
-      elim (cases_Bool (p x)) [ inl t ↦ h.0 t | inr f ↦ any_holds P p xs h.1 (rw f at e) ]

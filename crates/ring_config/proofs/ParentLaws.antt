@@ -160,9 +160,6 @@ marked found mask new n is q e = record {
 
 -- ---- one parent
 
-not_again_at : (o : Option ℕ) (found : List ℕ) (n : ℕ) → Some n ≡ o → has_number found n ≡ true → passing (λ m. cond (has_number found m) false true) o ≡ None
-not_again_at o found n e t = rw (← e, t) refl
-
 is_there : (found : List ℕ) (mask n : ℕ) (r : Bool) → IsMaskOf found mask → 1 ≤ n → (IsTrue r ↔ Has mask (n - 1)) → r ≡ true → has_number found n ≡ true
 is_there found mask n r is q h t = bit_tells (has_number found n) (sym (bit_of_phase found mask n is q) ∙ h.0 t)
   where

@@ -26,9 +26,6 @@ any_flat_map : {A B : Type 0} (f : A → List B) (p : B → Bool) (xs : List A) 
 any_flat_map f p [] = refl
 any_flat_map f p (x ∷ xs) = list_any-append p (f x) (flat_map f xs) ∙ ap (λ (b : Bool). list_any p (f x) || b) (any_flat_map f p xs)
 
-true_or : (b : Bool) → (true || b) ≡ true
-true_or b = refl
-
 pub or_true : (b : Bool) → (b || true) ≡ true
 or_true true = refl
 or_true false = refl

@@ -162,10 +162,6 @@ kept-end from to rows kept i h k =
 
 -- ---- what is kept
 
-part-all : (xs : List Row) → IsPartOf [] xs
-part-all [] = refl
-part-all (x ∷ xs) = inl (part-all xs)
-
 -- what is kept after these rows
 record More (kept rows : List Row) : Type 0 where
   pub more : List Row

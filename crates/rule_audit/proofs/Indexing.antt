@@ -52,9 +52,6 @@ module _ (specs : List Spec) (rows : List Row) (before : Bool) (t : ℕ) (rules 
 -- ---- lists of skips
 
 module _ (p : ℕ → Bool) (n : ℕ) where
-  pub next_last : IsNext p n n n
-  next_last = record { from = omega arith; within = omega arith; none = λ x a b. absurd (omega arith); passes = λ lt. absurd (omega arith) }
-
   pub next_none : (k m : ℕ) → k < n → p k ≡ false → IsNext p n (k + 1) m → IsNext p n k m
   next_none k m lt is next = record {
     from = let a = next.from in omega arith;

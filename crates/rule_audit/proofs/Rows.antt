@@ -1,7 +1,7 @@
 -- Rows of a tenth and of a channel.
-use Rattle.std.proofs.Common.{suc, zero, ◌≡◌, ap, sym, ◌∙◌, ℕ, ◌+◌, ◌<◌, ◌≤◌, Bool, true, false, ◌||◌, List, [], ◌∷◌, length, get_or, drop, arith}
+use Rattle.std.proofs.Common.{suc, zero, ◌≡◌, ap, sym, ◌∙◌, ℕ, ◌+◌, ◌<◌, ◌≤◌, Bool, true, ◌||◌, List, [], ◌∷◌, length, get_or, drop, arith}
 use Rattle.std.specs.List.{list_any}
-use Rattle.std.proofs.lemmas.List.{drop_more, drop_all}
+use Rattle.std.proofs.lemmas.List.{drop_more}
 use Rattle.board.specs.declared.clause.Term.{Term}
 use Rattle.board.specs.Verdicts.{AreWithin}
 
@@ -11,14 +11,8 @@ within_at n zero d (c ∷ cs) (a, w) lt = a
 within_at n (suc i) d (c ∷ cs) (a, w) lt = within_at n i d cs w (omega arith)
 
 module _ {X : Type 0} (p : X → Bool) (xs : List X) (i : ℕ) (d : X) where
-  pub any_over : length xs ≤ i → list_any p (drop i xs) ≡ list_any p xs → list_any p xs ≡ false
-  any_over le inv = sym inv ∙ ap (list_any p) (drop_all i xs le)
-
   any_step : i < length xs → list_any p (drop i xs) ≡ (p (get_or xs i d) || list_any p (drop (i + 1) xs))
   any_step lt = ap (list_any p) (drop_more xs i d lt)
 
   pub any_found : i < length xs → list_any p (drop i xs) ≡ list_any p xs → p (get_or xs i d) ≡ true → list_any p xs ≡ true
   any_found lt inv is = sym inv ∙ (any_step lt ∙ ap (λ b. b || list_any p (drop (i + 1) xs)) is)
-
-  pub any_turn : i < length xs → list_any p (drop i xs) ≡ list_any p xs → p (get_or xs i d) ≡ false → list_any p (drop (i + 1) xs) ≡ list_any p xs
-  any_turn lt inv is = sym (any_step lt ∙ ap (λ b. b || list_any p (drop (i + 1) xs)) is) ∙ inv

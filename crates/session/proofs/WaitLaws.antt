@@ -1,5 +1,5 @@
 -- Hours whose numbers wait, and how often they are opened.
-use Rattle.std.proofs.Common.{◌≡◌, ◌∙◌, ◌⊎◌, inl, inr, ℕ, ◌+◌, ◌-◌, ◌<◌, ◌≤◌, ◌≢◌, Bool, true, false, List, [], ◌∷◌, ◌++◌, length, length-append, set, get_or, length-set, get_or-set_same, get_or-set_other, refl, sym, ap, subst, arith, Ok, Err, Result}
+use Rattle.std.proofs.Common.{◌≡◌, ◌∙◌, ◌⊎◌, inl, inr, ℕ, ◌+◌, ◌-◌, ◌<◌, ◌≤◌, ◌≢◌, Bool, true, false, List, [], ◌∷◌, ◌++◌, length, length-append, get_or, refl, sym, ap, subst, arith, Ok, Err, Result}
 use Rattle.std.proofs.lemmas.Bool.{cases_lt}
 use Rattle.std.proofs.lemmas.List.{get_or_append_left, get_or_past}
 use Rattle.std.proofs.Math.Seq.{get_or-append_seam}
@@ -30,22 +30,6 @@ settled_marked from to old new settled mark hour = elim (cases_lt hour from) [
 
 pub marked_none : (from : ℕ) (value : Bool) (xs : List Bool) → AreMarked from from value xs xs
 marked_none from value xs = record { size = refl; within = λ h low high. absurd (omega arith); outside = λ h out. refl }
-
--- one hour more
-pub marked_on : (from to : ℕ) (value : Bool) (old mid new : List Bool) → from ≤ to → to < length mid → AreMarked from to value old mid → new ≡ set mid to value → AreMarked from (to + 1) value old new
-marked_on from to value old mid new order room mark e = rw e (record {
-  size = length-set mid to value ∙ mark.size;
-  within = λ h low high. elim (cases_lt h to) [
-    | inl below ↦ get_or-set_other mid to h value false (λ same. omega arith) ∙ mark.within h low below
-    | inr last ↦
-        let here : to ≡ h = omega arith in
-        subst (λ (i : ℕ). get_or (set mid to value) i false ≡ value) here (get_or-set_same mid to value false room)
-  ];
-  outside = λ h out. elim out [
-    | inl below ↦ get_or-set_other mid to h value false (λ same. omega arith) ∙ mark.outside h (inl below)
-    | inr past ↦ get_or-set_other mid to h value false (λ same. omega arith) ∙ mark.outside h (inr (omega arith))
-  ];
-})
 
 -- ---- openings
 

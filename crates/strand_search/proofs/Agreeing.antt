@@ -80,9 +80,6 @@ unknown_same known other f t (r ∷ qs) a h (e, b) = (h r.at a.0 ∙ e, let le =
 is_known : (known : ℕ → Bool) (rows fills : List Row) (x : ℕ) → known x ≡ true → events_of known rows fills x ≡ events_at rows x
 is_known known rows fills x e = rw e refl
 
-is_unknown : (known : ℕ → Bool) (rows fills : List Row) (x : ℕ) → known x ≡ false → events_of known rows fills x ≡ events_at fills x
-is_unknown known rows fills x e = rw e refl
-
 -- the part of a stretch, and its rows that fill it
 abbrev pub FillsPart : Track → (ℕ → List Event) → Bool → ℕ → ℕ → List Row → List Row → State → State → Type 0
 FillsPart k given known f m rs ps s v = RowsIn f m ps × (known ≡ true → ps ≡ []) × (((x : ℕ) → f ≤ x → x < m → given x ≡ (if known then events_at rs x else events_at ps x)) → Agreeing k (λ x. true) given f m s v)

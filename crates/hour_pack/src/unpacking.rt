@@ -122,8 +122,5 @@ pub fn unpack<L>(
     let hours = window.hours();
     prove!(hour < hours);
     let rows = rows_of(alloc, bytes, signal, hour, window)?;
-    match HourRows::new(hour, rows, 0) {
-        Some(rows) => Ok(rows),
-        None => unreachable!(),
-    }
+    Ok(HourRows::of(hour, rows, 0))
 }

@@ -18,5 +18,5 @@ mod watch;
 pub use both::{Both, sweep_both};
 pub use each::{Sum, add_each};
 pub use sums::{greatest_of, least_of, total};
-pub use track::{Track, Tracked, track_both, track_hour, tracked_of};
+pub use track::{Track, Tracked, track_hour, tracked_of};
 pub use watch::{Watch, sweep};

@@ -4,7 +4,6 @@ ghost use Rattle.sig_base.specs.declared.values.Row.{Row};
 ghost use Rattle.hour_sweep.specs.Passes.{swept};
 ghost use Rattle.hour_sweep.specs.Numbers.{PassesOver, tracking_after, tracking_cleared};
 
-use crate::both::sweep_both;
 use crate::watch::{Watch, sweep};
 use gap_map::Stretch;
 use sig_base::{NoMemory, Row};
@@ -165,24 +164,4 @@ pub fn track_hour<T: Track>(
     let mut tracked = tracked_of(alloc, parts)?;
     sweep(&mut tracked, rows, stretches)?;
     Ok(tracked)
-}
-
-/// The same for two measures, in one pass over the hour.
-pub fn track_both<S: Track, T: Track>(
-    alloc: Global,
-    ones: &[Option<S>],
-    others: &[Option<T>],
-    rows: &[Row],
-    stretches: &[Stretch],
-) -> Result<(Tracked<S, S::Out>, Tracked<T, T::Out>), NoMemory>
-    ensures ones { IfOk result (λ p. p.0 ≡ swept (tracking_after S.step S.out_by)
-        (tracking_cleared S.clear) stretches.now rows.now
-        (record { parts = ones.now; outs = [] })) }
-    ensures others { IfOk result (λ p. p.1 ≡ swept (tracking_after T.step T.out_by)
-        (tracking_cleared T.clear) stretches.now rows.now
-        (record { parts = others.now; outs = [] })) }
-{
-    let one = tracked_of(alloc, ones)?;
-    let other = tracked_of(alloc, others)?;
-    sweep_both(one, other, rows, stretches)
 }

@@ -99,10 +99,7 @@ fn hour_rows<L>(alloc: Global, hour: Hour, read: FileRows) -> Result<HourRows<L>
     order_rows(hour, &mut rows, rise)?;
     let kept = drop_repeats(alloc, hour, &rows)?;
     let repeats = (rows.len() - kept.len()) as u32;
-    match HourRows::new(hour, kept, repeats) {
-        Some(rows) => Ok(rows),
-        None => unreachable!(),
-    }
+    Ok(HourRows::of(hour, kept, repeats))
 }
 
 /// The rows of a file that are of this signal and this hour, in row order and without repeats, or

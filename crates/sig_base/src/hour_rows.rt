@@ -59,12 +59,20 @@ impl<L> HourRows<L> {
         if !rise_in(from, from + 36_000, &rows) {
             return None;
         }
-        Some(HourRows {
+        Some(HourRows::of(hour, rows, repeats))
+    }
+
+    /// The same of rows that are known to be so: they aren't looked at.
+    pub fn of(hour: Hour, rows: Vec<Row>, repeats: u32) -> Self
+        requires { AreRowsOf hour rows.items }
+        ensures { result ≡ record { hour = hour; rows = rows.items; repeats = repeats } }
+    {
+        HourRows {
             hour,
             rows,
             repeats,
             mark: PhantomData,
-        })
+        }
     }
 
     /// The hour, counted from the start of the window.

@@ -15,22 +15,20 @@ returns-in_err-rows-clause-only g c = λ rows fits e.
     let memory : c.in_err-rows.field-0.0 ≡ Memory = only_memory _ rows c.in_err-rows.field-0.0 read c.in_err-rows.ensures in
     rw (p.1, p.2) memory
 
-pub unreachable-requires : goal.unreachable-requires
-unreachable-requires g c =
-    let law = reading-takes c.args.signal.now c.args.window.now c.args.hour c.args.bytes.now c.in_ok-rows.rows.items (omega arith)
-    (bytes-of c.args.bytes.now (λ i. omega (arith, c.type_inv.bytes i))) c.in_ok-rows.ensures in
-    let there = c.in-None.ensures.there.1 law.0.of_hour in
-    cc
+pub of-requires : goal.of-requires
+of-requires g c =
+    (reading-takes c.args.signal.now c.args.window.now c.args.hour c.args.bytes.now c.in_ok-rows.rows.items (omega arith)
+    (bytes-of c.args.bytes.now (λ i. omega (arith, c.type_inv.bytes i))) c.in_ok-rows.ensures).0.of_hour
 
 pub returns-clause-ok : goal.returns-clause-ok
 returns-clause-ok g c =
-    unpacked c.args.signal.now c.args.window.now c.args.hour c.args.bytes.now c.in-Some.rows c.in_ok-rows.rows.items c.in-Some.ensures.value
+    unpacked c.args.signal.now c.args.window.now c.args.hour c.args.bytes.now c.of.result c.in_ok-rows.rows.items c.of.ensures
     (reading-takes c.args.signal.now c.args.window.now c.args.hour c.args.bytes.now c.in_ok-rows.rows.items (omega arith)
     (bytes-of c.args.bytes.now (λ i. omega (arith, c.type_inv.bytes i))) c.in_ok-rows.ensures)
 
 pub returns-clause-only : goal.returns-clause-only
 returns-clause-only g c = λ rows fits e.
-    unpacked-only c.args.signal.now c.args.window.now c.args.hour c.args.bytes.now c.in-Some.rows c.in_ok-rows.rows.items rows c.in-Some.ensures.value
+    unpacked-only c.args.signal.now c.args.window.now c.args.hour c.args.bytes.now c.of.result c.in_ok-rows.rows.items rows c.of.ensures
     c.in_ok-rows.ensures fits e
 
 pub returns-in_err-rows-clause-err : goal.returns-in_err-rows-clause-err

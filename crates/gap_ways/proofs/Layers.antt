@@ -1,201 +1,110 @@
--- Each round makes the arrival of one more colour the earliest, until all are.
-use Rattle.std.proofs.Common.{◌≡◌, refl, sym, ◌∙◌, subst, ap, ◌⊎◌, inl, inr, ℕ, zero, suc, ◌+◌, ◌<◌, ◌≤◌, ◌-◌, ℤ, pos, ◌+ℤ◌, ◌<ℤ◌, ◌≤ℤ◌, cond, List, [], ◌∷◌, ◌++◌, length, get_or, reverse, length-append, arith}
+-- Few rounds change something: what a round lowers comes after the arrivals of as many colours as there were rounds before.
+use Rattle.std.proofs.Common.{◌≡◌, refl, sym, ◌∙◌, subst, ap, inl, inr, ℕ, zero, suc, ◌+◌, ◌<◌, ◌≤◌, ℤ, pos, ◌<ℤ◌, ◌≤ℤ◌, cond, List, [], ◌∷◌, ◌++◌, length, reverse, arith}
 use Rattle.std.specs.Prelude.{int_lt}
 use Rattle.std.proofs.lemmas.Int.{ints}
 use Rattle.std.proofs.lemmas.Bool.{cases_lt}
-use Rattle.std.proofs.lemmas.List.{get_or_default, reverse-append}
+use Rattle.std.proofs.lemmas.List.{ext_get_or, reverse-append}
 use Rattle.span_set.proofs.Sets.{int_cases}
-use Rattle.span_set.specs.declared.set.Span.{Span}
 use Rattle.colour_machine.specs.Rules.{Rules, IsMachine, Change}
-use Rattle.colour_machine.proofs.Ways.{goes_stays, change_stays}
-use Rattle.reach.specs.Runs.{State, state, OldEnough, Step, Steps, Run}
-use Rattle.reach.specs.Past.{Holds}
+use Rattle.colour_machine.proofs.Ways.{change_stays}
 use Rattle.reach.specs.Sets.{at}
-use Rattle.reach.specs.Arrivals.{Arrives, AreArrivals, AreDepartures, IsArrival, IsLeave, IsLowered, ByColours}
-use Rattle.gap_ways.specs.Ways.{AllBefore}
+use Rattle.reach.specs.Arrivals.{IsLeave, IsLowered, ByColours}
 use Rattle.gap_ways.specs.Rounds.{IsNext, AreRounds}
-use Rattle.reach.proofs.Arriving.{within_next, fills_later, from_old, from_arrival}
 
--- ---- how many of the first n tenths of a are not later than those of c
+-- ---- how many of the first n tenths aren't later than x
 abbrev pub mark : ℤ → ℤ → ℕ
-mark x y = cond (int_lt y x) 0 1
+mark y x = cond (int_lt x y) 0 1
 
-mark_yes : (x y : ℤ) → x ≤ℤ y → mark x y ≡ 1
-mark_yes x y h = elim (int_cases y x) [ inl a ↦ absurd (let b = a.1 in omega (arith, ints)) | inr a ↦ rw a.0 refl ]
+mark_yes : (y x : ℤ) → y ≤ℤ x → mark y x ≡ 1
+mark_yes y x h = elim (int_cases x y) [ inl a ↦ absurd (let b = a.1 in omega (arith, ints)) | inr a ↦ rw a.0 refl ]
 
-mark_no : (x y : ℤ) → y <ℤ x → mark x y ≡ 0
-mark_no x y h = elim (int_cases y x) [ inl a ↦ rw a.0 refl | inr a ↦ absurd (let b = a.1 in omega (arith, ints)) ]
+mark_no : (y x : ℤ) → x <ℤ y → mark y x ≡ 0
+mark_no y x h = elim (int_cases x y) [ inl a ↦ rw a.0 refl | inr a ↦ absurd (let b = a.1 in omega (arith, ints)) ]
 
-abbrev pub agree : ℕ → List ℤ → List ℤ → ℕ
-agree zero a c = 0
-agree (suc n) a c = agree n a c + mark (at a n) (at c n)
+mark_most : (y x : ℤ) → mark y x ≤ 1
+mark_most y x = elim (int_cases x y) [ inl a ↦ let e = mark_no y x a.1 in omega arith | inr a ↦ let e = mark_yes y x a.1 in omega arith ]
 
-mark_most : (x y : ℤ) → mark x y ≤ 1
-mark_most x y = elim (int_cases y x) [ inl a ↦ let e = mark_no x y a.1 in omega arith | inr a ↦ let e = mark_yes x y a.1 in omega arith ]
-
-pub agree_most : (n : ℕ) (a c : List ℤ) → agree n a c ≤ n
-agree_most zero a c = omega arith
-agree_most (suc n) a c = let i = agree_most n a c in let j = mark_most (at a n) (at c n) in omega arith
-
-mark_less : (x z y : ℤ) → (x ≤ℤ y → z ≤ℤ y) → mark x y ≤ mark z y
-mark_less x z y h = elim (int_cases y x) [
-  | inl a ↦ let e = mark_no x y a.1 in omega arith
-  | inr a ↦ let e = mark_yes x y a.1 in let f = mark_yes z y (h a.1) in omega arith
+mark_less : (y x z w : ℤ) → (y ≤ℤ x → z ≤ℤ w) → mark y x ≤ mark z w
+mark_less y x z w h = elim (int_cases x y) [
+  | inl a ↦ let e = mark_no y x a.1 in omega arith
+  | inr a ↦ let e = mark_yes y x a.1 in let f = mark_yes z w (h a.1) in omega arith
 ]
 
-mark_same : (x z y : ℤ) → mark z y ≤ mark x y → z ≤ℤ y → x ≤ℤ y
-mark_same x z y l h = elim (int_cases y x) [
-  | inl a ↦ let e = mark_no x y a.1 in let f = mark_yes z y h in absurd (omega arith)
-  | inr a ↦ a.1
+abbrev pub upto : ℕ → List ℤ → ℤ → ℕ
+upto zero a x = 0
+upto (suc n) a x = upto n a x + mark (at a n) x
+
+upto_most : (n : ℕ) (a : List ℤ) (x : ℤ) → upto n a x ≤ n
+upto_most zero a x = omega arith
+upto_most (suc n) a x = let i = upto_most n a x in let j = mark_most (at a n) x in omega arith
+
+upto_less : (n : ℕ) (a b : List ℤ) (x y : ℤ) → ((d : ℕ) → d < n → at a d ≤ℤ x → at b d ≤ℤ y) → upto n a x ≤ upto n b y
+upto_less zero a b x y h = omega arith
+upto_less (suc n) a b x y h = let i = upto_less n a b x y (λ d lt. h d (omega arith)) in let j = mark_less (at a n) x (at b n) y (h n (omega arith)) in omega arith
+
+upto_more : (n : ℕ) (a b : List ℤ) (x y : ℤ) (e : ℕ) → ((d : ℕ) → d < n → at a d ≤ℤ x → at b d ≤ℤ y) → e < n → x <ℤ at a e → at b e ≤ℤ y → upto n a x < upto n b y
+upto_more zero a b x y e h lt late low = absurd (omega arith)
+upto_more (suc n) a b x y e h lt late low = let up : (d : ℕ) → d < n → at a d ≤ℤ x → at b d ≤ℤ y = λ d k. h d (omega arith) in elim (cases_lt e n) [
+  | inl k ↦ let i = upto_more n a b x y e up k late low in let j = mark_less (at a n) x (at b n) y (h n (omega arith)) in omega arith
+  | inr k ↦
+      let same : e ≡ n = omega arith in
+      let i = upto_less n a b x y up in
+      let p = mark_no (at a n) x (subst (λ (q : ℕ). x <ℤ at a q) same late) in
+      let q = mark_yes (at b n) y (subst (λ (q : ℕ). at b q ≤ℤ y) same low) in
+      omega arith
 ]
 
-agree_less : (n : ℕ) (a b c : List ℤ) → ((d : ℕ) → d < n → at a d ≤ℤ at c d → at b d ≤ℤ at c d) → agree n a c ≤ agree n b c
-agree_less zero a b c h = omega arith
-agree_less (suc n) a b c h = let i = agree_less n a b c (λ d lt. h d (omega arith)) in let j = mark_less (at a n) (at b n) (at c n) (h n (omega arith)) in omega arith
+-- where a change lowers an arrival, those of k colours or more are no later than the change
+abbrev pub Behind : Rules → List ℤ → ℕ → List ℤ → Type 0
+Behind m dep k a = (c d : ℕ) (x : ℤ) → c < m.colours → Change m c d → IsLeave (at dep c) (at a c) (m.floor c) x → x <ℤ at a d → k ≤ upto 16 a x
 
-agree_same : (n : ℕ) (a b c : List ℤ) → ((d : ℕ) → d < n → at a d ≤ℤ at c d → at b d ≤ℤ at c d) → agree n b c ≤ agree n a c → (d : ℕ) → d < n → at b d ≤ℤ at c d → at a d ≤ℤ at c d
-agree_same zero a b c h l d lt k = absurd (omega arith)
-agree_same (suc n) a b c h l d lt k =
-    let up : (d : ℕ) → d < n → at a d ≤ℤ at c d → at b d ≤ℤ at c d = λ d lt. h d (omega arith) in
-    let i = agree_less n a b c up in
-    let j = mark_less (at a n) (at b n) (at c n) (h n (omega arith)) in
-    elim (cases_lt d n) [
-      | inl x ↦ agree_same n a b c up (omega arith) d x k
-      | inr x ↦ let e : d ≡ n = omega arith in subst (λ (q : ℕ). at a q ≤ℤ at c q) (sym e) (mark_same (at a n) (at b n) (at c n) (omega arith) (subst (λ (q : ℕ). at b q ≤ℤ at c q) e k))
-    ]
-
--- ---- one round, where best are the earliest arrivals
-module _ (m : Rules) (laws : IsMachine m) (sets : List (List Span)) (f t : ℤ) (ft : f <ℤ t) (dep leave a b best : List ℤ)
-    (size : length sets ≡ m.colours)
-    (before : AllBefore sets f)
-    (first : AreDepartures m sets f t dep)
+-- ---- one round
+module _ (m : Rules) (laws : IsMachine m) (dep leave a b : List ℤ)
     (leaves : (c : ℕ) → c < m.colours → IsLeave (at dep c) (at a c) (m.floor c) (at leave c))
-    (lowered : IsLowered a b (ByColours m m.colours leave))
-    (was : AreArrivals m sets f t a)
-    (least : IsArrival m sets f t best) where
-  best_at : (d : ℕ) → d < 16 → get_or best d t ≡ at best d
-  best_at d h = get_or_default best d t (pos 0) (let l = least.0.0 in omega arith)
-
-  in_best : (d : ℕ) (x : ℤ) → d < 16 → f ≤ℤ x → x <ℤ t → Arrives m sets f d x → at best d ≤ℤ x
-  in_best d x lt fx xt (s, h, w) = elim ((least.1 (state d x)).0 (s, h, fills_later m f (x +ℤ pos 1) t s (state d x) (omega (arith, ints)) (within_next m f x s (state d x) w))) [
-    | inl k ↦ let q = before (state d x) k in absurd (omega (arith, ints))
-    | inr k ↦ let e = best_at d lt in let q = k.0 in omega (arith, ints)
-  ]
-
-  -- none of a round's arrivals is earlier than the earliest
-  pub best_first : (z : List ℤ) → AreArrivals m sets f t z → (d : ℕ) → d < 16 → at best d ≤ℤ at z d
-  best_first z arr d lt =
-      let top = (least.0.1 d lt).1 in
-      let low = (arr.1 d lt).0 in
-      elim (int_cases (at z d) t) [
-        | inl x ↦ let (fx, all) = arr.2 d lt x.1 in in_best d (at z d) lt low x.1 (all (at z d) (omega (arith, ints)) x.1)
-        | inr x ↦ let y = x.1 in omega (arith, ints)
-      ]
-
-  best_old : (s : State) (d : ℕ) (x : ℤ) → Holds sets s → Change m s.colour d → OldEnough m x s → f ≤ℤ x → x <ℤ t → at best d ≤ℤ x
-  best_old s d x h ch o fx xt =
-      let few = laws.few_colours in let lt = change_stays m s.colour d laws ch in
-      let (low, all) = from_old m sets f t s d x h ch o fx in
-      in_best d x (omega arith) fx xt (all x (omega (arith, ints)) xt)
-
-  best_later : (c d : ℕ) → c < m.colours → Change m c d → at best c <ℤ t → at best d ≤ℤ (at best c +ℤ pos (m.floor c))
-  best_later c d cl ch bt =
-      let few = laws.few_colours in let lt = change_stays m c d laws ch in
-      let top = (least.0.1 d (omega arith)).1 in
-      elim (int_cases (at best c +ℤ pos (m.floor c)) t) [
-        | inl x ↦
-            let (low, all) = from_arrival m sets f t c d (at best c) (at best c +ℤ pos (m.floor c)) (least.0.2 c (omega arith) bt) ch refl in
-            in_best d (at best c +ℤ pos (m.floor c)) (omega arith) low x.1 (all (at best c +ℤ pos (m.floor c)) (omega (arith, ints)) x.1)
-        | inr x ↦ let y = x.1 in omega (arith, ints)
-      ]
-
-  b_low : (c d : ℕ) → c < m.colours → Change m c d → at b d ≤ℤ at leave c
-  b_low c d cl (l, g, ne) =
-      let few = laws.few_colours in let lt = goes_stays m c l d laws g in
-      (lowered.1 d (omega arith)).1 (at leave c) (c, cl, (l, g.1, (g, ne, refl)))
-
-  -- where no colour becomes final in this round, all are final
-  module _ (none : (d : ℕ) → d < 16 → at b d ≤ℤ at best d → at a d ≤ℤ at best d) where
-    Final : State → Type 0
-    Final u = Holds sets u ⊎ ((at best u.colour ≤ℤ u.entry) × (u.entry <ℤ t) × (u.entry ≤ℤ at best u.colour → at a u.colour ≤ℤ at best u.colour))
-
-    step_final : (x : ℤ) (s v : State) (l : ℕ) → f ≤ℤ x → x <ℤ t → Final s → Step m x s l v → Final v
-    unfolding Final
-    step_final x s v l fx xt k (g, e) = elim e [
-      | inl same ↦ rw same k
-      | inr (ne, en, o) ↦
-          let few = laws.few_colours in
-          let cl = g.0 in
-          let lt = goes_stays m s.colour l v.colour laws g in
-          let ch : Change m s.colour v.colour = (l, g, ne) in
-          let low = b_low s.colour v.colour cl ch in
-          let lv = leaves s.colour cl in
-          let lv0 = lv.0 in let lv1 = lv.1 in
-          elim k [
-            | inl h ↦
-                let i = best_old s v.colour x h ch o fx xt in
-                let dp = (first s.colour cl).0 s.entry x h fx o xt in
-                inr (omega (arith, ints), omega (arith, ints), λ q. none v.colour (omega arith) (omega (arith, ints)))
-            | inr (p, pt, fin) ↦
-                let i = best_later s.colour v.colour cl ch (omega (arith, ints)) in
-                inr (omega (arith, ints), omega (arith, ints), λ q. let z = fin (omega (arith, ints)) in none v.colour (omega arith) (omega (arith, ints)))
-          ]
-    ]
-
-    steps_final : (x : ℤ) (ls : List ℕ) (s v : State) → f ≤ℤ x → x <ℤ t → Final s → Steps m x s ls v → Final v
-    steps_final x [] s v fx xt k e = rw e k
-    steps_final x (l ∷ ls) s v fx xt k (w, p, r) = steps_final x ls w v fx xt (step_final x s w l fx xt k p) r
-
-    run_final : (x : ℤ) (lists : List (List ℕ)) (s v : State) → f ≤ℤ x → (x +ℤ pos (length lists)) ≡ t → Final s → Run m x s lists v → Final v
-    run_final x [] s v fx e k r = rw r k
-    run_final x (ls ∷ rest) s v fx e k (w, p, r) = run_final (x +ℤ pos 1) rest w v (omega (arith, ints)) (omega (arith, ints)) (steps_final x ls s w fx (omega (arith, ints)) k p) r
-
-    pub all_final : (d : ℕ) → d < 16 → at a d ≤ℤ at best d
-    unfolding Final
-    all_final d lt =
-        let top = (was.1 d lt).1 in
-        elim (int_cases (at best d) t) [
-          | inl x ↦
-              let (fx, all) = least.0.2 d lt x.1 in
-              let (s, h, w) = all (at best d) (omega (arith, ints)) x.1 in
-              let (lists, e, r) = fills_later m f (at best d +ℤ pos 1) t s (state d (at best d)) (omega (arith, ints)) (within_next m f (at best d) s (state d (at best d)) w) in
-              elim (run_final f lists s (state d (at best d)) (omega (arith, ints)) e (inl h) r) [
-                | inl k ↦ let q = before (state d (at best d)) k in absurd (omega (arith, ints))
-                | inr k ↦ k.2 (omega (arith, ints))
-              ]
-          | inr x ↦ let y = x.1 in omega (arith, ints)
-        ]
-
-  -- so the number of final colours rises, or all are final
-  pub more_agree : ((d : ℕ) → d < 16 → at a d ≤ℤ at best d) ⊎ (agree 16 a best < agree 16 b best)
-  more_agree =
-      let up : (d : ℕ) → d < 16 → at a d ≤ℤ at best d → at b d ≤ℤ at best d = λ d lt h. let i = (lowered.1 d lt).0 in omega (arith, ints) in
-      elim (cases_lt (agree 16 a best) (agree 16 b best)) [
-        | inl x ↦ inr x
-        | inr x ↦ inl (all_final (agree_same 16 a b best up x))
-      ]
-
+    (lowered : IsLowered a b (ByColours m m.colours leave)) where
   pub next_round : IsNext m dep a b
   next_round d lt = elim (lowered.1 d lt).2 [
     | inl e ↦ inl e
     | inr (c, cl, (l, ll, (g, ne, y))) ↦ inr (c, at leave c, cl, (l, g, ne), leaves c cl, y)
   ]
 
-tenths_same : (a b : List ℤ) → length a ≡ length b → ((k : ℕ) → k < length a → at a k ≡ at b k) → a ≡ b
-tenths_same [] [] l h = refl
-tenths_same [] (y ∷ ys) l h = absurd (omega arith)
-tenths_same (x ∷ xs) [] l h = absurd (omega arith)
-tenths_same (x ∷ xs) (y ∷ ys) l h = let head : x ≡ y = h 0 (omega arith) in let tail : xs ≡ ys = tenths_same xs ys (omega arith) (λ k lt. h (suc k) (omega arith)) in cc
+  module _ (k : ℕ) (was : Behind m dep k a) where
+    -- a lowered arrival comes after those of k colours, and with it there are more
+    lowered_behind : (d : ℕ) → d < 16 → at b d <ℤ at a d → k ≤ upto 16 a (at b d)
+    lowered_behind d lt less = elim (lowered.1 d lt).2 [
+      | inl e ↦ absurd (omega (arith, ints))
+      | inr (c, cl, (l, ll, (g, ne, y))) ↦ was c d (at b d) cl (l, g, ne) (rw y (leaves c cl)) less
+    ]
 
--- equal tables, each entry of which is no later
-pub all_same : (a b : List ℤ) → length a ≡ 16 → length b ≡ 16 → ((d : ℕ) → d < 16 → at b d ≤ℤ at a d) → ((d : ℕ) → d < 16 → at a d ≤ℤ at b d) → a ≡ b
-all_same a b p q h k = tenths_same a b (p ∙ sym q) (λ d lt. let i = h d (omega arith) in let j = k d (omega arith) in omega (arith, ints))
+    more_by : (d : ℕ) (x : ℤ) → d < 16 → at b d <ℤ at a d → at b d ≤ℤ x → k < upto 16 b x
+    more_by d x lt less le =
+        let i = lowered_behind d lt less in
+        let j = upto_more 16 a b (at b d) x d (λ e h q. let w = (lowered.1 e h).0 in omega (arith, ints)) lt less le in
+        omega arith
+
+    pub next_behind : Behind m dep (k + 1) b
+    next_behind c d x cl (l, g, ne) lv late =
+        let few = laws.few_colours in
+        let dl = change_stays m c d laws (l, g, ne) in
+        let low = (lowered.1 d (omega arith)).1 (at leave c) (c, cl, (l, g.1, (g, ne, refl))) in
+        let was_left = leaves c cl in let before = was_left.0 in let after = was_left.1 in
+        elim lv.2 [
+          | inl e ↦ absurd (omega (arith, ints))
+          | inr e ↦ let i = more_by c x (omega arith) (omega (arith, ints)) (omega (arith, ints)) in omega arith
+        ]
+
+    low_same : 16 ≤ k → (d : ℕ) → d < 16 → at b d ≡ at a d
+    low_same h d lt = elim (int_cases (at b d) (at a d)) [
+      | inl less ↦ let i = more_by d (at b d) lt less.1 (omega (arith, ints)) in let j = upto_most 16 b (at b d) in absurd (omega arith)
+      | inr le ↦ let i = le.1 in let j = (lowered.1 d lt).0 in omega (arith, ints)
+    ]
+
+    -- so a round that changes something has few before it
+    pub few_before : length a ≡ 16 → (b ≡ a → ⊥) → k < 16
+    few_before size ne = elim (cases_lt k 16) [
+      | inl lt ↦ lt
+      | inr ge ↦ absurd (ne (ext_get_or (pos 0) b a (lowered.0 ∙ sym size) (λ d lt. low_same ge d (let l = lowered.0 in omega arith))))
+    ]
 
 pub rounds_more : (m : Rules) (f t : ℤ) (dep a b : List ℤ) (items new : List (List ℤ)) → new ≡ items ++ a ∷ [] → ((d : ℕ) → d < 16 → (f ≤ℤ at a d) × (at a d ≤ℤ t)) → IsNext m dep a b → AreRounds m f t dep (reverse items) a → AreRounds m f t dep (reverse new) b
 rounds_more m f t dep a b items new e w n r = let q : reverse new ≡ a ∷ reverse items = ap (λ (z : List (List ℤ)). reverse z) e ∙ reverse-append items (a ∷ []) in subst (λ (z : List (List ℤ)). AreRounds m f t dep z b) (sym q) (w, n, r)
-
-pub fewer_left : (a b best : List ℤ) → agree 16 a best < agree 16 b best → (16 - agree 16 b best) < (16 - agree 16 a best)
-fewer_left a b best h = let i = agree_most 16 b best in omega arith
-
-pub few_more : {X : Type 0} (items new : List X) (a : X) (k j : ℕ) → new ≡ items ++ a ∷ [] → length items ≤ k → k < j → length new ≤ j
-few_more {X = X} items new a k j e l h = let n : length new ≡ length items + 1 = ap (λ (z : List X). length z) e ∙ length-append items (a ∷ []) in omega arith

@@ -14,7 +14,7 @@ use Rattle.reach.specs.Sets.{at}
 use Rattle.reach.specs.Leaving.{HasOld}
 use Rattle.reach.specs.Arrivals.{IsArrival, IsFirst, IsLeave, StandsIn}
 use Rattle.reach.proofs.Arriving.{within_start, within_step, within_since, within_next, fills_later}
-use Rattle.gap_ways.specs.Ways.{Way, state_of, Added, AllBefore, AfterEarly, IsEarly}
+use Rattle.gap_ways.specs.Ways.{Way, state_of, Added, AfterEarly, IsEarly}
 use Rattle.gap_ways.specs.Rounds.{NoEdge, IsEdge, AreRounds, InRounds, InGap}
 use Rattle.colour_machine.proofs.Ways.{goes_stays}
 use Rattle.reach.proofs.States.{in_sets}
@@ -134,9 +134,6 @@ early_colour m sets f t u laws size (s, h, e, (lists, len, r)) = run_colour m f 
 
 -- the early states alone
 module _ (sets early : List (List Span)) (f : ℤ) (is : (s : State) → Holds early s ↔ (Holds sets s × (s.entry <ℤ f))) where
-  pub cut_before : AllBefore early f
-  cut_before s h = ((is s).0 h).1
-
   pub cut_reached : (m : Rules) (t : ℤ) (u : State) → AfterEarly m sets f t u → AfterGap m early f t u
   cut_reached m t u (s, h, e, k) = (s, (is s).1 (h, e), k)
 
@@ -145,6 +142,6 @@ module _ (sets early : List (List Span)) (f : ℤ) (is : (s : State) → Holds e
 
   pub cut_in_gap : (m : Rules) (t : ℤ) (dep : List ℤ) (tables : List (List ℤ)) (u : Entered) → IsMachine m → length sets ≡ m.colours → AfterEarly m sets f t (state_of u) → f ≤ℤ u.entry → ((best : List ℤ) × IsArrival m early f t best × AreRounds m f t dep tables best) → InGap m f t u × InRounds m f t dep tables u
   cut_in_gap m t dep tables u laws size a late (best, arr, rounds) =
-      let out : Holds early (state_of u) → ⊥ = λ h. let b = cut_before (state_of u) h in absurd (omega (arith, ints)) in
+      let out : Holds early (state_of u) → ⊥ = λ h. let b = (cut_held u h).1 in absurd (omega (arith, ints)) in
       let n = new_in_gap m early f t best u laws arr (cut_reached m t (state_of u) a) out (early_colour m sets f t (state_of u) laws size a) in
       (n.0, (best, rounds, n.1))

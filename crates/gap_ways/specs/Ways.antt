@@ -15,10 +15,6 @@ abbrev pub Way : Rules → ℤ → ℤ → State → List Fill → State → Typ
 Way m f t s [] u = u ≡ s
 Way m f t s (x ∷ xs) u = (f ≤ℤ x.at) × (x.at <ℤ t) × ((v : State) × Step m x.at s x.letter v × Way m x.at t v xs u)
 
--- each state of the sets is entered before the tenth
-abbrev pub AllBefore : List (List Span) → ℤ → Type 0
-AllBefore sets f = (s : State) → Holds sets s → s.entry <ℤ f
-
 -- each state of the sets is entered at - 2 ^ 39 - 1 or later
 abbrev pub NoneOlder : List (List Span) → Type 0
 NoneOlder sets = (s : State) → Holds sets s → negsuc (2 ^ 39) ≤ℤ s.entry

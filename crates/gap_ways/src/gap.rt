@@ -2,7 +2,7 @@
 ghost use Rattle.std.specs.Prelude.{◌≡◌, ℤ, pos, negsuc, ◌≤ℤ◌, ◌<ℤ◌, ◌<◌, ◌≤◌, ◌^◌, length, reverse, IfOk};
 ghost use Rattle.reach.specs.Past.{Holds, AfterGap};
 ghost use Rattle.reach.specs.Arrivals.{AreDepartures};
-ghost use Rattle.gap_ways.specs.Ways.{state_of, AllBefore, NoneOlder, AfterEarly, IsEarly, Added};
+ghost use Rattle.gap_ways.specs.Ways.{state_of, NoneOlder, AfterEarly, IsEarly, Added};
 ghost use Rattle.gap_ways.specs.Rounds.{InRounds, InGap};
 
 use crate::ask::old_entry;

@@ -1,12 +1,11 @@
 // By which tenths the colours can be entered in a gap, round by round.
 ghost use Rattle.std.specs.Prelude.{◌≡◌, ℤ, pos, negsuc, ◌≤ℤ◌, ◌<ℤ◌, ◌≤◌, ◌^◌, List, length, reverse, IfOk};
 ghost use Rattle.reach.specs.Arrivals.{AreDepartures, IsArrival};
-ghost use Rattle.gap_ways.specs.Ways.{AllBefore};
 ghost use Rattle.gap_ways.specs.Rounds.{AreRounds};
 
 use crate::ask::first_old;
 use colour_machine::Machine;
-use reach::{Past, arrivals, leaves, relax};
+use reach::{Past, leaves, relax};
 use sig_base::{NoMemory, Tenth};
 use std::alloc::Global;
 
@@ -30,7 +29,6 @@ pub fn rounds_of<M: Machine>(
     requires some { from <ℤ to }
     requires high { to ≤ℤ pos (2 ^ 39) }
     requires colours { length past.now ≡ (M.rules machine.now).colours }
-    requires before { AllBefore past.now from }
     ensures departure { IfOk result (λ r.
         AreDepartures (M.rules machine.now) past.now from to r.departure) }
     ensures rounds { IfOk result (λ r. (best : List ℤ)
@@ -39,8 +37,7 @@ pub fn rounds_of<M: Machine>(
     ensures few { IfOk result (λ r. length r.tables.items ≤ 16) }
 {
     let departure = departures(machine, past, from, to);
-    let best = arrivals(machine, &departure, from, to);
-    let tables = tables_to(alloc, machine, past, &departure, &best, from, to)?;
+    let tables = run_rounds(alloc, machine, past, &departure, from, to)?;
     Ok(Rounds { departure, tables })
 }
 
@@ -59,13 +56,12 @@ fn departures<M: Machine>(machine: &M, past: &Past, from: Tenth, to: Tenth) -> [
     new
 }
 
-// The arrivals before each round, where the last round leads to the best.
-fn tables_to<M: Machine>(
+// Runs the rounds until one changes nothing. The tables are the arrivals before each of the others.
+fn run_rounds<M: Machine>(
     alloc: Global,
     machine: &M,
     past: &Past,
     departure: &[Tenth; 16],
-    best: &[Tenth; 16],
     from: Tenth,
     to: Tenth,
 ) -> Result<Vec<[Tenth; 16]>, NoMemory>
@@ -73,22 +69,21 @@ fn tables_to<M: Machine>(
     requires some { from <ℤ to }
     requires high { to ≤ℤ pos (2 ^ 39) }
     requires colours { length past.now ≡ (M.rules machine.now).colours }
-    requires before { AllBefore past.now from }
     requires first { AreDepartures (M.rules machine.now) past.now from to departure.now }
-    requires best { IsArrival (M.rules machine.now) past.now from to best.now }
-    ensures rounds { IfOk result (λ v. AreRounds (M.rules machine.now) from to departure.now
-        (reverse v.items) best.now) }
+    ensures rounds { IfOk result (λ v. (best : List ℤ)
+        × IsArrival (M.rules machine.now) past.now from to best
+        × AreRounds (M.rules machine.now) from to departure.now (reverse v.items) best) }
     ensures few { IfOk result (λ v. length v.items ≤ 16) }
 {
     let mut tables = Vec::new(alloc);
     let mut arrival = [to; 16];
     'rounds: loop {
-        if arrival == *best {
-            return Ok(tables);
-        }
         let leave = leaves(machine, departure, &arrival);
         let mut next = arrival;
         relax(machine, &leave, to, &mut next);
+        if next == arrival {
+            return Ok(tables);
+        }
         tables.push(arrival)?;
         arrival = next;
     }

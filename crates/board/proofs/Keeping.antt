@@ -7,6 +7,7 @@ use Rattle.span_set.specs.declared.set.Span.{Span}
 use Rattle.colour_machine.specs.Rules.{Rules}
 use Rattle.reach.specs.Runs.{State, state}
 use Rattle.reach.specs.Past.{Holds, AreClamped}
+use Rattle.reach.proofs.Later.{then_iff}
 use Rattle.channel_path.specs.declared.moves.Move.{Move}
 use Rattle.channel_path.specs.Walks.{AfterMoves}
 use Rattle.channel_path.proofs.Moving.{not_after}
@@ -53,20 +54,16 @@ pub walked_stops : (m : Rules) (old : List (List Span)) (xs : List Move) (new : 
 walked_stops m old xs new None h = h.1
 walked_stops m old xs new (Some n) h = h
 
+-- clamped, the same states are the same
+pub clamped_same : (limit : ℤ) (P Q : State → Type 0) → ((v : State) → P v ↔ Q v) → (u : State) → Clamped limit P u ↔ Clamped limit Q u
+clamped_same limit P Q same u = (
+  λ h. elim h [ inl (p, l) ↦ inl ((same u).0 p, l) | inr (q, (x, p, l)) ↦ inr (q, (x, (same (state u.colour x)).0 p, l)) ],
+  λ h. elim h [ inl (p, l) ↦ inl ((same u).1 p, l) | inr (q, (x, p, l)) ↦ inr (q, (x, (same (state u.colour x)).1 p, l)) ],
+)
+
 -- one channel after the hour
 pub alone_after : (k : Track) (f t : ℕ) (rows : List Row) (ss : List Stretch) (old walked new : List (List Span)) → FollowOn f t ss → RowsIn f t rows → ((u : State) → Holds walked u ↔ AfterMoves k.rules old (own k 0 rows ss) u) → AreClamped (pos t -ℤ pos 36001) walked new → (u : State) → Holds new u ↔ Clamped (pos t -ℤ pos 36001) (IsAfterHour k rows ss f t old) u
-alone_after k f t rows ss old walked new st r w c u =
-    let one = c.1 u.colour u.entry in
-    let plain = λ (v : State). after_hour k f t rows ss old st r v in (
-      (λ h. elim (one.0 h) [
-        | inl (m, l) ↦ inl ((plain u).0 ((w u).0 m), l)
-        | inr (q, (x, m, l)) ↦ inr (q, (x, (plain (state u.colour x)).0 ((w (state u.colour x)).0 m), l))
-      ]),
-      λ h. one.1 (elim h [
-        | inl (p, l) ↦ inl ((w u).1 ((plain u).1 p), l)
-        | inr (q, (x, p, l)) ↦ inr (q, (x, (w (state u.colour x)).1 ((plain (state u.colour x)).1 p), l))
-      ]),
-    )
+alone_after k f t rows ss old walked new st r w c u = then_iff (c.1 u.colour u.entry) (clamped_same (pos t -ℤ pos 36001) (Holds walked) (IsAfterHour k rows ss f t old) (λ v. then_iff (w v) (after_hour k f t rows ss old st r v)) u)
 
 -- the states of the first n channels after the hour, those older than an hour made one
 abbrev pub AreClampedTo : List Spec → List Row → List Stretch → List (List (List Span)) → ℕ → List (List (List Span)) → Type 0

@@ -1,5 +1,5 @@
 -- What the moves of an hour lead to, said of its runs.
-use Rattle.std.proofs.Common.{refl, arith, ◌∙◌, Bool, ◌+◌, ◌<ℤ◌, ◌∷◌, ◌++◌, ℤ, pos, ◌-ℤ◌, inl, inr, ◌≡◌, ◌↔◌, ℕ, ◌<◌, List, [], length, get_or, Option, Some, None}
+use Rattle.std.proofs.Common.{refl, arith, Bool, ◌+◌, ◌<ℤ◌, ◌∷◌, ◌++◌, ℤ, pos, inl, inr, ◌≡◌, ◌↔◌, ℕ, ◌<◌, List, [], length, get_or, Option, Some, None}
 use Rattle.span_set.specs.declared.set.Span.{Span}
 use Rattle.reach.specs.Runs.{State, state}
 use Rattle.reach.specs.Past.{Holds}
@@ -26,7 +26,7 @@ use Rattle.gap_map.specs.Stretches.{FollowOn, known_at}
 use Rattle.board.specs.History.{Agreeing, Event, Track, events_at}
 use Rattle.board.specs.Channels.{track}
 use Rattle.board.specs.Moves.{RowsIn, own}
-use Rattle.board.specs.Stops.{AreAfter, AreBefore, GoesOnAt, IsFirst, IsFirstStop, StopsAtRow, moves_at, rules_at}
+use Rattle.board.specs.Stops.{GoesOnAt, IsFirst, IsFirstStop, StopsAtRow, moves_at, rules_at}
 use Rattle.board.specs.Places.{IsStop}
 use Rattle.board.specs.Logs.{no_spec}
 use Rattle.reach.specs.Past.{AreClamped}
@@ -35,7 +35,7 @@ use Rattle.channel_path.specs.Places.{EntersBefore}
 use Rattle.channel_path.proofs.Moving.{taken_early}
 use Rattle.std.proofs.lemmas.List.{get_or_past}
 use Rattle.board.specs.Places.{AllEarly}
-use Rattle.board.specs.Hours.{AllClamped, AreClampedPasts, AreHourAheads, AreHourPasts, IsAfterHour, IsBeforeHour, IsHourStop}
+use Rattle.board.specs.Hours.{AreClampedPasts, AreHourAheads, IsAfterHour, IsBeforeHour, IsHourStop}
 use Rattle.board.proofs.Cases.{no_set}
 
 first_same : (P Q : ℕ → Type 0) (S R : ℕ → ℕ → Type 0) (n : ℕ) (o : Option ℕ) → ((i : ℕ) → P i → Q i) → ((i x : ℕ) → S i x → R i x) → ((i x : ℕ) → R i x → S i x) → IsFirst P S n o → IsFirst Q R n o
@@ -61,31 +61,12 @@ hour_stop specs rows ss f t before stop h r first =
 pub stop_within : (specs : List Spec) (rows : List Row) (ss : List Stretch) (f t n : ℕ) (before : List (List (List Span))) → IsHourStop specs rows ss f t before (Some n) → n < length rows
 stop_within specs rows ss f t n before ((i, lt, stop), least, each) = stop.within
 
-pub hour_pasts : (specs : List Spec) (rows : List Row) (ss : List Stretch) (f t : ℕ) (before pasts : List (List (List Span))) → FollowOn f t ss → RowsIn f t rows → AreAfter specs rows ss before (length specs) pasts → AreHourPasts specs rows ss f t before pasts
-hour_pasts specs rows ss f t before pasts h r a i lt u = then_iff (a i no_spec lt u) (after_hour (track (get_or specs i no_spec)) f t rows ss (get_or before i []) h r u)
-
-pub hour_clamped : (specs : List Spec) (rows : List Row) (ss : List Stretch) (f t : ℕ) (before old new : List (List (List Span))) → length old ≡ length specs → AllClamped (pos t -ℤ pos 36001) old new → AreHourPasts specs rows ss f t before old → AreClampedPasts specs rows ss f t before new
-hour_clamped specs rows ss f t before old new len all a i lt u =
-    let c = (all.1 i (omega arith)).1 u.colour u.entry in (
-      (λ h. elim (c.0 h) [ inl (m, l) ↦ inl ((a i lt u).0 m, l) | inr (q, (x, m, l)) ↦ inr (q, (x, (a i lt (state u.colour x)).0 m, l)) ]),
-      λ h. c.1 (elim h [ inl (p, l) ↦ inl ((a i lt u).1 p, l) | inr (q, (x, p, l)) ↦ inr (q, (x, (a i lt (state u.colour x)).1 p, l)) ]),
-    )
-
--- clamping keeps some state, and the colours
+-- clamping keeps some state
 pub clamped_some : (limit : ℤ) (old new : List (List Span)) → AreClamped limit old new → ((s : State) × Holds old s) → (s : State) × Holds new s
 clamped_some limit old new (len, c) (s, h) = elim (int_cases s.entry limit) [
   | inr (_, le) ↦ (s, (c s.colour s.entry).1 (inl (h, le)))
   | inl (_, lt) ↦ (state s.colour limit, (c s.colour limit).1 (inr (refl, (s.entry, h, lt))))
 ]
-
-pub clamped_shape : (specs : List Spec) (rows : List Row) (ss : List Stretch) (before old new : List (List (List Span))) (limit : ℤ) → length old ≡ length specs → ((i : ℕ) (d : Spec) → i < length specs → length (get_or old i []) ≡ (rules_at specs i d).colours) → AllClamped limit old new → AreAfter specs rows ss before (length specs) old → IsFirstStop specs rows ss before (length specs) None → AreBefore specs new
-clamped_shape specs rows ss before old new limit len colours all after goes = (
-  all.0 ∙ len,
-  λ i d lt.
-      let one = all.1 i (omega arith) in
-      let (u, a) = goes d i lt in
-      (one.0 ∙ colours i d lt, clamped_some limit (get_or old i []) (get_or new i []) one (u, (after i d lt u).1 a)),
-)
 
 -- after the hour no state is entered at its end or later
 pub agreeing_early : (k : Track) (known : ℕ → Bool) (given : ℕ → List Event) (f t : ℕ) (s u : State) → Agreeing k known given f t s u → s.entry <ℤ pos f → u.entry <ℤ pos t

@@ -1,5 +1,5 @@
 -- What an hour makes of a channel that has what the one before it has.
-use Rattle.std.proofs.Common.{◌≡◌, ◌∙◌, refl, ap, sym, inl, inr, ◌↔◌, ℕ, ℤ, pos, ◌+◌, ◌-◌, ◌<◌, ◌<ℤ◌, arith, List, [], ◌∷◌, ◌++◌, length, get_or, Option, Some, None}
+use Rattle.std.proofs.Common.{◌≡◌, ◌∙◌, refl, ap, sym, inl, inr, ◌↔◌, ℕ, ℤ, pos, ◌+◌, ◌-◌, ◌-ℤ◌, ◌<◌, ◌<ℤ◌, arith, List, [], length, get_or, Option, Some, None}
 use Rattle.std.proofs.lemmas.Bool.{cases_eq}
 use Rattle.std.proofs.lemmas.List.{get_or_default}
 use Rattle.span_set.specs.declared.set.Span.{Span}
@@ -7,6 +7,7 @@ use Rattle.colour_machine.specs.Rules.{Rules}
 use Rattle.reach.specs.Runs.{State}
 use Rattle.reach.specs.Past.{Holds}
 use Rattle.reach.specs.Ahead.{Admits}
+use Rattle.reach.proofs.Later.{then_iff}
 use Rattle.channel_path.specs.declared.moves.Move.{Move}
 use Rattle.channel_path.specs.Walks.{AfterMoves, BeforeMoves}
 use Rattle.channel_path.specs.Places.{EntersBefore}
@@ -16,13 +17,14 @@ use Rattle.gap_map.specs.declared.stretch.Stretch.{Stretch}
 use Rattle.gap_map.specs.Stretches.{FollowOn}
 use Rattle.board.specs.Channels.{track}
 use Rattle.board.specs.Courses.{AreCourses}
-use Rattle.board.specs.Hours.{AreHourAheads, IsBeforeHour}
-use Rattle.board.specs.Logs.{no_spec}
+use Rattle.board.specs.Hours.{AreHourAheads, Clamped, IsAfterHour, IsBeforeHour}
+use Rattle.board.specs.Logs.{IsHour, end_tenth, first_tenth, no_spec}
 use Rattle.board.specs.Moves.{RowsIn}
 use Rattle.board.specs.Repeats.{Repeats, StandsTwice}
-use Rattle.board.specs.Stops.{AreAfter, GoesOnAt, IsFirst, IsFirstStop, StopRow, StopsAtRow, Survives, moves_at, rules_at}
-use Rattle.board.proofs.Hours.{after_more}
-use Rattle.board.proofs.Plain.{before_hour, hour_before}
+use Rattle.board.specs.Stops.{GoesOnAt, IsFirst, IsFirstStop, StopRow, StopsAtRow, Survives, moves_at, rules_at}
+use Rattle.board.proofs.Keeping.{AreClampedTo, clamped_same}
+use Rattle.board.proofs.Plain.{after_hour, before_hour, hour_before}
+use Rattle.board.proofs.Within.{hour_rows}
 
 -- what stands before this place, under the name of the place before it
 pub stands_last : {A : Type 0} (xs : List A) (i j : ℕ) (x d : A) → j + 1 ≡ i → length xs ≡ i → x ≡ get_or xs (i - 1) x → x ≡ get_or xs j d
@@ -46,8 +48,8 @@ same_survives m n a b xs ys e f g h = rw (e, f, g) h
 same_stops : (m n : Rules) (a b : List (List Span)) (xs ys : List Move) (x : ℕ) → m ≡ n → a ≡ b → xs ≡ ys → StopRow n b ys x → StopRow m a xs x
 same_stops m n a b xs ys x e f g h = rw (e, f, g) h
 
-same_states : (m n : Rules) (a b new : List (List Span)) (xs ys : List Move) → m ≡ n → a ≡ b → xs ≡ ys → ((u : State) → Holds new u ↔ AfterMoves n b ys u) → (u : State) → Holds new u ↔ AfterMoves m a xs u
-same_states m n a b new xs ys e f g h = rw (e, f, g) h
+same_after : (m n : Rules) (a b : List (List Span)) (xs ys : List Move) (u : State) → m ≡ n → a ≡ b → xs ≡ ys → AfterMoves n b ys u ↔ AfterMoves m a xs u
+same_after m n a b xs ys u e f g = rw (e, f, g) ((λ h. h), λ h. h)
 
 same_before : (m n : Rules) (a b new : List (Option ℤ)) (xs ys : List Move) (first : ℕ) → m ≡ n → a ≡ b → xs ≡ ys → ((s : State) → Admits new s ↔ ((EntersBefore ys s × BeforeMoves n b ys s) × (s.entry <ℤ pos first))) → (s : State) → Admits new s ↔ ((EntersBefore xs s × BeforeMoves m a xs s) × (s.entry <ℤ pos first))
 same_before m n a b new xs ys first e f g h = rw (e, f, g) h
@@ -70,12 +72,18 @@ stop_again specs rows ss courses before i stop again twice are lt first d =
     (λ x. same_stops (rules_at specs j d) (rules_at specs i d) (get_or before j []) (get_or before i []) (moves_at specs rows ss j d) (moves_at specs rows ss i d) x (sym m) (sym a) (sym xs))
     (first d)
 
--- its states after its moves
-pub after_again : (specs : List Spec) (rows : List Row) (ss : List Stretch) (courses : List (List Move)) (before pasts : List (List (List Span))) (i : ℕ) (new : List (List Span)) (again : Repeats specs courses i) → StandsTwice before i → AreCourses specs rows ss courses → i < length specs → length pasts ≡ i → new ≡ get_or pasts again.last [] → AreAfter specs rows ss before i pasts → AreAfter specs rows ss before (i + 1) (pasts ++ new ∷ [])
-after_again specs rows ss courses before pasts i new again twice are lt count is old =
+-- its states after the hour, those older than an hour made one
+pub clamped_again : (specs : List Spec) (rows : List Row) (ss : List Stretch) (courses : List (List Move)) (before pasts : List (List (List Span))) (i : ℕ) (new : List (List Span)) (again : Repeats specs courses i) → StandsTwice before i → AreCourses specs rows ss courses → i < length specs → new ≡ get_or pasts again.last [] → AreClampedTo specs rows ss before i pasts → (h : ℕ) → IsHour h rows ss → (u : State) → Holds new u ↔ Clamped (pos (end_tenth h) -ℤ pos 36001) (IsAfterHour (track (get_or specs i no_spec)) rows ss (first_tenth h) (end_tenth h) (get_or before i [])) u
+clamped_again specs rows ss courses before pasts i new again twice are lt is old h hour u =
     let j = again.last in
     let at = again.place in
-    after_more specs rows ss before i pasts new count old (λ d. same_states (rules_at specs i d) (rules_at specs j d) (get_or before i []) (get_or before j []) new (moves_at specs rows ss i d) (moves_at specs rows ss j d) (again.rules d) (twice j at) (same_moves specs rows ss courses i again are lt d) (rw is (old j d (omega arith))))
+    let f = first_tenth h in
+    let t = end_tenth h in
+    let there = λ (v : State). after_hour (track (get_or specs j no_spec)) f t rows ss (get_or before j []) hour.follow (hour_rows h rows ss hour) v in
+    let here = λ (v : State). after_hour (track (get_or specs i no_spec)) f t rows ss (get_or before i []) hour.follow (hour_rows h rows ss hour) v in
+    let both = λ (v : State). same_after (rules_at specs i no_spec) (rules_at specs j no_spec) (get_or before i []) (get_or before j []) (moves_at specs rows ss i no_spec) (moves_at specs rows ss j no_spec) v (again.rules no_spec) (twice j at) (same_moves specs rows ss courses i again are lt no_spec) in
+    let was : Holds new u ↔ Clamped (pos t -ℤ pos 36001) (IsAfterHour (track (get_or specs j no_spec)) rows ss f t (get_or before j [])) u = rw is (old h hour j (omega arith) u) in
+    then_iff was (clamped_same (pos t -ℤ pos 36001) (IsAfterHour (track (get_or specs j no_spec)) rows ss f t (get_or before j [])) (IsAfterHour (track (get_or specs i no_spec)) rows ss f t (get_or before i [])) (λ v. then_iff ((there v).1, (there v).0) (then_iff (both v) (here v))) u)
 
 -- and its colours
 pub colours_again : {A : Type 0} (specs : List Spec) (courses : List (List Move)) (all : List (List A)) (i : ℕ) (new : List A) (again : Repeats specs courses i) → new ≡ get_or all again.last [] → ((k : ℕ) (d : Spec) → k < i → length (get_or all k []) ≡ (rules_at specs k d).colours) → (d : Spec) → length new ≡ (rules_at specs i d).colours

@@ -3,7 +3,7 @@ use Rattle.std.specs.Prelude.{◌≡◌, ℕ, ◌<◌, ◌↔◌, ◌⊎◌, ℤ
 use Rattle.span_set.specs.declared.set.Span.{Span}
 use Rattle.colour_machine.specs.Rules.{Rules}
 use Rattle.reach.specs.Runs.{State, state}
-use Rattle.reach.specs.Past.{Holds, AreClamped}
+use Rattle.reach.specs.Past.{Holds}
 use Rattle.reach.specs.Ahead.{Admits}
 use Rattle.channel_path.specs.declared.moves.Move.{Move}
 use Rattle.channel_path.specs.Walks.{BeforeMoves}
@@ -27,14 +27,6 @@ IsAfterHour k rows ss f t before u = (s : State) × Holds before s × Agreeing k
 -- each channel has a state after the hour, or this is the first known row after which its channel has none
 abbrev pub IsHourStop : List Spec → List Row → List Stretch → ℕ → ℕ → List (List (List Span)) → Option ℕ → Type 0
 IsHourStop specs rows ss f t before stop = IsFirst (λ i. (u : State) × IsAfterHour (track (slice_index_or specs i no_spec)) rows ss f t (slice_index_or before i []) u) (λ i n. IsStop (track (slice_index_or specs i no_spec)) rows ss f (slice_index_or before i []) n) (length specs) stop
-
--- each Past has the states after the hour
-abbrev pub AreHourPasts : List Spec → List Row → List Stretch → ℕ → ℕ → List (List (List Span)) → List (List (List Span)) → Type 0
-AreHourPasts specs rows ss f t before pasts = (i : ℕ) → i < length specs → (u : State) → Holds (slice_index_or pasts i []) u ↔ IsAfterHour (track (slice_index_or specs i no_spec)) rows ss f t (slice_index_or before i []) u
-
--- each Past has become its clamped form
-abbrev pub AllClamped : ℤ → List (List (List Span)) → List (List (List Span)) → Type 0
-AllClamped limit old new = (length new ≡ length old) × ((i : ℕ) → i < length old → AreClamped limit (slice_index_or old i []) (slice_index_or new i []))
 
 -- the state is one of these with an entry from the limit on, or one of these had an earlier entry, which has become the limit
 abbrev pub Clamped : ℤ → (State → Type 0) → State → Type 0

@@ -59,10 +59,6 @@ StopsAtRow specs rows ss before d i x = StopRow (rules_at specs i d) (slice_inde
 abbrev pub IsFirstStop : List Spec → List Row → List Stretch → List (List (List Span)) → ℕ → Option ℕ → Type 0
 IsFirstStop specs rows ss before n o = (d : Spec) → IsFirst (GoesOnAt specs rows ss before d) (StopsAtRow specs rows ss before d) n o
 
--- each Past has the states after the channel's moves
-abbrev pub AreAfter : List Spec → List Row → List Stretch → List (List (List Span)) → ℕ → List (List (List Span)) → Type 0
-AreAfter specs rows ss before n pasts = (i : ℕ) (d : Spec) → i < n → (u : State) → Holds (slice_index_or pasts i []) u ↔ AfterMoves (rules_at specs i d) (slice_index_or before i []) (moves_at specs rows ss i d) u
-
 -- for each channel stands, colour by colour of its machine, a set of entries, and some state is in one
 abbrev pub AreBefore : List Spec → List (List (List Span)) → Type 0
 AreBefore specs before = (length before ≡ length specs) × ((i : ℕ) (d : Spec) → i < length specs → (length (slice_index_or before i []) ≡ (rules_at specs i d).colours) × ((s : State) × Holds (slice_index_or before i []) s))

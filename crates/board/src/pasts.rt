@@ -11,10 +11,10 @@ ghost use Rattle.board.specs.declared.pasts.PastsError.TheVariants.{Memory};
 ghost use Rattle.board.specs.Channels.{AreSpecs};
 ghost use Rattle.board.specs.Courses.{course_log};
 ghost use Rattle.board.specs.Logs.{IsHour, first_tenth, end_tenth};
-ghost use Rattle.board.specs.Stops.{number, IsEarlier, IsWalked, IsFirstStop, AreAfter, AreBefore, rules_at};
+ghost use Rattle.board.specs.Stops.{number, IsEarlier, IsWalked, IsFirstStop, AreBefore};
 ghost use Rattle.board.specs.Repeats.{Repeats, StandsTwice};
 ghost use Rattle.board.specs.Places.{AllEarly, AreSamePasts};
-ghost use Rattle.board.specs.Hours.{IsStart, AreStarts, AllClamped, ArePastsOf, NamesStop};
+ghost use Rattle.board.specs.Hours.{IsStart, AreStarts, AreClampedPasts, ArePastsOf, NamesStop};
 
 use crate::courses::{Course, Courses};
 use crate::repeat::repeats;
@@ -88,13 +88,6 @@ impl Pasts {
         ensures { result.now ≡ slice_index_or self.now spec [] }
     {
         &self.pasts[spec as usize]
-    }
-
-    // Makes the entries that are older than an hour at the point one.
-    fn clamp(&mut self, point: u32)
-        ensures { AllClamped (pos point -ℤ pos 36001) self.old self.new }
-    {
-        clamp_all(self.pasts.as_mut_slice(), point);
     }
 }
 
@@ -183,14 +176,10 @@ pub fn pasts_along(
     ensures early { IfOk result (λ p. (h : ℕ) → IsHour h rows.now stretches.now
         → AllEarly (end_tenth h) p) }
 {
-    let after = pasts_walked(alloc, specs, before, courses)?;
+    let after = pasts_walked(alloc, specs, before, stretches, courses)?;
     match after.stop {
         Some(stop) => Err(PastsError::NoState(rows[stop as usize])),
-        None => {
-            let mut pasts = after.pasts;
-            pasts.clamp(end_of(stretches));
-            Ok(pasts)
-        }
+        None => Ok(after.pasts),
     }
 }
 
@@ -200,14 +189,6 @@ pub fn end_of(stretches: &[Stretch]) -> u32
     ensures { (f t : ℕ) → FollowOn f t stretches.now → result ≡ t }
 {
     stretches[stretches.len() - 1].to
-}
-
-fn clamp_all(pasts: &mut [Past], point: u32)
-    ensures { AllClamped (pos point -ℤ pos 36001) pasts.old pasts.new }
-{
-    for past in pasts.iter_mut() {
-        clamp_past(past, point);
-    }
 }
 
 /// Makes the entries of one channel that are older than an hour at the point one.
@@ -224,28 +205,31 @@ pub struct After {
     pub stop: Option<u32>,
 }
 
-// The same without an end, by the moves of each channel. A channel that repeats the one before it
-// has that one's states, and changes no stop.
+// The states after the hour, those older than an hour made one, and the first stop. A channel that
+// repeats the one before it has that one's states, and changes no stop.
 fn pasts_walked(
     alloc: Global,
     specs: &[Spec],
     before: &Pasts,
+    stretches: &[Stretch],
     courses: &Courses,
 ) -> Result<After, NoMemory>
-    requires same { courses.now.specs ≡ specs.now }
+    requires same_specs { courses.now.specs ≡ specs.now }
+    requires same_stretches { courses.now.stretches ≡ stretches.now }
     requires specs { AreSpecs specs.now }
-    requires hour { (h : ℕ) × IsHour h courses.now.rows courses.now.stretches
+    requires hour { (h : ℕ) × IsHour h courses.now.rows stretches.now
         × AllEarly (first_tenth h) before.now }
     requires before { AreBefore specs.now before.now }
-    ensures count { IfOk result (λ a. length a.pasts ≡ length specs.now) }
-    ensures colours { IfOk result (λ a. (i : ℕ) (d : Spec) → i < length specs.now
-        → length (slice_index_or a.pasts i []) ≡ (rules_at specs.now i d).colours) }
-    ensures stop { IfOk result (λ a. IsFirstStop specs.now courses.now.rows courses.now.stretches
+    ensures stop { IfOk result (λ a. IsFirstStop specs.now courses.now.rows stretches.now
         before.now (length specs.now) a.stop) }
-    ensures pasts { IfOk result (λ a. a.stop ≡ None → AreAfter specs.now courses.now.rows
-        courses.now.stretches before.now (length specs.now) a.pasts) }
+    ensures shape { IfOk result (λ a. a.stop ≡ None → AreBefore specs.now a.pasts) }
+    ensures pasts { IfOk result (λ a. a.stop ≡ None → (h : ℕ)
+        → IsHour h courses.now.rows stretches.now
+        → AreClampedPasts specs.now courses.now.rows stretches.now (first_tenth h) (end_tenth h)
+        before.now a.pasts) }
 {
     let list = courses.list();
+    let end = end_of(stretches);
     let mut pasts: Vec<Past> = Vec::new(alloc);
     let mut stop = None;
     for i in 0..specs.len() {
@@ -256,6 +240,7 @@ fn pasts_walked(
         }
         let mut past = before.pasts[i].copy()?;
         let next = walk_spec(alloc, &specs[i], &mut past, list[i].moves())?;
+        clamp_past(&mut past, end);
         stop = earlier(stop, next);
         pasts.push(past)?;
     }

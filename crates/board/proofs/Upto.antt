@@ -1,5 +1,5 @@
 -- The runs up to a place in the middle of an hour.
-use Rattle.std.proofs.Common.{suc, zero, ◌≡◌, refl, ap, sym, ◌↔◌, ℕ, ◌+◌, ◌-◌, ◌<◌, ◌≤◌, Bool, List, [], ◌∷◌, arith}
+use Rattle.std.proofs.Common.{suc, zero, ◌≡◌, refl, ap, sym, ℕ, ◌+◌, ◌<◌, ◌≤◌, Bool, List, [], ◌∷◌, arith}
 use Rattle.reach.specs.Runs.{State}
 use Rattle.board.specs.History.{Agreeing, Event, Track, letters}
 

@@ -12,6 +12,5 @@ pub mod Lists
 pub mod Placing
 pub mod Fitting
 pub mod Logs
-pub mod Once
 pub mod Tracked
 pub mod Running

@@ -1,5 +1,5 @@
 -- Rows of a tenth and of a channel.
-use Rattle.std.proofs.Common.{suc, zero, ◌≡◌, ap, sym, ◌∙◌, ℕ, ◌+◌, ◌<◌, ◌≤◌, Bool, true, ◌||◌, List, [], ◌∷◌, length, get_or, drop, arith}
+use Rattle.std.proofs.Common.{suc, zero, ◌≡◌, ap, sym, ◌∙◌, ℕ, ◌+◌, ◌<◌, Bool, true, ◌||◌, List, [], ◌∷◌, length, get_or, drop, arith}
 use Rattle.std.specs.List.{list_any}
 use Rattle.std.proofs.lemmas.List.{drop_more}
 use Rattle.board.specs.declared.clause.Term.{Term}

@@ -93,6 +93,21 @@ impl Carry {
         })
     }
 
+    /// An equal value.
+    pub fn copy(&self, alloc: Global) -> Result<Carry, NoMemory>
+        ensures { IfOk result (λ c. c ≡ self.now) }
+    {
+        Ok(Carry {
+            pasts: self.pasts.copy()?,
+            known: self.known,
+            cuts: self.cuts.copy()?,
+            closing: self.closing.copy(alloc)?,
+            splits: self.splits.copy()?,
+            others: self.others.copy()?,
+            arrivals: self.arrivals.copy()?,
+        })
+    }
+
     /// The states in which each channel may be, in the order of the specs.
     pub fn pasts(&self) -> &Pasts
         ensures { result.now ≡ self.now.pasts }

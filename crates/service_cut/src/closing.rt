@@ -42,6 +42,14 @@ impl Closing {
         Ok(Closing { services })
     }
 
+    /// An equal value.
+    pub fn copy(&self, alloc: Global) -> Result<Closing, NoMemory>
+        ensures { IfOk result (λ c. c ≡ self.now) }
+    {
+        let services = self.services.iter().copied().collect(alloc)?;
+        Ok(Closing { services })
+    }
+
     /// Whether both are the same, row for row.
     pub fn same(&self, other: &Closing) -> bool
         ensures { IsTrue result ↔ (self.now ≡ other.now) }

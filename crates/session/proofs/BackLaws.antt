@@ -1,12 +1,12 @@
 -- Back over the hours that an edit changes.
-use Rattle.std.proofs.Common.{◌≡◌, ◌∙◌, ◌⊎◌, inl, inr, ℕ, ◌+◌, ◌-◌, ◌<◌, ◌≤◌, List, [], ◌∷◌, length, get_or, sym, subst, arith}
+use Rattle.std.proofs.Common.{◌≡◌, ◌∙◌, ◌⊎◌, inl, inr, ℕ, ◌+◌, ◌-◌, ◌<◌, ◌≤◌, Bool, List, [], ◌∷◌, length, get_or, sym, subst, arith}
 use Rattle.std.proofs.lemmas.Bool.{cases_lt}
 use Rattle.hour_store.specs.Store.{IsStore, Store, rows_at}
 use Rattle.ring_config.specs.Settings.{Settings}
 use Rattle.strand_search.proofs.Told.{has}
 use Rattle.hour_work.specs.Numbers.{patched}
 use Rattle.hour_work.specs.Points.{IsFutureAt}
-use Rattle.session.specs.Links.{Ahead, AreFuturesBut, Backs, BacksAt}
+use Rattle.session.specs.Links.{Ahead, AreFuturesBut, Backs, BacksAt, FuturesFit, Stays}
 use Rattle.session.specs.Renewed.{AreNewFutures}
 use Rattle.session.proofs.KeptLaws.{backs_as, backs_same, future_down}
 use Rattle.hour_work.proofs.PatchLaws.{length-patched, patched-below, patched-first, patched-front, patched-none, patched-past}
@@ -114,3 +114,7 @@ returning_done c s first last kept items from at ae low order within but p other
 
 pub returning_same : (kept fresh items : List Ahead) (hour : ℕ) (next there : Ahead) → hour < length kept → items ≡ next ∷ fresh → next ≡ there → ((d : Ahead) → there ≡ get_or kept hour d) → (d : Ahead) → get_or (patched kept hour items) hour d ≡ get_or kept hour d
 returning_same kept fresh items hour next there lt e same at d = rw e (patched-first kept hour fresh next d (omega arith) ∙ same ∙ at d)
+
+-- an hour that the edit hasn't changed fits
+pub backs_told : (c : Settings) (s : Store) (first last : ℕ) (same : List Bool) (kept : List Ahead) → AreFuturesBut c s first last kept → FuturesFit c s same kept → (k : ℕ) → k < length s.hours → Stays first last same k → BacksAt c s kept k
+backs_told c s first last same kept but fit k lt stays = elim stays [ inl out ↦ but.backs k lt out | inr told ↦ fit k lt told ]

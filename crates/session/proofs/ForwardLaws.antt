@@ -1,5 +1,5 @@
 -- Forward over the hours that an edit changes.
-use Rattle.std.proofs.Common.{◌≡◌, ◌∙◌, ◌⊎◌, inl, inr, ℕ, ◌+◌, ◌<◌, ◌≤◌, List, [], ◌∷◌, ◌++◌, length, length-append, get_or, sym, subst, arith}
+use Rattle.std.proofs.Common.{◌≡◌, ◌∙◌, ◌⊎◌, inl, inr, ℕ, ◌+◌, ◌<◌, ◌≤◌, Bool, List, [], ◌∷◌, ◌++◌, length, length-append, get_or, sym, subst, arith}
 use Rattle.std.proofs.lemmas.Bool.{cases_lt}
 use Rattle.hour_store.specs.Store.{IsStore, Store, rows_at}
 use Rattle.ring_config.specs.Settings.{Settings}
@@ -7,7 +7,7 @@ use Rattle.strand_search.proofs.Told.{has}
 use Rattle.hour_work.specs.Moved.{SaySame}
 use Rattle.hour_work.specs.Numbers.{patched}
 use Rattle.hour_work.specs.Points.{Carried, IsCarryAt}
-use Rattle.session.specs.Links.{AreCarriesBut, Leads, LeadsAt}
+use Rattle.session.specs.Links.{AreCarriesBut, CarriesFit, Leads, LeadsAt, Stays}
 use Rattle.session.specs.Renewed.{AreNewCarries}
 use Rattle.session.proofs.KeptLaws.{carry_up, leads_as, leads_same}
 use Rattle.hour_work.proofs.PatchLaws.{length-patched, patched-below, patched-last, patched-more, patched-none, patched-past}
@@ -116,3 +116,7 @@ pub going_same : (first : ℕ) (kept fresh items : List Carried) (hour : ℕ) (n
     → (d : Carried) → get_or (patched kept (first + 1) items) (hour + 1) d ≡ get_or kept (hour + 1) d
 going_same first kept fresh items hour next there n lt e same at d =
     rw e (patched-last kept (first + 1) fresh next (hour + 1) d (omega arith) (omega arith) ∙ same ∙ at d)
+
+-- an hour that the edit hasn't changed fits
+pub leads_told : (c : Settings) (s : Store) (first last : ℕ) (same : List Bool) (kept : List Carried) → AreCarriesBut c s first last kept → CarriesFit c s same kept → (k : ℕ) → k < length s.hours → Stays first last same k → LeadsAt c s kept k
+leads_told c s first last same kept but fit k lt stays = elim stays [ inl out ↦ but.leads k lt out | inr told ↦ fit k lt told ]

@@ -10,7 +10,7 @@ use Rattle.hour_store.specs.Store.{Store, with_blanks}
 use Rattle.ring_config.proofs.TrackLaws.{same_both}
 use Rattle.session.specs.Moved.{IsIn}
 use Rattle.session.specs.Puts.{AreSameBut, SameHour}
-use Rattle.session.specs.Ranges.{SameApart, With, Without}
+use Rattle.session.specs.Ranges.{NoneBlanked, SameApart, With, Without}
 
 pub with_same : (old new : List Span) (f t : ℤ) → With old f t new → SameApart old f t new
 with_same old new f t w e out = (λ m. elim ((w e).0 m) [ inl o ↦ o | inr r ↦ absurd (out r) ], λ o. (w e).1 (inl o))
@@ -28,6 +28,17 @@ same_test old new f t x same out =
 -- an hour without a tenth of the range
 same_out : (s : Store) (new : List Span) (f t : ℤ) (k : ℕ) → SameApart s.blanks f t new → ((x : ℕ) → 36000 * k ≤ x → x < 36000 * (k + 1) → Within (span f t) (pos x) → ⊥) → SameHour s (with_blanks s new) k
 same_out s new f t k same out = record { rows = refl; blanks = λ x low high. same_test s.blanks new f t x same (out x low high) }
+
+-- an hour without a tenth that was blanked, where none more is
+pub clear_same : (s : Store) (new : List Span) (f t : ℤ) (k : ℕ) → Without s.blanks f t new → NoneBlanked s.blanks k → SameHour s (with_blanks s new) k
+clear_same s new f t k w none = record {
+  rows = refl;
+  blanks = λ x low high.
+      let old = none x low high in
+      let a = member_test s.blanks (pos x) in
+      let b = member_test new (pos x) in
+      same_both (is_member s.blanks (pos x)) (is_member new (pos x)) (λ h. absurd (cc)) (λ h. a.1 ((w (pos x)).0 (b.0 h)).0);
+}
 
 -- an hour before those of the range, or after them
 pub same_but_range : (s : Store) (new : List Span) (f t : ℤ) (first last : ℕ) → SameApart s.blanks f t new → IsIn f first → IsIn (t -ℤ pos 1) last → AreSameBut first last s (with_blanks s new)

@@ -14,11 +14,11 @@ use Rattle.hour_work.proofs.MovedLaws.{carries_one, carry_same, future_same, fut
 use Rattle.hour_work.proofs.OneLaws.{one_report}
 use Rattle.hour_work.proofs.PatchLaws.{patched-below, patched-past}
 use Rattle.session.specs.Edits.{Change}
-use Rattle.session.specs.Links.{Ahead, AllSettled, AreCarries, AreFutures, AreKept, AreMarked}
+use Rattle.session.specs.Links.{Ahead, AllSettled, AreCarries, AreFutures, AreKept}
 use Rattle.session.specs.declared.renew.Numbered.{Numbered}
 use Rattle.session.specs.Moved.{AreMoved, KeepParts, Moves, Touches}
 use Rattle.session.specs.Renewed.{AreNewCarries, AreNewFutures, IsRenewed, do_wait}
-use Rattle.session.proofs.WaitLaws.{settled_marked}
+use Rattle.session.proofs.WaitLaws.{settled_patched}
 use Rattle.session.proofs.KeptLaws.{carry_kept, future_kept, report_kept}
 
 -- stands where a list has no carry
@@ -90,16 +90,17 @@ moves_by c s t new first last change (Ok x) touched done moved = (first, last, t
 moves_by c s t new first last change (Err e) touched done moved = tt
 
 -- the numbers of the hours that don't move stay, where none wait
-pub keep_parts : (c : Settings) (s t : Store) (first : ℕ) (waiting : List Bool) (xs new_carries : List Carried) (ys : List Ahead) (from : ℕ) (new_futures : List Ahead) (ps : List Numbers) (start : ℕ) (numbers : Option Numbered) (marked : List Bool) (moved : Applied) → IsStore s → HasHistory (log_of c.specs s) → AreKept c s waiting xs ys ps → IsStore t → HasHistory (log_of c.specs t)
-    → AllSettled waiting → IsRenewed c t waiting xs first new_carries ys from new_futures ps start numbers → do_wait numbers ≡ false → AreMarked start (first + length new_carries) (do_wait numbers) waiting marked → moved.from ≡ from → moved.to ≡ first + length new_carries → KeepParts c s t moved
-keep_parts c s t first waiting xs new_carries ys from new_futures ps start None marked moved is has kept is_new has_new settled new plain mark fe te a b hour d old fresh out = absurd (cc)
-keep_parts c s t first waiting xs new_carries ys from new_futures ps start (Some w) marked moved is has kept is_new has_new settled new plain mark fe te a b hour d old fresh out =
+pub keep_parts : (c : Settings) (s t : Store) (first : ℕ) (waiting : List Bool) (xs new_carries : List Carried) (ys : List Ahead) (from : ℕ) (new_futures : List Ahead) (ps : List Numbers) (start : ℕ) (marks : List Bool) (numbers : Option Numbered) (moved : Applied) → IsStore s → HasHistory (log_of c.specs s) → AreKept c s waiting xs ys ps → IsStore t → HasHistory (log_of c.specs t)
+    → AllSettled waiting → IsRenewed c t waiting xs first new_carries ys from new_futures ps start marks numbers → do_wait numbers ≡ false → moved.from ≡ from → moved.to ≡ first + length new_carries → KeepParts c s t moved
+keep_parts c s t first waiting xs new_carries ys from new_futures ps start marks None moved is has kept is_new has_new settled new plain fe te a b hour d old fresh out = absurd (cc)
+keep_parts c s t first waiting xs new_carries ys from new_futures ps start marks (Some w) moved is has kept is_new has_new settled new plain fe te a b hour d old fresh out =
     let low = new.low in
     let (end, small, sums) = new.numbered in
     let room = new.part_room in
-    let now : AreKept c t marked (patched xs (first + 1) new_carries) (patched ys from new_futures) (patched ps start w.parts.items) = new.kept marked mark in
+    let some = new.room in
+    let count = new.marked in
     let one : a ≡ ps = one_report c s a ps has old (report_kept c s waiting xs ys ps is kept settled has) in
-    let other : b ≡ patched ps start w.parts.items = one_report c t b (patched ps start w.parts.items) has_new fresh (report_kept c t marked (patched xs (first + 1) new_carries) (patched ys from new_futures) (patched ps start w.parts.items) is_new now (settled_marked start (first + length new_carries) waiting marked settled mark) has_new) in
+    let other : b ≡ patched ps start w.parts.items = one_report c t b (patched ps start w.parts.items) has_new fresh (report_kept c t (patched waiting start marks) (patched xs (first + 1) new_carries) (patched ys from new_futures) (patched ps start w.parts.items) is_new new.kept (settled_patched start waiting marks (omega arith) settled (new.settled plain)) has_new) in
     let stay : get_or (patched ps start w.parts.items) hour d ≡ get_or ps hour d = elim out [
       | inl below ↦ patched-below ps start w.parts.items hour d (omega arith) (omega arith)
       | inr past ↦ patched-past ps start w.parts.items hour d (omega arith) (omega arith)

@@ -12,11 +12,12 @@ use Rattle.session.specs.declared.blanks.RangeEdit.{RangeEdit}
 use Rattle.session.specs.declared.blanks.RangeEdit.TheVariants as range
 use Rattle.session.specs.Edits.{range_change, reaches_out, step_of, unless_many_blanks}
 use Rattle.session.specs.Moved.{IsIn, Touches}
-use Rattle.session.specs.Ranges.{IsEdited, SameApart}
+use Rattle.session.specs.Puts.{SameHour}
+use Rattle.session.specs.Ranges.{IsEdited, LeavesHour, SameApart}
 use Rattle.session.specs.Sessions.{MayRefuse, StopsAt}
 use Rattle.session.proofs.EditLaws.{blank_step, unblank_step}
 use Rattle.session.proofs.LessLaws.{never_blanked}
-use Rattle.session.proofs.MaskLaws.{with_same, without_same}
+use Rattle.session.proofs.MaskLaws.{clear_same, with_same, without_same}
 use Rattle.session.proofs.RangeLaws.{with_within, without_within}
 
 pub range_step : (edit : RangeEdit) (s : Store) (hours : ℕ) (f t : ℤ) (ns : List Span) → hours ≡ length s.hours → hours ≤ 744 → LieWithin (length s.hours) s.blanks → reaches_out hours f t ≡ false → f <ℤ t → AreRanges ns → IsEdited edit s.blanks f t ns
@@ -31,6 +32,11 @@ range_within range.Unblank hours old ns f t l low high w = without_within hours 
 pub range_same : (edit : RangeEdit) (old new : List Span) (f t : ℤ) → IsEdited edit old f t new → SameApart old f t new
 range_same range.Blank old new f t w = with_same old new f t w
 range_same range.Unblank old new f t w = without_same old new f t w
+
+-- an hour that it leaves as it was
+pub range_left : (edit : RangeEdit) (s : Store) (new : List Span) (f t : ℤ) (k : ℕ) → IsEdited edit s.blanks f t new → LeavesHour edit s.blanks k → SameHour s (with_blanks s new) k
+range_left range.Blank s new f t k w left = absurd left
+range_left range.Unblank s new f t k w none = clear_same s new f t k w none
 
 -- both touch the hours of the range
 pub range_touches : (edit : RangeEdit) (f t : ℤ) (first last : ℕ) → IsIn f first → IsIn (t -ℤ pos 1) last → Touches (range_change edit f t) first last

@@ -1,5 +1,5 @@
 -- The numbers between what is kept, and all that is new in its place.
-use Rattle.std.proofs.Common.{◌≡◌, ◌∙◌, inl, inr, ℕ, zero, suc, ◌+◌, ◌*◌, ◌-◌, ◌<◌, ◌≤◌, ◌≢◌, ◌⊎◌, Bool, true, false, not, ◌&&◌, is_some, List, [], ◌∷◌, ◌++◌, length, length-append, length-set, set, get_or, get_or-set_other, option_map, Option, Some, None, refl, sym, ap, subst, arith}
+use Rattle.std.proofs.Common.{◌≡◌, ◌∙◌, inl, inr, ℕ, zero, suc, ◌+◌, ◌*◌, ◌-◌, ◌<◌, ◌≤◌, ◌≢◌, ◌⊎◌, Bool, false, not, ◌&&◌, is_some, List, [], ◌∷◌, ◌++◌, length, length-append, length-set, set, get_or, get_or-set_other, option_map, Option, Some, None, refl, sym, ap, subst, arith}
 use Rattle.std.specs.List.{All}
 use Rattle.std.proofs.lemmas.Bool.{cases_lt}
 use Rattle.std.proofs.lemmas.List.{get_or-append_right, get_or_append_left}
@@ -21,13 +21,13 @@ use Rattle.signal_log.specs.Points.{HasHour, rows_or_none}
 use Rattle.signal_log.proofs.Suiting.{same_count}
 use Rattle.hour_work.specs.Numbers.{AreNewSums, FitHours, Numbers, patched}
 use Rattle.hour_work.specs.Points.{Carried, ComesBack, GoesOver, IsFutureAt}
-use Rattle.session.specs.Links.{Ahead, AreKept, AreKeptBut, AreMarked, BacksAt, Counts, CountsAt, LeadsAt, waits}
+use Rattle.session.specs.Links.{Ahead, AllSettled, AreKept, AreKeptAt, AreKeptBut, BacksAt, Counts, CountsAt, LeadsAt, waits}
 use Rattle.session.specs.declared.renew.Numbered.{Numbered}
 use Rattle.session.specs.declared.hours.Put.{Put}
 use Rattle.session.specs.declared.hours.Put.TheVariants as code
-use Rattle.session.specs.Puts.{AreSameBut, SameHour, put_into}
-use Rattle.session.specs.Renewed.{AreNewCarries, AreNewFutures, AreNewParts, AreSameUpTo, HaveShapes, IsRenewed}
-use Rattle.session.proofs.KeptLaws.{future_kept}
+use Rattle.session.specs.Puts.{AreSameAt, AreSameBut, SameHour, put_into}
+use Rattle.session.specs.Renewed.{AreMarks, AreNewCarries, AreNewFutures, AreNewParts, AreSameUpTo, FitAfter, HaveShapes, IsRenewed, IsUnchanged}
+use Rattle.session.proofs.KeptLaws.{carry_kept, future_kept}
 use Rattle.session.proofs.StatesLaws.{carries_to}
 use Rattle.hour_work.proofs.PatchLaws.{length-patched, patched-at, patched-below, patched-first, patched-past}
 
@@ -110,12 +110,12 @@ counts_suit c s xs ys new ps k leads shape same p d e f r b =
     p d e f r (record { has_hour = b.has_hour; is_before = b.is_before; is_after = same_count (log_of c.specs r) (k + 1) pasts fresh old carry.pasts back (shape e) b.is_after; history = b.history })
 
 -- these numbers of all hours, which are those that were kept but for the hours from `start` up to `to`
-pub kept_by : (c : Settings) (s : Store) (first last : ℕ) (waiting marked : List Bool) (value : Bool) (carries new_carries : List Carried) (futures : List Ahead) (from start to : ℕ) (new_futures : List Ahead) (parts all : List Numbers) → to ≡ first + length new_carries → from ≤ start → start ≤ first
-    → AreKeptBut c s first last waiting carries futures parts → AreNewCarries c s first last carries new_carries → AreNewFutures c s first last futures from new_futures → AreSameUpTo carries futures from new_futures start → AreMarked start to value waiting marked
+pub kept_by : (c : Settings) (s : Store) (first last : ℕ) (waiting marked : List Bool) (carries new_carries : List Carried) (futures : List Ahead) (from start to : ℕ) (new_futures : List Ahead) (parts all : List Numbers) → to ≡ first + length new_carries → from ≤ start → start ≤ first
+    → AreKeptBut c s first last waiting carries futures parts → AreNewCarries c s first last carries new_carries → AreNewFutures c s first last futures from new_futures → AreSameUpTo carries futures from new_futures start → length marked ≡ length waiting → ((k : ℕ) → (k < start) ⊎ (to ≤ k) → waits marked k ≡ waits waiting k)
     → length all ≡ length parts → ((k : ℕ) (d : Numbers) → (k < start) ⊎ (to ≤ k) → get_or all k d ≡ get_or parts k d)
     → ((k : ℕ) → start ≤ k → k < to → waits marked k ≡ false → CountsAt c s (patched carries (first + 1) new_carries) (patched futures from new_futures) all k)
     → AreKept c s marked (patched carries (first + 1) new_carries) (patched futures from new_futures) all
-kept_by c s first last waiting marked value carries new_carries futures from start to new_futures parts all te after_from before_first but x y stays mark same_size stay fresh =
+kept_by c s first last waiting marked carries new_carries futures from start to new_futures parts all te after_from before_first but x y stays same_room outside same_size stay fresh =
     let within = x.within in
     let some = x.some in
     let low = y.low in
@@ -129,26 +129,26 @@ kept_by c s first last waiting marked value carries new_carries futures from sta
       forth = x.forth;
       back = y.back;
       size = same_size ∙ but.size;
-      room = mark.size ∙ but.room;
+      room = same_room ∙ but.room;
       counts = λ k lt wait. elim (cases_lt k from) [
         | inl below ↦ counts_same c s carries new_xs futures new_ys parts all k
             (λ d. let nc = but.forth.size in patched-below carries (first + 1) new_carries k d (omega arith) (omega arith))
             (λ d. y.same k d below)
             (λ d. stay k d (inl (omega arith)))
-            (but.counts k lt (inl (omega arith)) (sym (mark.outside k (inl (omega arith))) ∙ wait))
+            (but.counts k lt (inl (omega arith)) (sym (outside k (inl (omega arith))) ∙ wait))
         | inr above ↦ elim (cases_lt k start) [
           | inl before ↦ counts_same c s carries new_xs new_ys new_ys parts all k
               (λ d. let nc = but.forth.size in patched-below carries (first + 1) new_carries k d (omega arith) (omega arith))
               (λ d. refl)
               (λ d. stay k d (inl before))
-              (counts_suit c s carries futures new_ys parts k (but.forth.leads k lt (inl (omega arith))) (λ e. but.shapes (k + 1) e (omega arith)) (λ d e. stays k d e above before) (but.counts k lt (inl (omega arith)) (sym (mark.outside k (inl before)) ∙ wait)))
+              (counts_suit c s carries futures new_ys parts k (but.forth.leads k lt (inl (omega arith))) (λ e. but.shapes (k + 1) e (omega arith)) (λ d e. stays k d e above before) (but.counts k lt (inl (omega arith)) (sym (outside k (inl before)) ∙ wait)))
           | inr from_start ↦ elim (cases_lt k to) [
             | inl in_it ↦ fresh k from_start in_it wait
             | inr past ↦ counts_same c s carries new_xs futures new_ys parts all k
                 (λ d. x.same k d (omega arith) lt)
                 (λ d. patched-past futures from new_futures (k + 1) d (omega arith) (omega arith))
                 (λ d. stay k d (inr past))
-                (but.counts k lt (inr (omega arith)) (sym (mark.outside k (inr past)) ∙ wait))
+                (but.counts k lt (inr (omega arith)) (sym (outside k (inr past)) ∙ wait))
           ]
         ]
       ];
@@ -157,9 +157,9 @@ kept_by c s first last waiting marked value carries new_carries futures from sta
 module _ (c : Settings) (s : Store) (first last : ℕ) (waiting : List Bool) (carries new_carries : List Carried) (futures : List Ahead) (from start : ℕ) (new_futures : List Ahead) (parts : List Numbers) (after_from : from ≤ start) (before_first : start ≤ first)
     (but : AreKeptBut c s first last waiting carries futures parts) (x : AreNewCarries c s first last carries new_carries) (y : AreNewFutures c s first last futures from new_futures) (stays : AreSameUpTo carries futures from new_futures start) where
   -- with the numbers of the hours that change
-  pub renewed : (w : Numbered) → AreNewParts c s (patched carries (first + 1) new_carries) (patched futures from new_futures) start (first + length new_carries) w.parts.items → AreNewSums parts (patched parts start w.parts.items) w.sums
-      → IsRenewed c s waiting carries first new_carries futures from new_futures parts start (Some w)
-  renewed w z new =
+  pub renewed : (w : Numbered) (marks : List Bool) → length marks ≡ length w.parts.items → AllSettled marks → AreNewParts c s (patched carries (first + 1) new_carries) (patched futures from new_futures) start (first + length new_carries) w.parts.items → AreNewSums parts (patched parts start w.parts.items) w.sums
+      → IsRenewed c s waiting carries first new_carries futures from new_futures parts start marks (Some w)
+  renewed w marks count none z new =
       let within = x.within in
       let nc = but.forth.size in
       let nf = but.back.size in
@@ -177,7 +177,14 @@ module _ (c : Settings) (s : Store) (first last : ℕ) (waiting : List Bool) (ca
         low = after_from;
         high = before_first;
         numbered = (size, z.small, new);
-        kept = λ marked mark. kept_by c s first last waiting marked false carries new_carries futures from start (first + length new_carries) new_futures parts (patched parts start w.parts.items) refl after_from before_first but x y stays mark
+        marked = omega arith;
+        settled = λ e. none;
+        kept = kept_by c s first last waiting (patched waiting start marks) carries new_carries futures from start (first + length new_carries) new_futures parts (patched parts start w.parts.items) refl after_from before_first but x y stays
+            (length-patched waiting start marks (omega arith))
+            (λ k out. elim out [
+              | inl below ↦ patched-below waiting start marks k false (omega arith) below
+              | inr past ↦ patched-past waiting start marks k false (omega arith) (omega arith)
+            ])
             (length-patched parts start w.parts.items room)
             (λ k d out. elim out [
               | inl below ↦ patched-below parts start w.parts.items k d (omega arith) below
@@ -189,27 +196,59 @@ module _ (c : Settings) (s : Store) (first last : ℕ) (waiting : List Bool) (ca
             subst (λ (v : Numbers). Counts c k (rows_at s k) s.blanks (get_or (patched carries (first + 1) new_carries) k d) (get_or (patched futures from new_futures) (k + 1) e) v) (sym (patched-at parts start w.parts.items k (k - start) f (omega arith) i l)) (z.counts (k - start) k d e f l i));
       }
 
-  -- where these wait
-  pub renewed_later : IsRenewed c s waiting carries first new_carries futures from new_futures parts start None
-  renewed_later =
-      let within = x.within in
-      let nc = but.forth.size in
-      let nf = but.back.size in
-      let n = but.size in
-      let nw = but.room in
-      let m = y.size in
-      let last_in = but.within in
-      record {
-        carry_room = omega arith;
-        future_room = omega arith;
-        room = omega arith;
-        part_room = omega arith;
-        low = after_from;
-        high = before_first;
-        numbered = tt;
-        kept = λ marked mark. kept_by c s first last waiting marked true carries new_carries futures from start (first + length new_carries) new_futures parts parts refl after_from before_first but x y stays mark
-            refl (λ k d out. refl) (λ k low high wait. let one = mark.within k low high in absurd (cc));
-      }
+-- where the numbers wait of the hours that aren't unchanged
+pub renewed_later : (c : Settings) (s : Store) (first last : ℕ) (same waiting : List Bool) (carries new_carries : List Carried) (futures : List Ahead) (from : ℕ) (new_futures : List Ahead) (parts : List Numbers) (marks : List Bool) → AreKeptBut c s first last waiting carries futures parts → AreKeptAt c s same waiting carries futures parts → AreNewCarries c s first last carries new_carries → AreNewFutures c s first last futures from new_futures
+    → from + length marks ≡ first + length new_carries → AreMarks from marks (IsUnchanged first last same waiting carries first new_carries futures from new_futures) → IsRenewed c s waiting carries first new_carries futures from new_futures parts from marks None
+renewed_later c s first last same waiting carries new_carries futures from new_futures parts marks but at x y size are =
+    let within = x.within in
+    let some = x.some in
+    let low = y.low in
+    let nc = but.forth.size in
+    let nf = but.back.size in
+    let n = but.size in
+    let nw = but.room in
+    let m = y.size in
+    let last_in = but.within in
+    let order = but.order in
+    let new_xs = patched carries (first + 1) new_carries in
+    let new_ys = patched futures from new_futures in
+    record {
+      carry_room = omega arith;
+      future_room = omega arith;
+      room = omega arith;
+      part_room = omega arith;
+      low = omega arith;
+      high = low;
+      numbered = tt;
+      marked = size;
+      settled = λ e. absurd (cc);
+      kept = record {
+        forth = x.forth;
+        back = y.back;
+        size = n;
+        room = length-patched waiting from marks (omega arith) ∙ nw;
+        counts = λ k lt wait. elim (cases_lt k from) [
+          | inl below ↦ counts_same c s carries new_xs futures new_ys parts parts k
+              (λ d. patched-below carries (first + 1) new_carries k d (omega arith) (omega arith))
+              (λ d. y.same k d below)
+              (λ d. refl)
+              (but.counts k lt (inl (omega arith)) (sym (patched-below waiting from marks k false (omega arith) below) ∙ wait))
+          | inr above ↦ elim (cases_lt k (first + length new_carries)) [
+            | inl in_it ↦
+                let e : k ≡ from + (k - from) = omega arith in
+                let l : k - from < length marks = omega arith in
+                let one = subst (IsUnchanged first last same waiting carries first new_carries futures from new_futures) (sym e) (are (k - from) l (sym (patched-at waiting from marks k (k - from) false (omega arith) e l) ∙ wait)) in
+                let old : CountsAt c s carries futures parts k = elim one.stays [ inl out ↦ but.counts k lt out one.settled | inr told ↦ at.counts k lt told one.settled ] in
+                counts_suit c s new_xs futures new_ys parts k (x.forth.leads k lt) (λ f. but.shapes (k + 1) f (omega arith)) one.after (counts_same c s carries new_xs futures futures parts parts k one.before (λ d. refl) (λ d. refl) old)
+            | inr past ↦ counts_same c s carries new_xs futures new_ys parts parts k
+                (λ d. x.same k d (omega arith) lt)
+                (λ d. patched-past futures from new_futures (k + 1) d (omega arith) (omega arith))
+                (λ d. refl)
+                (but.counts k lt (inr (omega arith)) (sym (patched-past waiting from marks k false (omega arith) (omega arith)) ∙ wait))
+          ]
+        ];
+      };
+    }
 
 -- the numbers of one hour that waited
 pub kept_settled : (c : Settings) (s : Store) (waiting : List Bool) (carries : List Carried) (futures : List Ahead) (parts : List Numbers) (hour : ℕ) (before : Carried) (after : Ahead) (part : Numbers) → hour < length s.hours → AreKept c s waiting carries futures parts → Counts c hour (rows_at s hour) s.blanks before after part
@@ -243,6 +282,14 @@ shapes_new c s first last waiting carries futures from new_futures parts is but 
     let order = but.order in
     let within = but.within in
     let carry = carries_to c s first last carries is order within but.forth (k + 1) d (omega arith) in
+    let future = future_kept c s (patched futures from new_futures) is y.back (k + 1) e (omega arith) in
+    (c.specs, carry.pasts.shape, but.shapes (k + 1) e (omega arith), future.shape)
+
+-- and at the points up to the last one at which something is new
+pub fit_after : (c : Settings) (s : Store) (first last : ℕ) (waiting : List Bool) (carries new_carries : List Carried) (futures : List Ahead) (from : ℕ) (new_futures : List Ahead) (parts : List Numbers) → IsStore s → AreKeptBut c s first last waiting carries futures parts → AreNewCarries c s first last carries new_carries → AreNewFutures c s first last futures from new_futures → (k : ℕ) → k < first + length new_carries → FitAfter carries first new_carries futures from new_futures k
+fit_after c s first last waiting carries new_carries futures from new_futures parts is but x y k lt d e =
+    let within = x.within in
+    let carry = carry_kept c s (patched carries (first + 1) new_carries) is x.forth (k + 1) d (omega arith) in
     let future = future_kept c s (patched futures from new_futures) is y.back (k + 1) e (omega arith) in
     (c.specs, carry.pasts.shape, but.shapes (k + 1) e (omega arith), future.shape)
 
@@ -316,6 +363,21 @@ kept_but c s t first last waiting xs ys ps order within size same is kept = reco
   room = kept.room ∙ sym size;
   counts = λ k lt out wait. counts_stay c s t k xs ys ps (same k out) (kept.counts k (omega arith) wait);
 }
+
+-- and at those that are told to be as they were
+pub kept_at : (c : Settings) (s t : Store) (same waiting : List Bool) (xs : List Carried) (ys : List Ahead) (ps : List Numbers) → length t.hours ≡ length s.hours → AreSameAt same s t → AreKept c s waiting xs ys ps → AreKeptAt c t same waiting xs ys ps
+kept_at c s t same waiting xs ys ps size told kept = record {
+  forth = λ k lt is. leads_stay c s t k xs (told k is) (kept.forth.leads k (omega arith));
+  back = λ k lt is. backs_stay c s t k ys (told k is) (kept.back.backs k (omega arith));
+  counts = λ k lt is wait. counts_stay c s t k xs ys ps (told k is) (kept.counts k (omega arith) wait);
+}
+
+-- nothing is told of no hour
+pub none_at : (c : Settings) (s : Store) (waiting : List Bool) (xs : List Carried) (ys : List Ahead) (ps : List Numbers) → AreKeptAt c s [] waiting xs ys ps
+none_at c s waiting xs ys ps = record { forth = λ k lt told. absurd (cc); back = λ k lt told. absurd (cc); counts = λ k lt told wait. absurd (cc) }
+
+pub none_same : (s t : Store) → AreSameAt [] s t
+none_same s t k told = absurd (cc)
 
 -- one that holds another hour, or blanks other tenths
 pub put_length : {L : Type 0} (s : Store) (put : Put L) → length (put_into s put).hours ≡ length s.hours

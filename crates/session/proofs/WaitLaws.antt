@@ -1,5 +1,5 @@
 -- Hours whose numbers wait, and how often they are opened.
-use Rattle.std.proofs.Common.{◌≡◌, ◌∙◌, ◌⊎◌, inl, inr, ℕ, ◌+◌, ◌-◌, ◌<◌, ◌≤◌, ◌≢◌, Bool, true, false, List, [], ◌∷◌, ◌++◌, length, length-append, get_or, refl, sym, ap, subst, arith, Ok, Err, Result}
+use Rattle.std.proofs.Common.{◌≡◌, ◌∙◌, inl, inr, ℕ, ◌+◌, ◌-◌, ◌<◌, ◌≤◌, Bool, true, false, List, [], ◌∷◌, ◌++◌, length, length-append, get_or, refl, sym, ap, subst, arith, Ok, Err, Result}
 use Rattle.std.proofs.lemmas.Bool.{cases_lt}
 use Rattle.std.proofs.lemmas.List.{get_or_append_left, get_or_past}
 use Rattle.std.proofs.Math.Seq.{get_or-append_seam}
@@ -7,29 +7,53 @@ use Rattle.sig_base.specs.Reads.{Grow}
 use Rattle.sig_base.specs.declared.values.Applied.{Applied}
 use Rattle.sig_base.specs.declared.values.EditError.{EditError}
 use Rattle.sig_base.specs.declared.values.EditError.TheVariants.{OutOfWindow, AlreadyHeld, NotHeld, EmptyRange, TooManyRows, TooManyBlanks, Contradiction, Memory}
+use Rattle.hour_work.specs.Numbers.{patched}
+use Rattle.hour_work.proofs.PatchLaws.{patched-at, patched-below, patched-past}
 use Rattle.hour_work.specs.declared.steps.ForwardError.{ForwardError}
 use Rattle.hour_work.specs.declared.steps.ForwardError.TheVariants as forward
 use Rattle.session.specs.Edits.{Change}
-use Rattle.session.specs.Links.{AllSettled, AreMarked, waits}
+use Rattle.session.specs.Links.{AllSettled, AreMarked, is_as_was, waits}
 use Rattle.session.specs.Moved.{Touches}
-use Rattle.session.specs.Opens.{AreOpened, AreOpenedFor, AreOpenedOnce, IsOpened, IsOpenedFor, OpensBy, OpensFor, OpensToRow, count_after, most_opens, still}
+use Rattle.session.specs.Opens.{AreOpened, AreOpenedFor, AreOpenedOnce, OpensBy, OpensFor, OpensToRow, count_after, most_opens, still}
 use Rattle.hour_sweep.specs.Sums.{one_if}
+use Rattle.session.specs.Renewed.{AreMarks}
 use Rattle.session.specs.Sessions.{refusal_for}
 use Rattle.session.proofs.OpenLaws.{after_both, after_grows, opened_not}
 
 -- ---- marks
 
-pub settled_marked : (from to : ℕ) (old new : List Bool) → AllSettled old → AreMarked from to false old new → AllSettled new
-settled_marked from to old new settled mark hour = elim (cases_lt hour from) [
-  | inl below ↦ mark.outside hour (inl below) ∙ settled hour
-  | inr above ↦ elim (cases_lt hour to) [
-    | inl in_it ↦ mark.within hour above in_it
-    | inr past ↦ mark.outside hour (inr past) ∙ settled hour
+pub settled_patched : (start : ℕ) (old marks : List Bool) → start + length marks ≤ length old → AllSettled old → AllSettled marks → AllSettled (patched old start marks)
+settled_patched start old marks room settled none hour = elim (cases_lt hour start) [
+  | inl below ↦ patched-below old start marks hour false (omega arith) below ∙ settled hour
+  | inr above ↦ elim (cases_lt hour (start + length marks)) [
+    | inl in_it ↦ patched-at old start marks hour (hour - start) false (omega arith) (omega arith) (omega arith) ∙ none (hour - start)
+    | inr past ↦ patched-past old start marks hour false (omega arith) past ∙ settled hour
   ]
 ]
 
-pub marked_none : (from : ℕ) (value : Bool) (xs : List Bool) → AreMarked from from value xs xs
-marked_none from value xs = record { size = refl; within = λ h low high. absurd (omega arith); outside = λ h out. refl }
+-- the marks of one hour more
+pub marks_more : (P : ℕ → Type 0) (from : ℕ) (xs items : List Bool) (b : Bool) → AreMarks from xs P → (b ≡ false → P (from + length xs)) → items ≡ xs ++ b ∷ [] → AreMarks from items P
+marks_more P from xs items b are one e = rw e (λ i lt wait. elim (cases_lt i (length xs)) [
+  | inl below ↦ are i below (sym (get_or_append_left xs (b ∷ []) false i below) ∙ wait)
+  | inr above ↦
+      let size : length (xs ++ b ∷ []) ≡ length xs + 1 = rw length-append (omega arith) in
+      let here : i ≡ length xs = omega arith in
+      let last : get_or (xs ++ b ∷ []) i false ≡ b = ap (λ (j : ℕ). get_or (xs ++ b ∷ []) j false) here ∙ get_or-append_seam xs b [] false in
+      subst (λ (j : ℕ). P (from + j)) (sym here) (one (sym last ∙ wait))
+])
+
+-- what is told of one hour more
+pub as_were_more : (P : ℕ → Type 0) (xs items : List Bool) (b : Bool) → ((k : ℕ) → is_as_was xs k ≡ true → P k) → (b ≡ true → P (length xs)) → items ≡ xs ++ b ∷ [] → (k : ℕ) → is_as_was items k ≡ true → P k
+as_were_more P xs items b are one e = rw e (λ k told. elim (cases_lt k (length xs)) [
+  | inl below ↦ are k (sym (get_or_append_left xs (b ∷ []) false k below) ∙ told)
+  | inr from ↦ elim (cases_lt (length xs) k) [
+    | inl past ↦ let none : get_or (xs ++ b ∷ []) k false ≡ false = get_or_past (xs ++ b ∷ []) k false (rw length-append (omega arith)) in absurd (cc)
+    | inr no_more ↦
+        let here : k ≡ length xs = omega arith in
+        let last : get_or (xs ++ b ∷ []) k false ≡ b = ap (λ (j : ℕ). get_or (xs ++ b ∷ []) j false) here ∙ get_or-append_seam xs b [] false in
+        subst P (sym here) (one (sym last ∙ told))
+  ]
+])
 
 -- ---- openings
 
@@ -37,12 +61,12 @@ pub still_least : (w : List Bool) (h : ℕ) → waits w h ≡ false → still w 
 still_least w h e = rw e refl
 
 -- an edit whose numbers are worked out, or wait
-pub opened_for : (may_wait : Bool) (from start to : ℕ) (w v : List Bool) (a b : List ℕ) → from ≤ start → AreOpened from to 1 (most_opens may_wait) a b → AreMarked start to may_wait w v → AreOpenedFor from to w v a b
-opened_for may_wait from start to w v a b le p mark = record {
+pub opened_for : (may_wait : Bool) (from start to : ℕ) (w marks : List Bool) (a b : List ℕ) → from ≤ start → start + length marks ≡ to → to ≤ length w → (may_wait ≡ false → AllSettled marks) → AreOpened from to 1 (most_opens may_wait) a b → AreOpenedFor from to w (patched w start marks) a b
+opened_for may_wait from start to w marks a b le size room plain p = record {
   size = p.size;
   within = λ h lt low high. elim (cases_lt h start) [
     | inl before ↦
-        let same : still v h ≡ still w h = rw (mark.outside h (inl before)) refl in
+        let same : still (patched w start marks) h ≡ still w h = rw (patched-below w start marks h false (omega arith) before) refl in
         let o = p.within h lt low high in
         let least = o.least in
         let most = o.most in
@@ -52,19 +76,27 @@ opened_for may_wait from start to w v a b le p mark = record {
         let o = p.within h lt low high in
         let least = o.least in
         let most = o.most in
-        let three = most_more may_wait (waits v h) (mark.within h after high) in
+        let at = patched-at w start marks h (h - start) false (omega arith) (omega arith) (omega arith) in
+        let three = most_more may_wait (waits (patched w start marks) h) (λ e. at ∙ plain e (h - start)) in
         record { times = o.times; least = least; most = omega arith; count = o.count }
   ];
-  outside = λ h out. (p.outside h out, mark.outside h (elim out [ inl below ↦ inl (omega arith) | inr past ↦ inr past ]));
+  outside = λ h out. (
+    p.outside h out,
+    elim out [
+      | inl below ↦ patched-below w start marks h false (omega arith) (omega arith)
+      | inr past ↦ patched-past w start marks h false (omega arith) (omega arith)
+    ],
+  );
 }
   where
     most_three : (b : Bool) → most_opens b ≤ 3
     most_three true = omega arith
     most_three false = omega arith
 
-    most_more : (b x : Bool) → x ≡ b → most_opens b + one_if x ≤ 3
-    most_more true x e = rw e (omega arith)
-    most_more false x e = rw e (omega arith)
+    most_more : (b x : Bool) → (b ≡ false → x ≡ false) → most_opens b + one_if x ≤ 3
+    most_more true true f = omega arith
+    most_more true false f = omega arith
+    most_more false x f = rw (f refl) (omega arith)
 
 pub opens_for : (change : Change) (f t : ℕ) (moved : Applied) (w v : List Bool) (a b : List ℕ) → moved.from ≡ f → moved.to ≡ t → AreOpenedFor f t w v a b → OpensFor change w v a b (Ok moved)
 unfolding OpensFor

@@ -1,5 +1,5 @@
 -- What is kept of a store: at each hour point, and of each hour.
-use Rattle.std.specs.Prelude.{◌≡◌, ◌+◌, ◌≤◌, ◌<◌, ◌⊎◌, ℕ, ℤ, Bool, false, List, [], Option, length, slice_index_or}
+use Rattle.std.specs.Prelude.{◌≡◌, ◌+◌, ◌≤◌, ◌<◌, ◌⊎◌, ℕ, ℤ, Bool, true, false, List, [], Option, length, slice_index_or}
 use Rattle.sig_base.specs.declared.values.Row.{Row}
 use Rattle.span_set.specs.declared.set.Span.{Span}
 use Rattle.hour_store.specs.Store.{Store, rows_at}
@@ -110,6 +110,14 @@ pub record AreKept (c : Settings) (s : Store) (waiting : List Bool) (carries : L
 abbrev pub Apart : ℕ → ℕ → ℕ → Type 0
 Apart first last k = (k < first) ⊎ (last < k)
 
+-- the hour is told to be as it was
+abbrev pub is_as_was : List Bool → ℕ → Bool
+is_as_was same hour = slice_index_or same hour false
+
+-- an hour before `first` or after `last`, or one that is told to be as it was
+abbrev pub Stays : ℕ → ℕ → List Bool → ℕ → Type 0
+Stays first last same k = Apart first last k ⊎ (is_as_was same k ≡ true)
+
 -- the same, but at the hours from `first` to `last` it need not fit
 pub record AreCarriesBut (c : Settings) (s : Store) (first last : ℕ) (carries : List Carried) : Type 0 where
   pub size : length carries ≡ length s.hours + 1
@@ -130,3 +138,15 @@ pub record AreKeptBut (c : Settings) (s : Store) (first last : ℕ) (waiting : L
   pub size : length parts ≡ length s.hours
   pub room : length waiting ≡ length s.hours
   pub counts : (k : ℕ) → k < length s.hours → Apart first last k → waits waiting k ≡ false → CountsAt c s carries futures parts k
+
+-- at the hours that are told to be as they were it fits all the same
+abbrev pub CarriesFit : Settings → Store → List Bool → List Carried → Type 0
+CarriesFit c s same carries = (k : ℕ) → k < length s.hours → is_as_was same k ≡ true → LeadsAt c s carries k
+
+abbrev pub FuturesFit : Settings → Store → List Bool → List Ahead → Type 0
+FuturesFit c s same futures = (k : ℕ) → k < length s.hours → is_as_was same k ≡ true → BacksAt c s futures k
+
+pub record AreKeptAt (c : Settings) (s : Store) (same waiting : List Bool) (carries : List Carried) (futures : List Ahead) (parts : List Numbers) : Type 0 where
+  pub forth : CarriesFit c s same carries
+  pub back : FuturesFit c s same futures
+  pub counts : (k : ℕ) → k < length s.hours → is_as_was same k ≡ true → waits waiting k ≡ false → CountsAt c s carries futures parts k

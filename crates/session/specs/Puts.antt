@@ -1,9 +1,9 @@
 -- What an edit puts into a store.
-use Rattle.std.specs.Prelude.{◌≡◌, ◌+◌, ◌≤◌, ◌<◌, ℕ, pos, IfSome}
+use Rattle.std.specs.Prelude.{◌≡◌, ◌+◌, ◌≤◌, ◌<◌, ℕ, Bool, true, List, pos, IfSome}
 use Rattle.span_set.specs.Spans.{is_member}
 use Rattle.hour_store.specs.Store.{LieWithin, Store, rows_at, with_blanks, with_hour}
 use Rattle.board.specs.Logs.{first_tenth}
-use Rattle.session.specs.Links.{Apart}
+use Rattle.session.specs.Links.{Apart, is_as_was}
 use Rattle.session.specs.declared.hours.Put.{Put}
 use Rattle.session.specs.declared.hours.Put.TheVariants.{Hour, Blanks}
 
@@ -25,3 +25,7 @@ pub record SameHour (s t : Store) (k : ℕ) : Type 0 where
 -- it has each hour so but those from `first` to `last`
 abbrev pub AreSameBut : ℕ → ℕ → Store → Store → Type 0
 AreSameBut first last s t = (k : ℕ) → Apart first last k → SameHour s t k
+
+-- it has those so that are told to be as they were
+abbrev pub AreSameAt : List Bool → Store → Store → Type 0
+AreSameAt same s t = (k : ℕ) → is_as_was same k ≡ true → SameHour s t k

@@ -1,5 +1,5 @@
 -- Ranges of the tenths that pass a test.
-use Rattle.std.specs.Prelude.{◌+◌, ◌*◌, ◌↔◌, ◌⊎◌, ℕ, zero, suc, ℤ, pos, int_le, int_lt, Bool, ◌&&◌, ◌||◌, not, if◌then◌else◌, List, [], ◌∷◌}
+use Rattle.std.specs.Prelude.{◌≡◌, ◌≤◌, ◌<◌, false, ◌+◌, ◌*◌, ◌↔◌, ◌⊎◌, ℕ, zero, suc, ℤ, pos, int_le, int_lt, Bool, ◌&&◌, ◌||◌, not, if◌then◌else◌, List, [], ◌∷◌}
 use Rattle.std.specs.Ordering.{int_eq}
 use Rattle.span_set.specs.declared.set.Span.{Span}
 use Rattle.span_set.specs.Spans.{Member, Within, is_member}
@@ -59,3 +59,12 @@ SameApart old from to new = (e : ℤ) → (Within (span from to) e → ⊥) → 
 abbrev pub IsEdited : RangeEdit → List Span → ℤ → ℤ → List Span → Type 0
 IsEdited range.Blank old f t new = With old f t new
 IsEdited range.Unblank old f t new = Without old f t new
+
+-- no tenth of the hour is one of these
+abbrev pub NoneBlanked : List Span → ℕ → Type 0
+NoneBlanked blanks k = (x : ℕ) → 36000 * k ≤ x → x < 36000 * (k + 1) → is_member blanks (pos x) ≡ false
+
+-- the edit leaves the hour as it was, whatever its range: it unblanks, and no tenth of the hour is blanked
+abbrev pub LeavesHour : RangeEdit → List Span → ℕ → Type 0
+LeavesHour range.Blank blanks k = ⊥
+LeavesHour range.Unblank blanks k = NoneBlanked blanks k

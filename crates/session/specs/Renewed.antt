@@ -8,7 +8,7 @@ use Rattle.ring_config.specs.Settings.{Settings}
 use Rattle.hour_work.specs.Moved.{SaySame}
 use Rattle.hour_work.specs.Numbers.{AreNewSums, FitHours, Numbers, patched}
 use Rattle.hour_work.specs.Points.{Carried, IsCarryAt}
-use Rattle.session.specs.Links.{Ahead, AreCarries, AreFutures, AreKept, AreMarked, Counts, States, StatesLeadAt}
+use Rattle.session.specs.Links.{Ahead, AllSettled, AreCarries, AreFutures, AreKept, Counts, States, StatesLeadAt, Stays, waits}
 use Rattle.session.specs.declared.renew.Numbered.{Numbered}
 
 -- the states that are kept at each point, but new ones at the points after the hour `first`
@@ -62,6 +62,21 @@ abbrev pub put_numbers : List Numbers → ℕ → Option Numbered → List Numbe
 put_numbers parts start (Some w) = patched parts start w.parts.items
 put_numbers parts start None = parts
 
+-- about the hour, once these stand in the place of what is kept from a point on, the states after it and which of them can be completed by what is kept and by what is new are of the same specs
+abbrev pub FitAfter : List Carried → ℕ → List Carried → List Ahead → ℕ → List Ahead → ℕ → Type 0
+FitAfter carries first new_carries futures from new_futures k = (d : Carried) (e : Ahead) → (specs : List Spec) × AreBefore specs (slice_index_or (patched carries (first + 1) new_carries) (k + 1) d).pasts × AreAheadsOf specs (slice_index_or futures (k + 1) e) × AreAheadsOf specs (slice_index_or (patched futures from new_futures) (k + 1) e)
+
+-- the hour's numbers didn't wait, the edit of the hours from `first` to `last` left it as it was, the same is kept at the point before it, and what is new at the one after it admits the same as what is kept of the states that come up there
+pub record IsUnchanged (first last : ℕ) (same waiting : List Bool) (carries : List Carried) (at : ℕ) (new_carries : List Carried) (futures : List Ahead) (from : ℕ) (new_futures : List Ahead) (k : ℕ) : Type 0 where
+  pub settled : waits waiting k ≡ false
+  pub stays : Stays first last same k
+  pub before : (d : Carried) → slice_index_or (patched carries (at + 1) new_carries) k d ≡ slice_index_or carries k d
+  pub after : (d : Carried) (e : Ahead) → AreSameFor (slice_index_or (patched carries (at + 1) new_carries) (k + 1) d).pasts (slice_index_or futures (k + 1) e) (slice_index_or (patched futures from new_futures) (k + 1) e)
+
+-- each hour from `from` on that isn't marked is so
+abbrev pub AreMarks : ℕ → List Bool → (ℕ → Type 0) → Type 0
+AreMarks from marks Is = (i : ℕ) → i < length marks → waits marks i ≡ false → Is (from + i)
+
 -- whether the numbers of an edit wait
 abbrev pub do_wait : Option Numbered → Bool
 do_wait (Some w) = false
@@ -72,8 +87,8 @@ abbrev pub AreNumbered : List Numbers → ℕ → ℕ → Option Numbered → Ty
 AreNumbered parts start end (Some w) = (start + length w.parts.items ≡ end) × All (FitHours 1) w.parts.items × AreNewSums parts (patched parts start w.parts.items) w.sums
 AreNumbered parts start end None = Unit {0}
 
--- all that is new of an edit: once it stands in the place of what was kept, this is what is kept of the store
-pub record IsRenewed (c : Settings) (s : Store) (waiting : List Bool) (carries : List Carried) (first : ℕ) (new_carries : List Carried) (futures : List Ahead) (from : ℕ) (new_futures : List Ahead) (parts : List Numbers) (start : ℕ) (numbers : Option Numbered) : Type 0 where
+-- all that is new of an edit: once it stands in the place of what was kept, this is what is kept of the store. Where numbers are worked out, none of their hours waits
+pub record IsRenewed (c : Settings) (s : Store) (waiting : List Bool) (carries : List Carried) (first : ℕ) (new_carries : List Carried) (futures : List Ahead) (from : ℕ) (new_futures : List Ahead) (parts : List Numbers) (start : ℕ) (marks : List Bool) (numbers : Option Numbered) : Type 0 where
   pub carry_room : first + 1 + length new_carries ≤ length carries
   pub future_room : from + length new_futures ≤ length futures
   pub room : first + length new_carries ≤ length waiting
@@ -81,4 +96,6 @@ pub record IsRenewed (c : Settings) (s : Store) (waiting : List Bool) (carries :
   pub low : from ≤ start
   pub high : start ≤ first
   pub numbered : AreNumbered parts start (first + length new_carries) numbers
-  pub kept : (marked : List Bool) → AreMarked start (first + length new_carries) (do_wait numbers) waiting marked → AreKept c s marked (patched carries (first + 1) new_carries) (patched futures from new_futures) (put_numbers parts start numbers)
+  pub marked : start + length marks ≡ first + length new_carries
+  pub settled : do_wait numbers ≡ false → AllSettled marks
+  pub kept : AreKept c s (patched waiting start marks) (patched carries (first + 1) new_carries) (patched futures from new_futures) (put_numbers parts start numbers)

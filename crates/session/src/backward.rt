@@ -4,11 +4,12 @@ ghost use Rattle.hour_store.specs.Store.{IsStore, Store, rows_at};
 ghost use Rattle.ring_config.specs.Settings.{Settings};
 ghost use Rattle.hour_work.specs.Numbers.{patched};
 ghost use Rattle.hour_work.specs.Points.{IsFutureAt};
-ghost use Rattle.session.specs.Links.{Ahead, AreFuturesBut, Backs, BacksAt, IsGone};
+ghost use Rattle.session.specs.Links.{Ahead, AreFuturesBut, Backs, BacksAt, FuturesFit, IsGone, Stays};
 ghost use Rattle.session.specs.Opens.{AreOpened};
 ghost use Rattle.session.specs.Renewed.{AreNewFutures};
 ghost use Rattle.sig_base.specs.Reads.{Grow};
 
+use crate::hours::Touched;
 use crate::steps::{Gone, future_again, future_before};
 use board::About;
 use hour_store::HourStore;
@@ -25,11 +26,12 @@ fn is_passed(first: Hour, hour: Hour, next: &Future, kept: &Future) -> bool
     hour <= first && next.same(kept)
 }
 
-/// What was kept going back at each hour point, and the first hour that is changed, with how it was
-/// gone over forward.
+/// What was kept going back at each hour point, the hours that an edit touches, of each hour whether
+/// it is told to be as it was, and how the first that is touched was gone over forward.
 #[derive(Drop)]
 pub struct Returning<'a, 'b> {
-    pub first: Hour,
+    pub touched: Touched,
+    pub same: &'a [bool],
     pub kept: &'a [Future],
     pub gone: Option<Gone<'b>>,
 }
@@ -37,12 +39,12 @@ pub struct Returning<'a, 'b> {
 // How the hour was gone over forward, where it is the first one that is changed.
 fn own_gone<'a, 'b>(told: &'a Returning<'_, 'b>, hour: Hour) -> Option<&'a Gone<'b>>
     ensures { (c : Settings) (s : Store)
-        → IfSome told.now.gone (λ g. IsGone c s told.now.first g.courses.now g.states.before.now
+        → IfSome told.now.gone (λ g. IsGone c s told.now.touched.first g.courses.now g.states.before.now
         g.states.after.now)
         → IfSome result (λ g. IsGone c s hour g.now.courses.now g.now.states.before.now
         g.now.states.after.now) }
 {
-    if hour != told.first {
+    if hour != told.touched.first {
         return None;
     }
     match &told.gone {
@@ -51,8 +53,8 @@ fn own_gone<'a, 'b>(told: &'a Returning<'_, 'b>, hour: Hour) -> Option<&'a Gone<
     }
 }
 
-// What is kept going back at the point before the hour; of an hour before the first one that is
-// changed it was told before.
+// What is kept going back at the point before the hour; of an hour that isn't changed it was told
+// before.
 fn previous_future<L>(
     alloc: Global,
     config: &Config,
@@ -65,14 +67,15 @@ fn previous_future<L>(
     requires in_store { hour < length store.now.hours }
     requires after { IsFutureAt config.now store.now (hour + 1) after.now }
     requires room { length told.now.kept.now ≡ length store.now.hours + 1 }
-    requires told { hour < told.now.first → BacksAt config.now store.now told.now.kept.now hour }
-    requires gone { IfSome told.now.gone (λ g. IsGone config.now store.now told.now.first
+    requires told { Stays told.now.touched.first told.now.touched.last told.now.same.now
+        hour → BacksAt config.now store.now told.now.kept.now hour }
+    requires gone { IfSome told.now.gone (λ g. IsGone config.now store.now told.now.touched.first
         g.courses.now g.states.before.now g.states.after.now) }
     ensures backs { IfOk result (Backs config.now hour (rows_at store.now hour) store.now.blanks
         after.now) }
     ensures once { AreOpened hour (hour + 1) 1 1 reads.old reads.new }
 {
-    if told.first <= hour {
+    if told.touched.changes(told.same, hour) {
         let gone = own_gone(told, hour);
         return future_before(alloc, config, store, hour, after, gone, reads);
     }
@@ -103,28 +106,31 @@ pub fn go_back<L>(
     alloc: Global,
     config: &Config,
     store: &HourStore<L>,
-    last: Hour,
     told: &Returning<'_, '_>,
     reads: &mut Reads<L>,
 ) -> Result<Vec<Future>, NoMemory>
     requires store { IsStore store.now }
-    requires order { told.now.first ≤ last }
-    requires within { last < length store.now.hours }
-    requires kept { AreFuturesBut config.now store.now told.now.first last told.now.kept.now }
-    requires gone { IfSome told.now.gone (λ g. IsGone config.now store.now told.now.first
+    requires order { told.now.touched.first ≤ told.now.touched.last }
+    requires within { told.now.touched.last < length store.now.hours }
+    requires kept { AreFuturesBut config.now store.now told.now.touched.first
+        told.now.touched.last told.now.kept.now }
+    requires stays { FuturesFit config.now store.now told.now.same.now told.now.kept.now }
+    requires gone { IfSome told.now.gone (λ g. IsGone config.now store.now told.now.touched.first
         g.courses.now g.states.before.now g.states.after.now) }
-    ensures futures { IfOk result (λ v. AreNewFutures config.now store.now told.now.first last
-        told.now.kept.now (last + 1 - length v.items) v.items) }
-    ensures opens { IfOk result (λ v. AreOpened (last + 1 - length v.items) (last + 1) 1 1
-        reads.old reads.new) }
+    ensures futures { IfOk result (λ v. AreNewFutures config.now store.now told.now.touched.first
+        told.now.touched.last told.now.kept.now (told.now.touched.last + 1 - length v.items)
+        v.items) }
+    ensures opens { IfOk result (λ v. AreOpened (told.now.touched.last + 1 - length v.items)
+        (told.now.touched.last + 1) 1 1 reads.old reads.new) }
     ensures grow { Grow reads.old reads.new }
 {
+    let Touched { first, last, .. } = told.touched;
     let mut fresh = VecDeque::new(alloc);
     for hour in (0..last + 1).rev() {
         let place = hour as usize;
         let after = first_or(told.kept, place + 1, &fresh);
         let next = previous_future(alloc, config, store, told, hour, after, reads)?;
-        let done = is_passed(told.first, hour, &next, &told.kept[place]);
+        let done = is_passed(first, hour, &next, &told.kept[place]);
         fresh.push_front(next)?;
         if done {
             return Ok(fresh.into_vec());

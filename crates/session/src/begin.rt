@@ -6,7 +6,9 @@ ghost use Rattle.rule_audit.specs.Rules.{rules_for};
 ghost use Rattle.hour_work.specs.Points.{Carried, IsCarryAt, IsFutureAt};
 ghost use Rattle.session.specs.Links.{Ahead, AllSettled, AreKept, AreKeptBut};
 
-use crate::renew::{Touched, Worked, adopt, renew};
+use crate::hours::Touched;
+use crate::marks::none_waiting;
+use crate::renew::{Worked, adopt, renew};
 use hour_store::HourStore;
 use hour_work::{Carry, ForwardError, Future, Partial, Report};
 use ring_config::Config;
@@ -58,18 +60,6 @@ fn no_parts(alloc: Global, hours: u32) -> Result<Report, NoMemory>
     Report::new(alloc, parts)
 }
 
-// So many hours, none of which is waiting.
-fn none_waiting(alloc: Global, hours: u32) -> Result<Vec<bool>, NoMemory>
-    ensures size { IfOk result (λ v. length v.items ≡ hours) }
-    ensures settled { IfOk result (λ v. AllSettled v.items) }
-{
-    let mut waiting = Vec::new(alloc);
-    for _ in 0..hours {
-        waiting.push(false)?;
-    }
-    Ok(waiting)
-}
-
 // What is kept of a window of so many hours before they are worked through.
 fn not_begun(alloc: Global, config: &Config, hours: u32) -> Result<Worked, NoMemory>
     requires some { 1 ≤ hours }
@@ -83,7 +73,7 @@ fn not_begun(alloc: Global, config: &Config, hours: u32) -> Result<Worked, NoMem
         carries: start_with(alloc, config, hours)?,
         futures: ends(alloc, config, hours + 1)?,
         report: no_parts(alloc, hours)?,
-        waiting: none_waiting(alloc, hours)?,
+        waiting: none_waiting(alloc, hours as usize)?,
     })
 }
 
@@ -114,7 +104,16 @@ fn work_through(
         last: hours - 1,
         may_wait: false,
     };
-    match renew(alloc, config, rules, &store, worked, touched, &mut reads) {
+    match renew(
+        alloc,
+        config,
+        rules,
+        &store,
+        worked,
+        touched,
+        &[],
+        &mut reads,
+    ) {
         Ok(fresh) => {
             adopt(worked, fresh);
             Ok(())

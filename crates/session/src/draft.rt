@@ -14,7 +14,7 @@ ghost use Rattle.session.specs.Links.{AllSettled, AreKept, IsKeptPlain};
 ghost use Rattle.session.specs.Moved.{AreMoved, KeepLines, KeepParts, Moves, Touches};
 ghost use Rattle.session.specs.Opens.{AreOpenedOnce, OpensFor};
 ghost use Rattle.session.specs.Pairs.{ArePairsAt};
-ghost use Rattle.session.specs.Puts.{AreSameBut, IsPlaced, put_into};
+ghost use Rattle.session.specs.Puts.{AreSameAt, AreSameBut, IsPlaced, put_into};
 ghost use Rattle.session.specs.Sessions.{AreCounted, MayRefuse, Steps, StopsAt, refusal_for};
 ghost use Rattle.sig_base.specs.Reads.{Grow};
 ghost use Rattle.session.specs.Windows.{AreHourLines};
@@ -22,11 +22,11 @@ ghost use Rattle.session.specs.Windows.{AreHourLines};
 use crate::Edit;
 use crate::audit::{lines_of, with_windows};
 use crate::begin::begin;
-use crate::blanks::{RangeEdit, edited, reaches_out};
-use crate::hours::{Put, exchange, hour_at};
+use crate::blanks::{RangeEdit, edited, hours_as_were, reaches_out};
+use crate::hours::{Put, Touched, exchange, hour_at};
 use crate::pairs::{Asked, pairs_of};
 use crate::points::phase_diagrams;
-use crate::renew::{Touched, Worked, adopt, moved, renew};
+use crate::renew::{Worked, adopt, moved, renew};
 use crate::settle::settle_all;
 use arrival_measures::Diagram;
 use filling_pair::Pairs;
@@ -229,43 +229,41 @@ impl<L> Draft<L> {
         pairs_of(alloc, config, rules, store, &lines, asked, reads)
     }
 
-    // Puts this into the store, of which only the hours from the first to the last can then be
-    // otherwise, or leaves all as it was. The numbers of the hours that change may wait.
+    // Puts this into the store, of which only the hours that are touched can then be otherwise, and
+    // those that are told to be as they were aren't, or leaves all as it was.
     fn make(
         &mut self,
         put: Put<L>,
-        first: Hour,
-        last: Hour,
-        may_wait: bool,
+        touched: Touched,
+        same: &[bool],
         reads: &mut Reads<L>,
     ) -> Result<Applied, EditError>
         requires placed { IsPlaced (length self.old.store.hours) put }
-        requires order { first ≤ last }
-        requires last { last < length self.old.store.hours }
-        requires same { AreSameBut first last self.old.store (put_into self.old.store put) }
+        requires order { touched.first ≤ touched.last }
+        requires last { touched.last < length self.old.store.hours }
+        requires same { AreSameBut touched.first touched.last self.old.store
+            (put_into self.old.store put) }
+        requires as_were { AreSameAt same.now self.old.store
+            (put_into self.old.store put) }
         ensures done { OnOk result ((self.new.store ≡ put_into self.old.store put)
             × HasHistory (log_of self.old.config.specs (put_into self.old.store put))) }
         ensures moved { IfOk result (AreMoved self.old.config self.old.store
-            (put_into self.old.store put) first last) }
-        ensures stays { IsKeptPlain may_wait self.old.waiting → IfOk result (KeepParts
+            (put_into self.old.store put) touched.first touched.last) }
+        ensures stays { IsKeptPlain touched.may_wait self.old.waiting → IfOk result (KeepParts
             self.old.config self.old.store (put_into self.old.store put)) }
         ensures lines { IfOk result (KeepLines self.old.config self.old.store
             (put_into self.old.store put)) }
-        ensures settled { IsKeptPlain may_wait self.old.waiting → AllSettled self.new.waiting }
+        ensures settled { IsKeptPlain touched.may_wait self.old.waiting
+            → AllSettled self.new.waiting }
         ensures back { OnErr result (self.new.store ≡ self.old.store) }
         ensures stop { IfErr result (StopsAt self.old.config (put_into self.old.store put)) }
         ensures store { IsStore (put_into self.old.store put) }
         ensures config { self.new.config ≡ self.old.config }
-        ensures opens { (change : Change) → Touches change first last → OpensFor change
-            self.old.waiting self.new.waiting reads.old reads.new result }
+        ensures opens { (change : Change) → Touches change touched.first touched.last
+            → OpensFor change self.old.waiting self.new.waiting reads.old reads.new result }
         ensures grow { Grow reads.old reads.new }
     {
         let before = exchange(&mut self.store, put);
-        let touched = Touched {
-            first,
-            last,
-            may_wait,
-        };
         match renew(
             self.alloc,
             &self.config,
@@ -273,6 +271,7 @@ impl<L> Draft<L> {
             &self.store,
             &self.worked,
             touched,
+            same,
             reads,
         ) {
             Ok(fresh) => {
@@ -320,7 +319,12 @@ impl<L> Draft<L> {
         if rows_with(&self.store, hour, rows.len()) > MOST_ROWS {
             return Err(EditError::TooManyRows);
         }
-        self.make(Put::Hour(hour, Some(rows)), hour, hour, may_wait, reads)
+        let touched = Touched {
+            first: hour,
+            last: hour,
+            may_wait,
+        };
+        self.make(Put::Hour(hour, Some(rows)), touched, &[], reads)
     }
 
     #[tactic(auto, using(crate::proofs::EditLaws::steps_done, crate::proofs::GrowLaws::grow_same), unfolding(crate::specs::Edits::step_of, crate::specs::Opens::OpensFor))]
@@ -350,7 +354,12 @@ impl<L> Draft<L> {
         if !self.store.is_held(hour) {
             return Err(EditError::NotHeld);
         }
-        self.make(Put::Hour(hour, None), hour, hour, may_wait, reads)
+        let touched = Touched {
+            first: hour,
+            last: hour,
+            may_wait,
+        };
+        self.make(Put::Hour(hour, None), touched, &[], reads)
     }
 
     // Blanks the tenths of a range, or no longer.
@@ -392,7 +401,16 @@ impl<L> Draft<L> {
         }
         let first = hour_at(from);
         let last = hour_at(to - 1);
-        self.make(Put::Blanks(blanks), first, last, may_wait, reads)
+        let same = match hours_as_were(self.alloc, self.store.blanked(), edit, first, last) {
+            Ok(same) => same,
+            Err(_) => return Err(EditError::Memory),
+        };
+        let touched = Touched {
+            first,
+            last,
+            may_wait,
+        };
+        self.make(Put::Blanks(blanks), touched, same.as_slice(), reads)
     }
 
     /// Makes the edit, or refuses it, as `Session::apply` does. Where they may wait, the numbers of

@@ -7,12 +7,13 @@ ghost use Rattle.signal_log.specs.Log.{log_of};
 ghost use Rattle.hour_work.specs.Moved.{SaySame};
 ghost use Rattle.signal_log.specs.Points.{ArePastsAt};
 ghost use Rattle.hour_work.specs.Points.{IsCarryAt, NamesRow};
-ghost use Rattle.session.specs.Links.{AreCarriesBut, HasCourses, Leads, LeadsAt, StatesLead};
+ghost use Rattle.session.specs.Links.{AreCarriesBut, CarriesFit, HasCourses, Leads, LeadsAt, StatesLead, Stays};
 ghost use Rattle.session.specs.Opens.{AreOpened, NamesRowOf, OpensToRow};
 ghost use Rattle.session.specs.Renewed.{AreNewCarries, AreNewPasts};
 ghost use Rattle.sig_base.specs.Reads.{Grow};
 
-use crate::steps::{Crossed, Reached, carry_after, states_after};
+use crate::hours::Touched;
+use crate::steps::{Crossed, Reached, carry_after, carry_stays, states_after};
 use board::{About, Courses, Pasts};
 use hour_store::HourStore;
 use hour_work::{Carry, ForwardError, pick};
@@ -39,21 +40,23 @@ fn last_states<'a>(kept: &'a Carry, fresh: &'a [Pasts]) -> &'a Pasts
     &fresh[fresh.len() - 1]
 }
 
-// What was kept at each hour point, and the last hour that is changed.
+// What was kept at each hour point, the hours that an edit touches, and of each hour whether it is
+// told to be as it was.
 #[derive(Drop)]
 struct Told<'a> {
-    last: Hour,
+    touched: Touched,
+    same: &'a [bool],
     kept: &'a [Carry],
 }
 
-// What was told of the states about an hour, where it is after the last one that is changed.
+// What was told of the states about an hour, where the edit hasn't changed it.
 fn told_of<'a>(told: &Told<'a>, hour: Hour) -> Option<About<'a, Pasts>>
     requires { hour + 1 < length told.now.kept.now }
-    ensures { (c : Settings) (s : Store)
-        → (told.now.last < hour → LeadsAt c s told.now.kept.now hour)
+    ensures { (c : Settings) (s : Store) → (Stays told.now.touched.first told.now.touched.last
+        told.now.same.now hour → LeadsAt c s told.now.kept.now hour)
         → IfSome result (λ w. StatesLead c s hour w.before.now w.after.now) }
 {
-    if hour <= told.last {
+    if told.touched.changes(told.same, hour) {
         return None;
     }
     let place = hour as usize;
@@ -63,8 +66,7 @@ fn told_of<'a>(told: &Told<'a>, hour: Hour) -> Option<About<'a, Pasts>>
     })
 }
 
-// The states at the point after the hour; of an hour after the last one that is changed it was told
-// before.
+// The states at the point after the hour; of an hour that isn't changed it was told before.
 fn next_states<L>(
     alloc: Global,
     config: &Config,
@@ -77,7 +79,8 @@ fn next_states<L>(
     requires in_store { hour < length store.now.hours }
     requires before { ArePastsAt (log_of config.now.specs store.now) hour before.now }
     requires room { length told.now.kept.now ≡ length store.now.hours + 1 }
-    requires told { told.now.last < hour → LeadsAt config.now store.now told.now.kept.now hour }
+    requires told { Stays told.now.touched.first told.now.touched.last told.now.same.now
+        hour → LeadsAt config.now store.now told.now.kept.now hour }
     ensures leads { IfOk result (λ r. StatesLead config.now store.now hour before.now r.pasts) }
     ensures pasts { IfOk result (λ r. ArePastsAt (log_of config.now.specs store.now) (hour + 1)
         r.pasts) }
@@ -90,7 +93,8 @@ fn next_states<L>(
     states_after(alloc, config, store, hour, before, was, reads)
 }
 
-// The same of all that is kept there.
+// The same of all that is kept there, which stays after an hour that isn't changed where it does before
+// it.
 fn next_carry<L>(
     alloc: Global,
     config: &Config,
@@ -103,7 +107,8 @@ fn next_carry<L>(
     requires in_store { hour < length store.now.hours }
     requires before { IsCarryAt config.now store.now hour before.now }
     requires room { length told.now.kept.now ≡ length store.now.hours + 1 }
-    requires told { told.now.last < hour → LeadsAt config.now store.now told.now.kept.now hour }
+    requires told { Stays told.now.touched.first told.now.touched.last told.now.same.now
+        hour → LeadsAt config.now store.now told.now.kept.now hour }
     ensures leads { IfOk result (λ r. Leads config.now hour (rows_at store.now hour)
         store.now.blanks before.now r.carry) }
     ensures courses { IfOk result (λ r. IfSome r.courses (HasCourses config.now store.now hour)) }
@@ -111,6 +116,10 @@ fn next_carry<L>(
     ensures row { IfErr result (NamesRowOf hour) }
     ensures once { AreOpened hour (hour + 1) 1 1 reads.old reads.new }
 {
+    let place = hour as usize;
+    if !told.touched.changes(told.same, hour) && before.same(&told.kept[place]) {
+        return Ok(carry_stays(alloc, store, hour, &told.kept[place + 1], reads)?);
+    }
     let was = told_of(told, hour);
     carry_after(alloc, config, store, hour, before, was, reads)
 }
@@ -142,25 +151,32 @@ pub fn go_forward<L>(
     alloc: Global,
     config: &Config,
     store: &HourStore<L>,
-    first: Hour,
-    last: Hour,
+    touched: Touched,
+    same: &[bool],
     kept: &[Carry],
     reads: &mut Reads<L>,
 ) -> Result<Forth, ForwardError>
-    requires order { first ≤ last }
-    requires within { last < length store.now.hours }
-    requires kept { AreCarriesBut config.now store.now first last kept.now }
+    requires order { touched.first ≤ touched.last }
+    requires within { touched.last < length store.now.hours }
+    requires kept { AreCarriesBut config.now store.now touched.first touched.last kept.now }
+    requires stays { CarriesFit config.now store.now same.now kept.now }
     ensures store { IsStore store.now }
-    ensures states { IfOk result (λ f. AreNewPasts config.now store.now first last kept.now
-        f.states.items) }
-    ensures courses { IfOk result (λ f. IfSome f.courses (HasCourses config.now store.now first)) }
+    ensures states { IfOk result (λ f. AreNewPasts config.now store.now touched.first touched.last
+        kept.now f.states.items) }
+    ensures courses { IfOk result (λ f. IfSome f.courses (HasCourses config.now store.now
+        touched.first)) }
     ensures stop { IfErr result (NamesRow (log_of config.now.specs store.now)) }
-    ensures opens { IfOk result (λ f. AreOpened first (first + length f.states.items) 1 1 reads.old
-        reads.new) }
-    ensures opens_to_row { IfErr result (OpensToRow first reads.old reads.new) }
+    ensures opens { IfOk result (λ f. AreOpened touched.first
+        (touched.first + length f.states.items) 1 1 reads.old reads.new) }
+    ensures opens_to_row { IfErr result (OpensToRow touched.first reads.old reads.new) }
     ensures grow { Grow reads.old reads.new }
 {
-    let told = Told { last, kept };
+    let Touched { first, last, .. } = touched;
+    let told = Told {
+        touched,
+        same,
+        kept,
+    };
     let mut courses = None;
     let mut fresh = Vec::new(alloc);
     for hour in first..store.hours() {
@@ -207,25 +223,32 @@ pub fn go_across<L>(
     alloc: Global,
     config: &Config,
     store: &HourStore<L>,
-    first: Hour,
-    last: Hour,
+    touched: Touched,
+    same: &[bool],
     kept: &[Carry],
     reads: &mut Reads<L>,
 ) -> Result<Across, ForwardError>
-    requires order { first ≤ last }
-    requires within { last < length store.now.hours }
-    requires kept { AreCarriesBut config.now store.now first last kept.now }
+    requires order { touched.first ≤ touched.last }
+    requires within { touched.last < length store.now.hours }
+    requires kept { AreCarriesBut config.now store.now touched.first touched.last kept.now }
+    requires stays { CarriesFit config.now store.now same.now kept.now }
     ensures store { IsStore store.now }
-    ensures carries { IfOk result (λ f. AreNewCarries config.now store.now first last kept.now
-        f.carries.items) }
-    ensures courses { IfOk result (λ f. IfSome f.courses (HasCourses config.now store.now first)) }
+    ensures carries { IfOk result (λ f. AreNewCarries config.now store.now touched.first
+        touched.last kept.now f.carries.items) }
+    ensures courses { IfOk result (λ f. IfSome f.courses (HasCourses config.now store.now
+        touched.first)) }
     ensures stop { IfErr result (NamesRow (log_of config.now.specs store.now)) }
-    ensures opens { IfOk result (λ f. AreOpened first (first + length f.carries.items) 1 1 reads.old
-        reads.new) }
-    ensures opens_to_row { IfErr result (OpensToRow first reads.old reads.new) }
+    ensures opens { IfOk result (λ f. AreOpened touched.first
+        (touched.first + length f.carries.items) 1 1 reads.old reads.new) }
+    ensures opens_to_row { IfErr result (OpensToRow touched.first reads.old reads.new) }
     ensures grow { Grow reads.old reads.new }
 {
-    let told = Told { last, kept };
+    let Touched { first, last, .. } = touched;
+    let told = Told {
+        touched,
+        same,
+        kept,
+    };
     let mut courses = None;
     let mut fresh = Vec::new(alloc);
     for hour in first..store.hours() {

@@ -1,5 +1,6 @@
-// What an edit puts into a store.
-ghost use Rattle.std.specs.Prelude.{◌≡◌, ◌*◌, pos, ◌≤ℤ◌, ◌<ℤ◌, length};
+// What an edit puts into a store, and the hours that it touches.
+ghost use Rattle.std.specs.Prelude.{◌≡◌, ◌*◌, false, pos, ◌≤ℤ◌, ◌<ℤ◌, length};
+ghost use Rattle.session.specs.Links.{Stays, is_as_was};
 ghost use Rattle.session.specs.Moved.{IsIn};
 ghost use Rattle.session.specs.Puts.{IsPlaced, put_into};
 
@@ -26,6 +27,33 @@ pub fn exchange<L>(store: &mut HourStore<L>, put: Put<L>) -> Put<L>
         Put::Hour(hour, None) => Put::Hour(hour, store.take(hour)),
         Put::Blanks(blanks) => Put::Blanks(store.set_blanks(blanks)),
     }
+}
+
+/// The hours from the first to the last that an edit touches, and whether the numbers of those that
+/// change may wait.
+#[derive(Clone, Copy)]
+pub struct Touched {
+    pub first: Hour,
+    pub last: Hour,
+    pub may_wait: bool,
+}
+
+impl Touched {
+    /// Whether the edit may have changed the hour, where of some hours it is told that they are as
+    /// they were.
+    pub fn changes(&self, same: &[bool], hour: Hour) -> bool
+        ensures { result ≡ false → Stays self.now.first self.now.last same.now hour }
+    {
+        self.first <= hour && hour <= self.last && !is_as_was(same, hour)
+    }
+}
+
+// Whether the hour is told to be as it was. Of an hour without a place nothing is told.
+fn is_as_was(same: &[bool], hour: Hour) -> bool
+    ensures { result ≡ is_as_was same.now hour }
+{
+    let place = hour as usize;
+    place < same.len() && same[place]
 }
 
 /// The hour of a tenth of a window.

@@ -17,6 +17,7 @@ mod draft;
 mod edit;
 mod forward;
 mod hours;
+mod marks;
 mod pairs;
 mod points;
 mod renew;

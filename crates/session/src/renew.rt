@@ -9,13 +9,15 @@ ghost use Rattle.hour_work.specs.Moved.{SaySame};
 ghost use Rattle.hour_work.specs.Numbers.{FitHours, patched};
 ghost use Rattle.signal_log.specs.Points.{ArePastsAt};
 ghost use Rattle.hour_work.specs.Points.{NamesRow};
-ghost use Rattle.session.specs.Links.{AreCarriesBut, AreFutures, AreFuturesBut, AreKeptBut, AreMarked, HasCourses, IsGone, StatesLead};
+ghost use Rattle.session.specs.Links.{AreCarriesBut, AreFutures, AreFuturesBut, AreKeptAt, AreKeptBut, CarriesFit, FuturesFit, HasCourses, IsGone, StatesLead};
 ghost use Rattle.session.specs.Opens.{AreOpened, OpensToRow, most_opens};
 ghost use Rattle.session.specs.Renewed.{AreCarriesTo, AreNewCarries, AreNewFutures, AreNewParts, AreNewPasts, AreNumbered, AreSameUpTo, HaveShapes, IsRenewed, do_wait, put_numbers};
 ghost use Rattle.sig_base.specs.Reads.{Grow};
 
 use crate::backward::{Returning, go_back};
 use crate::forward::{Across, Forth, go_across, go_forward};
+use crate::hours::Touched;
+use crate::marks::{marks_of, none_waiting};
 use crate::steps::{Gone, Step, part_between, work_between};
 use board::{About, Courses, Pasts};
 use hour_store::HourStore;
@@ -52,22 +54,14 @@ pub struct Numbered {
     pub sums: Sums,
 }
 
-/// What comes in the place of what is kept: what is new at hour points, and the numbers of the hours
-/// from `start` on, or none where these wait.
+/// What comes in the place of what is kept: what is new at hour points, of the hours from `start` on
+/// whether their numbers wait, and these numbers, or none where an edit's may wait.
 #[derive(Drop)]
 pub struct Fresh {
     pub points: Points,
     pub start: Hour,
+    pub marks: Vec<bool>,
     pub numbers: Option<Numbered>,
-}
-
-/// The hours from the first to the last that an edit touches, and whether the numbers of those that
-/// change may wait.
-#[derive(Clone, Copy)]
-pub struct Touched {
-    pub first: Hour,
-    pub last: Hour,
-    pub may_wait: bool,
 }
 
 /// The hours between the points at which nothing changes.
@@ -333,6 +327,7 @@ fn ways_of<L>(
     store: &HourStore<L>,
     worked: &Worked,
     touched: Touched,
+    same: &[bool],
     reads: &mut Reads<L>,
 ) -> Result<Ways, ForwardError>
     requires order { touched.first ≤ touched.last }
@@ -340,6 +335,10 @@ fn ways_of<L>(
     requires forth { AreCarriesBut config.now store.now touched.first touched.last
         worked.now.carries.items }
     requires back { AreFuturesBut config.now store.now touched.first touched.last
+        worked.now.futures.items }
+    requires stays_forth { CarriesFit config.now store.now same.now
+        worked.now.carries.items }
+    requires stays_back { FuturesFit config.now store.now same.now
         worked.now.futures.items }
     ensures store { IsStore store.now }
     ensures touched { IfOk result (λ w. w.touched ≡ touched) }
@@ -355,25 +354,25 @@ fn ways_of<L>(
     ensures opens_to_row { IfErr result (OpensToRow touched.first reads.old reads.new) }
     ensures grow { Grow reads.old reads.new }
 {
-    let Touched { first, last, .. } = touched;
     let Forth { states, courses } = go_forward(
         alloc,
         config,
         store,
-        first,
-        last,
+        touched,
+        same,
         &worked.carries,
         reads,
     )?;
     let kept = worked.futures.as_slice();
-    let before = worked.carries[first as usize].pasts();
+    let before = worked.carries[touched.first as usize].pasts();
     let told = Returning {
-        first,
+        touched,
+        same,
         kept,
         gone: gone_over(courses.as_ref(), before, &states[0]),
     };
-    let futures = go_back(alloc, config, store, last, &told, reads)?;
-    let from = last + 1 - futures.len() as u32;
+    let futures = go_back(alloc, config, store, &told, reads)?;
+    let from = touched.last + 1 - futures.len() as u32;
     Ok(Ways {
         touched,
         states,
@@ -391,6 +390,7 @@ fn work_out<L>(
     store: &HourStore<L>,
     worked: &Worked,
     touched: Touched,
+    same: &[bool],
     reads: &mut Reads<L>,
 ) -> Result<Fresh, ForwardError>
     requires rules { rules.now ≡ rules_for config.now }
@@ -398,6 +398,8 @@ fn work_out<L>(
     requires kept { AreKeptBut config.now store.now touched.first touched.last
         worked.now.waiting.items worked.now.carries.items worked.now.futures.items
         worked.now.report }
+    requires stays { AreKeptAt config.now store.now same.now worked.now.waiting.items
+        worked.now.carries.items worked.now.futures.items worked.now.report }
     ensures store { IsStore store.now }
     ensures first { IfOk result (λ f. f.points.first ≡ touched.first) }
     ensures carries { IfOk result (λ f. AreNewCarries config.now store.now touched.first
@@ -406,7 +408,8 @@ fn work_out<L>(
         touched.last worked.now.futures.items f.points.from f.points.futures.items) }
     ensures fresh { IfOk result (λ f. IsRenewed config.now store.now worked.now.waiting.items
         worked.now.carries.items f.points.first f.points.carries.items worked.now.futures.items
-        f.points.from f.points.futures.items worked.now.report f.start f.numbers) }
+        f.points.from f.points.futures.items worked.now.report f.start f.marks.items
+        f.numbers) }
     ensures numbers { IfOk result (λ f. do_wait f.numbers ≡ false) }
     ensures history { OnOk result (HasHistory (log_of config.now.specs store.now)) }
     ensures stop { IfErr result (NamesRow (log_of config.now.specs store.now)) }
@@ -415,14 +418,16 @@ fn work_out<L>(
     ensures opens_to_row { IfErr result (OpensToRow touched.first reads.old reads.new) }
     ensures grow { Grow reads.old reads.new }
 {
-    let ways = ways_of(alloc, config, store, worked, touched, reads)?;
+    let ways = ways_of(alloc, config, store, worked, touched, same, reads)?;
     let new = new_parts(alloc, config, rules, store, worked, &ways, reads)?;
     let work = new_work(alloc, config, rules, store, worked, ways, reads)?;
     let parts = joined(new.parts, work.parts)?;
     let sums = worked.report.sums_with(alloc, new.start as usize, &parts)?;
+    let marks = none_waiting(alloc, parts.as_slice().len())?;
     Ok(Fresh {
         points: work.points,
         start: new.start,
+        marks,
         numbers: Some(Numbered { parts, sums }),
     })
 }
@@ -434,12 +439,15 @@ fn put_off<L>(
     store: &HourStore<L>,
     worked: &Worked,
     touched: Touched,
+    same: &[bool],
     reads: &mut Reads<L>,
 ) -> Result<Fresh, ForwardError>
     requires sound { IsSound config.now }
     requires kept { AreKeptBut config.now store.now touched.first touched.last
         worked.now.waiting.items worked.now.carries.items worked.now.futures.items
         worked.now.report }
+    requires stays { AreKeptAt config.now store.now same.now worked.now.waiting.items
+        worked.now.carries.items worked.now.futures.items worked.now.report }
     ensures store { IsStore store.now }
     ensures first { IfOk result (λ f. f.points.first ≡ touched.first) }
     ensures carries { IfOk result (λ f. AreNewCarries config.now store.now touched.first
@@ -448,7 +456,8 @@ fn put_off<L>(
         touched.last worked.now.futures.items f.points.from f.points.futures.items) }
     ensures fresh { IfOk result (λ f. IsRenewed config.now store.now worked.now.waiting.items
         worked.now.carries.items f.points.first f.points.carries.items worked.now.futures.items
-        f.points.from f.points.futures.items worked.now.report f.start f.numbers) }
+        f.points.from f.points.futures.items worked.now.report f.start f.marks.items
+        f.numbers) }
     ensures numbers { IfOk result (λ f. do_wait f.numbers ≡ true) }
     ensures history { OnOk result (HasHistory (log_of config.now.specs store.now)) }
     ensures stop { IfErr result (NamesRow (log_of config.now.specs store.now)) }
@@ -457,41 +466,42 @@ fn put_off<L>(
     ensures opens_to_row { IfErr result (OpensToRow touched.first reads.old reads.new) }
     ensures grow { Grow reads.old reads.new }
 {
-    let Touched { first, last, .. } = touched;
     let Across { carries, courses } = go_across(
         alloc,
         config,
         store,
-        first,
-        last,
+        touched,
+        same,
         &worked.carries,
         reads,
     )?;
     let kept = worked.futures.as_slice();
-    let before = worked.carries[first as usize].pasts();
+    let before = worked.carries[touched.first as usize].pasts();
     let told = Returning {
-        first,
+        touched,
+        same,
         kept,
         gone: gone_over(courses.as_ref(), before, carries[0].pasts()),
     };
-    let futures = go_back(alloc, config, store, last, &told, reads)?;
-    let from = last + 1 - futures.len() as u32;
-    let start = start_of(worked, first, from, &futures);
+    let futures = go_back(alloc, config, store, &told, reads)?;
+    let from = touched.last + 1 - futures.len() as u32;
     let points = Points {
-        first,
+        first: touched.first,
         carries,
         from,
         futures,
     };
+    let marks = marks_of(alloc, worked, touched, same, &points)?;
     Ok(Fresh {
         points,
-        start,
+        start: from,
+        marks,
         numbers: None,
     })
 }
 
-/// What comes in the place of what is kept, where that fits the store but for the hours from
-/// `first` to `last`. Where they may wait, the numbers of the hours that change aren't worked out.
+/// What comes in the place of what is kept, where that fits the store but for the hours that are
+/// touched, and for those of them that are told to be as they were. Where they may wait, the numbers of the hours that change aren't worked out.
 /// `Contradiction` comes where the log contradicts itself.
 pub fn renew<L>(
     alloc: Global,
@@ -500,6 +510,7 @@ pub fn renew<L>(
     store: &HourStore<L>,
     worked: &Worked,
     touched: Touched,
+    same: &[bool],
     reads: &mut Reads<L>,
 ) -> Result<Fresh, ForwardError>
     requires rules { rules.now ≡ rules_for config.now }
@@ -507,6 +518,8 @@ pub fn renew<L>(
     requires kept { AreKeptBut config.now store.now touched.first touched.last
         worked.now.waiting.items worked.now.carries.items worked.now.futures.items
         worked.now.report }
+    requires stays { AreKeptAt config.now store.now same.now worked.now.waiting.items
+        worked.now.carries.items worked.now.futures.items worked.now.report }
     ensures store { IsStore store.now }
     ensures first { IfOk result (λ f. f.points.first ≡ touched.first) }
     ensures carries { IfOk result (λ f. AreNewCarries config.now store.now touched.first
@@ -515,7 +528,8 @@ pub fn renew<L>(
         touched.last worked.now.futures.items f.points.from f.points.futures.items) }
     ensures fresh { IfOk result (λ f. IsRenewed config.now store.now worked.now.waiting.items
         worked.now.carries.items f.points.first f.points.carries.items worked.now.futures.items
-        f.points.from f.points.futures.items worked.now.report f.start f.numbers) }
+        f.points.from f.points.futures.items worked.now.report f.start f.marks.items
+        f.numbers) }
     ensures numbers { IfOk result (λ f. do_wait f.numbers ≡ touched.may_wait) }
     ensures history { OnOk result (HasHistory (log_of config.now.specs store.now)) }
     ensures stop { IfErr result (NamesRow (log_of config.now.specs store.now)) }
@@ -526,20 +540,9 @@ pub fn renew<L>(
     ensures grow { Grow reads.old reads.new }
 {
     if touched.may_wait {
-        put_off(alloc, config, store, worked, touched, reads)
+        put_off(alloc, config, store, worked, touched, same, reads)
     } else {
-        work_out(alloc, config, rules, store, worked, touched, reads)
-    }
-}
-
-// Marks the hours from one up to another as waiting, or as not waiting.
-fn mark(waiting: &mut [bool], from: Hour, to: Hour, value: bool)
-    requires order { from ≤ to }
-    requires room { to ≤ length waiting.old }
-    ensures { AreMarked from to value waiting.old waiting.new }
-{
-    for hour in from..to {
-        waiting[hour as usize] = value;
+        work_out(alloc, config, rules, store, worked, touched, same, reads)
     }
 }
 
@@ -559,12 +562,9 @@ pub fn adopt(worked: &mut Worked, fresh: Fresh)
         ≤ length worked.old.carries.items }
     requires future_room { fresh.points.from + length fresh.points.futures.items
         ≤ length worked.old.futures.items }
-    requires room { fresh.points.first + length fresh.points.carries.items
-        ≤ length worked.old.waiting.items }
+    requires room { fresh.start + length fresh.marks.items ≤ length worked.old.waiting.items }
     requires part_room { fresh.points.first + length fresh.points.carries.items
         ≤ length worked.old.report }
-    requires few { length worked.old.waiting.items ≤ 744 }
-    requires order { fresh.start ≤ fresh.points.first }
     requires numbered { AreNumbered worked.old.report fresh.start
         (fresh.points.first + length fresh.points.carries.items) fresh.numbers }
     ensures carries { worked.new.carries.items ≡ patched worked.old.carries.items
@@ -572,12 +572,13 @@ pub fn adopt(worked: &mut Worked, fresh: Fresh)
     ensures futures { worked.new.futures.items ≡ patched worked.old.futures.items fresh.points.from
         fresh.points.futures.items }
     ensures report { worked.new.report ≡ put_numbers worked.old.report fresh.start fresh.numbers }
-    ensures marked { AreMarked fresh.start (fresh.points.first + length fresh.points.carries.items)
-        (do_wait fresh.numbers) worked.old.waiting.items worked.new.waiting.items }
+    ensures waiting { worked.new.waiting.items ≡ patched worked.old.waiting.items fresh.start
+        fresh.marks.items }
 {
     let Fresh {
         points,
         start,
+        mut marks,
         numbers,
     } = fresh;
     let Points {
@@ -586,8 +587,7 @@ pub fn adopt(worked: &mut Worked, fresh: Fresh)
         from,
         mut futures,
     } = points;
-    let end = first + carries.len() as u32;
-    mark(&mut worked.waiting, start, end, numbers.is_none());
+    put_in(&mut worked.waiting, start as usize, marks.as_mut_slice());
     put_in(
         &mut worked.carries,
         first as usize + 1,

@@ -1,5 +1,5 @@
 // One hour of a store, which is opened.
-ghost use Rattle.std.specs.Prelude.{◌≡◌, ◌+◌, ◌<◌, length, IfSome, IfOk, IfErr};
+ghost use Rattle.std.specs.Prelude.{◌≡◌, ◌+◌, ◌<◌, None, length, IfSome, IfOk, IfErr};
 ghost use Rattle.hour_store.specs.Store.{Store, rows_at};
 ghost use Rattle.board.specs.Logs.{end_tenth, first_tenth};
 ghost use Rattle.board.specs.Places.{AllEarly};
@@ -199,6 +199,28 @@ pub fn carry_after<L>(
     let Reached { pasts, courses } = reached;
     let carry = carry_over(alloc, config, &place, before, courses.as_ref(), pasts)?;
     Ok(Crossed { carry, courses })
+}
+
+/// What is kept at the point after an hour that is as it was, as what is kept before it is: it stays.
+/// The hour is opened, and not gone over.
+pub fn carry_stays<L>(
+    alloc: Global,
+    store: &HourStore<L>,
+    hour: Hour,
+    after: &Carry,
+    reads: &mut Reads<L>,
+) -> Result<Crossed, NoMemory>
+    requires { hour < length store.now.hours }
+    ensures carry { IfOk result (λ r. r.carry ≡ after.now) }
+    ensures courses { IfOk result (λ r. r.courses ≡ None) }
+    ensures once { AreOpened hour (hour + 1) 1 1 reads.old reads.new }
+{
+    store.open_hour(hour, reads);
+    let carry = after.copy(alloc)?;
+    Ok(Crossed {
+        carry,
+        courses: None,
+    })
 }
 
 /// How an hour was gone over forward: its courses, and the states of each channel before it and after

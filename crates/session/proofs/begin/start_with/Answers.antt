@@ -1,6 +1,5 @@
-use Rattle.std.proofs.Common.{◌≡◌, ◌+◌, ◌<◌, ◌++◌, ◌∷◌, [], arith, length, length-append, get_or, subst, sym}
+use Rattle.std.proofs.Common.{◌<◌, ◌∷◌, [], arith, length, length-append, subst, sym}
 use Rattle.std.proofs.lemmas.List.{get_or_append_left}
-use Rattle.hour_store.specs.Store.{Store}
 use Rattle.hour_work.specs.Points.{Carried, IsCarryAt}
 use Rattle.session.proofs.begin.start_with.Goals as goal
 

@@ -6,7 +6,7 @@ use Rattle.signal_log.specs.Points.{ArePastsAt}
 use Rattle.session.specs.Links.{States, StatesLead}
 use Rattle.session.proofs.GrowLaws.{grow_on}
 use Rattle.session.proofs.OpenLaws.{opened_across, opened_as}
-use Rattle.session.proofs.RenewLaws.{renewed_later, shapes_new}
+use Rattle.session.proofs.RenewLaws.{fit_after, renewed_later}
 use Rattle.session.proofs.StatesLaws.{carries_to, first_carries, history_carries}
 use Rattle.session.proofs.renew.put_off.Goals as goal
 
@@ -16,41 +16,55 @@ returns-in_err-futures-clause-grow g c = grow_on _ _ _ c.go_across.ensures.grow 
 pub returns-clause-grow : goal.returns-clause-grow
 returns-clause-grow g c = grow_on _ _ _ c.go_across.ensures.grow c.go_back.ensures.grow
 
-pub start_of-start-requires-clause-order : goal.start_of-start-requires-clause-order
-start_of-start-requires-clause-order g c =
+pub returns-in_err-marks-clause-grow : goal.returns-in_err-marks-clause-grow
+returns-in_err-marks-clause-grow g c = grow_on _ _ _ c.go_across.ensures.grow c.go_back.ensures.grow
+
+pub marks_of-requires-clause-few : goal.marks_of-requires-clause-few
+marks_of-requires-clause-few g c =
+    let few = c.go_across.ensures.store.few in
+    let within = c.in_ok-carries.ensures.carries.within in
+    omega arith
+
+pub marks_of-requires-clause-order : goal.marks_of-requires-clause-order
+marks_of-requires-clause-order g c =
     let size = c.len.ensures in
     let low = c.in_ok-futures.ensures.futures.low in
     omega arith
 
-pub start_of-start-requires-clause-carry_room : goal.start_of-start-requires-clause-carry_room
-start_of-start-requires-clause-carry_room g c =
-    let a = c.requires.kept.order in
-    let b = c.requires.kept.within in
-    let size = c.requires.kept.forth.size in
+pub marks_of-requires-clause-room : goal.marks_of-requires-clause-room
+marks_of-requires-clause-room g c =
+    let room = c.requires.kept.room in
+    let within = c.in_ok-carries.ensures.carries.within in
     omega arith
 
-pub start_of-start-requires-clause-future_room : goal.start_of-start-requires-clause-future_room
-start_of-start-requires-clause-future_room g c =
+pub marks_of-requires-clause-carry_room : goal.marks_of-requires-clause-carry_room
+marks_of-requires-clause-carry_room g c =
+    let size = c.requires.kept.forth.size in
+    let within = c.in_ok-carries.ensures.carries.within in
+    omega arith
+
+pub marks_of-requires-clause-future_room : goal.marks_of-requires-clause-future_room
+marks_of-requires-clause-future_room g c =
     let len = c.len.ensures in
-    let deref = c.deref-2.ensures.value in
     let new = c.in_ok-futures.ensures.futures.size in
     let b = c.requires.kept.within in
     let size = c.requires.kept.back.size in
-    rw deref (omega arith)
-
-pub start_of-start-requires-clause-last : goal.start_of-start-requires-clause-last
-start_of-start-requires-clause-last g c =
-    let a = c.requires.kept.order in
-    let b = c.requires.kept.within in
-    let size = c.requires.kept.back.size in
     omega arith
 
-pub start_of-start-requires-clause-shape : goal.start_of-start-requires-clause-shape
-start_of-start-requires-clause-shape g c =
+pub marks_of-requires-clause-futures : goal.marks_of-requires-clause-futures
+marks_of-requires-clause-futures g c =
+    let size = c.requires.kept.back.size in
+    let within = c.in_ok-carries.ensures.carries.within in
+    omega arith
+
+pub marks_of-requires-clause-shape : goal.marks_of-requires-clause-shape
+marks_of-requires-clause-shape g c =
+    let kept = c.args.worked.now in
     let size = c.len.ensures in
     let from : (c.args.touched.last + 1) - length c.in_ok-futures.futures.items ≡ (c.args.touched.last + 1) - c.len.result = omega arith in
     let new = rw (from, c.as_slice-kept.ensures.value) at c.in_ok-futures.ensures.futures in
-    rw c.deref-2.ensures.value (shapes_new c.args.config.now c.args.store.now c.args.touched.first c.args.touched.last c.args.worked.now.waiting.items c.args.worked.now.carries.items c.args.worked.now.futures.items _ c.in_ok-futures.futures.items c.args.worked.now.report c.go_across.ensures.store c.requires.kept new)
+    let across = rw c.deref.ensures.value at c.in_ok-carries.ensures.carries in
+    fit_after c.args.config.now c.args.store.now c.args.touched.first c.args.touched.last kept.waiting.items kept.carries.items _ kept.futures.items _ c.in_ok-futures.futures.items kept.report c.go_across.ensures.store c.requires.kept across new
 
 pub returns-clause-history : goal.returns-clause-history
 returns-clause-history g c =
@@ -69,9 +83,8 @@ returns-clause-fresh g c =
     let size = c.len.ensures in
     let from : (c.args.touched.last + 1) - length c.in_ok-futures.futures.items ≡ (c.args.touched.last + 1) - c.len.result = omega arith in
     let new = rw (from, c.as_slice-kept.ensures.value) at c.in_ok-futures.ensures.futures in
-    let same = rw c.deref-2.ensures.value at c.start_of-start.ensures.same in
     let across = rw c.deref.ensures.value at c.in_ok-carries.ensures.carries in
-    renewed_later c.args.config.now c.args.store.now c.args.touched.first c.args.touched.last kept.waiting.items kept.carries.items _ kept.futures.items _ c.start_of-start.result c.in_ok-futures.futures.items kept.report c.start_of-start.ensures.low c.start_of-start.ensures.high c.requires.kept across new same
+    renewed_later c.args.config.now c.args.store.now c.args.touched.first c.args.touched.last c.args.same.now kept.waiting.items kept.carries.items _ kept.futures.items _ c.in_ok-futures.futures.items kept.report c.in_ok-marks.marks.items c.requires.kept c.requires.stays across new c.in_ok-marks.ensures.size c.in_ok-marks.ensures.marks
 
 pub returns-clause-opens : goal.returns-clause-opens
 returns-clause-opens g c =

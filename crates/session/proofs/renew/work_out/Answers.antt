@@ -1,4 +1,5 @@
-use Rattle.std.proofs.Common.{◌+◌, ◌≤◌, arith, length}
+use Rattle.std.proofs.Common.{◌∙◌, ◌+◌, ◌≤◌, List, ap, arith, length}
+use Rattle.hour_work.specs.declared.numbers.Partial.{Partial}
 use Rattle.hour_work.specs.Numbers.{patched}
 use Rattle.hour_work.proofs.PatchLaws.{patched-below}
 use Rattle.session.proofs.GrowLaws.{grow_on}
@@ -21,6 +22,9 @@ returns-in_err-sums-clause-grow g c = grow_on _ _ _ (grow_on _ _ _ c.ways_of.ens
 
 pub returns-clause-grow : goal.returns-clause-grow
 returns-clause-grow g c = grow_on _ _ _ (grow_on _ _ _ c.ways_of.ensures.grow c.new_parts.ensures.grow) c.new_work.ensures.grow
+
+pub returns-in_err-marks-clause-grow : goal.returns-in_err-marks-clause-grow
+returns-in_err-marks-clause-grow g c = grow_on _ _ _ (grow_on _ _ _ c.ways_of.ensures.grow c.new_parts.ensures.grow) c.new_work.ensures.grow
 
 pub new_parts-requires-clause-shape : goal.new_parts-requires-clause-shape
 new_parts-requires-clause-shape g c =
@@ -80,7 +84,7 @@ returns-clause-fresh g c =
     let late = rw touched at c.in_ok-work.ensures.parts in
     let z = parts_join cfg s (patched kept.carries.items (first + 1) carries) futures start first (first + length carries) new.new.parts.items c.in_ok-work.work.parts.items c.in_ok-parts.parts.items c.in_ok-parts.ensures early late in
     let sums = rw c.deref.ensures.value at c.in_ok-sums.ensures in
-    rw (c.in_ok-work.ensures.first, c.in_ok-work.ensures.from, c.in_ok-work.ensures.futures, touched) (renewed cfg s first c.args.touched.last kept.waiting.items kept.carries.items carries kept.futures.items w.from start w.futures.items kept.report new.ensures.low high c.requires.kept x c.in_ok-ways.ensures.futures new.ensures.same (record { parts = c.in_ok-parts.parts; sums = c.in_ok-sums.sums }) z sums)
+    rw (c.in_ok-work.ensures.first, c.in_ok-work.ensures.from, c.in_ok-work.ensures.futures, touched) (renewed cfg s first c.args.touched.last kept.waiting.items kept.carries.items carries kept.futures.items w.from start w.futures.items kept.report new.ensures.low high c.requires.kept x c.in_ok-ways.ensures.futures new.ensures.same (record { parts = c.in_ok-parts.parts; sums = c.in_ok-sums.sums }) c.in_ok-marks.marks.items (c.in_ok-marks.ensures.size ∙ ap (λ (xs : List Partial). length xs) c.as_slice.ensures.value) c.in_ok-marks.ensures.settled z sums)
 
 pub returns-clause-opens : goal.returns-clause-opens
 returns-clause-opens g c =

@@ -1,8 +1,6 @@
-use Rattle.std.proofs.Common.{◌≡◌, ◌∙◌, ◌+◌, ◌<◌, Bool, true, false, arith, length, sym}
+use Rattle.std.proofs.Common.{◌∙◌, ◌+◌, ◌<◌, false, arith, length, sym}
 use Rattle.std.proofs.lemmas.List.{get_or_default}
-use Rattle.std.specs.Prelude.{OnOk}
-use Rattle.session.specs.Links.{AreMarked, waits}
-use Rattle.session.specs.Opens.{AreOpenedOnce}
+use Rattle.session.specs.Links.{AreMarked}
 use Rattle.session.proofs.GrowLaws.{grow_same}
 use Rattle.session.proofs.OpenLaws.{grow_opened}
 use Rattle.session.proofs.StepLaws.{on_ok_to}

@@ -1,6 +1,4 @@
 use Rattle.std.specs.Prelude.{option_copied}
-use Rattle.signal_log.specs.Log.{log_of}
-use Rattle.session.specs.Links.{StatesLead}
 use Rattle.session.proofs.KeptLaws.{has_hour}
 use Rattle.session.proofs.OpenLaws.{opened_raised, row_of}
 use Rattle.session.proofs.StepLaws.{err_to, ok_both, ok_to, some_to, states_of}

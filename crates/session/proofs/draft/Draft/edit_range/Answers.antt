@@ -7,7 +7,7 @@ use Rattle.session.specs.Ranges.{IsEdited}
 use Rattle.session.proofs.EditLaws.{few_blanks, in_order, inside, many_blanks, steps_done}
 use Rattle.session.proofs.MaskLaws.{fits_before, hours_in_order, hours_within, same_but_range}
 use Rattle.session.proofs.MovedLaws.{keep_to, moves_by}
-use Rattle.session.proofs.RangeEditLaws.{never_edited, range_same, range_step, range_touches, range_within}
+use Rattle.session.proofs.RangeEditLaws.{never_edited, range_left, range_same, range_step, range_touches, range_within}
 use Rattle.session.proofs.draft.Draft.edit_range.Goals as goal
 
 pub returns-then-ranges-gt-MOST_BLANKS-clause-step : goal.returns-then-ranges-gt-MOST_BLANKS-clause-step
@@ -123,6 +123,15 @@ make-requires-clause-same g c =
     let fits = fits_before c.args.from c.args.to rf rt some in
     let end : IsIn (c.args.to -ℤ pos 1) c.hour_at-last.result = simp to_z-of_z at c.hour_at-last.ensures in
     rw (← c.self.view_is) (same_but_range s c.in-Ok.blanks c.args.from c.args.to c.hour_at-first.result c.hour_at-last.result (range_same c.args.edit s.blanks c.in-Ok.blanks c.args.from c.args.to made) begin end)
+
+pub make-requires-clause-as_were : goal.make-requires-clause-as_were
+make-requires-clause-as_were g c =
+    let s = c.self.inside.store in
+    let rf = c.ranges.from in
+    let rt = c.ranges.to in
+    let made : IsEdited c.args.edit s.blanks c.args.from c.args.to c.in-Ok.blanks = simp to_z-of_z at (rw c.blanked.ensures.value at c.in-Ok.ensures) in
+    let left = rw c.blanked-2.ensures.value at c.in-Ok-hours_as_were.ensures in
+    rw (← c.self.view_is, c.as_slice.ensures.value) (λ k told. range_left c.args.edit s c.in-Ok.blanks c.args.from c.args.to k made (left k told))
 
 pub returns-clause-never : goal.returns-clause-never
 returns-clause-never g c =

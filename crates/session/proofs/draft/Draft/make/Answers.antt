@@ -4,21 +4,21 @@ use Rattle.session.specs.Sessions.{Drafted}
 use Rattle.session.proofs.EditLaws.{stops_at}
 use Rattle.session.proofs.LineLaws.{keep_lines}
 use Rattle.session.proofs.MovedLaws.{are_moved, keep_parts}
-use Rattle.session.proofs.WaitLaws.{opened_for, opens_for, opens_not, settled_marked}
-use Rattle.session.proofs.RenewLaws.{kept_but, put_length}
+use Rattle.session.proofs.WaitLaws.{opened_for, opens_for, opens_not, settled_patched}
+use Rattle.session.proofs.RenewLaws.{kept_at, kept_but, put_length}
 use Rattle.session.proofs.draft.Draft.make.Goals as goal
 
 pub invariant_of-self : goal.invariant_of-self
 invariant_of-self g c =
     let size = put_length c.self.inside.store c.args.put in
     let hours : length c.exchange-before.new.store.hours ≡ c.self.inside.config.window.hours = rw c.exchange-before.ensures.store (size ∙ c.self.invariant.hours) in
-    rw (c.adopt.ensures.carries, c.adopt.ensures.futures, c.adopt.ensures.report) (record {
+    rw (c.adopt.ensures.carries, c.adopt.ensures.futures, c.adopt.ensures.report, c.adopt.ensures.waiting) (record {
       sound = c.self.invariant.sound;
       is_store = c.in-Ok.ensures.store;
       hours = hours;
       rules = c.self.invariant.rules;
       history = c.in-Ok.ensures.history;
-      kept = c.in-Ok.ensures.fresh.kept _ c.adopt.ensures.marked;
+      kept = c.in-Ok.ensures.fresh.kept;
     })
 
 pub invariant_of-self-in-Err : goal.invariant_of-self-in-Err
@@ -43,7 +43,14 @@ renew-requires-clause-kept g c =
     let s = c.self.inside.store in
     let lt = rw (← c.self.view_is) at c.requires.last in
     let same = rw (← c.self.view_is) at c.requires.same in
-    rw c.exchange-before.ensures.store (kept_but c.self.inside.config s (put_into s c.args.put) c.args.first c.args.last c.self.inside.worked.waiting.items c.self.inside.worked.carries.items c.self.inside.worked.futures.items c.self.inside.worked.report c.requires.order lt (put_length s c.args.put) same c.self.invariant.is_store c.self.invariant.kept)
+    rw c.exchange-before.ensures.store (kept_but c.self.inside.config s (put_into s c.args.put) c.args.touched.first c.args.touched.last c.self.inside.worked.waiting.items c.self.inside.worked.carries.items c.self.inside.worked.futures.items c.self.inside.worked.report c.requires.order lt (put_length s c.args.put) same c.self.invariant.is_store c.self.invariant.kept)
+
+pub renew-requires-clause-stays : goal.renew-requires-clause-stays
+renew-requires-clause-stays g c =
+    let s = c.self.inside.store in
+    let worked = c.self.inside.worked in
+    let told = rw (← c.self.view_is) at c.requires.as_were in
+    rw c.exchange-before.ensures.store (kept_at c.self.inside.config s (put_into s c.args.put) c.args.same.now worked.waiting.items worked.carries.items worked.futures.items worked.report (put_length s c.args.put) told c.self.invariant.kept)
 
 pub moved-hours-requires : goal.moved-hours-requires
 moved-hours-requires g c =
@@ -55,8 +62,8 @@ moved-hours-requires g c =
 pub returns-in-Ok-clause-moved : goal.returns-in-Ok-clause-moved
 returns-in-Ok-clause-moved g c =
     let s = c.self.inside.store in
-    let first = c.args.first in
-    let last = c.args.last in
+    let first = c.args.touched.first in
+    let last = c.args.touched.last in
     let worked = c.self.inside.worked in
     let points = c.in-Ok.fresh.points in
     let lt : last < length s.hours = rw (← c.self.view_is) at c.requires.last in
@@ -78,13 +85,16 @@ returns-in-Ok-clause-stays g c = λ plain.
     let is = rw c.exchange-before.ensures.store at c.in-Ok.ensures.store in
     let has = rw c.exchange-before.ensures.store at c.in-Ok.ensures.history in
     let new = rw c.exchange-before.ensures.store at c.in-Ok.ensures.fresh in
-    rw (← c.self.view_is) (keep_parts c.self.inside.config s (put_into s c.args.put) points.first worked.waiting.items worked.carries.items points.carries.items worked.futures.items points.from points.futures.items worked.report fresh.start fresh.numbers _ c.moved-hours.result
-    c.self.invariant.is_store c.self.invariant.history c.self.invariant.kept is has settled new (c.in-Ok.ensures.numbers ∙ plain.0) c.adopt.ensures.marked c.moved-hours.ensures.from c.moved-hours.ensures.to)
+    rw (← c.self.view_is) (keep_parts c.self.inside.config s (put_into s c.args.put) points.first worked.waiting.items worked.carries.items points.carries.items worked.futures.items points.from points.futures.items worked.report fresh.start fresh.marks.items fresh.numbers c.moved-hours.result
+    c.self.invariant.is_store c.self.invariant.history c.self.invariant.kept is has settled new (c.in-Ok.ensures.numbers ∙ plain.0) c.moved-hours.ensures.from c.moved-hours.ensures.to)
 
 pub returns-in-Ok-clause-settled : goal.returns-in-Ok-clause-settled
 returns-in-Ok-clause-settled g c = λ plain.
     let settled = rw (← c.self.view_is) at plain.1 in
-    settled_marked _ _ _ _ settled (rw (c.in-Ok.ensures.numbers, plain.0) at c.adopt.ensures.marked)
+    let fresh = c.in-Ok.ensures.fresh in
+    let room = fresh.room in
+    let count = fresh.marked in
+    rw c.adopt.ensures.waiting (settled_patched c.in-Ok.fresh.start c.self.inside.worked.waiting.items c.in-Ok.fresh.marks.items (omega arith) settled (fresh.settled (c.in-Ok.ensures.numbers ∙ plain.0)))
 
 pub returns-in-Err-clause-settled : goal.returns-in-Err-clause-settled
 returns-in-Err-clause-settled g c = λ plain. rw (← c.self.view_is) at plain.1
@@ -100,14 +110,14 @@ returns-in-Ok-clause-lines g c =
     let carries = rw c.exchange-before.ensures.store at c.in-Ok.ensures.carries in
     let futures = rw c.exchange-before.ensures.store at c.in-Ok.ensures.futures in
     let to = c.moved-hours.ensures.to ∙ ap (λ (n : ℕ). n + length points.carries.items) c.in-Ok.ensures.first in
-    rw (← c.self.view_is) (keep_lines c.self.inside.config s (put_into s c.args.put) c.args.first c.args.last worked.waiting.items worked.carries.items points.carries.items worked.futures.items points.from points.futures.items worked.report c.moved-hours.result
+    rw (← c.self.view_is) (keep_lines c.self.inside.config s (put_into s c.args.put) c.args.touched.first c.args.touched.last worked.waiting.items worked.carries.items points.carries.items worked.futures.items points.from points.futures.items worked.report c.moved-hours.result
     c.self.invariant.sound same c.self.invariant.is_store c.self.invariant.history c.self.invariant.kept is has (put_length s c.args.put) carries futures c.moved-hours.ensures.from to)
 
 pub returns-in-Ok-clause-opens : goal.returns-in-Ok-clause-opens
 returns-in-Ok-clause-opens g c = λ change touched.
-    let mark = rw c.in-Ok.ensures.numbers at c.adopt.ensures.marked in
-    let opened = opened_for c.args.may_wait _ _ _ _ _ _ _ c.in-Ok.ensures.fresh.low c.in-Ok.ensures.opens mark in
-    rw (← c.self.view_is) (opens_for change _ _ _ _ _ _ _ c.moved-hours.ensures.from c.moved-hours.ensures.to opened)
+    let fresh = c.in-Ok.ensures.fresh in
+    let opened = opened_for c.args.touched.may_wait _ _ _ _ _ _ _ fresh.low fresh.marked fresh.room (λ plain. fresh.settled (c.in-Ok.ensures.numbers ∙ plain)) c.in-Ok.ensures.opens in
+    rw (← c.self.view_is, c.adopt.ensures.waiting) (opens_for change _ _ _ _ _ _ _ c.moved-hours.ensures.from c.moved-hours.ensures.to opened)
 
 pub returns-in-Err-clause-opens : goal.returns-in-Err-clause-opens
-returns-in-Err-clause-opens g c = λ change touched. rw (← c.self.view_is) (opens_not change c.args.first c.args.last _ _ _ c.in-Err.error _ c.edit_error.ensures touched c.in-Err.ensures.opens_to_row)
+returns-in-Err-clause-opens g c = λ change touched. rw (← c.self.view_is) (opens_not change c.args.touched.first c.args.touched.last _ _ _ c.in-Err.error _ c.edit_error.ensures touched c.in-Err.ensures.opens_to_row)

@@ -6,7 +6,7 @@ use Rattle.session.specs.Moved.{KeepLines, KeepParts}
 use Rattle.session.proofs.EditLaws.{steps_done, withdraw_step}
 use Rattle.session.proofs.LessLaws.{never_withdrawn}
 use Rattle.session.proofs.MovedLaws.{keep_to, moves_by}
-use Rattle.session.proofs.RenewLaws.{same_but_hour}
+use Rattle.session.proofs.RenewLaws.{none_same, same_but_hour}
 use Rattle.session.proofs.draft.Draft.withdraw.Goals as goal
 
 pub returns-clause-step : goal.returns-clause-step
@@ -59,3 +59,6 @@ returns-clause-opens g c = c.make.ensures.opens (withdraw c.args.hour) (refl, re
 
 pub make-requires-clause-same : goal.make-requires-clause-same
 make-requires-clause-same g c = rw (← c.self.view_is) (same_but_hour c.self.inside.store c.args.hour None)
+
+pub make-requires-clause-as_were : goal.make-requires-clause-as_were
+make-requires-clause-as_were g c = rw (← c.self.view_is) (none_same c.self.inside.store (with_hour c.self.inside.store c.args.hour None))

@@ -1,6 +1,6 @@
 use Rattle.std.proofs.Common.{arith, length-append}
 use Rattle.session.proofs.WaitLaws.{settled_more}
-use Rattle.session.proofs.begin.none_waiting.Goals as goal
+use Rattle.session.proofs.marks.none_waiting.Goals as goal
 
 pub loop-preserved : goal.loop-preserved
 loop-preserved c = record {

@@ -1,6 +1,6 @@
 use Rattle.std.proofs.Common.{◌≡◌, length}
 use Rattle.session.specs.Links.{AllSettled}
-use Rattle.session.proofs.begin.none_waiting.Given as goal
+use Rattle.session.proofs.marks.none_waiting.Given as goal
 
 abbrev pub invariant-loop : goal.invariant-loop
 invariant-loop l = record {

@@ -21,7 +21,6 @@ pub mod Upto
 pub mod Cases
 pub mod Cells
 pub mod Few
-pub mod Suiting
 pub mod Back
 pub mod Ending
 pub mod Twins

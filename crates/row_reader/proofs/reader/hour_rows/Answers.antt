@@ -1,4 +1,4 @@
-use Rattle.std.proofs.Common.{arith, ◌≤◌, ◌-◌, length}
+use Rattle.std.proofs.Common.{arith, ◌≤◌, ◌-◌}
 use Rattle.row_reader.proofs.reader.hour_rows.Goals as goal
 
 pub overflow_cast-repeats : goal.overflow_cast-repeats

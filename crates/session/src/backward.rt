@@ -26,12 +26,11 @@ fn is_passed(first: Hour, hour: Hour, next: &Future, kept: &Future) -> bool
     hour <= first && next.same(kept)
 }
 
-/// What was kept going back at each hour point, the hours that an edit touches, of each hour whether
-/// it is told to be as it was, and how the first that is touched was gone over forward.
+/// What was kept going back at each hour point, the hours that an edit touches, and how the first
+/// of them was gone over forward.
 #[derive(Drop)]
 pub struct Returning<'a, 'b> {
-    pub touched: Touched,
-    pub same: &'a [bool],
+    pub touched: &'a Touched,
     pub kept: &'a [Future],
     pub gone: Option<Gone<'b>>,
 }
@@ -39,8 +38,8 @@ pub struct Returning<'a, 'b> {
 // How the hour was gone over forward, where it is the first one that is changed.
 fn own_gone<'a, 'b>(told: &'a Returning<'_, 'b>, hour: Hour) -> Option<&'a Gone<'b>>
     ensures { (c : Settings) (s : Store)
-        → IfSome told.now.gone (λ g. IsGone c s told.now.touched.first g.courses.now g.states.before.now
-        g.states.after.now)
+        → IfSome told.now.gone (λ g. IsGone c s told.now.touched.now.first g.courses.now
+        g.states.before.now g.states.after.now)
         → IfSome result (λ g. IsGone c s hour g.now.courses.now g.now.states.before.now
         g.now.states.after.now) }
 {
@@ -67,15 +66,15 @@ fn previous_future<L>(
     requires in_store { hour < length store.now.hours }
     requires after { IsFutureAt config.now store.now (hour + 1) after.now }
     requires room { length told.now.kept.now ≡ length store.now.hours + 1 }
-    requires told { Stays told.now.touched.first told.now.touched.last told.now.same.now
-        hour → BacksAt config.now store.now told.now.kept.now hour }
-    requires gone { IfSome told.now.gone (λ g. IsGone config.now store.now told.now.touched.first
-        g.courses.now g.states.before.now g.states.after.now) }
+    requires told { Stays told.now.touched.now.first told.now.touched.now.last
+        told.now.touched.now.same.items hour → BacksAt config.now store.now told.now.kept.now hour }
+    requires gone { IfSome told.now.gone (λ g. IsGone config.now store.now
+        told.now.touched.now.first g.courses.now g.states.before.now g.states.after.now) }
     ensures backs { IfOk result (Backs config.now hour (rows_at store.now hour) store.now.blanks
         after.now) }
     ensures once { AreOpened hour (hour + 1) 1 1 reads.old reads.new }
 {
-    if told.touched.changes(told.same, hour) {
+    if told.touched.changes(hour) {
         let gone = own_gone(told, hour);
         return future_before(alloc, config, store, hour, after, gone, reads);
     }
@@ -110,21 +109,23 @@ pub fn go_back<L>(
     reads: &mut Reads<L>,
 ) -> Result<Vec<Future>, NoMemory>
     requires store { IsStore store.now }
-    requires order { told.now.touched.first ≤ told.now.touched.last }
-    requires within { told.now.touched.last < length store.now.hours }
-    requires kept { AreFuturesBut config.now store.now told.now.touched.first
-        told.now.touched.last told.now.kept.now }
-    requires stays { FuturesFit config.now store.now told.now.same.now told.now.kept.now }
-    requires gone { IfSome told.now.gone (λ g. IsGone config.now store.now told.now.touched.first
-        g.courses.now g.states.before.now g.states.after.now) }
-    ensures futures { IfOk result (λ v. AreNewFutures config.now store.now told.now.touched.first
-        told.now.touched.last told.now.kept.now (told.now.touched.last + 1 - length v.items)
-        v.items) }
-    ensures opens { IfOk result (λ v. AreOpened (told.now.touched.last + 1 - length v.items)
-        (told.now.touched.last + 1) 1 1 reads.old reads.new) }
+    requires order { told.now.touched.now.first ≤ told.now.touched.now.last }
+    requires within { told.now.touched.now.last < length store.now.hours }
+    requires kept { AreFuturesBut config.now store.now told.now.touched.now.first
+        told.now.touched.now.last told.now.kept.now }
+    requires stays { FuturesFit config.now store.now told.now.touched.now.same.items
+        told.now.kept.now }
+    requires gone { IfSome told.now.gone (λ g. IsGone config.now store.now
+        told.now.touched.now.first g.courses.now g.states.before.now g.states.after.now) }
+    ensures futures { IfOk result (λ v. AreNewFutures config.now store.now
+        told.now.touched.now.first told.now.touched.now.last told.now.kept.now
+        (told.now.touched.now.last + 1 - length v.items) v.items) }
+    ensures opens { IfOk result (λ v. AreOpened (told.now.touched.now.last + 1 - length v.items)
+        (told.now.touched.now.last + 1) 1 1 reads.old reads.new) }
     ensures grow { Grow reads.old reads.new }
 {
-    let Touched { first, last, .. } = told.touched;
+    let first = told.touched.first;
+    let last = told.touched.last;
     let mut fresh = VecDeque::new(alloc);
     for hour in (0..last + 1).rev() {
         let place = hour as usize;

@@ -102,6 +102,7 @@ fn work_through(
     let touched = Touched {
         first: 0,
         last: hours - 1,
+        same: Vec::new(alloc),
         may_wait: false,
     };
     match renew(
@@ -110,8 +111,7 @@ fn work_through(
         rules,
         &store,
         worked,
-        touched,
-        &[],
+        &touched,
         &mut reads,
     ) {
         Ok(fresh) => {

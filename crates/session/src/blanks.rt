@@ -90,9 +90,9 @@ fn clear_hours(alloc: Global, blanks: &SpanSet, last: Hour) -> Result<Vec<bool>,
     Ok(clear)
 }
 
-/// Of each hour up to the last one of those that a range touches, whether the edit leaves it as it
-/// was, where that can be told at once: it unblanks, and no tenth of the hour is blanked. Of one hour
-/// alone nothing is told.
+/// Of each hour up to the last one of those that a range touches, whether the edit leaves it as
+/// it was, where that can be told at once: it unblanks, and no tenth of the hour is blanked. Of one
+/// hour alone nothing is told.
 pub fn hours_as_were(
     alloc: Global,
     blanks: &SpanSet,

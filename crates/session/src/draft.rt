@@ -234,32 +234,31 @@ impl<L> Draft<L> {
     fn make(
         &mut self,
         put: Put<L>,
-        touched: Touched,
-        same: &[bool],
+        touched: &Touched,
         reads: &mut Reads<L>,
     ) -> Result<Applied, EditError>
         requires placed { IsPlaced (length self.old.store.hours) put }
-        requires order { touched.first ≤ touched.last }
-        requires last { touched.last < length self.old.store.hours }
-        requires same { AreSameBut touched.first touched.last self.old.store
+        requires order { touched.now.first ≤ touched.now.last }
+        requires last { touched.now.last < length self.old.store.hours }
+        requires same { AreSameBut touched.now.first touched.now.last self.old.store
             (put_into self.old.store put) }
-        requires as_were { AreSameAt same.now self.old.store
+        requires as_were { AreSameAt touched.now.same.items self.old.store
             (put_into self.old.store put) }
         ensures done { OnOk result ((self.new.store ≡ put_into self.old.store put)
             × HasHistory (log_of self.old.config.specs (put_into self.old.store put))) }
         ensures moved { IfOk result (AreMoved self.old.config self.old.store
-            (put_into self.old.store put) touched.first touched.last) }
-        ensures stays { IsKeptPlain touched.may_wait self.old.waiting → IfOk result (KeepParts
+            (put_into self.old.store put) touched.now.first touched.now.last) }
+        ensures stays { IsKeptPlain touched.now.may_wait self.old.waiting → IfOk result (KeepParts
             self.old.config self.old.store (put_into self.old.store put)) }
         ensures lines { IfOk result (KeepLines self.old.config self.old.store
             (put_into self.old.store put)) }
-        ensures settled { IsKeptPlain touched.may_wait self.old.waiting
+        ensures settled { IsKeptPlain touched.now.may_wait self.old.waiting
             → AllSettled self.new.waiting }
         ensures back { OnErr result (self.new.store ≡ self.old.store) }
         ensures stop { IfErr result (StopsAt self.old.config (put_into self.old.store put)) }
         ensures store { IsStore (put_into self.old.store put) }
         ensures config { self.new.config ≡ self.old.config }
-        ensures opens { (change : Change) → Touches change touched.first touched.last
+        ensures opens { (change : Change) → Touches change touched.now.first touched.now.last
             → OpensFor change self.old.waiting self.new.waiting reads.old reads.new result }
         ensures grow { Grow reads.old reads.new }
     {
@@ -271,7 +270,6 @@ impl<L> Draft<L> {
             &self.store,
             &self.worked,
             touched,
-            same,
             reads,
         ) {
             Ok(fresh) => {
@@ -322,9 +320,10 @@ impl<L> Draft<L> {
         let touched = Touched {
             first: hour,
             last: hour,
+            same: Vec::new(self.alloc),
             may_wait,
         };
-        self.make(Put::Hour(hour, Some(rows)), touched, &[], reads)
+        self.make(Put::Hour(hour, Some(rows)), &touched, reads)
     }
 
     #[tactic(auto, using(crate::proofs::EditLaws::steps_done, crate::proofs::GrowLaws::grow_same), unfolding(crate::specs::Edits::step_of, crate::specs::Opens::OpensFor))]
@@ -357,9 +356,10 @@ impl<L> Draft<L> {
         let touched = Touched {
             first: hour,
             last: hour,
+            same: Vec::new(self.alloc),
             may_wait,
         };
-        self.make(Put::Hour(hour, None), touched, &[], reads)
+        self.make(Put::Hour(hour, None), &touched, reads)
     }
 
     // Blanks the tenths of a range, or no longer.
@@ -408,9 +408,10 @@ impl<L> Draft<L> {
         let touched = Touched {
             first,
             last,
+            same,
             may_wait,
         };
-        self.make(Put::Blanks(blanks), touched, same.as_slice(), reads)
+        self.make(Put::Blanks(blanks), &touched, reads)
     }
 
     /// Makes the edit, or refuses it, as `Session::apply` does. Where they may wait, the numbers of

@@ -40,23 +40,21 @@ fn last_states<'a>(kept: &'a Carry, fresh: &'a [Pasts]) -> &'a Pasts
     &fresh[fresh.len() - 1]
 }
 
-// What was kept at each hour point, the hours that an edit touches, and of each hour whether it is
-// told to be as it was.
+// What was kept at each hour point, and the hours that an edit touches.
 #[derive(Drop)]
 struct Told<'a> {
-    touched: Touched,
-    same: &'a [bool],
+    touched: &'a Touched,
     kept: &'a [Carry],
 }
 
 // What was told of the states about an hour, where the edit hasn't changed it.
 fn told_of<'a>(told: &Told<'a>, hour: Hour) -> Option<About<'a, Pasts>>
     requires { hour + 1 < length told.now.kept.now }
-    ensures { (c : Settings) (s : Store) → (Stays told.now.touched.first told.now.touched.last
-        told.now.same.now hour → LeadsAt c s told.now.kept.now hour)
+    ensures { (c : Settings) (s : Store) → (Stays told.now.touched.now.first
+        told.now.touched.now.last told.now.touched.now.same.items hour → LeadsAt c s told.now.kept.now hour)
         → IfSome result (λ w. StatesLead c s hour w.before.now w.after.now) }
 {
-    if told.touched.changes(told.same, hour) {
+    if told.touched.changes(hour) {
         return None;
     }
     let place = hour as usize;
@@ -79,8 +77,9 @@ fn next_states<L>(
     requires in_store { hour < length store.now.hours }
     requires before { ArePastsAt (log_of config.now.specs store.now) hour before.now }
     requires room { length told.now.kept.now ≡ length store.now.hours + 1 }
-    requires told { Stays told.now.touched.first told.now.touched.last told.now.same.now
-        hour → LeadsAt config.now store.now told.now.kept.now hour }
+    requires told { Stays told.now.touched.now.first told.now.touched.now.last
+        told.now.touched.now.same.items hour
+        → LeadsAt config.now store.now told.now.kept.now hour }
     ensures leads { IfOk result (λ r. StatesLead config.now store.now hour before.now r.pasts) }
     ensures pasts { IfOk result (λ r. ArePastsAt (log_of config.now.specs store.now) (hour + 1)
         r.pasts) }
@@ -93,8 +92,8 @@ fn next_states<L>(
     states_after(alloc, config, store, hour, before, was, reads)
 }
 
-// The same of all that is kept there, which stays after an hour that isn't changed where it does before
-// it.
+// The same of all that is kept there, which stays after an hour that isn't changed where it does
+// before it.
 fn next_carry<L>(
     alloc: Global,
     config: &Config,
@@ -107,8 +106,9 @@ fn next_carry<L>(
     requires in_store { hour < length store.now.hours }
     requires before { IsCarryAt config.now store.now hour before.now }
     requires room { length told.now.kept.now ≡ length store.now.hours + 1 }
-    requires told { Stays told.now.touched.first told.now.touched.last told.now.same.now
-        hour → LeadsAt config.now store.now told.now.kept.now hour }
+    requires told { Stays told.now.touched.now.first told.now.touched.now.last
+        told.now.touched.now.same.items hour
+        → LeadsAt config.now store.now told.now.kept.now hour }
     ensures leads { IfOk result (λ r. Leads config.now hour (rows_at store.now hour)
         store.now.blanks before.now r.carry) }
     ensures courses { IfOk result (λ r. IfSome r.courses (HasCourses config.now store.now hour)) }
@@ -117,7 +117,7 @@ fn next_carry<L>(
     ensures once { AreOpened hour (hour + 1) 1 1 reads.old reads.new }
 {
     let place = hour as usize;
-    if !told.touched.changes(told.same, hour) && before.same(&told.kept[place]) {
+    if !told.touched.changes(hour) && before.same(&told.kept[place]) {
         return Ok(carry_stays(alloc, store, hour, &told.kept[place + 1], reads)?);
     }
     let was = told_of(told, hour);
@@ -151,30 +151,29 @@ pub fn go_forward<L>(
     alloc: Global,
     config: &Config,
     store: &HourStore<L>,
-    touched: Touched,
-    same: &[bool],
+    touched: &Touched,
     kept: &[Carry],
     reads: &mut Reads<L>,
 ) -> Result<Forth, ForwardError>
-    requires order { touched.first ≤ touched.last }
-    requires within { touched.last < length store.now.hours }
-    requires kept { AreCarriesBut config.now store.now touched.first touched.last kept.now }
-    requires stays { CarriesFit config.now store.now same.now kept.now }
+    requires order { touched.now.first ≤ touched.now.last }
+    requires within { touched.now.last < length store.now.hours }
+    requires kept { AreCarriesBut config.now store.now touched.now.first touched.now.last kept.now }
+    requires stays { CarriesFit config.now store.now touched.now.same.items kept.now }
     ensures store { IsStore store.now }
-    ensures states { IfOk result (λ f. AreNewPasts config.now store.now touched.first touched.last
-        kept.now f.states.items) }
+    ensures states { IfOk result (λ f. AreNewPasts config.now store.now touched.now.first
+        touched.now.last kept.now f.states.items) }
     ensures courses { IfOk result (λ f. IfSome f.courses (HasCourses config.now store.now
-        touched.first)) }
+        touched.now.first)) }
     ensures stop { IfErr result (NamesRow (log_of config.now.specs store.now)) }
-    ensures opens { IfOk result (λ f. AreOpened touched.first
-        (touched.first + length f.states.items) 1 1 reads.old reads.new) }
-    ensures opens_to_row { IfErr result (OpensToRow touched.first reads.old reads.new) }
+    ensures opens { IfOk result (λ f. AreOpened touched.now.first
+        (touched.now.first + length f.states.items) 1 1 reads.old reads.new) }
+    ensures opens_to_row { IfErr result (OpensToRow touched.now.first reads.old reads.new) }
     ensures grow { Grow reads.old reads.new }
 {
-    let Touched { first, last, .. } = touched;
+    let first = touched.first;
+    let last = touched.last;
     let told = Told {
         touched,
-        same,
         kept,
     };
     let mut courses = None;
@@ -223,30 +222,29 @@ pub fn go_across<L>(
     alloc: Global,
     config: &Config,
     store: &HourStore<L>,
-    touched: Touched,
-    same: &[bool],
+    touched: &Touched,
     kept: &[Carry],
     reads: &mut Reads<L>,
 ) -> Result<Across, ForwardError>
-    requires order { touched.first ≤ touched.last }
-    requires within { touched.last < length store.now.hours }
-    requires kept { AreCarriesBut config.now store.now touched.first touched.last kept.now }
-    requires stays { CarriesFit config.now store.now same.now kept.now }
+    requires order { touched.now.first ≤ touched.now.last }
+    requires within { touched.now.last < length store.now.hours }
+    requires kept { AreCarriesBut config.now store.now touched.now.first touched.now.last kept.now }
+    requires stays { CarriesFit config.now store.now touched.now.same.items kept.now }
     ensures store { IsStore store.now }
-    ensures carries { IfOk result (λ f. AreNewCarries config.now store.now touched.first
-        touched.last kept.now f.carries.items) }
+    ensures carries { IfOk result (λ f. AreNewCarries config.now store.now touched.now.first
+        touched.now.last kept.now f.carries.items) }
     ensures courses { IfOk result (λ f. IfSome f.courses (HasCourses config.now store.now
-        touched.first)) }
+        touched.now.first)) }
     ensures stop { IfErr result (NamesRow (log_of config.now.specs store.now)) }
-    ensures opens { IfOk result (λ f. AreOpened touched.first
-        (touched.first + length f.carries.items) 1 1 reads.old reads.new) }
-    ensures opens_to_row { IfErr result (OpensToRow touched.first reads.old reads.new) }
+    ensures opens { IfOk result (λ f. AreOpened touched.now.first
+        (touched.now.first + length f.carries.items) 1 1 reads.old reads.new) }
+    ensures opens_to_row { IfErr result (OpensToRow touched.now.first reads.old reads.new) }
     ensures grow { Grow reads.old reads.new }
 {
-    let Touched { first, last, .. } = touched;
+    let first = touched.first;
+    let last = touched.last;
     let told = Told {
         touched,
-        same,
         kept,
     };
     let mut courses = None;

@@ -29,22 +29,23 @@ pub fn exchange<L>(store: &mut HourStore<L>, put: Put<L>) -> Put<L>
     }
 }
 
-/// The hours from the first to the last that an edit touches, and whether the numbers of those that
-/// change may wait.
-#[derive(Clone, Copy)]
+/// The hours from the first to the last that an edit touches, of each hour with a place in the list
+/// whether it is told to be as it was, and whether the numbers of those that change may wait.
+#[derive(Drop)]
 pub struct Touched {
     pub first: Hour,
     pub last: Hour,
+    pub same: Vec<bool>,
     pub may_wait: bool,
 }
 
 impl Touched {
-    /// Whether the edit may have changed the hour, where of some hours it is told that they are as
-    /// they were.
-    pub fn changes(&self, same: &[bool], hour: Hour) -> bool
-        ensures { result ≡ false → Stays self.now.first self.now.last same.now hour }
+    /// Whether the edit may have changed the hour.
+    pub fn changes(&self, hour: Hour) -> bool
+        ensures { result ≡ false
+            → Stays self.now.first self.now.last self.now.same.items hour }
     {
-        self.first <= hour && hour <= self.last && !is_as_was(same, hour)
+        self.first <= hour && hour <= self.last && !is_as_was(&self.same, hour)
     }
 }
 

@@ -22,9 +22,9 @@ pub fn none_waiting(alloc: Global, count: usize) -> Result<Vec<bool>, NoMemory>
 }
 
 // Whether the numbers of an hour wait once all this is new: they do already, the edit changes the
-// hour, something else is kept at the point before it, or what is new after it doesn't admit the same
-// of the states that come up there.
-fn waits_then(worked: &Worked, touched: Touched, same: &[bool], points: &Points, hour: Hour) -> bool
+// hour, something else is kept at the point before it, or what is new after it doesn't admit the
+// same of the states that come up there.
+fn waits_then(worked: &Worked, touched: &Touched, points: &Points, hour: Hour) -> bool
     requires waiting { hour < length worked.now.waiting.items }
     requires carries { hour + 1 < length worked.now.carries.items }
     requires futures { hour + 1 < length worked.now.futures.items }
@@ -34,13 +34,13 @@ fn waits_then(worked: &Worked, touched: Touched, same: &[bool], points: &Points,
         ≤ length worked.now.futures.items }
     requires shape { FitAfter worked.now.carries.items points.now.first points.now.carries.items
         worked.now.futures.items points.now.from points.now.futures.items hour }
-    ensures { result ≡ false → IsUnchanged touched.first touched.last same.now
+    ensures { result ≡ false → IsUnchanged touched.now.first touched.now.last touched.now.same.items
         worked.now.waiting.items worked.now.carries.items points.now.first
         points.now.carries.items worked.now.futures.items points.now.from
         points.now.futures.items hour }
 {
     let place = hour as usize;
-    if worked.waiting[place] || touched.changes(same, hour) {
+    if worked.waiting[place] || touched.changes(hour) {
         return true;
     }
     let at = points.first as usize + 1;
@@ -57,13 +57,12 @@ fn waits_then(worked: &Worked, touched: Touched, same: &[bool], points: &Points,
     !ahead[place + 1].same_for(after, next)
 }
 
-/// Of each hour from the first point at which something is new going back up to the last one at which
-/// something is new going forward, whether its numbers wait then.
+/// Of each hour from the first point at which something is new going back up to the last one at
+/// which something is new going forward, whether its numbers wait then.
 pub fn marks_of(
     alloc: Global,
     worked: &Worked,
-    touched: Touched,
-    same: &[bool],
+    touched: &Touched,
     points: &Points,
 ) -> Result<Vec<bool>, NoMemory>
     requires few { points.now.first + length points.now.carries.items ≤ 744 }
@@ -81,15 +80,15 @@ pub fn marks_of(
         worked.now.futures.items points.now.from points.now.futures.items k }
     ensures size { IfOk result (λ v. points.now.from + length v.items
         ≡ points.now.first + length points.now.carries.items) }
-    ensures marks { IfOk result (λ v. AreMarks points.now.from v.items (IsUnchanged touched.first
-        touched.last same.now worked.now.waiting.items worked.now.carries.items
-        points.now.first points.now.carries.items worked.now.futures.items points.now.from
-        points.now.futures.items)) }
+    ensures marks { IfOk result (λ v. AreMarks points.now.from v.items (IsUnchanged
+        touched.now.first touched.now.last touched.now.same.items worked.now.waiting.items
+        worked.now.carries.items points.now.first points.now.carries.items
+        worked.now.futures.items points.now.from points.now.futures.items)) }
 {
     let end = points.first + points.carries.len() as u32;
     let mut marks = Vec::new(alloc);
     for hour in points.from..end {
-        marks.push(waits_then(worked, touched, same, points, hour))?;
+        marks.push(waits_then(worked, touched, points, hour))?;
     }
     Ok(marks)
 }

@@ -54,8 +54,8 @@ pub struct Numbered {
     pub sums: Sums,
 }
 
-/// What comes in the place of what is kept: what is new at hour points, of the hours from `start` on
-/// whether their numbers wait, and these numbers, or none where an edit's may wait.
+/// What comes in the place of what is kept: what is new at hour points, of the hours from `start`
+/// on whether their numbers wait, and these numbers, or none where an edit's may wait.
 #[derive(Drop)]
 pub struct Fresh {
     pub points: Points,
@@ -80,7 +80,8 @@ pub fn moved(points: &Points) -> Applied
 // first hour that an edit touches, and the futures of the points from `from` on.
 #[derive(Drop)]
 struct Ways {
-    touched: Touched,
+    first: Hour,
+    last: Hour,
     states: Vec<Pasts>,
     // Of the first hour that an edit touches, where they are made already.
     courses: Option<Courses>,
@@ -133,33 +134,33 @@ fn new_parts<L>(
 ) -> Result<NewParts, NoMemory>
     requires rules { rules.now ≡ rules_for config.now }
     requires store { IsStore store.now }
-    requires order { ways.now.from ≤ ways.now.touched.first }
-    requires within { ways.now.touched.first < length store.now.hours }
-    requires carry_room { ways.now.touched.first < length worked.now.carries.items }
+    requires order { ways.now.from ≤ ways.now.first }
+    requires within { ways.now.first < length store.now.hours }
+    requires carry_room { ways.now.first < length worked.now.carries.items }
     requires future_room { ways.now.from + length ways.now.futures.items
         ≤ length worked.now.futures.items }
-    requires last { ways.now.touched.first < length worked.now.futures.items }
+    requires last { ways.now.first < length worked.now.futures.items }
     requires shape { HaveShapes worked.now.carries.items worked.now.futures.items ways.now.from
-        ways.now.futures.items ways.now.touched.first }
-    requires forth { AreCarriesTo config.now store.now ways.now.touched.first
+        ways.now.futures.items ways.now.first }
+    requires forth { AreCarriesTo config.now store.now ways.now.first
         worked.now.carries.items }
     requires back { AreFutures config.now store.now (patched worked.now.futures.items
         ways.now.from ways.now.futures.items) }
     requires history { HasHistory (log_of config.now.specs store.now) }
     ensures low { IfOk result (λ v. ways.now.from ≤ v.start) }
-    ensures high { IfOk result (λ v. v.start ≤ ways.now.touched.first) }
+    ensures high { IfOk result (λ v. v.start ≤ ways.now.first) }
     ensures same { IfOk result (λ v. AreSameUpTo worked.now.carries.items worked.now.futures.items
         ways.now.from ways.now.futures.items v.start) }
     ensures parts { IfOk result (λ v. AreNewParts config.now store.now worked.now.carries.items
         (patched worked.now.futures.items ways.now.from ways.now.futures.items) v.start
-        ways.now.touched.first v.parts.items) }
-    ensures opens { IfOk result (λ v. AreOpened v.start ways.now.touched.first 1 1 reads.old
+        ways.now.first v.parts.items) }
+    ensures opens { IfOk result (λ v. AreOpened v.start ways.now.first 1 1 reads.old
         reads.new) }
     ensures grow { Grow reads.old reads.new }
 {
-    let start = start_of(worked, ways.touched.first, ways.from, &ways.futures);
+    let start = start_of(worked, ways.first, ways.from, &ways.futures);
     let mut parts = Vec::new(alloc);
-    for hour in start..ways.touched.first {
+    for hour in start..ways.first {
         let place = hour as usize;
         let before = &worked.carries[place];
         let after = pick(
@@ -224,37 +225,37 @@ fn new_work<L>(
     reads: &mut Reads<L>,
 ) -> Result<NewWork, NoMemory>
     requires rules { rules.now ≡ rules_for config.now }
-    requires kept { AreKeptBut config.now store.now ways.touched.first ways.touched.last
+    requires kept { AreKeptBut config.now store.now ways.first ways.last
         worked.now.waiting.items worked.now.carries.items worked.now.futures.items
         worked.now.report }
-    requires states { AreNewPasts config.now store.now ways.touched.first ways.touched.last
+    requires states { AreNewPasts config.now store.now ways.first ways.last
         worked.now.carries.items ways.states.items }
-    requires futures { AreNewFutures config.now store.now ways.touched.first ways.touched.last
+    requires futures { AreNewFutures config.now store.now ways.first ways.last
         worked.now.futures.items ways.from ways.futures.items }
-    requires courses { IfSome ways.courses (HasCourses config.now store.now ways.touched.first) }
+    requires courses { IfSome ways.courses (HasCourses config.now store.now ways.first) }
     requires history { HasHistory (log_of config.now.specs store.now) }
-    ensures first { IfOk result (λ w. w.points.first ≡ ways.touched.first) }
-    ensures carries { IfOk result (λ w. AreNewCarries config.now store.now ways.touched.first
-        ways.touched.last worked.now.carries.items w.points.carries.items) }
+    ensures first { IfOk result (λ w. w.points.first ≡ ways.first) }
+    ensures carries { IfOk result (λ w. AreNewCarries config.now store.now ways.first
+        ways.last worked.now.carries.items w.points.carries.items) }
     ensures from { IfOk result (λ w. w.points.from ≡ ways.from) }
     ensures futures { IfOk result (λ w. w.points.futures.items ≡ ways.futures.items) }
     ensures parts { IfOk result (λ w. AreNewParts config.now store.now (patched
-        worked.now.carries.items (ways.touched.first + 1) w.points.carries.items) (patched
-        worked.now.futures.items ways.from ways.futures.items) ways.touched.first
-        (ways.touched.first + length w.points.carries.items) w.parts.items) }
+        worked.now.carries.items (ways.first + 1) w.points.carries.items) (patched
+        worked.now.futures.items ways.from ways.futures.items) ways.first
+        (ways.first + length w.points.carries.items) w.parts.items) }
     ensures all { IfOk result (λ w. length ways.states.items ≤ length w.points.carries.items) }
-    ensures opens { IfOk result (λ w. AreOpened ways.touched.first (ways.touched.first
+    ensures opens { IfOk result (λ w. AreOpened ways.first (ways.first
         + length w.points.carries.items) 1 1 reads.old reads.new) }
     ensures grow { Grow reads.old reads.new }
 {
     let Ways {
-        touched,
+        first,
         mut states,
         mut courses,
         from,
         futures,
+        ..
     } = ways;
-    let first = touched.first;
     let kept = worked.carries.as_slice();
     let ahead = worked.futures.as_slice();
     let mut carries = Vec::new(alloc);
@@ -326,32 +327,32 @@ fn ways_of<L>(
     config: &Config,
     store: &HourStore<L>,
     worked: &Worked,
-    touched: Touched,
-    same: &[bool],
+    touched: &Touched,
     reads: &mut Reads<L>,
 ) -> Result<Ways, ForwardError>
-    requires order { touched.first ≤ touched.last }
-    requires within { touched.last < length store.now.hours }
-    requires forth { AreCarriesBut config.now store.now touched.first touched.last
+    requires order { touched.now.first ≤ touched.now.last }
+    requires within { touched.now.last < length store.now.hours }
+    requires forth { AreCarriesBut config.now store.now touched.now.first touched.now.last
         worked.now.carries.items }
-    requires back { AreFuturesBut config.now store.now touched.first touched.last
+    requires back { AreFuturesBut config.now store.now touched.now.first touched.now.last
         worked.now.futures.items }
-    requires stays_forth { CarriesFit config.now store.now same.now
+    requires stays_forth { CarriesFit config.now store.now touched.now.same.items
         worked.now.carries.items }
-    requires stays_back { FuturesFit config.now store.now same.now
+    requires stays_back { FuturesFit config.now store.now touched.now.same.items
         worked.now.futures.items }
     ensures store { IsStore store.now }
-    ensures touched { IfOk result (λ w. w.touched ≡ touched) }
-    ensures states { IfOk result (λ w. AreNewPasts config.now store.now touched.first
-        touched.last worked.now.carries.items w.states.items) }
+    ensures first { IfOk result (λ w. w.first ≡ touched.now.first) }
+    ensures last { IfOk result (λ w. w.last ≡ touched.now.last) }
+    ensures states { IfOk result (λ w. AreNewPasts config.now store.now touched.now.first
+        touched.now.last worked.now.carries.items w.states.items) }
     ensures courses { IfOk result (λ w. IfSome w.courses (HasCourses config.now store.now
-        touched.first)) }
-    ensures futures { IfOk result (λ w. AreNewFutures config.now store.now touched.first
-        touched.last worked.now.futures.items w.from w.futures.items) }
+        touched.now.first)) }
+    ensures futures { IfOk result (λ w. AreNewFutures config.now store.now touched.now.first
+        touched.now.last worked.now.futures.items w.from w.futures.items) }
     ensures stop { IfErr result (NamesRow (log_of config.now.specs store.now)) }
-    ensures opens { IfOk result (λ w. AreOpened w.from (touched.first + length w.states.items) 1 2
-        reads.old reads.new) }
-    ensures opens_to_row { IfErr result (OpensToRow touched.first reads.old reads.new) }
+    ensures opens { IfOk result (λ w. AreOpened w.from (touched.now.first
+        + length w.states.items) 1 2 reads.old reads.new) }
+    ensures opens_to_row { IfErr result (OpensToRow touched.now.first reads.old reads.new) }
     ensures grow { Grow reads.old reads.new }
 {
     let Forth { states, courses } = go_forward(
@@ -359,7 +360,6 @@ fn ways_of<L>(
         config,
         store,
         touched,
-        same,
         &worked.carries,
         reads,
     )?;
@@ -367,14 +367,14 @@ fn ways_of<L>(
     let before = worked.carries[touched.first as usize].pasts();
     let told = Returning {
         touched,
-        same,
         kept,
         gone: gone_over(courses.as_ref(), before, &states[0]),
     };
     let futures = go_back(alloc, config, store, &told, reads)?;
     let from = touched.last + 1 - futures.len() as u32;
     Ok(Ways {
-        touched,
+        first: touched.first,
+        last: touched.last,
         states,
         courses,
         from,
@@ -389,23 +389,22 @@ fn work_out<L>(
     rules: &[Rule],
     store: &HourStore<L>,
     worked: &Worked,
-    touched: Touched,
-    same: &[bool],
+    touched: &Touched,
     reads: &mut Reads<L>,
 ) -> Result<Fresh, ForwardError>
     requires rules { rules.now ≡ rules_for config.now }
     requires sound { IsSound config.now }
-    requires kept { AreKeptBut config.now store.now touched.first touched.last
+    requires kept { AreKeptBut config.now store.now touched.now.first touched.now.last
         worked.now.waiting.items worked.now.carries.items worked.now.futures.items
         worked.now.report }
-    requires stays { AreKeptAt config.now store.now same.now worked.now.waiting.items
+    requires stays { AreKeptAt config.now store.now touched.now.same.items worked.now.waiting.items
         worked.now.carries.items worked.now.futures.items worked.now.report }
     ensures store { IsStore store.now }
-    ensures first { IfOk result (λ f. f.points.first ≡ touched.first) }
-    ensures carries { IfOk result (λ f. AreNewCarries config.now store.now touched.first
-        touched.last worked.now.carries.items f.points.carries.items) }
-    ensures futures { IfOk result (λ f. AreNewFutures config.now store.now touched.first
-        touched.last worked.now.futures.items f.points.from f.points.futures.items) }
+    ensures first { IfOk result (λ f. f.points.first ≡ touched.now.first) }
+    ensures carries { IfOk result (λ f. AreNewCarries config.now store.now touched.now.first
+        touched.now.last worked.now.carries.items f.points.carries.items) }
+    ensures futures { IfOk result (λ f. AreNewFutures config.now store.now touched.now.first
+        touched.now.last worked.now.futures.items f.points.from f.points.futures.items) }
     ensures fresh { IfOk result (λ f. IsRenewed config.now store.now worked.now.waiting.items
         worked.now.carries.items f.points.first f.points.carries.items worked.now.futures.items
         f.points.from f.points.futures.items worked.now.report f.start f.marks.items
@@ -415,10 +414,10 @@ fn work_out<L>(
     ensures stop { IfErr result (NamesRow (log_of config.now.specs store.now)) }
     ensures opens { IfOk result (λ f. AreOpened f.points.from
         (f.points.first + length f.points.carries.items) 1 3 reads.old reads.new) }
-    ensures opens_to_row { IfErr result (OpensToRow touched.first reads.old reads.new) }
+    ensures opens_to_row { IfErr result (OpensToRow touched.now.first reads.old reads.new) }
     ensures grow { Grow reads.old reads.new }
 {
-    let ways = ways_of(alloc, config, store, worked, touched, same, reads)?;
+    let ways = ways_of(alloc, config, store, worked, touched, reads)?;
     let new = new_parts(alloc, config, rules, store, worked, &ways, reads)?;
     let work = new_work(alloc, config, rules, store, worked, ways, reads)?;
     let parts = joined(new.parts, work.parts)?;
@@ -438,22 +437,21 @@ fn put_off<L>(
     config: &Config,
     store: &HourStore<L>,
     worked: &Worked,
-    touched: Touched,
-    same: &[bool],
+    touched: &Touched,
     reads: &mut Reads<L>,
 ) -> Result<Fresh, ForwardError>
     requires sound { IsSound config.now }
-    requires kept { AreKeptBut config.now store.now touched.first touched.last
+    requires kept { AreKeptBut config.now store.now touched.now.first touched.now.last
         worked.now.waiting.items worked.now.carries.items worked.now.futures.items
         worked.now.report }
-    requires stays { AreKeptAt config.now store.now same.now worked.now.waiting.items
+    requires stays { AreKeptAt config.now store.now touched.now.same.items worked.now.waiting.items
         worked.now.carries.items worked.now.futures.items worked.now.report }
     ensures store { IsStore store.now }
-    ensures first { IfOk result (λ f. f.points.first ≡ touched.first) }
-    ensures carries { IfOk result (λ f. AreNewCarries config.now store.now touched.first
-        touched.last worked.now.carries.items f.points.carries.items) }
-    ensures futures { IfOk result (λ f. AreNewFutures config.now store.now touched.first
-        touched.last worked.now.futures.items f.points.from f.points.futures.items) }
+    ensures first { IfOk result (λ f. f.points.first ≡ touched.now.first) }
+    ensures carries { IfOk result (λ f. AreNewCarries config.now store.now touched.now.first
+        touched.now.last worked.now.carries.items f.points.carries.items) }
+    ensures futures { IfOk result (λ f. AreNewFutures config.now store.now touched.now.first
+        touched.now.last worked.now.futures.items f.points.from f.points.futures.items) }
     ensures fresh { IfOk result (λ f. IsRenewed config.now store.now worked.now.waiting.items
         worked.now.carries.items f.points.first f.points.carries.items worked.now.futures.items
         f.points.from f.points.futures.items worked.now.report f.start f.marks.items
@@ -463,7 +461,7 @@ fn put_off<L>(
     ensures stop { IfErr result (NamesRow (log_of config.now.specs store.now)) }
     ensures opens { IfOk result (λ f. AreOpened f.points.from
         (f.points.first + length f.points.carries.items) 1 2 reads.old reads.new) }
-    ensures opens_to_row { IfErr result (OpensToRow touched.first reads.old reads.new) }
+    ensures opens_to_row { IfErr result (OpensToRow touched.now.first reads.old reads.new) }
     ensures grow { Grow reads.old reads.new }
 {
     let Across { carries, courses } = go_across(
@@ -471,7 +469,6 @@ fn put_off<L>(
         config,
         store,
         touched,
-        same,
         &worked.carries,
         reads,
     )?;
@@ -479,7 +476,6 @@ fn put_off<L>(
     let before = worked.carries[touched.first as usize].pasts();
     let told = Returning {
         touched,
-        same,
         kept,
         gone: gone_over(courses.as_ref(), before, carries[0].pasts()),
     };
@@ -491,7 +487,7 @@ fn put_off<L>(
         from,
         futures,
     };
-    let marks = marks_of(alloc, worked, touched, same, &points)?;
+    let marks = marks_of(alloc, worked, touched, &points)?;
     Ok(Fresh {
         points,
         start: from,
@@ -501,7 +497,8 @@ fn put_off<L>(
 }
 
 /// What comes in the place of what is kept, where that fits the store but for the hours that are
-/// touched, and for those of them that are told to be as they were. Where they may wait, the numbers of the hours that change aren't worked out.
+/// touched, and for those of them that are told to be as they were. Where they may wait, the
+/// numbers of the hours that change aren't worked out.
 /// `Contradiction` comes where the log contradicts itself.
 pub fn renew<L>(
     alloc: Global,
@@ -509,40 +506,39 @@ pub fn renew<L>(
     rules: &[Rule],
     store: &HourStore<L>,
     worked: &Worked,
-    touched: Touched,
-    same: &[bool],
+    touched: &Touched,
     reads: &mut Reads<L>,
 ) -> Result<Fresh, ForwardError>
     requires rules { rules.now ≡ rules_for config.now }
     requires sound { IsSound config.now }
-    requires kept { AreKeptBut config.now store.now touched.first touched.last
+    requires kept { AreKeptBut config.now store.now touched.now.first touched.now.last
         worked.now.waiting.items worked.now.carries.items worked.now.futures.items
         worked.now.report }
-    requires stays { AreKeptAt config.now store.now same.now worked.now.waiting.items
+    requires stays { AreKeptAt config.now store.now touched.now.same.items worked.now.waiting.items
         worked.now.carries.items worked.now.futures.items worked.now.report }
     ensures store { IsStore store.now }
-    ensures first { IfOk result (λ f. f.points.first ≡ touched.first) }
-    ensures carries { IfOk result (λ f. AreNewCarries config.now store.now touched.first
-        touched.last worked.now.carries.items f.points.carries.items) }
-    ensures futures { IfOk result (λ f. AreNewFutures config.now store.now touched.first
-        touched.last worked.now.futures.items f.points.from f.points.futures.items) }
+    ensures first { IfOk result (λ f. f.points.first ≡ touched.now.first) }
+    ensures carries { IfOk result (λ f. AreNewCarries config.now store.now touched.now.first
+        touched.now.last worked.now.carries.items f.points.carries.items) }
+    ensures futures { IfOk result (λ f. AreNewFutures config.now store.now touched.now.first
+        touched.now.last worked.now.futures.items f.points.from f.points.futures.items) }
     ensures fresh { IfOk result (λ f. IsRenewed config.now store.now worked.now.waiting.items
         worked.now.carries.items f.points.first f.points.carries.items worked.now.futures.items
         f.points.from f.points.futures.items worked.now.report f.start f.marks.items
         f.numbers) }
-    ensures numbers { IfOk result (λ f. do_wait f.numbers ≡ touched.may_wait) }
+    ensures numbers { IfOk result (λ f. do_wait f.numbers ≡ touched.now.may_wait) }
     ensures history { OnOk result (HasHistory (log_of config.now.specs store.now)) }
     ensures stop { IfErr result (NamesRow (log_of config.now.specs store.now)) }
     ensures opens { IfOk result (λ f. AreOpened f.points.from
-        (f.points.first + length f.points.carries.items) 1 (most_opens touched.may_wait)
+        (f.points.first + length f.points.carries.items) 1 (most_opens touched.now.may_wait)
         reads.old reads.new) }
-    ensures opens_to_row { IfErr result (OpensToRow touched.first reads.old reads.new) }
+    ensures opens_to_row { IfErr result (OpensToRow touched.now.first reads.old reads.new) }
     ensures grow { Grow reads.old reads.new }
 {
     if touched.may_wait {
-        put_off(alloc, config, store, worked, touched, same, reads)
+        put_off(alloc, config, store, worked, touched, reads)
     } else {
-        work_out(alloc, config, rules, store, worked, touched, same, reads)
+        work_out(alloc, config, rules, store, worked, touched, reads)
     }
 }
 

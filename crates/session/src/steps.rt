@@ -201,8 +201,8 @@ pub fn carry_after<L>(
     Ok(Crossed { carry, courses })
 }
 
-/// What is kept at the point after an hour that is as it was, as what is kept before it is: it stays.
-/// The hour is opened, and not gone over.
+/// What is kept at the point after an hour that is as it was, as what is kept before it is: it
+/// stays. The hour is opened, and not gone over.
 pub fn carry_stays<L>(
     alloc: Global,
     store: &HourStore<L>,
@@ -223,8 +223,8 @@ pub fn carry_stays<L>(
     })
 }
 
-/// How an hour was gone over forward: its courses, and the states of each channel before it and after
-/// it.
+/// How an hour was gone over forward: its courses, and the states of each channel before it and
+/// after it.
 #[derive(Drop)]
 pub struct Gone<'a> {
     pub courses: &'a Courses,

@@ -16,7 +16,7 @@ loop-hour-init g c = record {
 pub part_between-requires-clause-before : goal.part_between-requires-clause-before
 part_between-requires-clause-before g c =
     let high = c.start_of-start.ensures.high in
-    let le : c.loop-hour.hour ≤ c.args.ways.now.touched.first = omega arith in
+    let le : c.loop-hour.hour ≤ c.args.ways.now.first = omega arith in
     subst (λ (v : Carried). IsCarryAt c.args.config.now c.args.store.now c.loop-hour.hour v) (sym c.index-before.ensures) (c.requires.forth c.loop-hour.hour c.index-before.result.now le)
 
 pub part_between-requires-clause-after : goal.part_between-requires-clause-after
@@ -50,7 +50,7 @@ returns-clause-grow g c = grow_opened _ _ _ _ _ _ c.loop-hour.invariant.opens
 pub returns-clause-opens : goal.returns-clause-opens
 returns-clause-opens g c =
     let high = c.start_of-start.ensures.high in
-    let end : c.loop-hour.hour ≡ c.args.ways.now.touched.first = omega arith in
+    let end : c.loop-hour.hour ≡ c.args.ways.now.first = omega arith in
     opened_as _ _ _ _ _ _ _ _ refl end c.loop-hour.invariant.opens
 
 pub start_of-start-requires-clause-shape : goal.start_of-start-requires-clause-shape

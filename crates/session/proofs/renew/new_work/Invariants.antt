@@ -9,9 +9,9 @@ use Rattle.session.proofs.renew.new_work.Given as goal
 
 abbrev pub invariant-loop-hour : goal.invariant-loop-hour
 invariant-loop-hour g l = record {
-  worked : AreWorked l.config l.store l.fn.ways.touched.first l.fn.ways.touched.last l.worked.carries.items l.fn.ways.states.items l.states.items l.carries.items l.hour;
-  size : l.fn.ways.touched.first + length l.carries.items ≡ l.hour;
-  parts : AreNewParts l.config l.store (patched l.worked.carries.items (l.fn.ways.touched.first + 1) l.carries.items) (patched l.worked.futures.items l.fn.ways.from l.fn.ways.futures.items) l.fn.ways.touched.first l.hour l.parts.items;
-  courses : IfSome l.courses (HasCourses l.config l.store l.fn.ways.touched.first);
-  opens : AreOpened l.fn.ways.touched.first l.hour 1 1 l.fn.reads l.reads;
+  worked : AreWorked l.config l.store l.fn.ways.first l.fn.ways.last l.worked.carries.items l.fn.ways.states.items l.states.items l.carries.items l.hour;
+  size : l.fn.ways.first + length l.carries.items ≡ l.hour;
+  parts : AreNewParts l.config l.store (patched l.worked.carries.items (l.fn.ways.first + 1) l.carries.items) (patched l.worked.futures.items l.fn.ways.from l.fn.ways.futures.items) l.fn.ways.first l.hour l.parts.items;
+  courses : IfSome l.courses (HasCourses l.config l.store l.fn.ways.first);
+  opens : AreOpened l.fn.ways.first l.hour 1 1 l.fn.reads l.reads;
 }

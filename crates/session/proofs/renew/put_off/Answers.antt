@@ -61,30 +61,30 @@ pub marks_of-requires-clause-shape : goal.marks_of-requires-clause-shape
 marks_of-requires-clause-shape g c =
     let kept = c.args.worked.now in
     let size = c.len.ensures in
-    let from : (c.args.touched.last + 1) - length c.in_ok-futures.futures.items ≡ (c.args.touched.last + 1) - c.len.result = omega arith in
+    let from : (c.args.touched.now.last + 1) - length c.in_ok-futures.futures.items ≡ (c.args.touched.now.last + 1) - c.len.result = omega arith in
     let new = rw (from, c.as_slice-kept.ensures.value) at c.in_ok-futures.ensures.futures in
     let across = rw c.deref.ensures.value at c.in_ok-carries.ensures.carries in
-    fit_after c.args.config.now c.args.store.now c.args.touched.first c.args.touched.last kept.waiting.items kept.carries.items _ kept.futures.items _ c.in_ok-futures.futures.items kept.report c.go_across.ensures.store c.requires.kept across new
+    fit_after c.args.config.now c.args.store.now c.args.touched.now.first c.args.touched.now.last kept.waiting.items kept.carries.items _ kept.futures.items _ c.in_ok-futures.futures.items kept.report c.go_across.ensures.store c.requires.kept across new
 
 pub returns-clause-history : goal.returns-clause-history
 returns-clause-history g c =
     let across = rw c.deref.ensures.value at c.in_ok-carries.ensures.carries in
-    history_carries c.args.config.now c.args.store.now c.args.touched.first c.args.touched.last c.args.worked.now.carries.items _ c.requires.sound c.go_across.ensures.store across
+    history_carries c.args.config.now c.args.store.now c.args.touched.now.first c.args.touched.now.last c.args.worked.now.carries.items _ c.requires.sound c.go_across.ensures.store across
 
 pub returns-clause-futures : goal.returns-clause-futures
 returns-clause-futures g c =
     let size = c.len.ensures in
-    let from : (c.args.touched.last + 1) - length c.in_ok-futures.futures.items ≡ (c.args.touched.last + 1) - c.len.result = omega arith in
+    let from : (c.args.touched.now.last + 1) - length c.in_ok-futures.futures.items ≡ (c.args.touched.now.last + 1) - c.len.result = omega arith in
     rw (from, c.as_slice-kept.ensures.value) at c.in_ok-futures.ensures.futures
 
 pub returns-clause-fresh : goal.returns-clause-fresh
 returns-clause-fresh g c =
     let kept = c.args.worked.now in
     let size = c.len.ensures in
-    let from : (c.args.touched.last + 1) - length c.in_ok-futures.futures.items ≡ (c.args.touched.last + 1) - c.len.result = omega arith in
+    let from : (c.args.touched.now.last + 1) - length c.in_ok-futures.futures.items ≡ (c.args.touched.now.last + 1) - c.len.result = omega arith in
     let new = rw (from, c.as_slice-kept.ensures.value) at c.in_ok-futures.ensures.futures in
     let across = rw c.deref.ensures.value at c.in_ok-carries.ensures.carries in
-    renewed_later c.args.config.now c.args.store.now c.args.touched.first c.args.touched.last c.args.same.now kept.waiting.items kept.carries.items _ kept.futures.items _ c.in_ok-futures.futures.items kept.report c.in_ok-marks.marks.items c.requires.kept c.requires.stays across new c.in_ok-marks.ensures.size c.in_ok-marks.ensures.marks
+    renewed_later c.args.config.now c.args.store.now c.args.touched.now.first c.args.touched.now.last c.args.touched.now.same.items kept.waiting.items kept.carries.items _ kept.futures.items _ c.in_ok-futures.futures.items kept.report c.in_ok-marks.marks.items c.requires.kept c.requires.stays across new c.in_ok-marks.ensures.size c.in_ok-marks.ensures.marks
 
 pub returns-clause-opens : goal.returns-clause-opens
 returns-clause-opens g c =
@@ -94,15 +94,15 @@ returns-clause-opens g c =
     let low = back.low in
     let order = c.requires.kept.order in
     let size = c.len.ensures in
-    let from : (c.args.touched.last + 1) - length c.in_ok-futures.futures.items ≡ (c.args.touched.last + 1) - c.len.result = omega arith in
+    let from : (c.args.touched.now.last + 1) - length c.in_ok-futures.futures.items ≡ (c.args.touched.now.last + 1) - c.len.result = omega arith in
     opened_as _ _ _ _ _ _ _ _ from refl (opened_across _ _ _ _ _ _ _ (omega arith) (omega arith) (omega arith) c.in_ok-carries.ensures.opens c.in_ok-futures.ensures.opens)
 
 pub go_back-requires-clause-gone : goal.go_back-requires-clause-gone
 go_back-requires-clause-gone g c =
     let cfg = c.args.config.now in
     let s = c.args.store.now in
-    let first = c.args.touched.first in
-    let last = c.args.touched.last in
+    let first = c.args.touched.now.first in
+    let last = c.args.touched.now.last in
     let kept = c.args.worked.now.carries.items in
     let d = c.index.result.now in
     let order = c.requires.kept.order in

@@ -22,15 +22,15 @@ returns-clause-opens g c =
     let low = back.low in
     let order = c.requires.order in
     let size = c.len.ensures in
-    let from : (c.args.touched.last + 1) - length c.in_ok-futures.futures.items ≡ (c.args.touched.last + 1) - c.len.result = omega arith in
+    let from : (c.args.touched.now.last + 1) - length c.in_ok-futures.futures.items ≡ (c.args.touched.now.last + 1) - c.len.result = omega arith in
     opened_as _ _ _ _ _ _ _ _ from refl (opened_across _ _ _ _ _ _ _ (omega arith) (omega arith) (omega arith) c.in_ok-states.ensures.opens c.in_ok-futures.ensures.opens)
 
 pub go_back-requires-clause-gone : goal.go_back-requires-clause-gone
 go_back-requires-clause-gone g c =
     let cfg = c.args.config.now in
     let s = c.args.store.now in
-    let first = c.args.touched.first in
-    let last = c.args.touched.last in
+    let first = c.args.touched.now.first in
+    let last = c.args.touched.now.last in
     let kept = c.args.worked.now.carries.items in
     let d = c.index.result.now in
     let order = c.requires.order in

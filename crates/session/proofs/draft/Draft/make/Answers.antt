@@ -43,14 +43,14 @@ renew-requires-clause-kept g c =
     let s = c.self.inside.store in
     let lt = rw (← c.self.view_is) at c.requires.last in
     let same = rw (← c.self.view_is) at c.requires.same in
-    rw c.exchange-before.ensures.store (kept_but c.self.inside.config s (put_into s c.args.put) c.args.touched.first c.args.touched.last c.self.inside.worked.waiting.items c.self.inside.worked.carries.items c.self.inside.worked.futures.items c.self.inside.worked.report c.requires.order lt (put_length s c.args.put) same c.self.invariant.is_store c.self.invariant.kept)
+    rw c.exchange-before.ensures.store (kept_but c.self.inside.config s (put_into s c.args.put) c.args.touched.now.first c.args.touched.now.last c.self.inside.worked.waiting.items c.self.inside.worked.carries.items c.self.inside.worked.futures.items c.self.inside.worked.report c.requires.order lt (put_length s c.args.put) same c.self.invariant.is_store c.self.invariant.kept)
 
 pub renew-requires-clause-stays : goal.renew-requires-clause-stays
 renew-requires-clause-stays g c =
     let s = c.self.inside.store in
     let worked = c.self.inside.worked in
     let told = rw (← c.self.view_is) at c.requires.as_were in
-    rw c.exchange-before.ensures.store (kept_at c.self.inside.config s (put_into s c.args.put) c.args.same.now worked.waiting.items worked.carries.items worked.futures.items worked.report (put_length s c.args.put) told c.self.invariant.kept)
+    rw c.exchange-before.ensures.store (kept_at c.self.inside.config s (put_into s c.args.put) c.args.touched.now.same.items worked.waiting.items worked.carries.items worked.futures.items worked.report (put_length s c.args.put) told c.self.invariant.kept)
 
 pub moved-hours-requires : goal.moved-hours-requires
 moved-hours-requires g c =
@@ -62,8 +62,8 @@ moved-hours-requires g c =
 pub returns-in-Ok-clause-moved : goal.returns-in-Ok-clause-moved
 returns-in-Ok-clause-moved g c =
     let s = c.self.inside.store in
-    let first = c.args.touched.first in
-    let last = c.args.touched.last in
+    let first = c.args.touched.now.first in
+    let last = c.args.touched.now.last in
     let worked = c.self.inside.worked in
     let points = c.in-Ok.fresh.points in
     let lt : last < length s.hours = rw (← c.self.view_is) at c.requires.last in
@@ -110,14 +110,14 @@ returns-in-Ok-clause-lines g c =
     let carries = rw c.exchange-before.ensures.store at c.in-Ok.ensures.carries in
     let futures = rw c.exchange-before.ensures.store at c.in-Ok.ensures.futures in
     let to = c.moved-hours.ensures.to ∙ ap (λ (n : ℕ). n + length points.carries.items) c.in-Ok.ensures.first in
-    rw (← c.self.view_is) (keep_lines c.self.inside.config s (put_into s c.args.put) c.args.touched.first c.args.touched.last worked.waiting.items worked.carries.items points.carries.items worked.futures.items points.from points.futures.items worked.report c.moved-hours.result
+    rw (← c.self.view_is) (keep_lines c.self.inside.config s (put_into s c.args.put) c.args.touched.now.first c.args.touched.now.last worked.waiting.items worked.carries.items points.carries.items worked.futures.items points.from points.futures.items worked.report c.moved-hours.result
     c.self.invariant.sound same c.self.invariant.is_store c.self.invariant.history c.self.invariant.kept is has (put_length s c.args.put) carries futures c.moved-hours.ensures.from to)
 
 pub returns-in-Ok-clause-opens : goal.returns-in-Ok-clause-opens
 returns-in-Ok-clause-opens g c = λ change touched.
     let fresh = c.in-Ok.ensures.fresh in
-    let opened = opened_for c.args.touched.may_wait _ _ _ _ _ _ _ fresh.low fresh.marked fresh.room (λ plain. fresh.settled (c.in-Ok.ensures.numbers ∙ plain)) c.in-Ok.ensures.opens in
+    let opened = opened_for c.args.touched.now.may_wait _ _ _ _ _ _ _ fresh.low fresh.marked fresh.room (λ plain. fresh.settled (c.in-Ok.ensures.numbers ∙ plain)) c.in-Ok.ensures.opens in
     rw (← c.self.view_is, c.adopt.ensures.waiting) (opens_for change _ _ _ _ _ _ _ c.moved-hours.ensures.from c.moved-hours.ensures.to opened)
 
 pub returns-in-Err-clause-opens : goal.returns-in-Err-clause-opens
-returns-in-Err-clause-opens g c = λ change touched. rw (← c.self.view_is) (opens_not change c.args.touched.first c.args.touched.last _ _ _ c.in-Err.error _ c.edit_error.ensures touched c.in-Err.ensures.opens_to_row)
+returns-in-Err-clause-opens g c = λ change touched. rw (← c.self.view_is) (opens_not change c.args.touched.now.first c.args.touched.now.last _ _ _ c.in-Err.error _ c.edit_error.ensures touched c.in-Err.ensures.opens_to_row)

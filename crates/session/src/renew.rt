@@ -1,5 +1,5 @@
 // What is kept of a store, and what an edit puts in its place.
-ghost use Rattle.std.specs.Prelude.{◌≡◌, ℕ, true, false, ◌+◌, ◌++◌, ◌<◌, ◌≤◌, drop, length, slice_index_or, All, IfSome, IfOk, IfErr, IsTrue, OnOk, ◌↔◌};
+ghost use Rattle.std.specs.Prelude.{◌≡◌, ℕ, true, false, ◌+◌, ◌++◌, ◌<◌, ◌≤◌, drop, length, reverse, slice_index_or, All, IfSome, IfOk, IfErr, IsTrue, OnOk, ◌↔◌};
 ghost use Rattle.hour_store.specs.Store.{IsStore, Store};
 ghost use Rattle.ring_config.specs.Settings.{Settings};
 ghost use Rattle.signal_log.specs.Log.{HasHistory, log_of};
@@ -176,15 +176,16 @@ fn new_parts<L>(
     Ok(NewParts { start, parts })
 }
 
-// The first of these states, which is taken out, or where there are none those that are kept.
+// The last of these states, which is taken out, or where there are none those that are kept.
 fn next_states(states: &mut Vec<Pasts>, kept: &Carry) -> Result<Pasts, NoMemory>
-    ensures value { IfOk result (λ p. p ≡ slice_index_or states.old.items 0 kept.now.pasts) }
-    ensures rest { states.new.items ≡ drop 1 states.old.items }
+    ensures value { IfOk result (λ p. p ≡ slice_index_or (reverse states.old.items) 0
+        kept.now.pasts) }
+    ensures rest { reverse states.new.items ≡ drop 1 (reverse states.old.items) }
 {
-    if states.is_empty() {
-        return kept.pasts().copy();
+    match states.pop() {
+        Some(pasts) => Ok(pasts),
+        None => kept.pasts().copy(),
     }
-    Ok(states.remove(0))
 }
 
 // The courses of the hour, where it is the first and they are made already: they are taken out.
@@ -256,6 +257,8 @@ fn new_work<L>(
         futures,
         ..
     } = ways;
+    // The states of the first hour are then the last ones, and a list gives its last one at once.
+    states.reverse();
     let kept = worked.carries.as_slice();
     let ahead = worked.futures.as_slice();
     let mut carries = Vec::new(alloc);

@@ -18,7 +18,7 @@ renew-requires-clause-kept c =
 pub renew-requires-clause-stays : goal.renew-requires-clause-stays
 renew-requires-clause-stays c =
     let kept = c.args.worked.now in
-    none_at c.args.config.now c.in_ok-store.store kept.waiting.items kept.carries.items kept.futures.items kept.report
+    rw c.new-2.ensures.items (none_at c.args.config.now c.in_ok-store.store kept.waiting.items kept.carries.items kept.futures.items kept.report)
 
 pub unreachable-requires : goal.unreachable-requires
 unreachable-requires c =

@@ -1,5 +1,5 @@
-use Rattle.std.proofs.Common.{◌≡◌, ◌∙◌, ◌+◌, ◌<◌, ◌≤◌, arith, length, length-append}
-use Rattle.std.proofs.lemmas.List.{get_or_default}
+use Rattle.std.proofs.Common.{◌≡◌, ◌∙◌, ◌+◌, ◌<◌, ◌≤◌, arith, length, length-append, reverse, sym}
+use Rattle.std.proofs.lemmas.List.{get_or_default, length-reverse, reverse-reverse}
 use Rattle.hour_work.specs.Numbers.{patched}
 use Rattle.hour_work.specs.Points.{Carried}
 use Rattle.session.proofs.ForwardLaws.{going_here}
@@ -29,7 +29,7 @@ done g c =
       | else-loop-hour-test o ↦
           let high = c.loop-hour.auto.hour-end (omega arith) in
           let end : c.loop-hour.hour ≡ length c.args.store.now.hours = omega arith in
-          let are = worked_end cfg s w.first w.last kept w.states.items c.loop-hour.states.items c.loop-hour.carries.items hour end within but.forth c.requires.states c.loop-hour.invariant.worked in
+          let are = worked_end cfg s w.first w.last kept w.states.items (reverse c.loop-hour.states.items) c.loop-hour.carries.items hour end within but.forth c.requires.states c.loop-hour.invariant.worked in
           rw (o.carries-is, o.parts-is, o.reads-is) (all_new cfg s w.first w.last kept w.states.items futures c.loop-hour.carries.items c.loop-hour.parts.items c.args.reads.now c.loop-hour.reads hour c.loop-hour.invariant.size are c.loop-hour.invariant.parts c.loop-hour.invariant.opens)
       | then-loop-hour-test+in_ok-pasts+in_ok-work+in_ok-push+in_ok-push-2+then-done o ↦
           let lt : c.loop-hour.hour < length c.args.store.now.hours = omega arith in
@@ -39,8 +39,8 @@ done g c =
           let there = rw c.as_slice-kept.ensures.value at o.index-kept-place.is in
           let at = λ (d : Carried). there ∙ get_or_default kept (c.loop-hour.hour + 1) o.index-kept-place.result d room in
           let held = (rw o.as_slice-in-loop-hour-2.ensures.value at o.is_settled-done.ensures.value).0 o.if-done.true in
-          let are = worked_settled cfg s w.first w.last kept w.states.items c.loop-hour.states.items o.next_states.new.states.items c.loop-hour.carries.items hour o.index-kept-place.result o.in_ok-pasts.pasts size lt at o.in_ok-pasts.ensures.value o.in_ok-pasts.ensures.rest c.loop-hour.invariant.worked
-          o.push.new.self.items o.pick-before.result.now o.in_ok-work.work.carry c.hours-hour-end.ensures.store but.forth c.requires.states before o.in_ok-work.ensures.leads o.in_ok-push.ensures.items held.0 held.1 in
+          let are = worked_settled cfg s w.first w.last kept w.states.items (reverse c.loop-hour.states.items) (reverse o.next_states.new.states.items) c.loop-hour.carries.items hour o.index-kept-place.result o.in_ok-pasts.pasts size lt at o.in_ok-pasts.ensures.value o.in_ok-pasts.ensures.rest c.loop-hour.invariant.worked
+          o.push.new.self.items o.pick-before.result.now o.in_ok-work.work.carry c.hours-hour-end.ensures.store but.forth c.requires.states before o.in_ok-work.ensures.leads o.in_ok-push.ensures.items (length-reverse _ ∙ held.0) held.1 in
           let count = c.loop-hour.invariant.size in
           let to : w.first + length o.push.new.self.items ≡ c.loop-hour.hour + 1 = rw (o.in_ok-push.ensures.items, length-append) (omega arith) in
           let parts = parts_on cfg s w.first kept c.loop-hour.carries.items o.push.new.self.items futures hour c.loop-hour.parts.items o.push-in-loop-hour.new.self.items o.pick-before.result.now o.in_ok-work.work.carry o.pick-after.result.now o.in_ok-work.work.part
@@ -55,7 +55,7 @@ loop-hour-init g c =
     let but = c.requires.kept in
     let p = worked_start c.args.config.now c.args.store.now w.first w.last c.args.worked.now.carries.items w.states.items c.new-carries.result.items c.hours-hour-end.ensures.store but.order but.within but.forth c.new-carries.ensures.items in
     record {
-      worked = p;
+      worked = rw (c.reverse.ensures.items, reverse-reverse) p;
       size = p.going.size;
       parts = no_parts c.args.config.now c.args.store.now _ _ w.first c.new-parts.result.items c.new-parts.ensures.items;
       courses = c.requires.courses;
@@ -73,7 +73,7 @@ work_between-requires-clause-states g c =
     let before = rw (c.as_slice-kept.ensures.value, c.as_slice.ensures.value) at c.pick-before.ensures in
     let there = rw c.as_slice-kept.ensures.value at c.index-kept-place.is in
     let at = λ (d : Carried). there ∙ get_or_default kept (c.loop-hour.hour + 1) c.index-kept-place.result d room in
-    worked_leads c.args.config.now c.args.store.now w.first w.last kept w.states.items c.loop-hour.states.items c.next_states.new.states.items c.loop-hour.carries.items c.loop-hour.hour c.index-kept-place.result c.in_ok-pasts.pasts size lt at c.in_ok-pasts.ensures.value c.in_ok-pasts.ensures.rest c.loop-hour.invariant.worked
+    worked_leads c.args.config.now c.args.store.now w.first w.last kept w.states.items (reverse c.loop-hour.states.items) (reverse c.next_states.new.states.items) c.loop-hour.carries.items c.loop-hour.hour c.index-kept-place.result c.in_ok-pasts.pasts size lt at c.in_ok-pasts.ensures.value c.in_ok-pasts.ensures.rest c.loop-hour.invariant.worked
     c.pick-before.result.now before c.requires.states
 
 pub work_between-requires-clause-before : goal.work_between-requires-clause-before
@@ -115,8 +115,8 @@ loop-hour-preserved g c =
     let there = rw c.as_slice-kept.ensures.value at c.index-kept-place.is in
     let at = λ (d : Carried). there ∙ get_or_default kept (c.loop-hour.hour + 1) c.index-kept-place.result d room in
     let says = rw c.as_slice-in-loop-hour-2.ensures.value at c.is_settled-done.ensures.says in
-    let p = worked_on c.args.config.now c.args.store.now w.first w.last kept w.states.items c.loop-hour.states.items c.next_states.new.states.items c.loop-hour.carries.items hour c.index-kept-place.result c.in_ok-pasts.pasts size lt at c.in_ok-pasts.ensures.value c.in_ok-pasts.ensures.rest c.loop-hour.invariant.worked
-    c.push.new.self.items c.pick-before.result.now c.in_ok-work.work.carry c.hours-hour-end.ensures.store c.requires.states before c.in_ok-work.ensures.leads c.in_ok-work.ensures.pasts c.in_ok-push.ensures.items (λ h. let z = says.1 h in cc) in
+    let p = worked_on c.args.config.now c.args.store.now w.first w.last kept w.states.items (reverse c.loop-hour.states.items) (reverse c.next_states.new.states.items) c.loop-hour.carries.items hour c.index-kept-place.result c.in_ok-pasts.pasts size lt at c.in_ok-pasts.ensures.value c.in_ok-pasts.ensures.rest c.loop-hour.invariant.worked
+    c.push.new.self.items c.pick-before.result.now c.in_ok-work.work.carry c.hours-hour-end.ensures.store c.requires.states before c.in_ok-work.ensures.leads c.in_ok-work.ensures.pasts c.in_ok-push.ensures.items (λ h. let z = says.1 (sym (length-reverse _) ∙ h.0, h.1) in cc) in
     record {
       worked = p;
       size = p.going.size;

@@ -60,4 +60,4 @@ pub make-requires-clause-same : goal.make-requires-clause-same
 make-requires-clause-same g c = rw (← c.self.view_is) (same_but_hour c.self.inside.store c.hour-hour.result (Some c.args.rows))
 
 pub make-requires-clause-as_were : goal.make-requires-clause-as_were
-make-requires-clause-as_were g c = rw (← c.self.view_is) (none_same c.self.inside.store (with_hour c.self.inside.store c.hour-hour.result (Some c.args.rows)))
+make-requires-clause-as_were g c = rw (← c.self.view_is, c.new.ensures.items) (none_same c.self.inside.store (with_hour c.self.inside.store c.hour-hour.result (Some c.args.rows)))

@@ -131,7 +131,7 @@ make-requires-clause-as_were g c =
     let rt = c.ranges.to in
     let made : IsEdited c.args.edit s.blanks c.args.from c.args.to c.in-Ok.blanks = simp to_z-of_z at (rw c.blanked.ensures.value at c.in-Ok.ensures) in
     let left = rw c.blanked-2.ensures.value at c.in-Ok-hours_as_were.ensures in
-    rw (← c.self.view_is, c.as_slice.ensures.value) (λ k told. range_left c.args.edit s c.in-Ok.blanks c.args.from c.args.to k made (left k told))
+    rw (← c.self.view_is) (λ k told. range_left c.args.edit s c.in-Ok.blanks c.args.from c.args.to k made (left k told))
 
 pub returns-clause-never : goal.returns-clause-never
 returns-clause-never g c =

@@ -61,4 +61,4 @@ pub make-requires-clause-same : goal.make-requires-clause-same
 make-requires-clause-same g c = rw (← c.self.view_is) (same_but_hour c.self.inside.store c.args.hour None)
 
 pub make-requires-clause-as_were : goal.make-requires-clause-as_were
-make-requires-clause-as_were g c = rw (← c.self.view_is) (none_same c.self.inside.store (with_hour c.self.inside.store c.args.hour None))
+make-requires-clause-as_were g c = rw (← c.self.view_is, c.new.ensures.items) (none_same c.self.inside.store (with_hour c.self.inside.store c.args.hour None))

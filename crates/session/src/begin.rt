@@ -105,15 +105,7 @@ fn work_through(
         same: Vec::new(alloc),
         may_wait: false,
     };
-    match renew(
-        alloc,
-        config,
-        rules,
-        &store,
-        worked,
-        &touched,
-        &mut reads,
-    ) {
+    match renew(alloc, config, rules, &store, worked, &touched, &mut reads) {
         Ok(fresh) => {
             adopt(worked, fresh);
             Ok(())

@@ -51,7 +51,8 @@ struct Told<'a> {
 fn told_of<'a>(told: &Told<'a>, hour: Hour) -> Option<About<'a, Pasts>>
     requires { hour + 1 < length told.now.kept.now }
     ensures { (c : Settings) (s : Store) → (Stays told.now.touched.now.first
-        told.now.touched.now.last told.now.touched.now.same.items hour → LeadsAt c s told.now.kept.now hour)
+        told.now.touched.now.last told.now.touched.now.same.items hour
+        → LeadsAt c s told.now.kept.now hour)
         → IfSome result (λ w. StatesLead c s hour w.before.now w.after.now) }
 {
     if told.touched.changes(hour) {
@@ -172,10 +173,7 @@ pub fn go_forward<L>(
 {
     let first = touched.first;
     let last = touched.last;
-    let told = Told {
-        touched,
-        kept,
-    };
+    let told = Told { touched, kept };
     let mut courses = None;
     let mut fresh = Vec::new(alloc);
     for hour in first..store.hours() {
@@ -243,10 +241,7 @@ pub fn go_across<L>(
 {
     let first = touched.first;
     let last = touched.last;
-    let told = Told {
-        touched,
-        kept,
-    };
+    let told = Told { touched, kept };
     let mut courses = None;
     let mut fresh = Vec::new(alloc);
     for hour in first..store.hours() {

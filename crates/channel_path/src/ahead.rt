@@ -35,7 +35,8 @@ pub fn walk_ahead<M: Machine>(machine: &M, ahead: &mut Ahead, moves: &[Move])
     }
 }
 
-fn move_ahead<M: Machine>(machine: &M, ahead: &mut Ahead, one: Move)
+/// The same for one move.
+pub fn move_ahead<M: Machine>(machine: &M, ahead: &mut Ahead, one: Move)
     requires fits { IsMove (M.rules machine.now) one }
     requires colours { length ahead.old ≡ (M.rules machine.now).colours }
     ensures before { (s : State) → Admits ahead.new s ↔ ((s.entry <ℤ pos (limit_before one))

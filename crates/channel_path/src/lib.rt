@@ -15,7 +15,7 @@ mod path;
 mod places;
 mod sure;
 
-pub use ahead::walk_ahead;
+pub use ahead::{move_ahead, walk_ahead};
 pub use moves::{Move, runs_are_moves};
 pub use near::ahead_near;
 pub use past::{end_run, walk_past};

@@ -8,7 +8,7 @@ use Rattle.sig_base.proofs.Common.{some_same}
 use Rattle.colour_machine.specs.Rules.{Rules, Goes}
 use Rattle.reach.specs.Runs.{State, state}
 use Rattle.reach.specs.Ahead.{NotLater, Admits, BeforeRow}
-use Rattle.reach.specs.Latest.{entry_of, IsTable, IsLower}
+use Rattle.reach.specs.Latest.{entry_of, IsTable, IsLower, IsMeet}
 use Rattle.reach.proofs.States.{state_same}
 
 pub then_iff : {A B C : Type 0} → (A ↔ B) → (B ↔ C) → A ↔ C
@@ -105,3 +105,34 @@ same_admits a b = (
   λ e. (ap length e, λ s. rw e (λ x. x, λ x. x)),
   λ (l, h). entries_same a b l (λ c lt. entry_same (entry_of a c) (entry_of b c) (λ e. h (state c e))),
 )
+
+-- tables that are lowered to others
+none_met : (limit x y : Option ℤ) → ((e : ℤ) → NotLater y e ↔ (NotLater x e × NotLater limit e)) → x ≡ None → y ≡ None
+none_met limit x None h q = refl
+none_met limit x (Some y) h q = absurd (subst (λ (o : Option ℤ). NotLater o y) q ((h y).0 (omega (arith, ints))).0)
+
+pub meet_table : (n : ℕ) (old limits new : List (Option ℤ)) → IsMeet old limits new 16 → IsTable n old → IsTable n new
+meet_table n old limits new w (few, none) = (
+  few,
+  λ c ge. elim (cases_lt c 16) [
+    | inl lt ↦ none_met (entry_of limits c) (entry_of old c) (entry_of new c) (w.1 c lt) (none c ge)
+    | inr out ↦ get_or_past new c None (let l = w.0 in omega arith)
+  ],
+)
+
+pub meet_states : (n : ℕ) (old limits new now : List (Option ℤ)) → IsMeet old limits new 16 → IsTable n old → take n old ≡ now → (s : State) → Admits (take n new) s ↔ (Admits now s × Admits limits s)
+meet_states n old limits new now w table view s =
+    let made = meet_table n old limits new w table in
+    let a = take_admits n new s made.1 in
+    let b = take_admits n old s table.1 in
+    elim (cases_lt s.colour 16) [
+      | inl lt ↦
+          let h = w.1 s.colour lt s.entry in
+          rw (← view) ((λ x. let (p, q) = h.0 (a.0 x) in (b.1 p, q)), λ (p, q). a.1 (h.1 (b.0 p, q)))
+      | inr ge ↦
+          let few = table.0 in
+          rw (← view) (
+            (λ x. absurd (none_left new s (made.1 s.colour (omega arith)) (a.0 x))),
+            λ (p, q). absurd (none_left old s (table.1 s.colour (omega arith)) (b.0 p)),
+          )
+    ]

@@ -11,3 +11,4 @@ pub mod Returning
 pub mod Filling
 pub mod Common
 pub mod Each
+pub mod Putting

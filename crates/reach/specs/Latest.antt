@@ -13,3 +13,7 @@ IsTable n latest = (n ≤ 16) × ((c : ℕ) → n ≤ c → entry_of latest c �
 -- each of the first n latest entries, lowered to the limit
 abbrev pub IsLower : ℤ → List (Option ℤ) → List (Option ℤ) → ℕ → Type 0
 IsLower limit old new n = (length new ≡ 16) × ((c : ℕ) → c < n → (e : ℤ) → NotLater (entry_of new c) e ↔ (NotLater (entry_of old c) e × (e ≤ℤ limit)))
+
+-- each of the first n latest entries, lowered to that of the limits, or none where these have none
+abbrev pub IsMeet : List (Option ℤ) → List (Option ℤ) → List (Option ℤ) → ℕ → Type 0
+IsMeet old limits new n = (length new ≡ 16) × ((c : ℕ) → c < n → (e : ℤ) → NotLater (entry_of new c) e ↔ (NotLater (entry_of old c) e × NotLater (entry_of limits c) e))

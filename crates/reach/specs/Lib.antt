@@ -9,3 +9,4 @@ pub mod Latest
 pub mod Single
 pub mod Holes
 pub mod Last
+pub mod Put

@@ -2,7 +2,7 @@
 ghost use Rattle.std.specs.Prelude.{◌≡◌, ℕ, ℤ, pos, negsuc, ◌≤ℤ◌, ◌<ℤ◌, ◌<◌, ◌≤◌, ◌^◌, ◌↔◌, length, None, IsTrue};
 ghost use Rattle.reach.specs.Runs.{State};
 ghost use Rattle.reach.specs.Ahead.{NotLater, Admits};
-ghost use Rattle.reach.specs.Latest.{IsLower};
+ghost use Rattle.reach.specs.Latest.{IsLower, entry_of};
 
 use sig_base::Tenth;
 use std::marker::Model;
@@ -64,6 +64,14 @@ impl Ahead {
             &self.latest[..self.colours as usize],
             &other.latest[..other.colours as usize],
         )
+    }
+
+    /// The latest entry of a colour, or none.
+    pub fn latest(&self, colour: u8) -> Option<Tenth>
+        requires { colour < length self.now }
+        ensures { result ≡ entry_of self.now colour }
+    {
+        self.latest[colour as usize]
     }
 
     /// Leaves only entries up to the limit.

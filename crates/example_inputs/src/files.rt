@@ -61,6 +61,97 @@ fn files_of_the_disk(rt: HostRuntime) -> Result<(), Fail> {
     Ok(())
 }
 
+// The byte with this place of a pattern that no buffer's length is a multiple of.
+fn pattern(place: usize) -> u8 {
+    (place % 251) as u8
+}
+
+fn counted(alloc: Global, length: usize) -> Result<Vec<u8>, NoMemory> {
+    let mut bytes = Vec::with_capacity(alloc, length)?;
+    for place in 0..length {
+        bytes.push(pattern(place))?;
+    }
+    Ok(bytes)
+}
+
+// Whether the bytes are the first of the pattern, so many.
+fn are_counted(bytes: &[u8], length: usize) -> bool {
+    bytes.len() == length && (0..length).all(|place| bytes[place] == pattern(place))
+}
+
+// Whether the file, which has so many bytes of the pattern, is fetched whole with this limit, or
+// refused where it is longer, and then nothing is added.
+fn is_fetched_whole(
+    alloc: Global,
+    shelf: &mut impl Shelf,
+    length: usize,
+    limit: usize,
+) -> Result<bool, NoMemory> {
+    let mut into = Vec::new(alloc);
+    let answer = shelf.fetch(alloc, "counted", limit as u64, &mut into);
+    if length <= limit {
+        return Ok(answer == Ok(()) && are_counted(&into, length));
+    }
+    Ok(answer == Err(FetchError::TooLong) && into.is_empty())
+}
+
+// A file is read by pieces of 16,384 bytes.
+#[test]
+fn files_of_several_pieces(rt: HostRuntime) -> Result<(), Fail> {
+    let mut shelf = DiskShelf::new(&rt);
+    for length in [0, 1, 16_383, 16_384, 16_385, 33_333] {
+        fs::write(&rt, "counted", counted(rt.alloc(), length)?.as_slice())?;
+        for limit in [length.max(1) - 1, length, length + 1] {
+            let is = is_fetched_whole(rt.alloc(), &mut shelf, length, limit)?;
+            assert!(rt; is, "of {length} bytes with the limit {limit}");
+        }
+    }
+    Ok(())
+}
+
+// Takes so many bytes at a time.
+#[derive(Drop)]
+struct Pieces {
+    bytes: Vec<u8>,
+    most: usize,
+}
+
+impl io::Write for &mut Pieces {
+    fn write(&mut self, bytes: &[u8]) -> io::Result<usize> {
+        let count = bytes.len().min(self.most);
+        if self.bytes.extend_from_slice(&bytes[..count]).is_err() {
+            return Ok(0);
+        }
+        Ok(count)
+    }
+
+    fn flush(&mut self) -> io::Result<()> {
+        Ok(())
+    }
+}
+
+// Whether a writer that takes so many bytes at a time gets all of the pattern.
+fn is_written_whole(alloc: Global, length: usize, most: usize) -> Result<bool, NoMemory> {
+    let text = counted(alloc, length)?;
+    let mut pieces = Pieces {
+        bytes: Vec::new(alloc),
+        most,
+    };
+    let mut sink = OutSink::new(&mut pieces);
+    let half = length / 2;
+    let done = put_parts(&mut sink, &[&text[..half], &text[half..]]).is_ok();
+    Ok(done && are_counted(&pieces.bytes, length))
+}
+
+#[test]
+fn a_writer_that_takes_pieces(rt: HostRuntime) -> Result<(), NoMemory> {
+    for most in [1, 2, 3, 7, 8_192, 40_000] {
+        let is = is_written_whole(rt.alloc(), 33_333, most)?;
+        assert!(rt; is, "of {most} bytes at a time");
+    }
+    Ok(())
+}
+
 #[test]
 fn a_writer_that_fills_up(rt: HostRuntime) {
     let mut narrow = Narrow {

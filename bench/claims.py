@@ -3,8 +3,9 @@
 A name is a clause of the call behind the next `of`. One without is a clause of `run`, or a public function (a law,
 all of whose clauses are meant), or a definition on which the clauses of `run` rest. A call, unless it takes nothing
 and is a law, has to be one that `run` or `main` reaches: by the names that stand before `(` in the bodies of
-functions, so that two functions of one name are taken for one. It reads text, and proves nothing. bench/quotes uses
-it.
+functions. A function of a type, as `Draft::apply`, is reached where its name is and some function that is reached, of
+another type or of none, names the type; so `Session::apply` isn't reached by way of `Draft::apply`. It reads text, and
+proves nothing. bench/quotes uses it.
 """
 import os
 import re
@@ -17,9 +18,9 @@ HEAD = re.compile(r"(?m)^( *)(?:pub(?:\(crate\))? )?fn (\w+)")
 
 
 class Sources:
-    """The functions of all crates but those of examples: public ones by name, and by which names a body calls."""
+    """The functions of all crates but those of examples: public ones by name, and which names each one has in it."""
     def __init__(self):
-        self.public, self.calls = {}, {}
+        self.public, self.functions = {}, []
         for crate in listed():
             if crate.startswith("example_"):
                 continue
@@ -31,12 +32,20 @@ class Sources:
         closure.follow("\n".join(text for _, _, text in run.clauses), names, modules)
         self.of_run = {name for kind, name, _ in run.clauses if kind == "ensures"}
         self.definitions = {each.name for each in closure.reached}
-        self.reached, wanted = set(), ["run", "main"]
-        while wanted:
-            name = wanted.pop()
-            if name not in self.reached:
-                self.reached.add(name)
-                wanted += self.calls.get(name, ())
+        self.reached = self.reach()
+
+    def reach(self):
+        """The functions that are reached from `run` and `main`: each as its type, or "", and its name."""
+        reached, called, named = set(), {"run", "main"}, {""}
+        while True:
+            more = [each for each in self.functions if each[:2] not in reached and each[1] in called
+                    and each[0] in named]
+            if not more:
+                return reached
+            for owner, name, calls, words in more:
+                reached.add((owner, name))
+                called |= calls
+                named |= words - {owner}
 
     def read(self, file, text):
         owner, heads = None, list(HEAD.finditer(text))
@@ -49,9 +58,10 @@ class Sources:
             if not cut:
                 continue
             body = rest[cut.start():]
-            self.calls.setdefault(head[2], set()).update(re.findall(r"\b(\w+)(?:::<[^>]*>)?\(", body))
+            calls = set(re.findall(r"\b(\w+)(?:::<[^>]*>)?\(", body))
             # a call by `for`, `?` or an operator of a trait isn't seen; a value of a function is
-            self.calls[head[2]].update(re.findall(r"\b(?:map|for_each|and_then|all|any)\((?:\w+::)*(\w+)\)", body))
+            calls.update(re.findall(r"\b(?:map|for_each|and_then|all|any)\((?:\w+::)*(\w+)\)", body))
+            self.functions.append((owner, head[2], calls, set(re.findall(r"\b[A-Z]\w*", rest))))
             if rest.lstrip().startswith("pub fn"):
                 found = Function(file, text.count("\n", 0, head.start()) + 1, "", rest[:cut.start()])
                 self.public.setdefault((owner + "::" if owner else "") + head[2], []).append(found)
@@ -62,7 +72,8 @@ class Sources:
     def unreached(self, call):
         """What is wrong with a call that takes something and that `run` doesn't reach."""
         is_law = all(re.search(r"fn \w+(?:<[^()]*>)?\(\s*\)", each.head) for each in self.public[call])
-        return [] if is_law or call.rpartition("::")[2] in self.reached else ["run doesn't reach %s" % call]
+        owner, _, name = call.rpartition("::")
+        return [] if is_law or (owner, name) in self.reached else ["run doesn't reach %s" % call]
 
 
 def wrong_claims(text, sources):

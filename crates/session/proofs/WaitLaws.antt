@@ -57,13 +57,15 @@ as_were_more P xs items b are one e = rw e (λ k told. elim (cases_lt k (length 
 
 -- ---- openings
 
-pub still_least : (w : List Bool) (h : ℕ) → waits w h ≡ false → still w h ≡ 0
-still_least w h e = rw e refl
-
 -- an edit whose numbers are worked out, or wait
 pub opened_for : (may_wait : Bool) (from start to : ℕ) (w marks : List Bool) (a b : List ℕ) → from ≤ start → start + length marks ≡ to → to ≤ length w → (may_wait ≡ false → AllSettled marks) → AreOpened from to 1 (most_opens may_wait) a b → AreOpenedFor from to w (patched w start marks) a b
 opened_for may_wait from start to w marks a b le size room plain p = record {
   size = p.size;
+  opened = λ h lt low high.
+      let o = p.within h lt low high in
+      let most = o.most in
+      let three = most_three may_wait in
+      record { times = o.times; least = o.least; most = omega arith; count = o.count };
   within = λ h lt low high. elim (cases_lt h start) [
     | inl before ↦
         let same : still (patched w start marks) h ≡ still w h = rw (patched-below w start marks h false (omega arith) before) refl in
@@ -107,32 +109,23 @@ unfolding OpensFor
 opens_not change first last w a b (forward.Contradiction row) refusal is touched p = rw is (refl, (first, last, touched, p))
 opens_not change first last w a b forward.Memory refusal is touched p = rw is tt
 
--- an edit of a draft of which no numbers wait, before and after it
-pub opens_plain : (change : Change) (w v : List Bool) (a b : List ℕ) (result : Result Applied EditError) → AllSettled w → AllSettled v → OpensFor change w v a b result → OpensBy change a b result
+-- an edit of a draft, without a word on numbers that wait
+pub opens_plain : (change : Change) (w v : List Bool) (a b : List ℕ) (result : Result Applied EditError) → OpensFor change w v a b result → OpensBy change a b result
 unfolding OpensFor OpensBy
-opens_plain change w v a b (Ok moved) settled after p = record {
-  size = p.size;
-  within = λ h lt low high.
-      let o = p.within h lt low high in
-      let none = still_least w h (settled h) in
-      let least = o.least in
-      let most = o.most in
-      record { times = o.times; least = least; most = omega arith; count = o.count };
-  outside = λ h out. (p.outside h out).0;
-}
-opens_plain change w v a b (Err (Contradiction row)) settled after p = p.1
-opens_plain change w v a b (Err Memory) settled after p = tt
-opens_plain change w v a b (Err OutOfWindow) settled after p = p.1
-opens_plain change w v a b (Err AlreadyHeld) settled after p = p.1
-opens_plain change w v a b (Err NotHeld) settled after p = p.1
-opens_plain change w v a b (Err EmptyRange) settled after p = p.1
-opens_plain change w v a b (Err TooManyRows) settled after p = p.1
-opens_plain change w v a b (Err TooManyBlanks) settled after p = p.1
+opens_plain change w v a b (Ok moved) p = record { size = p.size; within = p.opened; outside = λ h out. (p.outside h out).0 }
+opens_plain change w v a b (Err (Contradiction row)) p = p.1
+opens_plain change w v a b (Err Memory) p = tt
+opens_plain change w v a b (Err OutOfWindow) p = p.1
+opens_plain change w v a b (Err AlreadyHeld) p = p.1
+opens_plain change w v a b (Err NotHeld) p = p.1
+opens_plain change w v a b (Err EmptyRange) p = p.1
+opens_plain change w v a b (Err TooManyRows) p = p.1
+opens_plain change w v a b (Err TooManyBlanks) p = p.1
 
 -- ---- hours that are settled one after another
 
 pub once_none : (w : List Bool) (a : List ℕ) → AreOpenedOnce w w a a
-once_none w a = record { size = refl; each = λ h lt. let o = opened_not (get_or a h 0) (get_or a h 0) refl in let most = o.most in record { times = o.times; least = o.least; most = omega arith; count = o.count } }
+once_none w a = record { size = refl; each = λ h lt. let o = opened_not (get_or a h 0) (get_or a h 0) refl in let most = o.most in record { times = o.times; each = omega arith; count = o.count } }
 
 pub once_on : (w x v : List Bool) (a b d : List ℕ) (hour : ℕ) → waits x hour ≡ true → AreOpenedOnce w x a b → AreMarked hour (hour + 1) false x v → AreOpened hour (hour + 1) 1 1 b d → AreOpenedOnce w v a d
 once_on w x v a b d hour waiting p mark q = record {
@@ -141,15 +134,15 @@ once_on w x v a b d hour waiting p mark q = record {
       let n = p.size in
       let there : h < length b = omega arith in
       let o = p.each h lt in
-      let most = o.most in
+      let all = o.each in
       elim (cases_lt h hour) [
         | inl below ↦
             let same : still v h ≡ still x h = rw (mark.outside h (inl below)) refl in
-            record { times = o.times; least = o.least; most = omega arith; count = q.outside h (inl below) ∙ o.count }
+            record { times = o.times; each = omega arith; count = q.outside h (inl below) ∙ o.count }
         | inr from ↦ elim (cases_lt hour h) [
           | inl past ↦
               let same : still v h ≡ still x h = rw (mark.outside h (inr (omega arith))) refl in
-              record { times = o.times; least = o.least; most = omega arith; count = q.outside h (inr (omega arith)) ∙ o.count }
+              record { times = o.times; each = omega arith; count = q.outside h (inr (omega arith)) ∙ o.count }
           | inr no_more ↦
               let here : hour ≡ h = omega arith in
               let before : still x h ≡ 1 = rw (← here, waiting) refl in
@@ -159,8 +152,7 @@ once_on w x v a b d hour waiting p mark q = record {
               let high = one.most in
               record {
                 times = o.times + one.times;
-                least = omega arith;
-                most = omega arith;
+                each = omega arith;
                 count = one.count ∙ (ap (λ (k : ℕ). count_after k one.times) o.count ∙ after_both (get_or a h 0) o.times one.times);
               }
         ]
@@ -176,12 +168,11 @@ once_join w x v a b d p q = record {
       let there : h < length b = omega arith in
       let o = p.each h lt in
       let r = q.each h there in
-      let most = o.most in
-      let high = r.most in
+      let all = o.each in
+      let more = r.each in
       record {
         times = o.times + r.times;
-        least = omega arith;
-        most = omega arith;
+        each = omega arith;
         count = r.count ∙ (ap (λ (k : ℕ). count_after k r.times) o.count ∙ after_both (get_or a h 0) o.times r.times);
       };
 }

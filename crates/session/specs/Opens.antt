@@ -62,16 +62,23 @@ pub record IsOpenedFor (low high before after old new : ℕ) : Type 0 where
   pub most : times + after ≤ high + before
   pub count : new ≡ count_after old times
 
--- of the hours that have a count, each from `from` up to `to` was opened once to three times so, and no other
+-- of the hours that have a count, each from `from` up to `to` was opened once to three times, and no other; so also with the opening that its numbers still cost, but for one where they waited before
 pub record AreOpenedFor (from to : ℕ) (waiting marked : List Bool) (old new : List ℕ) : Type 0 where
   pub size : length new ≡ length old
+  pub opened : (h : ℕ) → h < length old → from ≤ h → h < to → IsOpened 1 3 (slice_index old h) (slice_index new h)
   pub within : (h : ℕ) → h < length old → from ≤ h → h < to → IsOpenedFor 1 3 (still waiting h) (still marked h) (slice_index old h) (slice_index new h)
   pub outside : (h : ℕ) → (h < from) ⊎ (to ≤ h) → (slice_index new h ≡ slice_index old h) × (waits marked h ≡ waits waiting h)
 
--- each hour that has a count was opened once where its numbers waited and don't any more, and no other
+-- by its counts before and after, an hour was opened once where its numbers waited before and don't after it, and else not at all
+pub record IsSettled (before after old new : ℕ) : Type 0 where
+  pub times : ℕ
+  pub each : times + after ≡ before
+  pub count : new ≡ count_after old times
+
+-- so each hour that has a count
 pub record AreOpenedOnce (waiting marked : List Bool) (old new : List ℕ) : Type 0 where
   pub size : length new ≡ length old
-  pub each : (h : ℕ) → h < length old → IsOpenedFor 0 0 (still waiting h) (still marked h) (slice_index old h) (slice_index new h)
+  pub each : (h : ℕ) → h < length old → IsSettled (still waiting h) (still marked h) (slice_index old h) (slice_index new h)
 
 -- the same as `OpensBy`, where numbers may wait
 unfoldable pub OpensFor : Change → List Bool → List Bool → List ℕ → List ℕ → Result Applied EditError → Type 0

@@ -256,7 +256,7 @@ line_still files c x y s w old r e none = rw e (on_ok r (AreCountedFor w w (Line
 
 -- a line that asks for numbers, which no longer wait
 settled_counted : (w v : List Bool) (Tally : ℕ → ℕ → ℕ → Type 0) (old now : List ℕ) → ((h : ℕ) → Tally h 0 0) → AreOpenedOnce w v old now → AreCountedFor w v Tally old now
-settled_counted w v Tally old now none once = (once.size, λ h lt. (0, 0, none h, once.each h lt))
+settled_counted w v Tally old now none once = (once.size, λ h lt. (0, 0, none h, let o = once.each h lt in let all = o.each in record { times = o.times; least = omega arith; most = omega arith; count = o.count }))
 
 pub line_settled : (files : Files) (c : Settings) (x y : Said) (s : Store) (w v : List Bool) (old now : List ℕ) (r : Result Bool Stopped) → x ≡ y → ((h : ℕ) → LineTally files c y s h 0 0) → OnOk r (AreOpenedOnce w v old now) → OnOk r (AreCountedFor w v (LineTally files c x s) old now)
 line_settled files c x y s w v old now r e none h = rw e (on_ok_by r (AreOpenedOnce w v old now) (AreCountedFor w v (LineTally files c y s) old now) (settled_counted w v (LineTally files c y s) old now none) h)

@@ -6,4 +6,4 @@ pub returns-clause-step : goal.returns-clause-step
 returns-clause-step g c = rw (← c.self.view_is) c.apply.ensures.step
 
 pub returns-clause-opens : goal.returns-clause-opens
-returns-clause-opens g c = opens_plain _ _ _ _ _ _ c.self.invariant (c.apply.ensures.settled (refl, c.self.invariant)) c.apply.ensures.opens
+returns-clause-opens g c = opens_plain _ _ _ _ _ _ c.apply.ensures.opens

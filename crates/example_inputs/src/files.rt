@@ -138,8 +138,7 @@ fn is_written_whole(alloc: Global, length: usize, most: usize) -> Result<bool, N
         most,
     };
     let mut sink = OutSink::new(&mut pieces);
-    let half = length / 2;
-    let done = put_parts(&mut sink, &[&text[..half], &text[half..]]).is_ok();
+    let done = sink.put(&text).is_ok();
     Ok(done && are_counted(&pieces.bytes, length))
 }
 

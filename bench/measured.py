@@ -17,7 +17,8 @@ def built_program():
     """The path of the program that SIGAUDIT names, or of the built one, which is proved and built first if need be."""
     if os.environ.get("SIGAUDIT"):
         return os.path.abspath(os.environ["SIGAUDIT"])
-    subprocess.run([os.path.join(HERE, "sigaudit")], stdout=subprocess.DEVNULL)
+    env = dict(os.environ, SIGAUDIT_PROVED="only")
+    subprocess.run([os.path.join(HERE, "sigaudit")], stdout=subprocess.DEVNULL, env=env)
     return os.path.join(HERE, "out", "sigaudit")
 
 

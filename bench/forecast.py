@@ -18,8 +18,8 @@ MINUTE = 60.0
 RECENT = 600.0
 # At the begin so many seconds count as if a check had had a whole processor in them.
 BEFORE = 60.0
-# And checks count with which it was so many times dearer here than is kept.
-DEAR_BEFORE = (1.0, 1.0)
+# And a check counts that was so many times dearer here than is kept.
+DEAR_BEFORE = (1.0,)
 # What a crate costs of which nothing is kept, where nothing is.
 UNKNOWN = 60.0
 # A check beside which nothing else can run gets several processors. It goes so many times faster.

@@ -26,8 +26,8 @@ def tenth_of_hour(text: str) -> int:
         InputError: it isn't such an hour.
     """
     found = _HOUR.fullmatch(text)
-    day = found and _day(found[1])
-    if not found or day is None:
+    day = _day(found[1]) if found else None
+    if found is None or day is None:
         raise InputError(f"{text!r} is no hour", remedy="write it as YYYY-MM-DDTHH")
     return day * DAY + int(found[2]) * HOUR
 
@@ -39,8 +39,8 @@ def tenth_of_stamp(text: str) -> int:
         InputError: it isn't such a stamp.
     """
     found = _STAMP.fullmatch(text)
-    day = found and _day(found[1])
-    if not found or day is None:
+    day = _day(found[1]) if found else None
+    if found is None or day is None:
         raise InputError(f"{text!r} is no stamp", remedy="write it as YYYY-MM-DDTHH:MM:SS.t")
     hour, minute, second, tenth = (int(part) for part in found.groups()[1:])
     return day * DAY + ((hour * 60 + minute) * 60 + second) * 10 + tenth

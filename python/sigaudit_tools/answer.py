@@ -8,6 +8,7 @@ from __future__ import annotations
 
 import dataclasses
 import functools
+import hashlib
 import re
 from collections.abc import Iterator, Mapping
 from pathlib import Path
@@ -96,6 +97,8 @@ class Answer:
     Attributes:
         config: the configuration.
         script: the script's text.
+        script_name, name: how the files of the script and of the answer are called.
+        digest: the SHA-256 of the answer, as 64 digits.
         edits: the lines that edit, in order.
         sections: the answers to the lines that ask, in order.
         known: what was known at the end.
@@ -103,9 +106,17 @@ class Answer:
 
     config: Config
     script: str = dataclasses.field(repr=False)
+    script_name: str
+    name: str
+    digest: str
     edits: tuple[Edit, ...]
     sections: tuple[Section, ...]
     known: Known
+
+    @property
+    def script_digest(self) -> str:
+        """The SHA-256 of the script, as 64 digits."""
+        return hashlib.sha256(self.script.encode("latin-1")).hexdigest()
 
     def last(self, kind: str, of: str | int = "") -> Section | None:
         """The last section of a kind: of an hour's number, a phase or an approach; of none without it."""
@@ -257,23 +268,25 @@ def merged(stretches: list[Stretch]) -> list[Stretch]:
     return found
 
 
-def parse_answer(config: Config, script: str, text: bytes, where: str = "the answer") -> Answer:
+def parse_answer(config: Config, script: str, text: bytes, script_name: str = "session.txt",
+                 name: str = "answer.txt") -> Answer:
     """An answer of the program.
 
     Args:
         config: the configuration.
         script: the script that was carried out.
         text: what the program wrote.
-        where: what the answer is called in errors.
+        script_name, name: how the files of the script and of the answer are called.
 
     Raises:
         InputError: it isn't the whole answer to this script.
     """
-    reader = _Reader(script, where)
-    for head, body in _heads(text, where):
+    reader = _Reader(script, name)
+    for head, body in _heads(text, name):
         reader.take(head, body)
     reader.end(text)
-    return Answer(config, script, tuple(reader.edits), tuple(reader.sections), reader.known())
+    return Answer(config, script, script_name, name, hashlib.sha256(text).hexdigest(), tuple(reader.edits),
+                  tuple(reader.sections), reader.known())
 
 
 def read_answer(config: Config, script: Path, answer: Path) -> Answer:
@@ -283,7 +296,7 @@ def read_answer(config: Config, script: Path, answer: Path) -> Answer:
         InputError: a file isn't there, or it isn't the whole answer to this script.
     """
     try:
-        return parse_answer(config, script.read_bytes().decode("latin-1"), answer.read_bytes(), str(answer))
+        return parse_answer(config, script.read_bytes().decode("latin-1"), answer.read_bytes(), str(script), str(answer))
     except OSError as error:
         raise InputError(f"can't be read: {error.strerror}", error.filename, "name a file that is there") from error
 

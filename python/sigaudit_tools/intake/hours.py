@@ -76,3 +76,10 @@ def hour_text(file: HourFile) -> str:
     ends = [f"{one >> 16},{one & 65535}\n" for one in key.tolist()]
     rows = np.array(begins, object)[at] + np.array(ends, object)[which]
     return HEADER + "".join(rows.tolist())
+
+
+def written_words(plan: list[HourFile], folder: Path) -> str:
+    """In words what was written: how many files and rows, and the first and the last hour."""
+    rows, starts = sum(len(one.events) for one in plan), [one.start for one in plan]
+    return (f"files written {len(plan)} rows {rows} to {folder}, hours {hour_of(min(starts))} to "
+            f"{hour_of(max(starts))}")

@@ -4,7 +4,6 @@ from __future__ import annotations
 
 import dataclasses
 import hashlib
-from collections.abc import Sequence
 from pathlib import Path
 
 from sigaudit_tools.errors import InputError, ResourceError
@@ -129,11 +128,15 @@ class Config:
         """The first tenth after the window."""
         return self.start_tenth + self.hours * HOUR
 
+    def numbers(self) -> dict[str, tuple[int, ...]]:
+        """Of each kind of channels that rules may name the numbers, in the order in which they stand."""
+        return {"phase": tuple(one.number for one in self.phases), "ped": tuple(one.number for one in self.peds),
+                "overlap": tuple(one.number for one in self.overlaps),
+                "preempt": tuple(one.number for one in self.preempts)}
+
     def channels(self) -> tuple[Channel, ...]:
         """The channels that rules may name, phases first, each kind by number."""
-        tables: tuple[tuple[str, Sequence[Phase | Ped | Overlap | Preempt]], ...] = (
-            ("phase", self.phases), ("ped", self.peds), ("overlap", self.overlaps), ("preempt", self.preempts))
-        return tuple(Channel(kind, number) for kind, table in tables for number in sorted(one.number for one in table))
+        return tuple(Channel(kind, number) for kind, numbers in self.numbers().items() for number in sorted(numbers))
 
     def floors_of(self, channel: Channel) -> dict[str, int]:
         """Of each colour of a channel that has a floor its tenths."""

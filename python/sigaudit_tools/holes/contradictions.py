@@ -17,14 +17,13 @@ from typing import NamedTuple
 import numpy as np
 import numpy.typing as npt
 
-from sigaudit_tools.holes.machine_rows import Rows, floors_in_order, targets
+from sigaudit_tools.holes.machine_rows import Rows, Sets, every, floors_in_order, steps, targets
 from sigaudit_tools.holes.spans import Span
 from sigaudit_tools.signal.channels import Channel
 from sigaudit_tools.signal.machines import COLOURS, MACHINES
 
 # Of each colour that a channel may have the earliest tenth at which it may have begun.
 State = dict[str, float]
-Sets = npt.NDArray[np.uint8]
 
 REACH = 3    # rows before one that tell its colour: after them a service goes on by the book
 
@@ -186,28 +185,11 @@ def moves(kind: str) -> tuple[tuple[str, str], ...]:
     return tuple({move: None for table in MACHINES[kind].values() for move in table.items()})
 
 
-def every(kind: str) -> int:
-    """All colours of a kind as a set: a bit for each."""
-    return (1 << len(COLOURS[kind])) - 1
-
-
 @functools.cache
 def legal_sets(kind: str) -> Sets:
     """By code the colours in which a row of it is legal, shape (256,)."""
     legal = targets(kind) < len(COLOURS[kind])
     return np.asarray((legal << np.arange(legal.shape[1])).sum(axis=1), np.uint8)
-
-
-@functools.cache
-def steps(kind: str) -> Sets:
-    """By code and set of colours the colours after a row, shape (256, 256)."""
-    found = np.zeros((256, 256), np.uint8)
-    sets = np.arange(256)
-    for code, table in MACHINES[kind].items():
-        for colour, after in table.items():
-            place, target = COLOURS[kind].index(colour), COLOURS[kind].index(after)
-            found[code] |= (sets >> place & 1).astype(np.uint8) << target
-    return found
 
 
 @functools.cache

@@ -3,12 +3,13 @@
 from __future__ import annotations
 
 import dataclasses
+from collections.abc import Iterator
 
 import numpy as np
 import numpy.typing as npt
 
 from sigaudit_tools.events import Events, Tenths
-from sigaudit_tools.holes.groups import GroupName, groups_of
+from sigaudit_tools.holes.groups import Group, GroupName, groups_of
 from sigaudit_tools.holes.renewal import NOWHERE, Gaps, Renewal
 from sigaudit_tools.holes.silence import Stillness
 from sigaudit_tools.holes.spans import Span
@@ -19,6 +20,7 @@ NOTHING = 0.01      # a group's score that isn't told: one in a hundred likelier
 FULL = 40.0         # no number is more: what ten groups say that fit worst is enough
 SUMMED = ("ring", "detector", "ped", "ped_detector", "call", "other")
 ODD = 3             # from such a score on, 20 times worse, a group's fit is odd
+BATCH = 1 << 15     # rows of groups that are scored together: more don't fit a processor's cache
 RISING = 13         # numbers that only speak for a hole: none of their weights is below 0
 
 
@@ -45,7 +47,7 @@ class Scored:
     near: Floats
     busy: Floats
 
-    def where(self, which: slice) -> Scored:
+    def where(self, which: slice | list[int]) -> Scored:
         """Some of the gaps."""
         return dataclasses.replace(
             self, gaps=self.gaps.where(which), score=self.score[which], before=self.before[which],
@@ -110,27 +112,36 @@ class Features:
         known = np.zeros(BINS, np.int64)
         for begin, end in stretches:
             np.add.at(known, bin_of(np.arange(begin, end, BIN)), BIN)
-        self.begins, self.stillness = begins, Stillness(tenth, missing)
-        self.renewals = [Renewal(group, known, missing) for group in groups_of(events, rings)]
-        self.kind = np.array([_place(renewal.group.name) for renewal in self.renewals])
+        self.stillness = Stillness(tenth, missing)
+        self.renewals = [Renewal(batch, known, missing, begins) for batch in _batches(groups_of(events, rings))]
+        self.groups = [name for renewal in self.renewals for name in renewal.groups]
+        self.kind = np.array([_place(name) for name in self.groups])
 
     def scored(self, gaps: Gaps) -> Scored:
         """Gaps with the scores of all groups."""
-        shape = len(gaps), len(self.renewals)
+        shape = len(gaps), len(self.groups)
         score, before, behind = np.zeros(shape), np.full(shape, NOWHERE), np.full(shape, NOWHERE)
-        begun = np.searchsorted(self.begins, gaps.end) - np.searchsorted(self.begins, gaps.begin)
-        for place, renewal in enumerate(self.renewals):
+        first = 0
+        for renewal in self.renewals:
             sides = renewal.sides(gaps)
-            there = np.flatnonzero(sides.there)
-            if not len(there):
-                continue
-            sides = sides.where(there)
-            before[there, place] = first = renewal.group.tenth[sides.before]
-            behind[there, place] = last = renewal.group.tenth[sides.behind]
-            between = np.searchsorted(self.begins, last) - np.searchsorted(self.begins, first)
-            score[there, place] = renewal.scores(gaps.where(there), sides, between - begun[there])
+            where = sides.gap, first + sides.group
+            before[where], behind[where] = renewal.tenth[sides.before], renewal.tenth[sides.behind]
+            score[where] = renewal.scores(gaps, sides)
+            first += len(renewal.groups)
         return Scored(gaps, score, before, behind, self.kind, self.stillness.silent(gaps),
                       self.stillness.busy(gaps, HOUR // 12), self.stillness.busy(gaps, HOUR // 2))
+
+
+def _batches(groups: list[Group]) -> Iterator[list[Group]]:
+    """The groups in their order, some BATCH rows together."""
+    batch: list[Group] = []
+    for group in groups:
+        if batch and sum(len(one.tenth) for one in batch) + len(group.tenth) > BATCH:
+            yield batch
+            batch = []
+        batch.append(group)
+    if batch:
+        yield batch
 
 
 def _place(name: GroupName) -> int:

@@ -31,6 +31,9 @@ class GroupName(NamedTuple):
     kind: str
     number: int
 
+    def __str__(self) -> str:
+        return self.kind if self.kind == "coordination" else f"{self.kind} {self.number}"
+
 
 @dataclasses.dataclass(frozen=True, eq=False)
 class Group:

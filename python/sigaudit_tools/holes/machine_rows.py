@@ -8,7 +8,7 @@ from __future__ import annotations
 
 import dataclasses
 import functools
-from collections.abc import Mapping, Sequence
+from collections.abc import Iterator, Mapping, Sequence
 
 import numpy as np
 import numpy.typing as npt
@@ -20,6 +20,7 @@ from sigaudit_tools.signal.machines import COLOURS, MACHINES, STRICT
 
 Earliest = npt.NDArray[np.float64]
 Places = npt.NDArray[np.intp]
+Sets = npt.NDArray[np.uint8]
 
 
 @dataclasses.dataclass(frozen=True, eq=False)
@@ -99,24 +100,74 @@ def contradicted(channels: Sequence[Rows], begin: Tenths, end: Tenths, reach: in
     """Of each gap whether the rows of a channel before and behind it contradict one another, were there none between.
 
     Args:
-        channels: the rows of channels of one kind.
+        channels: the rows of channels that can contradict themselves.
         begin, end: the tenths of the last row of the log before each gap and of the first behind it, shape (n,).
         reach: so many rows of a channel before the gap are looked at, and so many behind it.
     """
-    kind = channels[0].channel.kind
-    starts = np.cumsum([0, *(len(rows.tenth) for rows in channels)])
-    tenth, code = np.concatenate([rows.tenth for rows in channels]), np.concatenate([rows.code for rows in channels])
-    before = np.concatenate([start + np.searchsorted(rows.tenth, begin, "right")
-                             for start, rows in zip(starts, channels)])
-    behind = np.concatenate([start + np.searchsorted(rows.tenth, end, "left")
-                             for start, rows in zip(starts, channels)])
-    low, high = np.repeat(starts[:-1], len(begin)), np.repeat(starts[1:], len(begin))
-    floors = np.repeat([floors_in_order(rows) for rows in channels], len(begin), axis=0)
+    found = np.zeros(len(begin), bool)
+    for test in (_reach_nothing, _end_early):
+        for kind in STRICT:
+            mine = [rows for rows in channels if rows.channel.kind == kind and (rows.floors or test is _reach_nothing)]
+            left = np.flatnonzero(~found)
+            if mine and len(left):
+                found[left] = test(_Around(mine, begin[left], end[left], reach)).any(axis=0)
+    return found
+
+
+class _Around:
+    """The rows of some channels of a kind around some gaps."""
+
+    def __init__(self, channels: Sequence[Rows], begin: Tenths, end: Tenths, reach: int) -> None:
+        self.channels, self.count, self.reach = channels, len(begin), reach
+        self.kind = channels[0].channel.kind
+        starts = np.cumsum([0, *(len(rows.tenth) for rows in channels)])
+        self.tenth = np.concatenate([rows.tenth for rows in channels])
+        self.code = np.concatenate([rows.code for rows in channels])
+        self.before = np.concatenate([start + np.searchsorted(rows.tenth, begin, "right")
+                                      for start, rows in zip(starts, channels)])
+        self.behind = np.concatenate([start + np.searchsorted(rows.tenth, end)
+                                      for start, rows in zip(starts, channels)])
+        self.low, self.high = np.repeat(starts[:-1], self.count), np.repeat(starts[1:], self.count)
+
+    def steps(self) -> Iterator[tuple[Places, Places]]:
+        """Row by row, from the first before the gaps to the last behind them: for which channel and gap there is one,
+        counted through, and its place."""
+        for step in range(2 * self.reach):
+            place = self.before - self.reach + step if step < self.reach else self.behind + step - self.reach
+            there = np.flatnonzero((place >= self.low) & (place < self.high))
+            yield there, place[there]
+
+
+def _reach_nothing(rows: _Around) -> npt.NDArray[np.bool_]:
+    """Whether no colour is left at the end, floors aside; shape (channels, gaps)."""
+    after = steps(rows.kind)
+    seen = np.full(len(rows.before), every(rows.kind), np.uint8)
+    for there, place in rows.steps():
+        seen[there] = after[rows.code[place], seen[there]]
+    return (seen == 0).reshape(len(rows.channels), rows.count)
+
+
+def _end_early(rows: _Around) -> npt.NDArray[np.bool_]:
+    """Whether no colour is left at the end by the floors; shape (channels, gaps)."""
+    floors = np.repeat([floors_in_order(one) for one in rows.channels], rows.count, axis=0)
     state = np.full(floors.shape, -np.inf)
-    for step in range(2 * reach):
-        place = before - reach + step if step < reach else behind + step - reach
-        there = np.flatnonzero((place >= low) & (place < high))
-        place = place[there]
-        state[there] = after_rows(kind, state[there], tenth[place], code[place], floors[there])
-    wrong: npt.NDArray[np.bool_] = np.isposinf(state).all(axis=1).reshape(len(channels), len(begin)).any(axis=0)
-    return wrong
+    for there, place in rows.steps():
+        state[there] = after_rows(rows.kind, state[there], rows.tenth[place], rows.code[place], floors[there])
+    return np.asarray(np.isposinf(state).all(axis=1).reshape(len(rows.channels), rows.count))
+
+
+def every(kind: str) -> int:
+    """All colours of a kind as a set: a bit for each."""
+    return (1 << len(COLOURS[kind])) - 1
+
+
+@functools.cache
+def steps(kind: str) -> Sets:
+    """By code and set of colours the colours after a row, floors aside; shape (256, 256)."""
+    found = np.zeros((256, 256), np.uint8)
+    sets = np.arange(256)
+    for code, table in MACHINES[kind].items():
+        for colour, after in table.items():
+            place, target = COLOURS[kind].index(colour), COLOURS[kind].index(after)
+            found[code] |= (sets >> place & 1).astype(np.uint8) << target
+    return found

@@ -38,7 +38,7 @@ import numpy.typing as npt
 
 from sigaudit_tools.events import Events, Tenths
 from sigaudit_tools.holes.cuts import Cutter, Kind, Test
-from sigaudit_tools.holes.features import RISING, Features
+from sigaudit_tools.holes.features import RISING, Features, Scored
 from sigaudit_tools.holes.groups import GroupName
 from sigaudit_tools.holes.regression import regression
 from sigaudit_tools.holes.renewal import Gaps
@@ -161,9 +161,9 @@ class Model:
         """What each gap is graded by: its odds, for one twice as long half of them."""
         return self._scores(gaps, self.features.scored(gaps).vectors(self.holes))
 
-    def find(self) -> list[tuple[float, Span]]:
-        """The likeliest gaps one after another with their scores, each from LIKELY on held for a hole before the
-        next."""
+    def find(self) -> list[tuple[float, int]]:
+        """The likeliest gaps one after another, each from LIKELY on held for a hole before the next: scores and places
+        in `own`."""
         scores = self._scores(self.own, self.vectors)
         free = ~overlapped(self.own.begin, self.own.end, self.holes)
         heap = [(-float(scores[place]), int(place), len(self.holes)) for place in np.flatnonzero(free & (scores >= WEAK))]
@@ -171,17 +171,20 @@ class Model:
         found = []
         while heap:
             score, place, known = heapq.heappop(heap)
-            gap = int(self.own.begin[place]), int(self.own.end[place])
             if known == len(self.holes):
-                found.append((-score, gap))
+                found.append((-score, place))
                 if -score >= LIKELY:
-                    bisect.insort(self.holes, gap)
+                    bisect.insort(self.holes, self.gap(place))
                 continue
             which = slice(place, place + 1)
             now = float(self._scores(self.own.where(which), self.scored.where(which).vectors(self.holes))[0])
             if now >= WEAK:
                 heapq.heappush(heap, (-now, place, len(self.holes)))
         return found
+
+    def gap(self, place: int) -> Span:
+        """The log's own gap at a place."""
+        return int(self.own.begin[place]), int(self.own.end[place])
 
     def chances(self) -> Iterator[Chance]:
         """How many fresh cuts get a blank."""
@@ -201,12 +204,10 @@ class Model:
         """Minus the logarithm of the share of gaps around this time of day that last as long."""
         return self.features.stillness.silent(gaps)
 
-    def by_group(self, gaps: Gaps) -> list[list[tuple[GroupName, float]]]:
+    def by_group(self, scored: Scored) -> list[list[tuple[GroupName, float]]]:
         """Of each gap the groups with their scores, those whose rows on both sides go together worst first."""
-        names = [renewal.group.name for renewal in self.features.renewals]
-        told = self.features.scored(gaps).told(self.holes)
-        return [[(names[place], float(scores[place])) for place in np.argsort(-scores, kind="stable")]
-                for scores in told]
+        return [[(self.features.groups[place], float(scores[place])) for place in np.argsort(-scores, kind="stable")]
+                for scores in scored.told(self.holes)]
 
     def _is_free(self, gaps: Gaps) -> npt.NDArray[np.bool_]:
         return ~overlapped(gaps.begin, gaps.end, self.holes)

@@ -15,6 +15,7 @@ import numpy as np
 import numpy.typing as npt
 
 from sigaudit_tools.holes.contradictions import Contradiction, contradictions
+from sigaudit_tools.holes.features import Scored
 from sigaudit_tools.holes.log import Log
 from sigaudit_tools.holes.machine_rows import Rows, contradicted, strict_rows
 from sigaudit_tools.holes.model import LEAST, LIKELY, Chance, Model, grade_of
@@ -109,11 +110,7 @@ def model_of(log: Log, config: Config | None) -> tuple[Model, list[Hole]] | None
     rings = {phase.number: phase.ring for phase in config.phases} if config else {}
 
     def contradicts(gaps: Gaps) -> npt.NDArray[np.bool_]:
-        found = np.zeros(len(gaps), bool)
-        for kind in sorted({mine.channel.kind for mine in strict}):
-            mine = [one for one in strict if one.channel.kind == kind]
-            found |= contradicted(mine, gaps.begin, gaps.end, REACH)
-        return found
+        return contradicted(strict, gaps.begin, gaps.end, REACH)
 
     def learned(known: list[Span]) -> Model | None:
         model = Model(log.events, rings, log.stretches, known, contradicts)
@@ -204,11 +201,12 @@ def _in_portion(log: Log, end: float, edges: set[int], config: Config | None, wi
         return found
     model, found.holes = learned
     likely = model.find()
-    for (score, (begin, behind)), why in zip(likely, _in_words(model, [gap for _, gap in likely])):
+    words = _in_words(model, model.scored.where([place for _, place in likely]))
+    for (score, place), why in zip(likely, words):
         if score >= LIKELY:
-            found.holes.append(Hole(begin, behind, grade_of(score), score, why))
+            found.holes.append(Hole(*model.gap(place), grade_of(score), score, why))
         else:
-            found.suspects.append(Suspect(begin, behind, score, why))
+            found.suspects.append(Suspect(*model.gap(place), score, why))
     found.holes += [Hole(*silence, "likely", None, "edge") for silence in _edge_silences(log, edges, model)]
     if wish.chances:
         found.chances = list(model.chances())
@@ -224,11 +222,9 @@ def _edge_silences(log: Log, edges: set[int], model: Model) -> list[Span]:
     return [silence for silence, odd in zip(at_edge, model.silent(Gaps.of(at_edge)) > EDGE) if odd]
 
 
-def _in_words(model: Model, gaps: list[Span]) -> list[str]:
+def _in_words(model: Model, scored: Scored) -> list[str]:
     """The groups whose rows on both sides of each gap go together worst."""
-    return [", ".join(f"{name.kind if name.kind == 'coordination' else f'{name.kind} {name.number}'} {score:.1f}"
-                      for name, score in groups[:WORST])
-            for groups in model.by_group(Gaps.of(gaps))]
+    return [", ".join(f"{name} {score:.1f}" for name, score in groups[:WORST]) for groups in model.by_group(scored)]
 
 
 def _summed(chances: list[Chance]) -> list[Chance]:

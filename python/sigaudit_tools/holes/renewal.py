@@ -16,6 +16,7 @@ of those around on.
 from __future__ import annotations
 
 import dataclasses
+from collections.abc import Sequence
 
 import numpy as np
 import numpy.typing as npt
@@ -23,7 +24,9 @@ import numpy.typing as npt
 from sigaudit_tools.events import Tenths
 from sigaudit_tools.holes.groups import Group
 from sigaudit_tools.holes.spans import Span, columns
-from sigaudit_tools.holes.usual import BINS, Floats, Ints, Lists, Times, around, bin_of, distance
+from sigaudit_tools.holes.usual import BINS, Floats, Ints, Lists, Times, around, bin_of, distance, numbered
+
+Places = npt.NDArray[np.intp]
 
 ENOUGH = 30     # times of a row: a share of one in thirty is told from none
 FAR = 30_000    # no ratio is more: a day has some 30,000 tenths with rows, and shows nothing rarer
@@ -40,7 +43,7 @@ class Gaps:
     def __len__(self) -> int:
         return len(self.begin)
 
-    def where(self, which: npt.NDArray[np.bool_] | npt.NDArray[np.intp] | slice) -> Gaps:
+    def where(self, which: npt.NDArray[np.bool_] | Places | slice | list[int]) -> Gaps:
         """Some of them."""
         return Gaps(self.begin[which], self.end[which])
 
@@ -57,59 +60,71 @@ class Gaps:
 
 @dataclasses.dataclass(frozen=True, eq=False)
 class Sides:
-    """Of each gap the places of a group's last row up to it and of its first one behind it, and whether both are there.
+    """Groups that have rows on both sides of a gap: of each its place, the gap's, and those of the two rows; (n,)."""
 
-    Where they aren't the places are those of others.
-    """
-
-    before: npt.NDArray[np.intp]
-    behind: npt.NDArray[np.intp]
-    there: npt.NDArray[np.bool_]
-
-    def where(self, which: npt.NDArray[np.intp]) -> Sides:
-        """Those of some gaps."""
-        return Sides(self.before[which], self.behind[which], self.there[which])
+    group: Places
+    gap: Places
+    before: Places
+    behind: Places
 
 
 class Renewal:
-    """The times from row to row of a group, but those over a missing hour or a known hole."""
+    """The times from row to row of some groups, but those over a missing hour or a known hole.
 
-    def __init__(self, group: Group, known_of_bin: Ints, missing: list[Span]) -> None:
-        """Takes a group; of each bin the tenths that the log has of it; and what of the log isn't known."""
-        self.group = group
+    Attributes:
+        groups: their names.
+        tenth, mark: of all rows, group behind group; no two groups have the same mark.
+        counted: whether the time from each to the next is counted.
+    """
+
+    def __init__(self, groups: Sequence[Group], known_of_bin: Ints, missing: list[Span], begins: Tenths) -> None:
+        """Takes groups; of each bin the tenths that the log has of it; what of the log isn't known; and where its gaps
+        begin."""
+        self.groups = [group.name for group in groups]
         self.known = np.append(0, np.cumsum(known_of_bin))
-        tenth, mark = group.tenth, group.mark
-        self.counted = np.zeros(len(tenth), bool)
-        self.counted[:-1] = ~uncounted(tenth[:-1], tenth[1:], missing)
+        self.starts = np.cumsum([0, *(len(group.tenth) for group in groups)])
+        marks = np.cumsum([0, *(group.marks for group in groups)])
+        self.marks = int(marks[-1])
+        self.tenth = np.concatenate([group.tenth for group in groups])
+        self.mark = np.concatenate([group.mark + first for group, first in zip(groups, marks.tolist())])
+        self.counted = ~uncounted(self.tenth, np.append(self.tenth[1:], 0), missing)
+        self.counted[self.starts[1:] - 1] = False
+        self.begins, self.begun = begins, np.searchsorted(begins, self.tenth)
         which = np.flatnonzero(self.counted)
-        x, y, time = mark[which], mark[which + 1], tenth[which + 1] - tenth[which]
-        place = bin_of(tenth[which])
-        self.after = Times(x, place, time, group.marks)
-        self.before = Times(y, bin_of(tenth[which + 1]), time, group.marks)
-        self.pairs, pair = np.unique(x * group.marks + y, return_inverse=True)
+        x, y, time = self.mark[which], self.mark[which + 1], self.tenth[which + 1] - self.tenth[which]
+        place = bin_of(self.tenth[which])
+        self.after = Times(x, place, time, self.marks)
+        self.before = Times(y, bin_of(self.tenth[which + 1]), time, self.marks)
+        self.pairs, pair = np.unique(x * self.marks + y, return_inverse=True)
         self.pair = Times(pair.astype(np.int64), place, time, len(self.pairs))
 
     def sides(self, gaps: Gaps) -> Sides:
-        """The rows of the group on both sides of each gap."""
-        before = np.searchsorted(self.group.tenth, gaps.begin, "right") - 1
-        behind = np.searchsorted(self.group.tenth, gaps.end, "left")
-        there = (before >= 0) & (behind < len(self.group.tenth))
-        return Sides(np.where(there, before, 0), np.where(there, behind, 0), there)
+        """The groups with rows on both sides of each gap, those with the same row before it, and time of day, behind one
+        another."""
+        before, behind = np.empty((2, len(self.groups), len(gaps)), np.int64)
+        for place, (start, end) in enumerate(zip(self.starts[:-1], self.starts[1:])):
+            tenth = self.tenth[start:end]
+            before[place] = start + np.searchsorted(tenth, gaps.begin, "right") - 1
+            behind[place] = start + np.searchsorted(tenth, gaps.end)
+        group, gap = np.nonzero((before >= self.starts[:-1, None]) & (behind < self.starts[1:, None]))
+        before, behind = before[group, gap], behind[group, gap]
+        order = np.argsort(self.mark[before] * BINS + bin_of(gaps.begin[gap]), kind="stable")
+        return Sides(group[order], gap[order], before[order], behind[order])
 
-    def scores(self, gaps: Gaps, sides: Sides, others: Ints) -> Floats:
-        """The logarithm of how much likelier the rows on both sides are with a hole in each gap.
+    def scores(self, gaps: Gaps, sides: Sides) -> Floats:
+        """The logarithm of how much likelier the rows on both sides are with a hole in each gap, shape as of sides.
 
         Args:
-            gaps: all of which have rows of the group on both sides.
-            sides: these.
-            others: how many other gaps of the log lie between the rows.
+            gaps: of the log.
+            sides: the groups that have rows on both sides of them.
         """
-        before, behind = self.group.tenth[sides.before], self.group.tenth[sides.behind]
-        own = np.where(sides.behind == sides.before + 1, self.counted[sides.before], False).astype(np.int64)
-        near = _Near(self, self.group.mark[sides.before], self.group.mark[sides.behind], bin_of(gaps.begin))
+        begin, end = gaps.begin[sides.gap], gaps.end[sides.gap]
+        before, behind = self.tenth[sides.before], self.tenth[sides.behind]
+        own = (self.counted[sides.before] & (sides.behind == sides.before + 1)).astype(np.int64)
+        near = _Near(self, self.mark[sides.before], self.mark[sides.behind], bin_of(begin))
         own_x = own * (distance(bin_of(before), near.place) <= near.width_x)
         own_y = own * (distance(bin_of(behind), near.place) <= near.width_y)
-        time, age, silence = behind - before, gaps.begin - before, behind - gaps.end
+        time, age, silence = behind - before, begin - before, behind - end
         mean_x = 10 + (near.sum_x - own_x * time) / np.maximum(1, near.count_x - own_x)
         mean_y = 10 + (near.sum_y - own_y * time) / np.maximum(1, near.count_y - own_y)
         # Without a hole. A time that none had is one row's more, of those around as of all, with a tail from the mean
@@ -122,12 +137,18 @@ class Renewal:
                  / (alive_near + seen))
         # With one that took a row, as it does where the next row would have come before the gap's end. What is silent
         # behind it for longer than all have been has the same tail.
-        until = gaps.end - before
+        until = end - before
         spared = (near.all_after.longer(near.x, until, own) + 0.5) / alive
         spared = (near.after.longer(near.nx, until, own_x) + 4 * spared) / alive_near
         fresh = near.before.longer(near.ny, silence, own_y) + 0.5 * mean_y / (silence + mean_y)
         fresh = (1 - spared) * fresh / near.known
-        return np.log1p(np.minimum(FAR, fresh / share) / (1 + others))
+        return np.log1p(np.minimum(FAR, fresh / share) / (1 + self._others(gaps, sides)))
+
+    def _others(self, gaps: Gaps, sides: Sides) -> Ints:
+        """How many other gaps of the log lie between the rows on both sides of each."""
+        between = self.begun[sides.behind] - self.begun[sides.before]
+        begun = np.searchsorted(self.begins, gaps.end) - np.searchsorted(self.begins, gaps.begin)
+        return between - begun[sides.gap]
 
 
 class _Near:
@@ -145,12 +166,12 @@ class _Near:
         """For the marks of the rows before and behind, and the bins, of some gaps."""
         self.place, self.x = place, x
         self.all_after, self.all_pair = renewal.after.whole, renewal.pair.whole
-        keys, inverse = np.unique(x * BINS + place, return_inverse=True)
+        keys, inverse = numbered(x * BINS + place, renewal.marks * BINS)
         width = renewal.after.widths(keys // BINS, keys % BINS, ENOUGH)
         self.after, self.nx, self.width_x = renewal.after.near(keys // BINS, keys % BINS, width), inverse, width[inverse]
         self.sum_x, self.count_x = self.after.sums(inverse), self.after.lengths(inverse)
 
-        keys, inverse = np.unique(y * BINS + place, return_inverse=True)
+        keys, inverse = numbered(y * BINS + place, renewal.marks * BINS)
         width = renewal.before.widths(keys // BINS, keys % BINS, ENOUGH)
         self.before, self.ny = renewal.before.near(keys // BINS, keys % BINS, width), inverse
         self.width_y = width[inverse]
@@ -160,7 +181,7 @@ class _Near:
 
         self.xy = self._pairs(renewal, x, y)
         self.count_pair = self.all_pair.lengths(self.xy)
-        keys, inverse = np.unique(self.xy * BINS + place, return_inverse=True)
+        keys, inverse = numbered(self.xy * BINS + place, (len(renewal.pairs) + 1) * BINS)
         width = np.zeros(len(keys), np.int64)
         width[inverse] = self.width_x
         there = keys < len(renewal.pairs) * BINS
@@ -170,7 +191,7 @@ class _Near:
     @staticmethod
     def _pairs(renewal: Renewal, x: Ints, y: Ints) -> Ints:
         """The numbers of pairs of marks; that of the empty list where no such row follows such a one."""
-        wanted = x * renewal.group.marks + y
+        wanted = x * renewal.marks + y
         found = np.searchsorted(renewal.pairs, wanted)
         known = np.append(renewal.pairs, NOWHERE)[found] == wanted
         return np.where(known, found, len(renewal.pairs))

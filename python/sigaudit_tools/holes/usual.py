@@ -53,6 +53,14 @@ def around(cumulated: Ints, first: Ints, place: Ints, width: Ints) -> Ints:
     return np.where(width == ALL, cumulated[first + BINS] - cumulated[first], sums)
 
 
+def numbered(key: Ints, count: int) -> tuple[Ints, Ints]:
+    """The keys that there are, from 0 up to `count`, rising; and the place of each key among them."""
+    there = np.zeros(count, bool)
+    there[key] = True
+    number = np.cumsum(there) - 1
+    return np.flatnonzero(there), number[key]
+
+
 @dataclasses.dataclass(frozen=True, eq=False)
 class Lists:
     """Lists of times, each in order, behind one another; the last one is empty.
@@ -70,7 +78,7 @@ class Lists:
         """Of times with the number of the list that each is in, of so many lists."""
         starts = np.zeros(count + 2, np.int64)
         np.cumsum(np.bincount(number, minlength=count + 1), out=starts[1:])
-        return cls(np.sort(number << SHIFT | time), starts)
+        return cls(np.sort(number << SHIFT | time, kind="stable"), starts)
 
     @property
     def empty(self) -> int:
@@ -108,7 +116,7 @@ class Times:
         cell = mark * BINS + place
         self.cells = np.zeros(marks * BINS + 1, np.int64)
         np.cumsum(np.bincount(cell, minlength=marks * BINS), out=self.cells[1:])
-        self.by_cell = np.sort(cell << SHIFT | time) & LONGEST
+        self.by_cell = np.sort(cell << SHIFT | time, kind="stable") & LONGEST
         self.whole = Lists.of(mark, time, marks)
 
     def widths(self, mark: Ints, place: Ints, least: int) -> Ints:

@@ -7,7 +7,6 @@ by one, each from the last row that left a single colour, begun with it.
 
 from __future__ import annotations
 
-import bisect
 import dataclasses
 import functools
 import math

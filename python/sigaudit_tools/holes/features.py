@@ -99,7 +99,7 @@ class Scored:
                      | (behind[:, :rank] == behind[:, rank:rank + 1])).any(axis=1)
             left_out = clash | (scores[:, rank] <= NOTHING)
             scores[left_out, rank], before[left_out, rank], behind[left_out, rank] = 0.0, NOWHERE, NOWHERE
-        return scores, self.kind[order]
+        return np.asarray(scores, float), self.kind[order]
 
 
 class Features:

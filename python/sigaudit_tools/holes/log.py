@@ -31,8 +31,7 @@ class Log:
     @functools.cached_property
     def tenth(self) -> Tenths:
         """The tenths with rows, rising."""
-        tenth = self.events.tenth
-        return tenth[np.append(True, tenth[1:] != tenth[:-1])] if len(tenth) else tenth
+        return distinct(self.events.tenth)
 
     @functools.cached_property
     def stretches(self) -> list[Span]:
@@ -64,8 +63,11 @@ class Log:
         return Gaps(*(np.concatenate([part[side] for part in parts]) for side in (0, 1)))
 
     def portions(self) -> list[tuple[Log, float]]:
-        """Logs of at most PORTION days each, about as long as one another, each with the first tenth that it isn't
-        asked about: that of its last hour, which stands in the next one too, so that no gap lies between two of them."""
+        """Logs of at most PORTION days each, about as long as one another.
+
+        Each with the first tenth that it isn't asked about: that of its last hour, which stands in the next one too, so
+        that no gap lies between two of them.
+        """
         count = -(-len(self.hours) // (24 * PORTION))
         cuts = [len(self.hours) * i // count for i in range(count + 1)]
         return [(self.of_hours(self.hours[a:b + 1]), self.hours[b] if b < len(self.hours) else math.inf)
@@ -74,6 +76,13 @@ class Log:
     def of_hours(self, hours: tuple[int, ...]) -> Log:
         """That of some of its hours that follow one another among these."""
         return Log(self.events.between(hours[0], hours[-1] + HOUR), hours)
+
+
+def distinct(tenth: Tenths) -> Tenths:
+    """Tenths that never fall, each once."""
+    fresh = np.ones(len(tenth), bool)
+    fresh[1:] = tenth[1:] != tenth[:-1]
+    return np.asarray(tenth[fresh])
 
 
 def log_of(events: Events, hours: tuple[int, ...] = ()) -> Log:

@@ -144,7 +144,7 @@ def _reach_nothing(rows: _Around) -> npt.NDArray[np.bool_]:
     seen = np.full(len(rows.before), every(rows.kind), np.uint8)
     for there, place in rows.steps():
         seen[there] = after[rows.code[place], seen[there]]
-    return (seen == 0).reshape(len(rows.channels), rows.count)
+    return np.asarray(seen == 0).reshape(len(rows.channels), rows.count)
 
 
 def _end_early(rows: _Around) -> npt.NDArray[np.bool_]:

@@ -40,6 +40,7 @@ from sigaudit_tools.events import Events, Tenths
 from sigaudit_tools.holes.cuts import Cutter, Kind, Test
 from sigaudit_tools.holes.features import RISING, Features, Scored
 from sigaudit_tools.holes.groups import GroupName
+from sigaudit_tools.holes.log import distinct
 from sigaudit_tools.holes.regression import regression
 from sigaudit_tools.holes.renewal import Gaps
 from sigaudit_tools.holes.spans import Span, overlapped
@@ -54,9 +55,10 @@ FEW_CUTS = CUTS // 5
 FEW_GAPS, FEW_TENTHS = 100, 1_000    # with fewer a log is too small to learn from
 MOST_GAPS = 4_000   # of the log's own, to learn from
 ROUNDS = 4          # of learning without the gaps that would be blanked
-RIDGE = 0.01        # of the regression: before the log is seen, a number of spread 1 is held to weigh some 10 or less.
-                    # Of cuts of 5 to 15 s by day, fresh ones in seven logs of four signals, 69, 70 and 71 in 100 are
-                    # found with 1, 0.1 and 0.01, and of longer ones no fewer; the log's own stand out as seldom
+# Of the regression: before the log is seen, a number of spread 1 is held to weigh some 10 or less. Of cuts of 5 to 15 s
+# by day, fresh ones in seven logs of four signals, 69, 70 and 71 in 100 are found with 1, 0.1 and 0.01, and of longer
+# ones no fewer; the log's own stand out as seldom.
+RIDGE = 0.01
 # Grades by a gap's score: the logarithm of the odds of a hole, were there one cut a day that doesn't contradict, for a
 # gap of a minute (PLAIN, in tenths). Blanked in vain a gap costs its seconds, so twice as long it wants twice the odds:
 # of five made signals without a hole that blanks 150 s a day and not 1,200, and by day no fewer cuts are found.
@@ -116,7 +118,7 @@ class Model:
         self.holes = [(begin, end - 1) for begin, end in known]
         missing = sorted([(a[1], b[0]) for a, b in zip(stretches, stretches[1:])] + known)
         self.days = sum(end - begin for begin, end in stretches) / DAY
-        self.tenth = events.tenth[np.append(True, np.diff(events.tenth) > 0)] if len(events) else events.tenth
+        self.tenth = distinct(events.tenth)
         self.least = max(LEAST, 3 * usual_step(self.tenth) // 2)
         gaps = Gaps(self.tenth[:-1], self.tenth[1:])
         gaps = gaps.where(gaps.end - gaps.begin >= self.least)
@@ -140,7 +142,8 @@ class Model:
             return False
         scored = self.features.scored(Gaps(np.append(self.own.begin, cuts.begin), np.append(self.own.end, cuts.end)))
         vectors = scored.vectors(self.holes)
-        self.scored, self.vectors, made = scored.where(slice(len(self.own))), vectors[:len(self.own)], vectors[len(self.own):]
+        self.scored = scored.where(slice(len(self.own)))
+        self.vectors, made = vectors[:len(self.own)], vectors[len(self.own):]
         step = max(1, len(examples) // MOST_GAPS)
         examples = examples[::step]
         own, kept = self.vectors[examples], self.vectors[examples]
@@ -166,7 +169,8 @@ class Model:
         in `own`."""
         scores = self._scores(self.own, self.vectors)
         free = ~overlapped(self.own.begin, self.own.end, self.holes)
-        heap = [(-float(scores[place]), int(place), len(self.holes)) for place in np.flatnonzero(free & (scores >= WEAK))]
+        likely = np.flatnonzero(free & (scores >= WEAK)).tolist()
+        heap = [(-float(scores[place]), place, len(self.holes)) for place in likely]
         heapq.heapify(heap)
         found = []
         while heap:

@@ -27,8 +27,8 @@ from sigaudit_tools.signal.config import Config
 from sigaudit_tools.times import stamp_of
 
 EDGE = 9.0      # a silence at the log's begin or end is a hole where one in 8,000 (e^9) at this time of day is as long
-# A contradiction's hole is put over the likeliest gaps that have so much of the odds together. In the wrong gap it makes
-# false lines: with 0.95 three in eighteen days, with 0.99 none in 36, for a quarter more of blanked seconds.
+# A contradiction's hole is put over the likeliest gaps that have so much of the odds together. In the wrong gap it
+# makes false lines: with 0.95 three in eighteen days, with 0.99 none in 36, for a quarter more of blanked seconds.
 SHARE = 0.99
 # Where so many phases and more begin anew in one tenth, over a gap shorter than LEAST, which has no room for a yellow
 # and a red, the controller jumped, as at a restart.

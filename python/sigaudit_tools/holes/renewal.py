@@ -99,8 +99,11 @@ class Renewal:
         self.pair = Times(pair.astype(np.int64), place, time, len(self.pairs))
 
     def sides(self, gaps: Gaps) -> Sides:
-        """The groups with rows on both sides of each gap, those with the same row before it, and time of day, behind one
-        another."""
+        """The groups with rows on both sides of each gap.
+
+        Those with the same mark before it at the same time of day are behind one another: lists that are looked into
+        one after another are near one another then.
+        """
         before, behind = np.empty((2, len(self.groups), len(gaps)), np.int64)
         for place, (start, end) in enumerate(zip(self.starts[:-1], self.starts[1:])):
             tenth = self.tenth[start:end]
@@ -142,13 +145,15 @@ class Renewal:
         spared = (near.after.longer(near.nx, until, own_x) + 4 * spared) / alive_near
         fresh = near.before.longer(near.ny, silence, own_y) + 0.5 * mean_y / (silence + mean_y)
         fresh = (1 - spared) * fresh / near.known
-        return np.log1p(np.minimum(FAR, fresh / share) / (1 + self._others(gaps, sides)))
+        score: Floats = np.log1p(np.minimum(FAR, fresh / share) / (1 + self._others(gaps, sides)))
+        return score
 
     def _others(self, gaps: Gaps, sides: Sides) -> Ints:
         """How many other gaps of the log lie between the rows on both sides of each."""
         between = self.begun[sides.behind] - self.begun[sides.before]
         begun = np.searchsorted(self.begins, gaps.end) - np.searchsorted(self.begins, gaps.begin)
-        return between - begun[sides.gap]
+        others: Ints = between - begun[sides.gap]
+        return others
 
 
 class _Near:
@@ -168,7 +173,8 @@ class _Near:
         self.all_after, self.all_pair = renewal.after.whole, renewal.pair.whole
         keys, inverse = numbered(x * BINS + place, renewal.marks * BINS)
         width = renewal.after.widths(keys // BINS, keys % BINS, ENOUGH)
-        self.after, self.nx, self.width_x = renewal.after.near(keys // BINS, keys % BINS, width), inverse, width[inverse]
+        self.after, self.nx = renewal.after.near(keys // BINS, keys % BINS, width), inverse
+        self.width_x = width[inverse]
         self.sum_x, self.count_x = self.after.sums(inverse), self.after.lengths(inverse)
 
         keys, inverse = numbered(y * BINS + place, renewal.marks * BINS)
@@ -176,7 +182,7 @@ class _Near:
         self.before, self.ny = renewal.before.near(keys // BINS, keys % BINS, width), inverse
         self.width_y = width[inverse]
         self.sum_y, self.count_y = self.before.sums(inverse), self.before.lengths(inverse)
-        known = around(renewal.known, np.int64(0), keys % BINS, width)
+        known = around(renewal.known, np.zeros_like(keys), keys % BINS, width)
         self.known = np.where(known == 0, 1, known)[inverse]
 
         self.xy = self._pairs(renewal, x, y)

@@ -63,7 +63,7 @@ class Stillness:
         place = np.searchsorted(self.tenth, gaps.begin, "right")
         inside = np.minimum(place, len(self.tenth) - 1)
         is_own = (place < len(self.tenth)) & (self.tenth[inside] == gaps.end) & self.counted[np.maximum(place - 1, 0)]
-        return is_own.astype(np.int64)
+        return np.asarray(is_own, np.int64)
 
     def _longer(self, lists: Lists, number: Ints, gaps: Gaps) -> Ints:
         return lists.longer(number, gaps.end - gaps.begin - 1, self._own(gaps))

@@ -138,8 +138,10 @@ def configured(config: Config | None) -> list[Channel]:
     """The channels that a configuration has, but its overlaps' and preempts' inputs."""
     if config is None:
         return []
-    tables = (("phase", config.phases), ("ped", config.peds), ("overlap", config.overlaps), ("preempt", config.preempts))
-    found = [Channel(kind, entry.number) for kind, table in tables for entry in table]
+    found = [Channel("phase", phase.number) for phase in config.phases]
+    found += [Channel("ped", ped.number) for ped in config.peds]
+    found += [Channel("overlap", overlap.number) for overlap in config.overlaps]
+    found += [Channel("preempt", preempt.number) for preempt in config.preempts]
     found += [Channel("detector", number) for approach in config.approaches
               for number in (approach.advance, approach.stop_bar) if number is not None]
     return list(dict.fromkeys(found)) + ([COORDINATION] if config.coordination else [])

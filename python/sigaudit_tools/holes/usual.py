@@ -87,25 +87,28 @@ class Lists:
 
     def lengths(self, number: Ints) -> Ints:
         """How many times are in these lists."""
-        return self.starts[number + 1] - self.starts[number]
+        lengths: Ints = self.starts[number + 1] - self.starts[number]
+        return lengths
 
     def sums(self, number: Ints) -> Ints:
         """The sums of these lists."""
         sums = np.zeros(len(self.keyed) + 1, np.int64)
         np.cumsum(self.keyed & LONGEST, out=sums[1:])
-        return sums[self.starts[number + 1]] - sums[self.starts[number]]
+        found: Ints = sums[self.starts[number + 1]] - sums[self.starts[number]]
+        return found
 
     def longer(self, number: Ints, than: Ints, own: Ints) -> Ints:
         """How many times of each list are longer than one, but for so many of the gap's own."""
-        upto = self._place(number, than, "right")
-        return np.maximum(self.starts[number + 1] - upto - own, 0)
+        longer: Ints = np.maximum(self.starts[number + 1] - self._place(number, than, "right") - own, 0)
+        return longer
 
     def within(self, number: Ints, low: Ints, high: Ints) -> Ints:
         """How many times of each list are from `low` to `high`."""
-        return self._place(number, high, "right") - self._place(number, low, "left")
+        found: Ints = self._place(number, high, "right") - self._place(number, low, "left")
+        return found
 
     def _place(self, number: Ints, time: Ints, side: Literal["left", "right"]) -> Ints:
-        return np.searchsorted(self.keyed, number << SHIFT | np.minimum(time, LONGEST), side)
+        return np.asarray(np.searchsorted(self.keyed, number << SHIFT | np.minimum(time, LONGEST), side))
 
 
 class Times:
@@ -123,7 +126,7 @@ class Times:
         """How many bins to each side of one have enough of a mark."""
         found = np.full(len(mark), ALL, np.int64)
         for width in reversed(WIDTHS[:-1]):
-            enough = around(self.cells, mark * BINS, place, np.int64(width)) >= least
+            enough = around(self.cells, mark * BINS, place, np.full_like(place, width)) >= least
             found[enough] = width
         return found
 

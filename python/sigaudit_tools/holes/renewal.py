@@ -124,7 +124,7 @@ class Renewal:
         begin, end = gaps.begin[sides.gap], gaps.end[sides.gap]
         before, behind = self.tenth[sides.before], self.tenth[sides.behind]
         own = (self.counted[sides.before] & (sides.behind == sides.before + 1)).astype(np.int64)
-        near = _Near(self, self.mark[sides.before], self.mark[sides.behind], bin_of(begin))
+        near = Near(self, sides, bin_of(begin))
         own_x = own * (distance(bin_of(before), near.place) <= near.width_x)
         own_y = own * (distance(bin_of(behind), near.place) <= near.width_y)
         time, age, silence = behind - before, begin - before, behind - end
@@ -156,8 +156,8 @@ class Renewal:
         return others
 
 
-class _Near:
-    """What a score counts in: the times after x and from x to y, of the whole day and around; those before y around.
+class Near:
+    """What scores count in: the times after x and from x to y, of the whole day and around; those before y around.
 
     Attributes:
         x, xy: numbers of lists of all_after, all_pair; nx, nxy, ny those of after, pair, before.
@@ -167,8 +167,9 @@ class _Near:
         known: the tenths that the log has of the bins around.
     """
 
-    def __init__(self, renewal: Renewal, x: Ints, y: Ints, place: Ints) -> None:
-        """For the marks of the rows before and behind, and the bins, of some gaps."""
+    def __init__(self, renewal: Renewal, sides: Sides, place: Ints) -> None:
+        """For the rows on both sides of some gaps, and the bins in which these begin."""
+        x, y = renewal.mark[sides.before], renewal.mark[sides.behind]
         self.place, self.x = place, x
         self.all_after, self.all_pair = renewal.after.whole, renewal.pair.whole
         keys, inverse = numbered(x * BINS + place, renewal.marks * BINS)

@@ -97,6 +97,11 @@ class Lists:
         found: Ints = sums[self.starts[number + 1]] - sums[self.starts[number]]
         return found
 
+    def times(self, number: int) -> Ints:
+        """The times of a list, in order."""
+        found: Ints = self.keyed[self.starts[number]:self.starts[number + 1]] & LONGEST
+        return found
+
     def longer(self, number: Ints, than: Ints, own: Ints) -> Ints:
         """How many times of each list are longer than one, but for so many of the gap's own."""
         longer: Ints = np.maximum(self.starts[number + 1] - self._place(number, than, "right") - own, 0)

@@ -73,7 +73,7 @@ def timeline(title: str, known: Known, suspected: Sequence[Stretch], rules: Sequ
     picture.path((f"M{short(picture.x(mark.tenth))} {short(height[mark.rule] - 6.5)}v13" for mark in shown
                   if mark.broken), stroke=BROKEN, stroke_width=3.0)
     picture.time_axis()
-    return picture.chart((Key(BROKEN, "broken"), Key("#fff", "undecided (ring)"), HATCHED))
+    return picture.chart((Key(BROKEN, "broken"), Key(UNDECIDED, "undecided", "ring"), HATCHED))
 
 
 def _lane(picture: Picture, known: Known, top: int, words: str) -> None:
@@ -214,8 +214,8 @@ def diagram(title: str, known: Known, cycles: Rows, points: Rows, most: int = MO
         picture.xs(arrivals[0] + arrivals[1]).tolist(), picture.ys(arrivals[1] / 10).tolist())),
         stroke=INK, stroke_width=2.4, stroke_linecap="round", opacity=0.75)
     picture.time_axis()
-    return Diagram(picture.chart((Key("#d9efe6", "green"), Key(ORANGE, "begin of yellow"), Key(RED, "end of the cycle"),
-                                  Key(INK, "arrival"), HATCHED)),
+    return Diagram(picture.chart((Key("#d9efe6", "green"), Key(ORANGE, "begin of yellow", "line"),
+                                  Key(RED, "end of the cycle", "line"), Key(INK, "arrival", "dot"), HATCHED)),
                    highest // 10, int((~whole).sum()), every)
 
 
@@ -250,7 +250,8 @@ def shifts(title: str, counts: Sequence[int], best: int) -> Chart:
     for at in range(0, len(counts), step):
         picture.write(picture.x(at + 0.5), picture.bottom + 18, at, anchor="middle")
     picture.write(picture.right, picture.bottom + 34, "seconds later in the cycle", anchor="end")
-    return picture.chart((Key(BLUE, "at each shift"), Key(INK, "as logged (dashes)"), Key(BROKEN, "best (ring)")))
+    return picture.chart((Key(BLUE, "at each shift", "line"), Key(INK, "as logged", "dashes"),
+                          Key(BROKEN, "best", "ring")))
 
 
 def small_hours(title: str, known: Known, counts: Mapping[int, int], highest: int, width: int = 220,

@@ -22,6 +22,17 @@
     tools.append(made);
   }
 
+  // A link to a verdict opens it, and shows it where it was hidden.
+  function follow() {
+    const line = document.getElementById(location.hash.slice(1));
+    if (!line || !lines.includes(line)) return;
+    line.hidden = false;
+    line.querySelectorAll("details").forEach(part => { part.open = true; });
+    line.scrollIntoView();
+  }
+  addEventListener("hashchange", follow);
+  follow();
+
   button("Open all", () => open(true));
   button("Close all", () => open(false));
   if (grades.length < 2) return;
@@ -37,15 +48,4 @@
     lines.forEach(line => { line.hidden = choice.value !== "" && line.dataset.grade !== choice.value; });
     said.textContent = choice.value ? lines.filter(line => !line.hidden).length + " of " + lines.length + " lines" : "";
   });
-
-  // A link to a verdict opens it, and shows it where it was hidden.
-  function follow() {
-    const line = document.getElementById(location.hash.slice(1));
-    if (!line || !lines.includes(line)) return;
-    line.hidden = false;
-    line.querySelectorAll("details").forEach(part => { part.open = true; });
-    line.scrollIntoView();
-  }
-  addEventListener("hashchange", follow);
-  follow();
 }());

@@ -87,10 +87,22 @@ def ring(x: float, y: float, radius: float) -> str:
 
 @dataclasses.dataclass(frozen=True)
 class Key:
-    """An entry of a picture's key: how it is filled, and what that means."""
+    """An entry of a picture's key: how it is drawn, what that means, and as what: box, line, dashes, ring or dot."""
 
     fill: str
     words: str
+    shape: str = "box"
+
+    def mark(self) -> Markup:
+        """Its mark, 14 units wide and 10 high."""
+        form = {
+            "box": '<rect x="0.5" y="0.5" width="13" height="9" fill="{0}" stroke="{1}" stroke-width="0.7"/>',
+            "line": '<path d="M0 5h14" stroke="{0}" stroke-width="2.4"/>',
+            "dashes": '<path d="M0 5h14" stroke="{0}" stroke-width="1.6" stroke-dasharray="5 4"/>',
+            "ring": '<circle cx="7" cy="5" r="4" stroke="{0}" stroke-width="1.8" fill="#fff"/>',
+            "dot": '<circle cx="7" cy="5" r="2" fill="{0}"/>',
+        }[self.shape]
+        return Markup(form).format(self.fill, INK)
 
 
 @dataclasses.dataclass(frozen=True)
@@ -127,9 +139,8 @@ class Chart:
         at, found = (self.width - sum(widths)) // 2, []
         for key, wide in zip(self.keys, widths):
             found.append(Markup(
-                '<rect x="{}" y="{}" width="14" height="10" fill="{}" stroke="{}" stroke-width="0.7"/>'
-                '<text x="{}" y="{}" font-size="13" fill="{}">{}</text>').format(
-                    at, top, key.fill, INK, at + 19, top + 10, SOFT, key.words))
+                '<g transform="translate({} {})">{}</g><text x="{}" y="{}" font-size="13" fill="{}">{}</text>').format(
+                    at, top, key.mark(), at + 19, top + 10, SOFT, key.words))
             at += wide
         return Markup("").join(found)
 

@@ -107,8 +107,8 @@ def _helpers(audit: Audit) -> dict[str, object]:
     signal = f"Signal {audit.answer.config.signal}, {moment(audit.known.start)}"
     return {
         "known_share": f"{tenths}.{rest}\u00a0%",
-        "failing": max(judged, key=fail_greatest, default=None),
-        "waiting": min(arriving, key=platoon_ratio, default=None),
+        "failing": max(judged, key=fail_greatest) if judged else None,
+        "waiting": min(arriving, key=platoon_ratio) if arriving else None,
         "blanked": Blanked.of(audit),
         "unknown_stretches": functools.partial(unknown_stretches, audit),
         "faults_of_approaches": functools.partial(faults_of_approaches, audit),

@@ -11,9 +11,9 @@ import pandas as pd
 from sigaudit_tools.answer import Answer
 from sigaudit_tools.report import charts
 from sigaudit_tools.report.audit import Audit
-from sigaudit_tools.report.charts import Band, Diagram, Known, Mark
+from sigaudit_tools.report.charts import Band, Diagram, Known
 from sigaudit_tools.report.lookup import Row
-from sigaudit_tools.report.svg import BLUE, BROKEN, DOTTED, HALF, SKY, STRIPED, Chart, Key, Rows, Stretch
+from sigaudit_tools.report.svg import BLUE, BROKEN, DOTTED, HALF, SKY, STRIPED, WIDE, Chart, Key, Rows, Stretch
 from sigaudit_tools.signal.rule_words import in_short
 
 # What bars are made of, from below: the column, and its key.
@@ -30,12 +30,17 @@ def overview(audit: Audit, narrow: bool = False) -> Chart:
     return charts.overview(title, audit.known, audit.marks, *((HALF - 100,) if narrow else ()))
 
 
-def timeline(audit: Audit) -> Chart:
-    """A line for each rule with broken or undecided verdicts, those with the most weight above."""
+def timeline(audit: Audit, shown: Stretch | None = None) -> Chart:
+    """A line for each rule with broken or undecided verdicts, those with the most weight above; of the window, or of a
+    time in it, from and up to."""
+    low, high = shown or (audit.known.start, audit.known.end)
+    marks = [mark for mark in audit.marks if low <= mark.tenth < high]
+    there = {mark.rule for mark in marks}
     names = audit.answer.rules
-    rules = [(rule, f"{rule}  {in_short(names.get(rule, ''))}") for rule in audit.rules]
+    rules = [(rule, f"{rule}  {in_short(names.get(rule, ''))}") for rule in audit.rules if rule in there]
     return charts.timeline(f"Time line of signal {audit.answer.config.signal}: rules with broken or undecided verdicts",
-                           audit.known, audit.holes.suspected if audit.holes else (), rules, audit.marks)
+                           dataclasses.replace(audit.known, start=low, end=high),
+                           audit.holes.suspected if audit.holes else (), rules, marks)
 
 
 def splits(audit: Audit, name: str, rows: Sequence[Row]) -> Chart:
@@ -70,6 +75,16 @@ def services(known: Known, name: str, rows: Sequence[Row], width: int = HALF) ->
     """The services of an approach by hour: failed, undecided, passed, open at the end, with a fault."""
     parts = [(key, {row.hour: row.count(column) for row in rows}) for column, key in SERVICES]
     return charts.hours_bars(f"{name}: services by hour, failed, undecided, passed", known, parts, "services", width)
+
+
+def failures(audit: Audit) -> Chart | None:
+    """The services of each approach by hour, one approach above another; None where no approach has a service."""
+    rows = [row for row in audit.tables.rows("approaches") if row["splits"]]
+    names = dict.fromkeys(row["approach"] for row in rows)
+    found = [services(audit.known, f"Approach {name}", [row for row in rows if row["approach"] == name], WIDE)
+             for name in names]
+    title = f"Signal {audit.answer.config.signal}: services by hour"
+    return charts.one_above_another(title, found) if found else None
 
 
 @dataclasses.dataclass(frozen=True)
@@ -120,8 +135,3 @@ def _tenths(table: pd.DataFrame, phase: int, columns: Sequence[str]) -> Rows:
     table = table[table["phase"] == phase]
     return np.column_stack([np.rint(table[name].to_numpy() * (10 if name.endswith("_s") else 1)).astype(np.int64)
                             for name in columns])
-
-
-def marks_between(marks: Sequence[Mark], low: int, high: int) -> list[Mark]:
-    """The marks from a tenth up to another."""
-    return [mark for mark in marks if low <= mark.tenth < high]

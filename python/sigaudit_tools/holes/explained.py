@@ -42,10 +42,11 @@ def explain_gap(config: Config | None, events: Events, tenth: int, *, hours: Ite
         raise InputError(f"no gap at {stamp_of(tenth)} between two rows of the log, or the log is too small to learn "
                          "from", remedy="take a stamp between two rows, and more hours")
     model, certain = found
+    rings = {phase.number: phase.ring for phase in config.phases} if config else {}
     gap = int(log.tenth[place - 1]), int(log.tenth[place])
     _take_those_before(model, gap)
     lines = [f"certain {hole.why}" for hole in certain if hole.begin < gap[1] and gap[0] < hole.end]
-    return lines + list(_lines(model, log, {phase.number: phase.ring for phase in config.phases} if config else {}, gap))
+    return lines + list(_lines(model, log, rings, gap))
 
 
 def _take_those_before(model: Model, gap: Span) -> None:

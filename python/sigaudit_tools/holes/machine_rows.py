@@ -14,7 +14,7 @@ import numpy as np
 import numpy.typing as npt
 
 from sigaudit_tools.events import Codes, Events, Tenths
-from sigaudit_tools.signal.channels import Channel, by_channel
+from sigaudit_tools.signal.channels import IDS, Channel, by_channel, channel_ids
 from sigaudit_tools.signal.config import Config
 from sigaudit_tools.signal.machines import COLOURS, MACHINES, STRICT
 
@@ -48,17 +48,22 @@ class Rows:
         return dataclasses.replace(self, tenth=self.tenth[mask], code=self.code[mask])
 
 
+def channel_rows(events: Events, channel: Channel, config: Config | None = None) -> Rows:
+    """The rows of a channel; with the floors of a configuration where one is given."""
+    return _rows(channel, events.where(channel_ids(events.code, events.param) == IDS[channel]), config)
+
+
 def strict_rows(events: Events, config: Config | None) -> dict[Channel, Rows]:
     """The rows of each channel that can contradict itself, channels in order of kind and number."""
-    found = {}
-    for channel, places in by_channel(events).items():
-        if channel.kind in STRICT:
-            tenth, code = events.tenth[places], events.code[places]
-            fresh = np.ones(len(places), bool)
-            fresh[1:] = (tenth[1:] != tenth[:-1]) | (code[1:] != code[:-1])
-            floors = config.floors_of(channel) if config else {}
-            found[channel] = Rows(channel, tenth[fresh], code[fresh], floors)
-    return found
+    return {channel: _rows(channel, Events(events.tenth[places], events.code[places], events.param[places]), config)
+            for channel, places in by_channel(events).items() if channel.kind in STRICT}
+
+
+def _rows(channel: Channel, events: Events, config: Config | None) -> Rows:
+    """The events of a channel without repeats."""
+    fresh = np.ones(len(events), bool)
+    fresh[1:] = (events.tenth[1:] != events.tenth[:-1]) | (events.code[1:] != events.code[:-1])
+    return Rows(channel, events.tenth[fresh], events.code[fresh], config.floors_of(channel) if config else {})
 
 
 @functools.cache

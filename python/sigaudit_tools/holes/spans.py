@@ -23,6 +23,17 @@ def merged(spans: Iterable[Span]) -> list[Span]:
     return found
 
 
+def outside(span: Span, others: Iterable[Span]) -> list[Span]:
+    """What others, in order, leave of a span."""
+    found, (low, high) = [], span
+    for begin, end in others:
+        if low < end and begin < high:
+            if low < begin:
+                found.append((low, begin))
+            low = max(low, end)
+    return [*found, (low, high)] if low < high else found
+
+
 def length(spans: Iterable[Span]) -> int:
     """The tenths of spans that don't overlap."""
     return sum(high - low for low, high in spans)

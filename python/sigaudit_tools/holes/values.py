@@ -40,6 +40,11 @@ class Suspect:
     score: float
     why: str
 
+    @property
+    def grade(self) -> str:
+        """weak."""
+        return "weak"
+
 
 @dataclasses.dataclass(frozen=True)
 class Misfit:

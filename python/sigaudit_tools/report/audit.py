@@ -9,10 +9,11 @@ from collections.abc import Mapping, Sequence
 import pandas as pd
 
 from sigaudit_tools.answer import Answer
+from sigaudit_tools.holes import Holes
 from sigaudit_tools.report.charts import Known, Mark
 from sigaudit_tools.report.evidence import KnownLog, Line, channels_of
 from sigaudit_tools.report.lookup import Row, Tables
-from sigaudit_tools.report.remarks import FaultSaid, HolesSaid, History
+from sigaudit_tools.report.remarks import FaultSaid, History
 from sigaudit_tools.report.svg import Stretch
 from sigaudit_tools.times import tenth_of_stamp
 
@@ -113,7 +114,7 @@ class Audit:
         made: when the page is made, in words.
         version: that of the tools which make it.
         log: the rows of the hours that are held; None where they aren't there, and nothing is shown of them.
-        holes: what the search for holes said; None where there was none.
+        holes: what the search for holes found; None where there was none.
         faults: what the search for faults of detectors said; None where there was none.
         histories: of some undecided verdicts, by rule and tenth, a history that keeps the rule and one that breaks it.
         folder: where the tables lie, from the page.
@@ -124,7 +125,7 @@ class Audit:
     made: str
     version: str
     log: KnownLog | None = None
-    holes: HolesSaid | None = None
+    holes: Holes | None = None
     faults: tuple[FaultSaid, ...] | None = None
     histories: Mapping[tuple[int, int], tuple[History, ...]] = dataclasses.field(default_factory=dict)
     folder: str = "tables"

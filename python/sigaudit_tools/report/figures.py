@@ -40,7 +40,7 @@ def timeline(audit: Audit, shown: Stretch | None = None) -> Chart:
     rules = [(rule, f"{rule}  {in_short(names.get(rule, ''))}") for rule in audit.rules if rule in there]
     return charts.timeline(f"Time line of signal {audit.answer.config.signal}: rules with broken or undecided verdicts",
                            dataclasses.replace(audit.known, start=low, end=high),
-                           audit.holes.suspected if audit.holes else (), rules, marks)
+                           [(one.begin, one.end) for one in audit.holes.suspects] if audit.holes else (), rules, marks)
 
 
 def splits(audit: Audit, name: str, rows: Sequence[Row]) -> Chart:

@@ -21,7 +21,7 @@ from sigaudit_tools.report.audit import SHOWN, Audit
 from sigaudit_tools.report.charts import HATCHED
 from sigaudit_tools.report.evidence import Line
 from sigaudit_tools.report.lookup import Row
-from sigaudit_tools.report.remarks import History
+from sigaudit_tools.report.remarks import History, quiet_detectors, why_blank
 from sigaudit_tools.report.svg import PATTERNS, day_of, end_clock
 from sigaudit_tools.signal.channels import channel_of
 from sigaudit_tools.signal.codes import name_of
@@ -84,11 +84,10 @@ def _environment() -> jinja2.Environment:
                                      lstrip_blocks=True, undefined=jinja2.StrictUndefined)
     environment.filters.update(stamp=stamp_of, moment=moment, day=day_of, seconds=seconds, style=lookup.style,
                                channel_in_words=channel_in_words)
-    environment.tests["fails"] = fails
     environment.globals.update(
         figures=figures, patterns=PATTERNS, parts=PARTS, ending=ending, hatched=HATCHED, most_shown=SHOWN,
         forbidden=FORBIDDEN, grade_in_words=GRADE_IN_WORDS, about=about, rows_text=rows_text,
-        history_text=history_text, on_log=lambda grade: ON_LOG.get(grade, grade),
+        history_text=history_text, quiet_detectors=quiet_detectors, on_log=lambda grade: ON_LOG.get(grade, grade),
         style=Markup(_text("style.css")), script=Markup(_text("page.js")))
     return environment
 
@@ -99,16 +98,14 @@ def _text(name: str) -> str:
 
 def _helpers(audit: Audit) -> dict[str, object]:
     """What the templates ask of one audit."""
-    approaches = audit.tables.window("approaches")
-    judged = [row for row in approaches if row["fail_greatest"]]
-    arriving = [row for row in approaches if row["platoon_ratio"]]
+    failing, arriving = failing_most(audit), arriving_least(audit)
     whole = audit.known.end - audit.known.start
     tenths, rest = divmod(1000 * audit.known_tenths // whole, 10)
     signal = f"Signal {audit.answer.config.signal}, {moment(audit.known.start)}"
     return {
         "known_share": f"{tenths}.{rest}\u00a0%",
-        "failing": max(judged, key=fail_greatest) if judged else None,
-        "waiting": min(arriving, key=platoon_ratio) if arriving else None,
+        "failing": failing,
+        "arriving": arriving,
         "blanked": Blanked.of(audit),
         "unknown_stretches": functools.partial(unknown_stretches, audit),
         "faults_of_approaches": functools.partial(faults_of_approaches, audit),
@@ -138,9 +135,8 @@ class Blanked(NamedTuple):
 
 def unknown_stretches(audit: Audit) -> list[tuple[int, int, str]]:
     """Each stretch that isn't known, from and up to, and why, in order."""
-    why = audit.holes.why_blank if audit.holes else lambda low, high: "blanked"
     found = [(low, high, "no file") for low, high in audit.known.missing]
-    return sorted(found + [(low, high, why(low, high)) for low, high in audit.known.blanked])
+    return sorted(found + [(low, high, why_blank(audit.holes, low, high)) for low, high in audit.known.blanked])
 
 
 def faults_of_approaches(audit: Audit) -> list[tuple[Row, str, str]]:
@@ -172,19 +168,16 @@ def about(name: str) -> str:
     return ABOUT[name]
 
 
-def fail_greatest(row: Row) -> float:
-    """What share of the services of an approach failed at most."""
-    return row.number("fail_greatest")
+def failing_most(audit: Audit) -> list[Row]:
+    """The approaches of which some service failed, or may have; that which failed most first."""
+    rows = [row for row in audit.tables.window("approaches") if row.count("split_fail") or row.count("split_undecided")]
+    return sorted(rows, key=lambda row: -row.number("fail_greatest"))
 
 
-def platoon_ratio(row: Row) -> float:
-    """The platoon ratio of an approach that has one."""
-    return row.number("platoon_ratio")
-
-
-def fails(row: Row) -> bool:
-    """Whether some service of an approach failed, or may have."""
-    return bool(row.count("split_fail") or row.count("split_undecided"))
+def arriving_least(audit: Audit) -> list[Row]:
+    """The approaches with arrivals, by their platoon ratio; those without one last."""
+    rows = [row for row in audit.tables.window("approaches") if row["arrivals"]]
+    return sorted(rows, key=lambda row: (not row["platoon_ratio"], row.number("platoon_ratio")))
 
 
 def moment(tenth: int) -> str:

@@ -1,16 +1,14 @@
-"""What was found in a log beside its audit, as a page says it: holes, faults of detectors, histories of verdicts.
-
-Each is read of the lines that the verbs holes, detectors and fillings print.
-"""
+"""What was found in a log beside its audit, as a page says it: holes, faults of detectors, histories of verdicts."""
 
 from __future__ import annotations
 
 import dataclasses
-from collections.abc import Iterable, Iterator, Sequence
+from collections.abc import Iterable, Iterator
 from typing import NamedTuple
 
-from sigaudit_tools.report.svg import Stretch, clock, day_of
-from sigaudit_tools.times import tenth_of_hour, tenth_of_stamp
+from sigaudit_tools.holes import Hole, Holes
+from sigaudit_tools.report.svg import clock, day_of
+from sigaudit_tools.times import tenth_of_stamp
 
 # Of a detector without rows so many hours are named.
 MOST_HOURS = 6
@@ -21,48 +19,6 @@ FAULTS = {
     "chatter": "comes on {} times, more often than vehicles make it",
 }
 _GRADES = {"sure": "surely", "likely": "likely"}
-
-
-class Reason(NamedTuple):
-    """A hole: the rows before and after it (tenths), and why it is one, in words."""
-
-    low: int
-    high: int
-    why: str
-
-
-class Chance(NamedTuple):
-    """Of so many outages of a length (`5-15` seconds) that were cut into the hours (`05-09`) so many were found."""
-
-    hours: str
-    length: str
-    found: int
-    of: int
-
-
-class Misfit(NamedTuple):
-    """Rows of a channel and code that can't follow those before them, of so many, and so often."""
-
-    what: str
-    rows: str
-    of: str
-
-
-@dataclasses.dataclass(frozen=True)
-class HolesSaid:
-    """What the search for holes said: holes, weak suspicions (from, to), what it couldn't learn, quiet detectors in
-    sentences, and its chances."""
-
-    holes: tuple[Reason, ...] = ()
-    suspected: tuple[Stretch, ...] = ()
-    small: tuple[Stretch, ...] = ()
-    misfits: tuple[Misfit, ...] = ()
-    quiet: tuple[str, ...] = ()
-    chances: tuple[Chance, ...] = ()
-
-    def why_blank(self, low: int, high: int) -> str:
-        """Why a stretch was blanked."""
-        return "; ".join(hole.why for hole in self.holes if hole.low < high and low < hole.high) or "blanked by hand"
 
 
 class FaultSaid(NamedTuple):
@@ -104,52 +60,35 @@ class History:
     channels: tuple[ChannelHistory, ...]
 
 
-def holes_said(lines: Iterable[str]) -> HolesSaid:
-    """What the lines of holes say."""
-    words = [line.split() for line in lines if line.strip()]
-
-    def of(kind: str) -> list[list[str]]:
-        return [one for one in words if one[0] == kind]
-
-    return HolesSaid(
-        tuple(Reason(*_tenths(one, 2), _why(one)) for one in of("hole")),
-        tuple(_tenths(one, 2) for one in of("suspect")),
-        tuple(_tenths(one, 1) for one in of("small")),
-        tuple(Misfit(" ".join(one[1:4]), one[4], one[6]) for one in of("misfit")),
-        tuple(_quiet(words)),
-        tuple(Chance(one[1], one[2], int(one[3]), int(one[5])) for one in of("chance")))
+def why_blank(holes: Holes | None, low: int, high: int) -> str:
+    """Why a stretch was blanked, from and up to, by the holes in it."""
+    found = [why(hole) for hole in holes.holes if hole.begin < high and low < hole.end] if holes else []
+    return "; ".join(found) or "blanked by hand"
 
 
-def _tenths(words: Sequence[str], first: int) -> Stretch:
-    """Two stamps that stand one after the other."""
-    return tenth_of_stamp(words[first]), tenth_of_stamp(words[first + 1])
-
-
-def _why(words: Sequence[str]) -> str:
-    """Why there is a hole, in words: `hole S FROM TO GRADE X WHY ..`."""
-    grade, because = words[4], words[6:]
-    if because == ["edge"]:
+def why(hole: Hole) -> str:
+    """Why a gap is a hole, in words."""
+    if hole.why == "edge":
         return "likely a hole: no row before the first, or after the last, for longer than ever at this time of day"
-    if because == ["silence"]:
-        return f"no row of any channel for {words[1]} s"
-    if grade == "certain":
-        row = " ".join(because).split(" after ")[0].split(": ")[-1].replace("T", " ")
-        what = "the controller began anew" if because[0] == "jump" else "certainly a hole"
+    if hole.why == "silence":
+        return f"no row of any channel for {(hole.end - hole.begin) / 10:.1f} s"
+    if hole.grade == "certain":
+        row = hole.why.split(" after ")[0].split(": ")[-1].replace("T", " ")
+        what = "the controller began anew" if hole.why.startswith("jump ") else "certainly a hole"
         return f"{what}: {row} can’t follow the rows before it"
-    channels = ", ".join(channel.rsplit(" ", 1)[0] for channel in " ".join(because).split(", "))
-    return f"{_GRADES[grade]} a hole: what stands before and after goes badly together ({channels})"
+    channels = ", ".join(channel.rsplit(" ", 1)[0] for channel in hole.why.split(", "))
+    return f"{_GRADES[hole.grade]} a hole: what stands before and after goes badly together ({channels})"
 
 
-def _quiet(lines: Sequence[Sequence[str]]) -> Iterator[str]:
+def quiet_detectors(holes: Holes) -> Iterator[str]:
     """Sentences on detectors without a row in the log, or in hours in which others have rows."""
+    for channel in holes.survey.never:
+        yield f"{channel.capitalize()} of the configuration has no row in the whole log."
     quiet: dict[str, list[int]] = {}
-    for words in lines:
-        if words[0] == "never":
-            yield f"{' '.join(words[1:]).capitalize()} of the configuration has no row in the whole log."
-        elif words[0] == "quiet":
-            for channel in " ".join(words[2:]).split(", "):
-                if channel.startswith("detector "):
-                    quiet.setdefault(channel, []).append(tenth_of_hour(words[1]))
+    for one in holes.survey.quiet:
+        for channel in one.channels:
+            if channel.startswith("detector "):
+                quiet.setdefault(channel, []).append(one.hour)
     for channel, hours in sorted(quiet.items(), key=lambda found: int(found[0].split()[1])):
         named = ", ".join(f"{day_of(hour)} {clock(hour)}" for hour in hours[:MOST_HOURS])
         more = f" and {len(hours) - MOST_HOURS} more" if len(hours) > MOST_HOURS else ""
@@ -168,8 +107,8 @@ def faults_said(lines: Iterable[str]) -> tuple[FaultSaid, ...]:
         what = FAULTS[" ".join(words[:name])]
         if words[0] == "chatter":
             what = what.format(words[words.index("actuations") + 1])
-        found.append(FaultSaid(words[place + 2], " ".join(words[name:place]), what, *_tenths(words, place),
-                               "logged" in words))
+        found.append(FaultSaid(words[place + 2], " ".join(words[name:place]), what, tenth_of_stamp(words[place]),
+                               tenth_of_stamp(words[place + 1]), "logged" in words))
     return tuple(found)
 
 

@@ -27,7 +27,8 @@ from sigaudit_tools.holes.durations import durations
 from sigaudit_tools.holes.found import Holes
 from sigaudit_tools.holes.known import known_events
 from sigaudit_tools.holes.machine_rows import channel_rows
-from sigaudit_tools.holes.spans import Span, length, merged, outside
+from sigaudit_tools.holes.spans import Span, columns, length, merged, outside
+from sigaudit_tools.holes.usual import Ints
 from sigaudit_tools.holes.values import Hole, Suspect
 from sigaudit_tools.signal.config import Interval
 from sigaudit_tools.signal.machines import COLOURS
@@ -72,35 +73,60 @@ class Doubt:
 SOLID, UNLEARNED = Doubt("solid"), Doubt("unlearned")
 
 
-@dataclasses.dataclass(frozen=True)
+@dataclasses.dataclass(frozen=True, eq=False)
 class Doubted:
-    """A line of an answer with its doubt.
+    """Lines of an answer with their doubts, the most doubtful first; shape (n,).
 
     Attributes:
-        verdict: broken, or kept.
-        rule: its number.
-        tenth: at which it is judged.
+        verdict: of all of them, broken or kept.
+        rule: the rules' numbers.
+        tenth: at which each is judged.
         begin, end: the first and the last tenth of the stretch that decides it.
-        doubt: the strongest suspicion in there.
+        doubts: the strongest suspicion in there.
     """
 
     verdict: str
-    rule: int
-    tenth: int
-    begin: int
-    end: int
-    doubt: Doubt
+    rule: Ints
+    tenth: Tenths
+    begin: Tenths
+    end: Tenths
+    doubts: tuple[Doubt, ...]
 
-    def line(self) -> str:
-        """As a line of text."""
-        doubt = self.doubt
-        odds = "-" if doubt.odds is None else f"{doubt.odds:.1f}"
-        told = (f"{doubt.grade} {odds} {self.verdict} {self.rule} {stamp_of(self.tenth)} "
-                f"from {stamp_of(self.begin)} to {stamp_of(self.end)}")
-        if doubt.gap is None:
-            return told
-        begin, end = doubt.gap
-        return f"{told} gap {(end - begin) / 10:.1f} {stamp_of(begin)} {stamp_of(end)} {doubt.why}"
+    @classmethod
+    def of(cls, verdict: str, lines: Lines, doubts: list[Doubt]) -> Doubted:
+        """Lines in any order with their doubts."""
+        ranks = {rank: place for place, rank in enumerate(sorted({doubt.rank for doubt in doubts}))}
+        rank = np.array([ranks[doubt.rank] for doubt in doubts], np.int64)
+        order = np.lexsort((lines.rule, lines.tenth, rank))
+        return cls(verdict, lines.rule[order], lines.tenth[order], lines.begin[order], lines.end[order],
+                   tuple(doubts[place] for place in order.tolist()))
+
+    def lines(self, every: bool) -> Iterator[str]:
+        """As text, those with a suspicion or every one."""
+        columns = (self.rule.tolist(), self.tenth.tolist(), self.begin.tolist(), self.end.tolist())
+        for doubt, rule, tenth, begin, end in zip(self.doubts, *columns):
+            if every or doubt.gap:
+                odds = "-" if doubt.odds is None else f"{doubt.odds:.1f}"
+                gap = f" gap {_gap(doubt.gap)} {doubt.why}" if doubt.gap else ""
+                yield (f"{doubt.grade} {odds} {self.verdict} {rule} {stamp_of(tenth)} "
+                       f"from {stamp_of(begin)} to {stamp_of(end)}{gap}")
+
+    def counts(self) -> Counter[str]:
+        """How many lines there are by grade."""
+        return Counter(doubt.grade for doubt in self.doubts)
+
+
+class Lines(NamedTuple):
+    """Lines of an answer: the rule's number, the tenth at which it is judged, the stretch that decides it; (n,)."""
+
+    rule: Ints
+    tenth: Tenths
+    begin: Tenths
+    end: Tenths
+
+
+def _gap(gap: Span) -> str:
+    return f"{(gap[1] - gap[0]) / 10:.1f} {stamp_of(gap[0])} {stamp_of(gap[1])}"
 
 
 class Blanked(NamedTuple):
@@ -159,6 +185,17 @@ class Suspicions:
         is_learned = not any(small.begin <= end and begin < small.end for small in self.small)
         return min(found, key=lambda doubt: doubt.rank, default=SOLID if is_learned else UNLEARNED)
 
+    def of_each(self, begin: Tenths, end: Tenths) -> list[Doubt]:
+        """The strongest doubt of each stretch, shape (n,)."""
+        spans = [doubt.gap for doubt in self.gaps if doubt.gap] + [(edge, edge) for edge in self.edges]
+        spans += [(small.begin, small.end) for small in self.small]
+        begins, ends = columns(spans)
+        near = np.searchsorted(begins, end, "right") > np.searchsorted(ends, begin, "left")
+        found = [SOLID] * len(begin)
+        for place in np.flatnonzero(near).tolist():
+            found[place] = self.of(int(begin[place]), int(end[place]))
+        return found
+
 
 @dataclasses.dataclass(frozen=True, eq=False)
 class Doubts:
@@ -166,12 +203,14 @@ class Doubts:
 
     Attributes:
         suspicions: what is suspected of the log.
-        doubted: each broken line, and each that is kept by little, the most doubtful first; broken ones first.
+        broken: the broken lines.
+        kept: the lines that are kept by little.
         blanked: how much of the held hours was blanked, and for what.
     """
 
     suspicions: Suspicions
-    doubted: tuple[Doubted, ...]
+    broken: Doubted
+    kept: Doubted
     blanked: Blanked
 
     def of(self, begin: int, end: int) -> Doubt:
@@ -180,17 +219,18 @@ class Doubts:
 
     def lines(self, every: bool = False) -> list[str]:
         """As text: broken lines, and those kept by little where a gap is suspected, or `every` one; then counts."""
-        count = Counter((one.verdict, one.doubt.grade) for one in self.doubted)
-        return [*(one.line() for one in self.doubted if every or one.verdict == BROKEN or one.doubt.gap),
-                *(f"count {verdict} {grade} {count[verdict, grade]}" for verdict in (BROKEN, KEPT) for grade in GRADES),
-                self.summary(), self.blanked.in_words()]
+        found = [*self.broken.lines(True), *self.kept.lines(every)]
+        for lines in (self.broken, self.kept):
+            counts = lines.counts()
+            found += [f"count {lines.verdict} {grade} {counts[grade]}" for grade in GRADES]
+        return [*found, self.summary(), self.blanked.in_words()]
 
     def summary(self) -> str:
         """How many lines are broken, and of them by grade."""
-        count = Counter(one.doubt.grade for one in self.doubted if one.verdict == BROKEN)
-        told = ", ".join(f"{count[grade]} {words}" for grade, words in IN_WORDS.items()
-                         if count[grade] or grade == "solid")
-        return f"broken {sum(count.values())}, of them {told}"
+        counts = self.broken.counts()
+        told = ", ".join(f"{counts[grade]} {words}" for grade, words in IN_WORDS.items()
+                         if counts[grade] or grade == "solid")
+        return f"broken {sum(counts.values())}, of them {told}"
 
 
 def find_doubts(answer: Answer, events: Events, holes: Holes) -> Doubts:
@@ -202,9 +242,9 @@ def find_doubts(answer: Answer, events: Events, holes: Holes) -> Doubts:
         holes: what was found in this log.
     """
     suspicions = Suspicions(holes, answer.unknown())
-    lines = [*_broken(answer, suspicions), *_kept_by_little(answer, events, suspicions)]
-    lines.sort(key=lambda one: (one.verdict, one.doubt.rank, one.tenth, one.rule))
-    return Doubts(suspicions, tuple(lines), _blanked(answer.known, answer.config.start_tenth, holes.holes))
+    broken, kept = (Doubted.of(verdict, lines, suspicions.of_each(lines.begin, lines.end))
+                    for verdict, lines in ((BROKEN, _broken(answer)), (KEPT, _kept_by_little(answer, events))))
+    return Doubts(suspicions, broken, kept, _blanked(answer.known, answer.config.start_tenth, holes.holes))
 
 
 def contradicting(why: str) -> Span:
@@ -219,34 +259,30 @@ def contradicting(why: str) -> Span:
     return tenth_of_stamp(words[-1]), tenth_of_stamp(words[-3])
 
 
-def _broken(answer: Answer, suspicions: Suspicions) -> Iterator[Doubted]:
+def _broken(answer: Answer) -> Lines:
     """The broken lines that hold, each once."""
     lines = Verdicts.joined([verdicts(section.text) for section in answer.judging])
-    columns = (lines.rule, lines.tenth, lines.begin, lines.end)
     is_broken = lines.verdict == VERDICTS.index(BROKEN)
-    for rule, tenth, begin, end in dict.fromkeys(zip(*(column[is_broken].tolist() for column in columns))):
-        yield Doubted(BROKEN, rule, tenth, begin, end, suspicions.of(begin, end))
+    found = np.array([lines.rule, lines.tenth, lines.begin, lines.end])[:, is_broken]
+    return Lines(*np.unique(found, axis=1))
 
 
-def _kept_by_little(answer: Answer, events: Events, suspicions: Suspicions) -> Iterator[Doubted]:
+def _kept_by_little(answer: Answer, events: Events) -> Lines:
     """The kept lines of duration rules whose colour lasted within a tenth of the bound, on its right side."""
     lines = Verdicts.joined([verdicts(section.text) for section in answer.by_hour("verdicts").values()])
     is_kept = lines.verdict == VERDICTS.index(KEPT)
-    kept = set(zip(lines.rule[is_kept].tolist(), lines.tenth[is_kept].tolist()))
-    if not kept:
-        return
-    known = known_events(events, answer)
-    for channel in dict.fromkeys(interval.channel for interval in answer.config.intervals):
-        found = durations(channel_rows(known, channel), answer.unknown())
-        lasted = found.end - found.begin
+    found = [Lines(*np.empty((4, 0), np.int64))]
+    known, unknown = known_events(events, answer), answer.unknown()
+    for channel in dict.fromkeys(interval.channel for interval in answer.config.intervals if is_kept.any()):
+        times = durations(channel_rows(known, channel), unknown)
         for rule, interval in enumerate(answer.config.intervals, 1):
-            if interval.channel != channel:
-                continue
-            is_near = found.colour == COLOURS[channel.kind].index(interval.colour)
-            is_near &= _by_little(lasted, interval)
-            for begin, end in zip(found.begin[is_near].tolist(), found.end[is_near].tolist()):
-                if (rule, end) in kept:
-                    yield Doubted(KEPT, rule, end, begin, end, suspicions.of(begin, end))
+            if interval.channel == channel:
+                is_near = times.colour == COLOURS[channel.kind].index(interval.colour)
+                is_near &= _by_little(times.end - times.begin, interval)
+                is_near &= np.isin(times.end, lines.tenth[is_kept & (lines.rule == rule)])
+                begin, end = times.begin[is_near], times.end[is_near]
+                found.append(Lines(np.full(len(end), rule), end, begin, end))
+    return Lines(*(np.concatenate(column) for column in zip(*found)))
 
 
 def _by_little(lasted: Tenths, interval: Interval) -> npt.NDArray[np.bool_]:

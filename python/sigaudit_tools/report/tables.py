@@ -18,6 +18,7 @@ import pandas as pd
 from sigaudit_tools import answer_lines
 from sigaudit_tools.answer import Answer, Edit
 from sigaudit_tools.files import write_text
+from sigaudit_tools.holes.doubts import Blanked
 from sigaudit_tools.signal.config import Config
 from sigaudit_tools.signal.rule_words import in_words
 from sigaudit_tools.times import HOUR, hour_of, stamp_of
@@ -34,14 +35,6 @@ class Source(NamedTuple):
     what: str
     path: str
     sha256: str
-
-
-class Blanked(NamedTuple):
-    """How many tenths of the held hours are blanked, and of these how many for a hole of which grade."""
-
-    held: int
-    blanked: int
-    by_grade: Mapping[str, int]
 
 
 def tables(answer: Answer, sources: Sequence[Source], files: Mapping[str, str], blanked: Blanked,

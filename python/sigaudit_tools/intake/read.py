@@ -80,7 +80,7 @@ class Intake:
             raise InputError(f"rows of several signals: {' '.join(list(self.signals)[:20])}", self._place(),
                              "choose one by --signal")
         if not self.signals:
-            raise InputError("no row is kept", self._place(), "; ".join(self._causes()) or "the export is empty")
+            raise InputError("no row is kept", self._place(), "; ".join(self.dropped_lines()) or "the export is empty")
         return next(iter(self.signals))
 
     @property
@@ -95,7 +95,7 @@ class Intake:
     def lines(self) -> list[str]:
         """What is said of it, in lines."""
         found = [f"read {one.path} sha256 {one.digest} records {one.records} rows {one.kept}" for one in self.sources]
-        found += self._causes()
+        found += self.dropped_lines()
         found += [f"zone {zone} cut off {count} stamps, the clock is kept as it is written"
                   for zone, count in sorted(self.zones.items())]
         if self.stepped_back:
@@ -108,7 +108,8 @@ class Intake:
             found.append(f"dropped {self.doubled}: doubled")
         return found if self.signals else [*found, "no row is kept, nothing is written"]
 
-    def _causes(self) -> list[str]:
+    def dropped_lines(self) -> list[str]:
+        """What is said of the records that are no rows, a line for each cause."""
         return [f"dropped {one.count}: {why}; first {one.first}" for why, one in sorted(self.dropped.items())]
 
     def _place(self) -> str:

@@ -50,21 +50,19 @@ def _stretch(found: Explanation, stretch: Span, line_of: LineOf, suspicions: Sus
         yield f"  row {'*' if own else ' '} {_row(row, line_of)}"
 
 
-def lines_at(finder: Finder, rule: int, stamp: int, show: Callable[[Line], Iterator[str]]) -> tuple[list[str], bool]:
-    """What a rule says at a tenth, and whether it says something.
-
-    That is its lines there, or why there is none, and the verdicts of the rule before and after it.
-    """
+def lines_at(finder: Finder, rule: int, stamp: int, show: Callable[[Line], Iterator[str]]) -> list[str]:
+    """What a rule says at a tenth: its lines there; or why there is none, and the verdicts of the rule before and after
+    it."""
     found = finder.find(rule, stamp)
     if found:
-        return [told for line in found for told in show(line)], True
+        return [told for line in found for told in show(line)]
     why, hour = why_none(finder, rule, stamp), (stamp - finder.answer.config.start_tenth) // HOUR
     asked = hour in finder.answer.by_hour("verdicts")
     verdict = "none" if why or asked else "kept or none"
     why = why or ("it isn't judged here" if asked
                   else f"neither broken nor undecided; a script with `verdicts {hour}` tells")
     return [f"{verdict} {rule} {stamp_of(stamp)} {in_short(finder.names[rule])}", f"  says {why}",
-            *_neighbours(finder, rule, stamp)], False
+            *_neighbours(finder, rule, stamp)]
 
 
 def why_none(finder: Finder, rule: int, stamp: int) -> str | None:

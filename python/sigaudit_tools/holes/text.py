@@ -81,6 +81,8 @@ def parse(path: Path) -> Holes:
         text = path.read_text(encoding="utf-8")
     except UnicodeDecodeError as error:
         raise InputError("isn't what the verb holes says", str(path), REMEDY) from error
+    except (FileNotFoundError, IsADirectoryError, NotADirectoryError) as error:
+        raise InputError(f"can't be read: {error.strerror}", str(path), REMEDY) from error
     except OSError as error:
         raise ResourceError(f"can't be read: {error.strerror}", str(path)) from error
     parts = _Parts()

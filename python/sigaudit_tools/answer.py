@@ -296,7 +296,8 @@ def read_answer(config: Config, script: Path, answer: Path) -> Answer:
         InputError: a file isn't there, or it isn't the whole answer to this script.
     """
     try:
-        return parse_answer(config, script.read_bytes().decode("latin-1"), answer.read_bytes(), str(script), str(answer))
+        words = script.read_bytes().decode("latin-1")
+        return parse_answer(config, words, answer.read_bytes(), str(script), str(answer))
     except OSError as error:
         raise InputError(f"can't be read: {error.strerror}", error.filename, "name a file that is there") from error
 

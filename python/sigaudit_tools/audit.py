@@ -19,7 +19,8 @@ from sigaudit_tools.answer import parse_answer
 from sigaudit_tools.errors import InputError
 from sigaudit_tools.events import Events
 from sigaudit_tools.files import digest, write_text, written
-from sigaudit_tools.intake import Intake, hour_files, read_export
+from sigaudit_tools.intake.hours import hour_files
+from sigaudit_tools.intake.read import Intake, read_export
 from sigaudit_tools.run import Run
 from sigaudit_tools.signal.config import Config, read_config
 from sigaudit_tools.steps import Steps, digest_of, locked
@@ -63,6 +64,7 @@ class Notice:
 
 
 Notify = Callable[[Notice], None]
+Make = Callable[[], tuple[Sequence[str], Sequence[str]]]
 
 
 def audit(config: Config | Path | str, log: Events | pd.DataFrame | Path | str | Sequence[Path | str],
@@ -108,7 +110,7 @@ class Work:
         self.steps = steps
         self._notify = notify
 
-    def step(self, name: str, made_of: Sequence[object], make: Callable[[], tuple[Sequence[str], Sequence[str]]]) -> None:
+    def step(self, name: str, made_of: Sequence[object], make: Make) -> None:
         """Does a step, unless it is done.
 
         Args:

@@ -4,8 +4,10 @@ from __future__ import annotations
 
 import errno
 import os
+import signal
 import sys
 import traceback
+import types
 from collections.abc import Sequence
 
 import click
@@ -13,8 +15,16 @@ import click
 from sigaudit_tools.errors import ResourceError, Status, ToolError
 
 NAME = "sigaudit-tools"
-INTERRUPTED = 130
-READER_GONE = 141
+ENDED = 128
+"""What shells add to the number of a signal, to have the status of what it ended."""
+
+
+class Ended(BaseException):
+    """Someone asked the command to end, by a signal."""
+
+    def __init__(self, number: int) -> None:
+        super().__init__(number)
+        self.number = number
 
 
 class _Shown:
@@ -42,19 +52,26 @@ def say(text: str) -> None:
         click.echo(text, err=True)
 
 
+def is_quiet() -> bool:
+    """Whether --quiet was given."""
+    return _Shown.quiet
+
+
 def run(command: click.Command, arguments: Sequence[str]) -> int:
     """Runs a command, prints what went wrong, and returns the status to end with."""
     _Shown.quiet = _Shown.debug = False
+    for number in (signal.SIGTERM, signal.SIGHUP):
+        signal.signal(number, _end)
     try:
         answer = command.main(list(arguments), prog_name=NAME, standalone_mode=False)
         sys.stdout.flush()
         return int(answer) if isinstance(answer, int) else Status.RIGHT
-    except click.exceptions.Abort:
-        return _ended(INTERRUPTED)
-    except KeyboardInterrupt:
-        return _ended(INTERRUPTED)
+    except (click.exceptions.Abort, KeyboardInterrupt):
+        return _ended(ENDED + signal.SIGINT)
+    except Ended as error:
+        return _ended(ENDED + error.number)
     except BrokenPipeError:
-        return _ended(READER_GONE)
+        return _ended(ENDED + signal.SIGPIPE)
     except click.ClickException as error:
         _trace()
         error.show()
@@ -69,6 +86,10 @@ def run(command: click.Command, arguments: Sequence[str]) -> int:
     except Exception as error:
         return _refuse(ResourceError(f"a mistake in the tools: {type(error).__name__}: {error}",
                                      remedy="--debug shows where; please report it"))
+
+
+def _end(number: int, frame: types.FrameType | None) -> None:
+    raise Ended(number)
 
 
 def _refuse(error: ToolError) -> int:

@@ -23,6 +23,7 @@ from sigaudit_tools.intake.hours import hour_files
 from sigaudit_tools.intake.read import Intake, read_export
 from sigaudit_tools.run import Run
 from sigaudit_tools.signal.config import Config, read_config
+from sigaudit_tools.signal.oddities import oddities, worded
 from sigaudit_tools.steps import Steps, digest_of, locked
 
 if TYPE_CHECKING:
@@ -88,11 +89,10 @@ def audit(config: Config | Path | str, log: Events | pd.DataFrame | Path | str |
         ResourceError: a file can't be read or written, or memory ran out.
     """
     found = programs.find_program(program)
-    settings = config if isinstance(config, Config) else read_config(config)
     folder = Path(tempfile.mkdtemp(prefix="sigaudit-")) if out is None else Path(out)
     try:
         with work_in(folder, force, notify) as work:
-            made = _Audit(work, settings, log, found, wishes).run()
+            made = audit_in(work, config, log, found, wishes)
     except BaseException:
         if out is None:
             rmtree(folder, ignore_errors=True)
@@ -147,6 +147,13 @@ def work_in(folder: Path, force: bool, notify: Notify) -> Iterator[Work]:
         yield Work(folder, steps, notify)
 
 
+def audit_in(work: Work, config: Config | Path | str, log: Events | pd.DataFrame | Path | str | Sequence[Path | str],
+             program: programs.Program, wishes: Wishes) -> Run:
+    """The steps of `audit` in a folder that is held."""
+    settings = config if isinstance(config, Config) else read_config(config)
+    return _Audit(work, settings, log, program, wishes).run()
+
+
 class _Audit:
     """The steps to an answer."""
 
@@ -165,6 +172,7 @@ class _Audit:
         work.step("hours", [config.signal, config.start_tenth, config.hours, self._wishes.day_first,
                             self._wishes.backward, self._wishes.once, *self._log_digests()], self._cut_hours)
         log = work.steps.digest("hours")
+        work.step("check", [config.digest, log], self._check)
         if self._wishes.holes:
             work.step("holes", [_without_rules(config), self._wishes.silence_s, self._wishes.chances, log],
                       self._find_holes)
@@ -210,6 +218,10 @@ class _Audit:
         lines = intake.lines()
         self._work.write(run.HOURS, lines)
         return [*files, run.EVENTS, run.HOURS], [*lines, f"{len(events)} rows of {len(files)} hours"]
+
+    def _check(self) -> tuple[list[str], list[str]]:
+        lines = worded(self._config, oddities(self._config, self._events))
+        return [self._work.write(run.CHECK, lines)], lines[-1:]
 
     def _find_holes(self) -> tuple[list[str], list[str]]:
         from sigaudit_tools.holes import find_holes
@@ -262,6 +274,19 @@ def ask(work: Work, program: programs.Program, config: Config) -> None:
         return [run.ANSWER], [f"{' '.join(edit.words)}: {edit.answer}" for edit in refused]
 
     work.step("answer", made_of, make)
+
+
+def answer_by_hand(folder: Path, *, program: Path | str | None = None, notify: Notify = lambda notice: None) -> Run:
+    """Lets the program answer the script of a run's folder as it stands, and returns the run.
+
+    Raises:
+        InputError: the folder is no run's, or has no script yet.
+        ProgramError, ResourceError: as `audit`.
+    """
+    found = programs.find_program(program)
+    with work_in(folder, False, notify) as work:
+        ask(work, found, run.kept_config(folder))
+    return run.open_run(folder)
 
 
 def _without_rules(config: Config) -> tuple[object, ...]:

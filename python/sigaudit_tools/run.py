@@ -102,9 +102,18 @@ def open_run(folder: Path | str) -> Run:
     for name in ("config", "hours", "script", "answer"):
         if not steps.files(name) or (name != "script" and steps.changed(name)):
             raise InputError(f"a run whose step {name} isn't done", str(folder), "let audit-export go on with it")
-    config = dataclasses.replace(read_config(folder / CONFIG), path=Path(CONFIG))
+    config = kept_config(folder)
     return Run(folder, config, read_events(folder / EVENTS),
                named(read_answer(config, folder / SCRIPT, folder / ANSWER)), kept_holes(folder))
+
+
+def kept_config(folder: Path) -> Config:
+    """The configuration that a run's folder keeps.
+
+    Raises:
+        InputError: it has none.
+    """
+    return dataclasses.replace(read_config(folder / CONFIG), path=Path(CONFIG))
 
 
 def named(answer: Answer) -> Answer:

@@ -19,8 +19,7 @@ from sigaudit_tools.answer import parse_answer
 from sigaudit_tools.errors import InputError
 from sigaudit_tools.events import Events
 from sigaudit_tools.files import digest, write_text, written
-from sigaudit_tools.intake.hours import hour_files
-from sigaudit_tools.intake.read import Intake, read_export
+from sigaudit_tools.intake import Intake, hour_files, read_export
 from sigaudit_tools.run import Run
 from sigaudit_tools.signal.config import Config, read_config
 from sigaudit_tools.signal.oddities import oddities, worded
@@ -180,14 +179,14 @@ class _Audit:
             work.step("faults", [config.digest, log], self._find_faults)
         self._keep_script_of_hand()
         work.step("script", [config.digest, log, self._wishes.holes and work.steps.digest("holes")], self._write_script)
-        ask(work, self._program, config)
+        answer_in(work, self._program, config)
         return run.open_run(work.folder)
 
     def _log_digests(self) -> list[str]:
         if isinstance(self._log, Sequence):
             return [digest(Path(path)) for path in self._log]
         events = self._intake.events
-        return [digest_of(column.tobytes()) for column in (events.tenth, events.code, events.param)]
+        return [digest_of(events.tenth.tobytes(), events.code.tobytes(), events.param.tobytes())]
 
     @functools.cached_property
     def _intake(self) -> Intake:
@@ -260,7 +259,7 @@ class _Audit:
         return [name for name in self._work.steps.files("hours") if name.endswith(".csv")]
 
 
-def ask(work: Work, program: programs.Program, config: Config) -> None:
+def answer_in(work: Work, program: programs.Program, config: Config) -> None:
     """The step `answer`: what the program says to the script that stands in the folder."""
     made_of = [config.digest, work.steps.digest("hours"), digest(work.folder / run.SCRIPT), program.version,
                digest(program.path)]
@@ -274,19 +273,6 @@ def ask(work: Work, program: programs.Program, config: Config) -> None:
         return [run.ANSWER], [f"{' '.join(edit.words)}: {edit.answer}" for edit in refused]
 
     work.step("answer", made_of, make)
-
-
-def answer_by_hand(folder: Path, *, program: Path | str | None = None, notify: Notify = lambda notice: None) -> Run:
-    """Lets the program answer the script of a run's folder as it stands, and returns the run.
-
-    Raises:
-        InputError: the folder is no run's, or has no script yet.
-        ProgramError, ResourceError: as `audit`.
-    """
-    found = programs.find_program(program)
-    with work_in(folder, False, notify) as work:
-        ask(work, found, run.kept_config(folder))
-    return run.open_run(folder)
 
 
 def _without_rules(config: Config) -> tuple[object, ...]:

@@ -42,6 +42,18 @@ def write_text(path: Path, text: str) -> None:
         file.write(text.encode("utf-8"))
 
 
+def make_folder(path: Path) -> None:
+    """Makes a folder, and those that it lies in, where it isn't there.
+
+    Raises:
+        ResourceError: it can't be made.
+    """
+    try:
+        path.mkdir(parents=True, exist_ok=True)
+    except OSError as error:
+        raise ResourceError(f"no folder can be made: {error.strerror}", str(path), "choose another") from error
+
+
 def digest(path: Path) -> str:
     """The SHA-256 of a file, as 64 digits.
 

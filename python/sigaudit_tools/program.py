@@ -13,6 +13,7 @@ from pathlib import Path
 
 from sigaudit_tools._version import VERSION
 from sigaudit_tools.errors import ProgramError, ResourceError
+from sigaudit_tools.times import stamp_of
 
 NAME = "sigaudit"
 
@@ -92,7 +93,6 @@ def run(program: Program, config: Path, script: Path, folder: Path, *more: str) 
     if made.returncode in (0, 1):
         return made.stdout, made.returncode == 1
     first = made.stdout.split(b"\n")[0].decode("utf-8", "replace")
-    said = made.stderr.decode("utf-8", "replace").strip().split("\n")[-1]
     match made.returncode:
         case 3:
             raise ProgramError(first, str(config), "sigaudit-tools check names every mistake with its line")
@@ -101,11 +101,11 @@ def run(program: Program, config: Path, script: Path, folder: Path, *more: str) 
             raise ResourceError(f"sigaudit ended with {made.returncode}: {cause[made.returncode]}", str(folder),
                                 "docs/FORMATS.md has its limits")
         case code:
-            raise ProgramError(f"ended with {code}: {first or said or 'it said nothing'}", str(program.path),
+            raise ProgramError(f"ended with {code}: {first or 'it said nothing'}", str(program.path),
                                "try it by itself: sigaudit --demo 1")
 
 
-def fillings(program: Program, config: Path, edits: str, folder: Path, rule: int, stamp: str) -> str:
+def fillings(program: Program, config: Path, edits: str, folder: Path, rule: int, tenth: int) -> str:
     """The two fillings of an undecided verdict, as the program prints them for `--rule K --at T`.
 
     Args:
@@ -114,7 +114,7 @@ def fillings(program: Program, config: Path, edits: str, folder: Path, rule: int
         edits: the lines that edit, before the audit that called it undecided.
         folder: the folder of the files that they name.
         rule: the rule's number.
-        stamp: the tenth at which it is judged, YYYY-MM-DDTHH:MM:SS.t.
+        tenth: the tenth at which it is judged.
 
     Raises:
         ProgramError, ResourceError: as `run`.
@@ -122,7 +122,7 @@ def fillings(program: Program, config: Path, edits: str, folder: Path, rule: int
     with tempfile.NamedTemporaryFile("w", encoding="latin-1", newline="\n", suffix=".txt") as script:
         script.write(edits)
         script.flush()
-        answer, _ = run(program, config, Path(script.name), folder, "--rule", str(rule), "--at", stamp)
+        answer, _ = run(program, config, Path(script.name), folder, "--rule", str(rule), "--at", stamp_of(tenth))
     return answer.decode("latin-1")
 
 
@@ -145,8 +145,9 @@ def _candidates(given: Path | str | None) -> Iterator[Path]:
 
 
 def _call(words: list[str], folder: Path, wait_s: float | None = None) -> subprocess.CompletedProcess[bytes]:
+    """Runs a command. Its standard error is that of this process: the launcher says there how its building goes."""
     try:
-        return subprocess.run(words, cwd=folder, stdin=subprocess.DEVNULL, capture_output=True, timeout=wait_s)
+        return subprocess.run(words, cwd=folder, stdin=subprocess.DEVNULL, stdout=subprocess.PIPE, timeout=wait_s)
     except subprocess.TimeoutExpired as error:
         raise ProgramError(f"no answer within {wait_s:.0f} s", words[0], "let it be built first: ./sigaudit --demo 1"
                            ) from error

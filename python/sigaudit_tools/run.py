@@ -82,6 +82,12 @@ class Run:
         from sigaudit_tools.faults import find_faults
         return find_faults(self.config, self.events) if (self.folder / FAULTS).is_file() else None
 
+    @property
+    def faults_said(self) -> list[str] | None:
+        """What was said of faults, in lines; None where they weren't looked for."""
+        path = self.folder / FAULTS
+        return path.read_text("latin-1").splitlines() if path.is_file() else None
+
     @functools.cached_property
     def fillings(self) -> str:
         """The two fillings of some undecided verdicts, as the program prints them; empty where none were asked for."""
@@ -96,15 +102,25 @@ def open_run(folder: Path | str) -> Run:
         InputError: the folder isn't there, is no run's, or the run has no answer yet.
     """
     folder = Path(folder)
-    if not (folder / RECORD).is_file():
-        raise InputError("no run: it has no " + RECORD, str(folder), "name a folder that audit-export made")
-    steps = Steps(folder)
-    for name in ("config", "hours", "script", "answer"):
-        if not steps.files(name) or (name != "script" and steps.changed(name)):
-            raise InputError(f"a run whose step {name} isn't done", str(folder), "let audit-export go on with it")
+    check_steps(folder, "config", "hours", "answer")
     config = kept_config(folder)
     return Run(folder, config, read_events(folder / EVENTS),
                named(read_answer(config, folder / SCRIPT, folder / ANSWER)), kept_holes(folder))
+
+
+def check_steps(folder: Path, *names: str) -> None:
+    """Makes sure that a folder is a run's in which these steps are done.
+
+    Raises:
+        InputError: it isn't.
+    """
+    if not (folder / RECORD).is_file():
+        raise InputError("no run: it has no " + RECORD, str(folder), "name a folder that audit-export made")
+    steps = Steps(folder)
+    for name in names:
+        if not steps.files(name) or steps.changed(name):
+            raise InputError(f"a run whose step {name} isn't done, or whose files were changed", str(folder),
+                             "let audit-export go on with it")
 
 
 def kept_config(folder: Path) -> Config:

@@ -35,14 +35,11 @@ def command(config: Path, out: Path, silence: float | None, no_holes: bool, no_d
     A run that was ended goes on where it was; one whose configuration or files have changed does again only what hangs
     on them. Read holes.txt: the blanks that are proposed there are taken as they are.
     """
-    from sigaudit_tools.audit import Wishes, audit
+    from sigaudit_tools.audit import Wishes
     from sigaudit_tools.cli._progress import Progress
     from sigaudit_tools.cli._summary import say_summary
-    from sigaudit_tools.publish import publish
+    from sigaudit_tools.publish import audit_export
 
-    progress = Progress()
     wishes = Wishes(holes=not no_holes, faults=False if no_detectors else None, silence_s=silence,
                     chances=not no_chances, day_first=day_first, backward=backward, once=once)
-    run = audit(config, list(files), out, force=force, wishes=wishes, notify=progress)
-    publish(run, force=force, notify=progress)
-    say_summary(run)
+    say_summary(audit_export(config, files, out, force=force, wishes=wishes, notify=Progress()))

@@ -17,8 +17,8 @@ def command(run_folder: Path) -> None:
     For a script that was changed by hand, such as with other blanks than those that were proposed. What
     audit-export makes before the script is left as it is.
     """
-    from sigaudit_tools.audit import answer_by_hand
     from sigaudit_tools.cli._progress import Progress
     from sigaudit_tools.cli._summary import say_summary
+    from sigaudit_tools.publish import go_on_by_hand
 
-    say_summary(answer_by_hand(run_folder, notify=Progress()))
+    say_summary(go_on_by_hand(run_folder, notify=Progress()))

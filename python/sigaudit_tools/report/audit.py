@@ -9,11 +9,12 @@ from collections.abc import Mapping, Sequence
 import pandas as pd
 
 from sigaudit_tools.answer import Answer
+from sigaudit_tools.faults import Faults, Finding
 from sigaudit_tools.holes import Holes
 from sigaudit_tools.report.charts import Known, Mark
 from sigaudit_tools.report.evidence import KnownLog, Line, channels_of
 from sigaudit_tools.report.lookup import Row, Tables
-from sigaudit_tools.report.remarks import FaultSaid, History
+from sigaudit_tools.report.remarks import History
 from sigaudit_tools.report.svg import Stretch
 from sigaudit_tools.times import tenth_of_stamp
 
@@ -115,7 +116,7 @@ class Audit:
         version: that of the tools which make it.
         log: the rows of the hours that are held; None where they aren't there, and nothing is shown of them.
         holes: what the search for holes found; None where there was none.
-        faults: what the search for faults of detectors said; None where there was none.
+        faults: what the search for faults of channels found; None where there was none.
         histories: of some undecided verdicts, by rule and tenth, a history that keeps the rule and one that breaks it.
         folder: where the tables lie, from the page.
     """
@@ -126,7 +127,7 @@ class Audit:
     version: str
     log: KnownLog | None = None
     holes: Holes | None = None
-    faults: tuple[FaultSaid, ...] | None = None
+    faults: Faults | None = None
     histories: Mapping[tuple[int, int], tuple[History, ...]] = dataclasses.field(default_factory=dict)
     folder: str = "tables"
 
@@ -211,14 +212,12 @@ class Audit:
             return None
         return self.log.lines(verdict.stretch, channels_of(verdict.row["name"], self.answer.config))
 
-    def approaches_of(self, channel: str) -> list[str]:
-        """The approaches that use a detector of a channel: `detector 5`, `detector 1,2`, `detector all`."""
-        kind, _, numbers = channel.partition(" ")
-        if kind != "detector":
+    def approaches_of(self, fault: Finding) -> list[str]:
+        """The approaches that use a detector of a faulty channel."""
+        if fault.group.kind != "detector":
             return []
         return [one.name for one in self.answer.config.approaches
-                if any(detector is not None and (numbers == "all" or str(detector) in numbers.split(","))
-                       for detector in (one.advance, one.stop_bar))]
+                if one.advance in fault.group.numbers or one.stop_bar in fault.group.numbers]
 
 
 def is_clearing(name: str) -> bool:

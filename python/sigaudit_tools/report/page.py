@@ -21,7 +21,7 @@ from sigaudit_tools.report.audit import SHOWN, Audit
 from sigaudit_tools.report.charts import HATCHED
 from sigaudit_tools.report.evidence import Line
 from sigaudit_tools.report.lookup import Row
-from sigaudit_tools.report.remarks import History, quiet_detectors, why_blank
+from sigaudit_tools.report.remarks import History, fault_in_words, quiet_detectors, why_blank
 from sigaudit_tools.report.svg import PATTERNS, day_of, end_clock
 from sigaudit_tools.signal.channels import channel_of
 from sigaudit_tools.signal.codes import name_of
@@ -82,12 +82,11 @@ def made_now() -> str:
 def _environment() -> jinja2.Environment:
     environment = jinja2.Environment(loader=jinja2.FileSystemLoader(HERE), autoescape=True, trim_blocks=True,
                                      lstrip_blocks=True, undefined=jinja2.StrictUndefined)
-    environment.filters.update(stamp=stamp_of, moment=moment, day=day_of, seconds=seconds, style=lookup.style,
-                               channel_in_words=channel_in_words)
+    environment.filters.update(stamp=stamp_of, moment=moment, day=day_of, seconds=seconds, style=lookup.style)
     environment.globals.update(
-        figures=figures, patterns=PATTERNS, parts=PARTS, ending=ending, hatched=HATCHED, most_shown=SHOWN,
-        forbidden=FORBIDDEN, grade_in_words=GRADE_IN_WORDS, about=about, rows_text=rows_text,
-        history_text=history_text, quiet_detectors=quiet_detectors, on_log=lambda grade: ON_LOG.get(grade, grade),
+        figures=figures, patterns=PATTERNS, parts=PARTS, hatched=HATCHED, most_shown=SHOWN, forbidden=FORBIDDEN,
+        grade_in_words=GRADE_IN_WORDS, on_log=lambda grade: ON_LOG.get(grade, grade), about=about, ending=ending,
+        rows_text=rows_text, history_text=history_text, quiet_detectors=quiet_detectors, fault_in_words=fault_in_words,
         style=Markup(_text("style.css")), script=Markup(_text("page.js")))
     return environment
 
@@ -197,13 +196,6 @@ def ending(low: int, high: int) -> str:
 def seconds(tenths: int) -> str:
     """Tenths as seconds with one decimal."""
     return f"{tenths // 10}.{tenths % 10}"
-
-
-def channel_in_words(channel: str) -> str:
-    """A channel of the search for faults: `ped_detector 2`, `detector 1,2`, `detector all`, `coordination`."""
-    kind, _, numbers = channel.replace("ped_detector", "pedestrian detector").rpartition(" ")
-    words = f"all {kind}s" if numbers == "all" else f"{kind} {numbers.replace(',', ', ')}".strip()
-    return words.capitalize()
 
 
 def css_text(words: str) -> Markup:

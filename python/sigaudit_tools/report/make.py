@@ -7,6 +7,7 @@ from pathlib import Path
 
 import pandas as pd
 
+from sigaudit_tools import explain
 from sigaudit_tools._version import VERSION
 from sigaudit_tools.answer import Answer
 from sigaudit_tools.errors import ResourceError
@@ -39,7 +40,7 @@ def audit_of(answer: Answer, events: Events, folder: Path, holes: Holes | None =
     """
     doubts = find_doubts(answer, events, holes) if holes else None
     found = tables(answer, _sources(answer), _files(answer, folder), doubts.blanked if doubts else _blanked(answer),
-                   _in_words(answer, doubts) if doubts else None)
+                   _in_words(answer, doubts) if doubts else None, explain.figures(answer, events))
     return Audit(answer, found, made_now(), VERSION, KnownLog.of(answer, events), holes, faults,
                  histories(fillings.splitlines()))
 

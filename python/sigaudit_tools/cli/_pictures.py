@@ -29,7 +29,7 @@ def audit_of_run(folder: Path) -> Audit:
     from sigaudit_tools.run import open_run
 
     run = open_run(folder)
-    return audit_of(run.answer, run.events, run.folder, run.holes, run.faults, run.fillings)
+    return audit_of(run.answer, run.events, run.folder, run.holes, run.faults_said, run.fillings)
 
 
 def shown(config: Config, hour: str | None, count: int | None) -> tuple[int, int] | None:

@@ -9,12 +9,11 @@ from collections.abc import Mapping, Sequence
 import pandas as pd
 
 from sigaudit_tools.answer import Answer
-from sigaudit_tools.faults import Faults, Finding
 from sigaudit_tools.holes import Holes
 from sigaudit_tools.report.charts import Known, Mark
 from sigaudit_tools.report.evidence import KnownLog, Line, channels_of
 from sigaudit_tools.report.lookup import Row, Tables
-from sigaudit_tools.report.remarks import History
+from sigaudit_tools.report.remarks import FaultSaid, History
 from sigaudit_tools.report.svg import Stretch
 from sigaudit_tools.times import tenth_of_stamp
 
@@ -127,7 +126,7 @@ class Audit:
     version: str
     log: KnownLog | None = None
     holes: Holes | None = None
-    faults: Faults | None = None
+    faults: tuple[FaultSaid, ...] | None = None
     histories: Mapping[tuple[int, int], tuple[History, ...]] = dataclasses.field(default_factory=dict)
     folder: str = "tables"
 
@@ -212,12 +211,14 @@ class Audit:
             return None
         return self.log.lines(verdict.stretch, channels_of(verdict.row["name"], self.answer.config))
 
-    def approaches_of(self, fault: Finding) -> list[str]:
+    def approaches_of(self, fault: FaultSaid) -> list[str]:
         """The approaches that use a detector of a faulty channel."""
-        if fault.group.kind != "detector":
+        kind, _, numbers = fault.channel.partition(" ")
+        if kind != "detector":
             return []
         return [one.name for one in self.answer.config.approaches
-                if one.advance in fault.group.numbers or one.stop_bar in fault.group.numbers]
+                if any(detector is not None and (numbers == "all" or str(detector) in numbers.split(","))
+                       for detector in (one.advance, one.stop_bar))]
 
 
 def is_clearing(name: str) -> bool:

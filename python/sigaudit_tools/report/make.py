@@ -2,7 +2,7 @@
 
 from __future__ import annotations
 
-from collections.abc import Iterator
+from collections.abc import Iterable, Iterator
 from pathlib import Path
 
 import pandas as pd
@@ -12,7 +12,6 @@ from sigaudit_tools._version import VERSION
 from sigaudit_tools.answer import Answer
 from sigaudit_tools.errors import ResourceError
 from sigaudit_tools.events import Events
-from sigaudit_tools.faults import Faults
 from sigaudit_tools.files import digest
 from sigaudit_tools.holes import Holes
 from sigaudit_tools.holes.doubts import Blanked, Doubts, find_doubts
@@ -21,13 +20,13 @@ from sigaudit_tools.report import figures
 from sigaudit_tools.report.audit import Audit
 from sigaudit_tools.report.evidence import KnownLog
 from sigaudit_tools.report.page import made_now
-from sigaudit_tools.report.remarks import histories
+from sigaudit_tools.report.remarks import faults_said, histories
 from sigaudit_tools.report.tables import Source, tables
 from sigaudit_tools.times import HOUR
 
 
 def audit_of(answer: Answer, events: Events, folder: Path, holes: Holes | None = None,
-             faults: Faults | None = None, fillings: str = "") -> Audit:
+             faults: Iterable[str] | None = None, fillings: str = "") -> Audit:
     """What a page is made of.
 
     Args:
@@ -35,14 +34,14 @@ def audit_of(answer: Answer, events: Events, folder: Path, holes: Holes | None =
         events: the rows of the hours that it holds, each hour's as its file has them.
         folder: where the hour files lie.
         holes: what was found of holes; None where they weren't looked for.
-        faults: what was found of faults; None where they weren't looked for.
+        faults: what was found of faults, as lines (`Faults.lines`); None where they weren't looked for.
         fillings: histories of undecided verdicts, as the program prints them.
     """
     doubts = find_doubts(answer, events, holes) if holes else None
     found = tables(answer, _sources(answer), _files(answer, folder), doubts.blanked if doubts else _blanked(answer),
                    _in_words(answer, doubts) if doubts else None, explain.figures(answer, events))
-    return Audit(answer, found, made_now(), VERSION, KnownLog.of(answer, events), holes, faults,
-                 histories(fillings.splitlines()))
+    return Audit(answer, found, made_now(), VERSION, KnownLog.of(answer, events), holes,
+                 None if faults is None else faults_said(faults), histories(fillings.splitlines()))
 
 
 def pictures(audit: Audit) -> Iterator[tuple[str, str]]:

@@ -21,7 +21,7 @@ from sigaudit_tools.report.audit import SHOWN, Audit
 from sigaudit_tools.report.charts import HATCHED
 from sigaudit_tools.report.evidence import Line
 from sigaudit_tools.report.lookup import Row
-from sigaudit_tools.report.remarks import History, fault_in_words, quiet_detectors, why_blank
+from sigaudit_tools.report.remarks import History, quiet_detectors, why_blank
 from sigaudit_tools.report.svg import PATTERNS, day_of, end_clock
 from sigaudit_tools.signal.channels import channel_of
 from sigaudit_tools.signal.codes import name_of
@@ -86,7 +86,7 @@ def _environment() -> jinja2.Environment:
     environment.globals.update(
         figures=figures, patterns=PATTERNS, parts=PARTS, hatched=HATCHED, most_shown=SHOWN, forbidden=FORBIDDEN,
         grade_in_words=GRADE_IN_WORDS, on_log=lambda grade: ON_LOG.get(grade, grade), about=about, ending=ending,
-        rows_text=rows_text, history_text=history_text, quiet_detectors=quiet_detectors, fault_in_words=fault_in_words,
+        rows_text=rows_text, history_text=history_text, quiet_detectors=quiet_detectors,
         style=Markup(_text("style.css")), script=Markup(_text("page.js")))
     return environment
 

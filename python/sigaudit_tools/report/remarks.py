@@ -6,7 +6,6 @@ import dataclasses
 from collections.abc import Iterable, Iterator
 from typing import NamedTuple
 
-from sigaudit_tools.faults import Finding
 from sigaudit_tools.holes import Hole, Holes
 from sigaudit_tools.report.svg import clock, day_of
 from sigaudit_tools.times import tenth_of_stamp
@@ -20,6 +19,24 @@ FAULTS = {
     "chatter": "comes on {} times, more often than vehicles make it",
 }
 _GRADES = {"sure": "surely", "likely": "likely"}
+
+
+class FaultSaid(NamedTuple):
+    """What was found of a channel (`detector 5`, `detector 1,2`, `detector all`, `coordination`): its grade, what,
+    from and to (tenths), and whether the log has a code of the fault."""
+
+    grade: str
+    channel: str
+    what: str
+    low: int
+    high: int
+    logged: bool
+
+    def in_words(self) -> str:
+        """What is wrong with the channel: `Detector 5: on without a change`."""
+        kind, _, numbers = self.channel.replace("ped_detector", "pedestrian detector").rpartition(" ")
+        channel = f"all {kind}s" if numbers == "all" else f"{kind} {numbers.replace(',', ', ')}".strip()
+        return f"{channel.capitalize()}: {self.what}"
 
 
 class Fill(NamedTuple):
@@ -85,12 +102,20 @@ def quiet_detectors(holes: Holes) -> Iterator[str]:
                "though others have: it was silent, or nobody came.")
 
 
-def fault_in_words(fault: Finding) -> str:
-    """What is wrong with a channel: `Detector 5: on without a change`."""
-    what = FAULTS[fault.word].format(fault.actuations)
-    kind, _, numbers = fault.name.replace("ped_detector", "pedestrian detector").rpartition(" ")
-    channel = f"all {kind}s" if numbers == "all" else f"{kind} {numbers.replace(',', ', ')}".strip()
-    return f"{channel.capitalize()}: {what}"
+def faults_said(lines: Iterable[str]) -> tuple[FaultSaid, ...]:
+    """What the lines of `Faults.lines` say: `stuck on CHANNEL FROM TO GRADE ..`, `silent ..`, `chatter ..`."""
+    found = []
+    for words in map(str.split, lines):
+        if words[:1] not in (["silent"], ["stuck"], ["chatter"]):
+            continue
+        name = 2 if words[0] == "stuck" else 1
+        place = next(place for place, word in enumerate(words) if len(word) == 21 and word[10] == "T")
+        what = FAULTS[" ".join(words[:name])]
+        if words[0] == "chatter":
+            what = what.format(words[words.index("actuations") + 1])
+        found.append(FaultSaid(words[place + 2], " ".join(words[name:place]), what, tenth_of_stamp(words[place]),
+                               tenth_of_stamp(words[place + 1]), "logged" in words))
+    return tuple(found)
 
 
 def histories(lines: Iterable[str]) -> dict[tuple[int, int], tuple[History, ...]]:

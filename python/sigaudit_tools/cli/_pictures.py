@@ -12,7 +12,6 @@ from sigaudit_tools.times import HOUR, hour_of, tenth_of_hour
 
 if TYPE_CHECKING:
     from sigaudit_tools.report.audit import Audit
-    from sigaudit_tools.report.svg import Chart
     from sigaudit_tools.signal.config import Config
 
 out = click.option("--out", type=click.Path(path_type=Path), metavar="SVG",
@@ -52,11 +51,11 @@ def shown(config: Config, hour: str | None, count: int | None) -> tuple[int, int
     return begin, end
 
 
-def write(chart: Chart, path: Path | None) -> None:
-    """Writes a picture into a file, or to standard output."""
+def write(text: str, path: Path | None) -> None:
+    """Writes the text of a picture into a file, or to standard output."""
     from sigaudit_tools.files import write_text
 
     if path is None:
-        click.echo(chart.file(), nl=False)
+        click.echo(text, nl=False)
     else:
-        write_text(path, chart.file())
+        write_text(path, text)

@@ -26,9 +26,10 @@ def command(run_folder: Path, phase: int, first: str | None, hours: int | None, 
     """
     from sigaudit_tools.report import figures
 
-    audit = _pictures.audit_of_run(run_folder)
-    found = figures.diagram(audit.answer, phase, _pictures.shown(audit.answer.config, first, hours))
+    answer = _pictures.audit_of_run(run_folder).answer
+    shown = _pictures.shown(answer.config, first, hours)
+    found = figures.diagram(answer, phase, shown)
     if found is None:
         raise InputError(f"no diagram of phase {phase}: no whole cycle, or the script doesn't ask for `points {phase}`",
                          str(run_folder), "take a phase with an advance detector, or other hours")
-    _pictures.write(found.chart, out)
+    _pictures.write(found.chart.file(figures.about_diagram(answer.config, found, shown)), out)

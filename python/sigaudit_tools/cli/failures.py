@@ -22,8 +22,9 @@ def command(run_folder: Path, out: Path | None) -> None:
     """
     from sigaudit_tools.report import figures
 
-    found = figures.failures(_pictures.audit_of_run(run_folder))
+    audit = _pictures.audit_of_run(run_folder)
+    found = figures.failures(audit)
     if found is None:
         raise InputError("no approach has a service that was judged", str(run_folder),
                          "give the configuration an approach with a stop bar detector")
-    _pictures.write(found, out)
+    _pictures.write(found.file(figures.about(audit.answer.config)), out)

@@ -22,8 +22,9 @@ def command(run_folder: Path, approach: str, out: Path | None) -> None:
     """
     from sigaudit_tools.report import figures
 
-    found = figures.shifts(_pictures.audit_of_run(run_folder).answer, approach)
+    answer = _pictures.audit_of_run(run_folder).answer
+    found = figures.shifts(answer, approach)
     if found is None:
         raise InputError(f"no shifts of {approach}: no whole cycle, or the script doesn't ask for `offsets {approach}`",
                          str(run_folder), "take an approach with an advance detector")
-    _pictures.write(found.chart, out)
+    _pictures.write(found.chart.file(figures.about_shifts(answer.config, found)), out)

@@ -26,4 +26,5 @@ def command(run_folder: Path, first: str | None, hours: int | None, out: Path | 
     audit = _pictures.audit_of_run(run_folder)
     if not audit.answer.last("audit"):
         raise InputError("the script has no `audit`", str(run_folder), "add the line and run the program again")
-    _pictures.write(figures.timeline(audit, _pictures.shown(audit.answer.config, first, hours)), out)
+    shown = _pictures.shown(audit.answer.config, first, hours)
+    _pictures.write(figures.timeline(audit, shown).file(figures.about(audit.answer.config, shown)), out)

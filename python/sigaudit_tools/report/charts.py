@@ -169,12 +169,22 @@ def hours_band(title: str, known: Known, rows: Sequence[Band], unit: str, percen
 
 @dataclasses.dataclass(frozen=True)
 class Diagram:
-    """A coordination diagram: the chart, up to how many seconds it goes, how many cycles are cut there, and of how
-    many arrivals each one is drawn."""
+    """A coordination diagram.
+
+    Attributes:
+        chart: the picture.
+        cycles, arrivals: how many there are.
+        highest_s: up to how many seconds it goes.
+        cut, hidden: how many cycles are cut there, and how many arrivals lie above.
+        every: of so many arrivals one is drawn.
+    """
 
     chart: Chart
+    cycles: int
+    arrivals: int
     highest_s: int
     cut: int
+    hidden: int
     every: int
 
 
@@ -198,7 +208,7 @@ def diagram(title: str, known: Known, cycles: Rows, points: Rows, most: int = MO
     begin, length, green, yellow = cycles.T
     served = (green > 0) & (yellow > green) & (green < highest)
     x = picture.xs(begin)
-    wide = picture.xs(begin + length) - x
+    wide = picture.xs(np.minimum(begin + length, known.end)) - x
     low, top = picture.ys(green / 10), picture.ys(np.minimum(yellow, highest) / 10)
     picture.path(map(box, x[served], low[served], wide[served], top[served]), fill="#d9efe6")
     picture.path(_steps(x, low, wide, served), stroke=GREEN, stroke_width=1.6)
@@ -207,7 +217,7 @@ def diagram(title: str, known: Known, cycles: Rows, points: Rows, most: int = MO
     picture.path(_steps(x, picture.ys(length / 10), wide, whole), stroke=RED, stroke_width=1.0)
     picture.path((f"M{short(middle - 4)} {short(picture.top + 8)}l4 -6l4 6" for middle in (x + wide / 2)[~whole]),
                  stroke=RED)
-    shown = points[points[:, 1] <= highest]
+    shown = points[(points[:, 1] <= highest) & (points.sum(axis=1) < known.end)]
     every = -(-len(shown) // most) or 1
     arrivals = shown[::every].T
     picture.path((f"M{short(left)} {short(at)}h0" for left, at in zip(
@@ -216,7 +226,8 @@ def diagram(title: str, known: Known, cycles: Rows, points: Rows, most: int = MO
     picture.time_axis()
     return Diagram(picture.chart((Key("#d9efe6", "green"), Key(ORANGE, "begin of yellow", "line"),
                                   Key(RED, "end of the cycle", "line"), Key(INK, "arrival", "dot"), HATCHED)),
-                   highest // 10, int((~whole).sum()), every)
+                   len(cycles), len(points), highest // 10, int((~whole).sum()), int((points[:, 1] > highest).sum()),
+                   every)
 
 
 def tallest(lengths: Rows) -> int:

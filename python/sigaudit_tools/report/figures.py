@@ -14,7 +14,9 @@ from sigaudit_tools.report.audit import Audit
 from sigaudit_tools.report.charts import Band, Diagram, Known
 from sigaudit_tools.report.lookup import Row
 from sigaudit_tools.report.svg import BLUE, BROKEN, DOTTED, HALF, SKY, STRIPED, WIDE, Chart, Key, Rows, Stretch
+from sigaudit_tools.signal.config import Config
 from sigaudit_tools.signal.rule_words import in_short
+from sigaudit_tools.times import stamp_of
 
 # What bars are made of, from below: the column, and its key.
 TERMINATIONS = (("gap_out", Key(SKY, "gap out")), ("max_out", Key(STRIPED, "max out")),
@@ -38,7 +40,7 @@ def timeline(audit: Audit, shown: Stretch | None = None) -> Chart:
     there = {mark.rule for mark in marks}
     names = audit.answer.rules
     rules = [(rule, f"{rule}  {in_short(names.get(rule, ''))}") for rule in audit.rules if rule in there]
-    return charts.timeline(f"Time line of signal {audit.answer.config.signal}: rules with broken or undecided verdicts",
+    return charts.timeline("Time line: rules with broken or undecided verdicts",
                            dataclasses.replace(audit.known, start=low, end=high),
                            [(one.begin, one.end) for one in audit.holes.suspects] if audit.holes else (), rules, marks)
 
@@ -83,8 +85,7 @@ def failures(audit: Audit) -> Chart | None:
     names = dict.fromkeys(row["approach"] for row in rows)
     found = [services(audit.known, f"Approach {name}", [row for row in rows if row["approach"] == name], WIDE)
              for name in names]
-    title = f"Signal {audit.answer.config.signal}: services by hour"
-    return charts.one_above_another(title, found) if found else None
+    return charts.one_above_another("Services by hour", found) if found else None
 
 
 @dataclasses.dataclass(frozen=True)
@@ -128,6 +129,25 @@ def diagram(answer: Answer, phase: int, shown: Stretch | None = None) -> Diagram
     points = points[(low <= points[:, 0]) & (points[:, 0] < high)]
     known = Known(low, high, answer.missing(section.known), answer.blanked(section.known))
     return charts.diagram(f"Coordination diagram of phase {phase}", known, cycles, points)
+
+
+def about(config: Config, shown: Stretch | None = None, more: str = "") -> str:
+    """The line about a picture in a file of its own: the signal, from when to when, and more."""
+    low, high = shown or (config.start_tenth, config.end_tenth)
+    return f"Signal {config.signal}, {stamp_of(low, ' ')[:16]} to {stamp_of(high, ' ')[:16]}{more}"
+
+
+def about_diagram(config: Config, found: Diagram, shown: Stretch | None = None) -> str:
+    """That about a coordination diagram."""
+    more = f": {found.cycles} cycles, {found.arrivals} arrivals"
+    if found.cut:
+        more += f"; longer than {found.highest_s} s and cut: {found.cut} cycles; not shown: {found.hidden} arrivals"
+    return about(config, shown, more + (f"; one dot in {found.every}" if found.every > 1 else ""))
+
+
+def about_shifts(config: Config, found: Shifts) -> str:
+    """That about a picture of shifts."""
+    return about(config, more=f": {found.of} arrivals, {found.logged} on green, {found.count} at {found.best} s")
 
 
 def _tenths(table: pd.DataFrame, phase: int, columns: Sequence[str]) -> Rows:

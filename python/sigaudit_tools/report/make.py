@@ -46,20 +46,20 @@ def audit_of(answer: Answer, events: Events, folder: Path, holes: Holes | None =
 
 def pictures(audit: Audit) -> Iterator[tuple[str, str]]:
     """The pictures of an audit, each as the name of its file and the text of an SVG."""
-    answer = audit.answer
+    answer, config = audit.answer, audit.answer.config
     if answer.last("audit"):
-        yield "audit.svg", figures.timeline(audit).file()
+        yield "audit.svg", figures.timeline(audit).file(figures.about(config))
     services = figures.failures(audit)
     if services:
-        yield "failures.svg", services.file()
+        yield "failures.svg", services.file(figures.about(config))
     for phase in dict.fromkeys(section.of for section in answer.sections if section.kind == "points"):
         diagram = figures.diagram(answer, int(phase))
         if diagram:
-            yield f"phase-{phase}.svg", diagram.chart.file()
+            yield f"phase-{phase}.svg", diagram.chart.file(figures.about_diagram(config, diagram))
     for approach in dict.fromkeys(section.of for section in answer.sections if section.kind == "offsets"):
         shifts = figures.shifts(answer, approach)
         if shifts:
-            yield f"shifts-{approach}.svg", shifts.chart.file()
+            yield f"shifts-{approach}.svg", shifts.chart.file(figures.about_shifts(config, shifts))
 
 
 def _sources(answer: Answer) -> list[Source]:

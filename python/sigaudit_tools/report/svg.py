@@ -120,18 +120,19 @@ class Chart:
         return Markup('<svg viewBox="0 0 {} {}" role="img"><title>{}</title>{}</svg>').format(
             self.width, self.height, self.title, self.body)
 
-    def file(self) -> str:
-        """As a file of its own: with its title above and its key below."""
-        above, below = 34, 30 if self.keys else 6
+    def file(self, about: str) -> str:
+        """As a file of its own: with its title and a line about it above, and its key below."""
+        above, below = 52, 30 if self.keys else 6
         height = self.height + above + below
         return Markup(
             '<svg xmlns="http://www.w3.org/2000/svg" viewBox="0 0 {width} {height}" width="{width}" height="{height}" '
             'role="img" font-family="{fonts}"><title>{title}</title>{patterns}'
             '<rect width="{width}" height="{height}" fill="#fff"/>'
             '<text x="{middle}" y="22" font-size="15" text-anchor="middle" fill="{ink}">{title}</text>'
+            '<text x="{middle}" y="41" font-size="13" text-anchor="middle" fill="{soft}">{about}</text>'
             '<g transform="translate(0 {above})">{body}</g>{key}</svg>\n').format(
                 width=self.width, height=height, fonts=FONTS, title=self.title, patterns=PATTERNS, above=above,
-                middle=self.width // 2, ink=INK, body=self.body, key=self._key(self.height + above + 8))
+                middle=self.width // 2, ink=INK, soft=SOFT, about=about, body=self.body, key=self._key(self.height + above + 8))
 
     def _key(self, top: int) -> Markup:
         """The key in a line, in the middle below the picture."""

@@ -57,7 +57,7 @@ def test_tables_are_values() -> None:
     assert config.channels()[:2] == (Channel("phase", 1), Channel("phase", 2))
     assert config_of(FLOORS).floors_of(Channel("phase", 2)) == {"Green": 50, "Yellow": 30}
     assert all((interval.at_least is None) != (interval.at_most is None) for interval in config.intervals)
-    assert {approach.high_den for approach in config.approaches} == {5}
+    assert {approach.high_den for approach in config.approaches} == {4, 5, 10, 20}
 
 
 def test_all_mistakes_are_named_with_their_lines() -> None:

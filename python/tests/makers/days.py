@@ -4,6 +4,7 @@ from __future__ import annotations
 
 import functools
 import tarfile
+import tempfile
 from pathlib import Path
 
 from sigaudit_tools.events import Events
@@ -33,9 +34,11 @@ def write_day(name: str, folder: Path) -> Path:
     return path
 
 
-def day(name: str, folder: Path) -> Events:
-    """The events of a day, read from a file in a folder."""
-    return read_export(write_day(name, folder)).events
+@functools.cache
+def day(name: str) -> Events:
+    """The events of a day: d1 or d3."""
+    with tempfile.TemporaryDirectory() as folder:
+        return read_export(write_day(name, Path(folder))).events
 
 
 def intersection() -> Events:

@@ -68,7 +68,10 @@ class Cells:
 
 
 def gathered(data: Bytes, start: Places, end: Places) -> Bytes:
-    """The bytes between some places, shape (width, n), zeros after their ends; all zeros where there are too many."""
+    """The bytes between some places, shape (width, n), zeros after their ends; all zeros where there are too many.
+
+    After the last place WIDEST bytes more have to be there.
+    """
     length = end - start
     length = np.where(length > WIDEST, 0, length)
     width = int(length.max(initial=0))

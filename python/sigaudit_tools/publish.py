@@ -58,6 +58,16 @@ def first_undecided(answer: Answer, most: int) -> list[tuple[int, int]]:
     return list(zip(firsts["rule"].tolist(), firsts["tenth"].tolist()))
 
 
+def asked_fillings(run: Run, rule: int, tenth: int) -> str:
+    """The fillings of one undecided verdict of a run, as the program prints them.
+
+    Raises:
+        ProgramError, ResourceError: as `program.run`.
+    """
+    edits = edits_before_audit(run.answer.script)
+    return programs.fillings(programs.find_program(), Path(runs.CONFIG), edits, run.folder, rule, tenth)
+
+
 class _Publication:
     """The steps after an answer."""
 

@@ -94,6 +94,17 @@ class Run:
         path = self.folder / FILLINGS
         return path.read_text("latin-1") if path.is_file() else ""
 
+    def report(self, path: Path | str) -> None:
+        """Writes the page of the audit: one file of HTML that stands alone.
+
+        Raises:
+            ResourceError: it can't be written.
+        """
+        from sigaudit_tools.report.make import audit_of
+        from sigaudit_tools.report.page import write_page
+        write_page(Path(path), audit_of(self.answer, self.events, self.folder, self.holes, self.faults_said,
+                                        self.fillings))
+
 
 def open_run(folder: Path | str) -> Run:
     """A run that was made before.

@@ -8,7 +8,7 @@ from makers import days
 from makers.faults import events_of, rows_of
 
 from sigaudit_tools.events import Events
-from sigaudit_tools.signal.channels import CODES, Channel, by_channel, channel_of
+from sigaudit_tools.signal.channels import CHANNELS, CODES, Channel, by_channel, channel_ids, channel_of
 from sigaudit_tools.signal.machines import MACHINES, STRICT
 from sigaudit_tools.signal.shown import shown
 
@@ -38,6 +38,9 @@ def by_rows(events: Events) -> Durations:
 def test_a_true_day() -> None:
     events = days.day("d3")
     assert shown(events).durations == by_rows(events)
+    ids = channel_ids(events.code, events.param).tolist()
+    assert [CHANNELS[place] if place >= 0 else None for place in ids] == [
+        channel_of(code, param) for _, code, param in rows_of(events)]
 
 
 ROWS = st.lists(st.tuples(st.integers(1, 30), st.sampled_from([code for kind in STRICT for code in CODES[kind][0]]),

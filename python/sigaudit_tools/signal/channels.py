@@ -55,6 +55,7 @@ CHANNELS: tuple[Channel, ...] = (COORDINATION, *(
     Channel(kind, number) for kind, (_, most) in CODES.items() for number in range(1, most + 1)))
 IDS: dict[Channel, int] = {channel: place for place, channel in enumerate(CHANNELS)}
 NONE = -1
+_KINDS = {code: (kind, most) for kind, (codes, most) in CODES.items() for code in codes}
 
 
 def _tables() -> tuple[Ids, Params]:
@@ -80,8 +81,10 @@ def channel_ids(code: Codes, param: Params) -> Ids:
 
 def channel_of(code: int, param: int) -> Channel | None:
     """The channel of one row, or None."""
-    place = int(channel_ids(np.array([code], np.uint8), np.array([param], np.uint16))[0])
-    return None if place == NONE else CHANNELS[place]
+    if code == COORDINATION_CODE and param < COORDINATION_STATES:
+        return COORDINATION
+    kind, most = _KINDS.get(code, ("", 0))
+    return Channel(kind, param) if 1 <= param <= most else None
 
 
 def by_channel(events: Events) -> dict[Channel, npt.NDArray[np.intp]]:

@@ -9,7 +9,7 @@ from pathlib import Path
 
 import pytest
 from makers import configs
-from makers.days import INTERSECTION, intersection
+from makers.days import INTERSECTION, TOP, intersection
 
 from sigaudit_tools.errors import InputError
 from sigaudit_tools.program import find_program
@@ -45,7 +45,8 @@ def agree(text: str, folder: Path) -> None:
     assert (found[0].refusal if found else "") == said_by_program(text, folder)
 
 
-needs_program = pytest.mark.skipif(not os.environ.get("SIGAUDIT"), reason="SIGAUDIT names no program")
+needs_program = pytest.mark.skipif(not (os.environ.get("SIGAUDIT") or (TOP / "out" / "sigaudit").is_file()),
+                                   reason="the program isn't built, and SIGAUDIT names none")
 
 
 def test_tables_are_values() -> None:

@@ -48,8 +48,8 @@ def test_hours_takes_a_window(tmp_path: Path) -> None:
     (["detectors", "--card", "0,1"], Status.USAGE), (["detectors", "--explain", "detector 5"], Status.USAGE),
     (["detectors", "--explain", "@2024-03-04T05:00:00.0"], Status.USAGE),
     (["detectors", "--explain", "detector 99@2024-03-04T05:00:00.0"], Status.INPUT),
-    (["detectors", "--signal", "8"], Status.INPUT), (["check", "none.toml"], Status.INPUT),
-    (["check", CONFIG, "letter.txt"], Status.INPUT), (["check"], Status.USAGE)])
+    (["detectors", "--signal", "8"], Status.INPUT), (["check", "--config", "none.toml"], Status.INPUT),
+    (["check", "--config", CONFIG, "letter.txt"], Status.INPUT), (["check"], Status.USAGE)])
 def test_what_cant_be_done_is_said(words: list[str], status: Status, tmp_path: Path,
                                    monkeypatch: pytest.MonkeyPatch, capfd: pytest.CaptureFixture[str]) -> None:
     monkeypatch.chdir(tmp_path)
@@ -62,18 +62,18 @@ def test_what_cant_be_done_is_said(words: list[str], status: Status, tmp_path: P
 
 
 def test_check_says_all_mistakes(capfd: pytest.CaptureFixture[str]) -> None:
-    assert run("check", str(KEPT / "mistakes.toml")) == Status.INPUT
+    assert run("check", "--config", str(KEPT / "mistakes.toml")) == Status.INPUT
     lines = (KEPT / "mistakes.txt").read_text().replace("mistakes.toml", str(KEPT / "mistakes.toml"))
     assert capfd.readouterr().out == lines
 
 
 def test_check_looks_at_a_log(capfd: pytest.CaptureFixture[str]) -> None:
-    assert run("check", str(KEPT / "other.toml"), *HOURS) == Status.RIGHT
+    assert run("check", "--config", str(KEPT / "other.toml"), *HOURS) == Status.RIGHT
     assert capfd.readouterr().out == (KEPT / "other.txt").read_text().replace("other.toml", str(KEPT / "other.toml"))
 
 
 def test_check_says_rows_of_another_signal(tmp_path: Path, capfd: pytest.CaptureFixture[str]) -> None:
-    assert run("check", CONFIG, str(exports.write(tmp_path, "plain"))) == Status.RIGHT
+    assert run("check", "--config", CONFIG, str(exports.write(tmp_path, "plain"))) == Status.RIGHT
     assert "6 rows are of another signal than 5101: line 2 of" in capfd.readouterr().out
 
 

@@ -7,6 +7,7 @@ from typing import TYPE_CHECKING
 
 import click
 
+from sigaudit_tools.cli import _options
 from sigaudit_tools.errors import Status
 
 if TYPE_CHECKING:
@@ -15,8 +16,8 @@ if TYPE_CHECKING:
 
 
 @click.command()
-@click.argument("config", type=click.Path(path_type=Path), metavar="CONFIG")
-@click.argument("files", nargs=-1, type=click.Path(path_type=Path), metavar="[FILE]...")
+@_options.config
+@click.argument("files", nargs=-1, type=_options.PATH, metavar="[FILE]...")
 def command(config: Path, files: tuple[Path, ...]) -> int:
     """Check a configuration: all its mistakes at once, and what is odd in it.
 

@@ -7,7 +7,7 @@ from typing import TYPE_CHECKING
 
 import click
 
-from sigaudit_tools.cli import _manners
+from sigaudit_tools.cli import _manners, _options
 from sigaudit_tools.errors import ResourceError, UsageError
 
 if TYPE_CHECKING:
@@ -30,8 +30,8 @@ class _Card(click.ParamType):
 
 
 @click.command()
-@click.argument("files", nargs=-1, required=True, type=click.Path(path_type=Path), metavar="FILE...")
-@click.option("--config", type=click.Path(path_type=Path), metavar="CONFIG",
+@_options.files
+@click.option("--config", type=_options.PATH, metavar="CONFIG",
               help="The configuration of the signal: which detectors there should be.")
 @click.option("--signal", metavar="ID", help="Take the rows of this signal alone.")
 @click.option("--card", "cards", multiple=True, type=_Card(), metavar="1,2,3,4",
@@ -40,7 +40,7 @@ class _Card(click.ParamType):
 @click.option("--chances", is_flag=True, help="Say too how long a silence has to last until it is likely.")
 @click.option("--explain", metavar="CHANNEL@STAMP",
               help="Instead of all this, what was seen in the silence of a channel (`detector 5`) at a stamp.")
-@click.option("--out", type=click.Path(path_type=Path), metavar="FOLDER",
+@click.option("--out", type=_options.PATH, metavar="FOLDER",
               help="Write the configuration without the approaches of faulty detectors, and the hours for which it is.")
 def command(files: tuple[Path, ...], config: Path | None, signal: str | None, cards: tuple[tuple[int, ...], ...],
             chances: bool, explain: str | None, out: Path | None) -> None:

@@ -7,7 +7,7 @@ from typing import TYPE_CHECKING
 
 import click
 
-from sigaudit_tools.cli import _manners
+from sigaudit_tools.cli import _manners, _options
 from sigaudit_tools.errors import Status, UsageError
 
 if TYPE_CHECKING:
@@ -15,13 +15,13 @@ if TYPE_CHECKING:
 
 
 @click.command()
-@click.argument("files", nargs=-1, required=True, type=click.Path(path_type=Path), metavar="FILE...")
+@_options.files
 @click.option("--signal", metavar="ID", help="Take the rows of this signal alone; wanted where the records have none.")
 @click.option("--from", "start", metavar="HOUR", help="Take the rows of the hours from HOUR (YYYY-MM-DDTHH) alone.")
 @click.option("--hours", type=click.IntRange(1), metavar="N", help="So many hours from that one.")
-@click.option("--config", type=click.Path(path_type=Path), metavar="CONFIG",
+@click.option("--config", type=_options.PATH, metavar="CONFIG",
               help="Take signal, start and hours from a configuration.")
-@click.option("--out", default=".", type=click.Path(path_type=Path), metavar="FOLDER",
+@click.option("--out", default=".", type=_options.PATH, metavar="FOLDER",
               help="Where the files go; made if it isn't there. The present folder without it.")
 @click.option("--day-first", is_flag=True, help="3/4/2024 is the third of April.")
 @click.option("--backward", is_flag=True, help="The files have their last row first: turn each of them round.")

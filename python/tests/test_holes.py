@@ -97,8 +97,8 @@ def test_a_log_without_a_row_is_refused() -> None:
 
 
 def test_a_long_log_is_learned_in_portions_alike_by_several_processes() -> None:
-    hours = [shifted(intersection(), days) for days in range(60)]
-    hours = [one.where(np.arange(len(one)) % 120 == 0) for one in hours]
+    actuations = intersection().of((81, 82))
+    hours = [shifted(actuations.where(np.arange(len(actuations)) % 40 == days % 40), days) for days in range(60)]
     events = Events(*(np.concatenate([getattr(one, name) for one in hours]) for name in ("tenth", "code", "param")))
     found = find_holes(CONFIG, events, chances=False)
     assert found.lines() == find_holes(CONFIG, events, chances=False, jobs=2).lines()

@@ -36,6 +36,16 @@ def run_pytest(arguments: list[str]) -> tuple[int, int]:
         return passed, failed or made.returncode  # without a failed test 1 says that too few lines were reached
 
 
+def name_program() -> None:
+    """Lets the tests that want the program take the one that was built here, if the environment names no other."""
+    top = HERE.parent.parent
+    for path in (top / "crates" / "program" / "out" / "program", top / "out" / "sigaudit"):
+        if path.is_file():
+            os.environ.setdefault("SIGAUDIT", str(path))
+    if not os.environ.get("SIGAUDIT"):
+        print("left out: what wants the program, since SIGAUDIT names none and none is built here")
+
+
 def run_checker(*words: str) -> tuple[int, int]:
     """1, 0 where a checker finds nothing, else 0, 1."""
     made = subprocess.run([sys.executable, "-m", *words], cwd=HERE.parent)
@@ -44,6 +54,7 @@ def run_checker(*words: str) -> tuple[int, int]:
 
 def main() -> int:
     names = sys.argv[1:]
+    name_program()
     if names:
         counts = [run_pytest(pytest_arguments(names))]
     else:

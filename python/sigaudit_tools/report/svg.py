@@ -131,8 +131,9 @@ class Chart:
             '<text x="{middle}" y="22" font-size="15" text-anchor="middle" fill="{ink}">{title}</text>'
             '<text x="{middle}" y="41" font-size="13" text-anchor="middle" fill="{soft}">{about}</text>'
             '<g transform="translate(0 {above})">{body}</g>{key}</svg>\n').format(
-                width=self.width, height=height, fonts=FONTS, title=self.title, patterns=PATTERNS, above=above,
-                middle=self.width // 2, ink=INK, soft=SOFT, about=about, body=self.body, key=self._key(self.height + above + 8))
+                width=self.width, height=height, fonts=FONTS, title=self.title, about=about, patterns=PATTERNS,
+                above=above, middle=self.width // 2, ink=INK, soft=SOFT, body=self.body,
+                key=self._key(self.height + above + 8))
 
     def _key(self, top: int) -> Markup:
         """The key in a line, in the middle below the picture."""

@@ -91,6 +91,12 @@ def test_of_a_record_in_two_files_one_is_kept(tmp_path: Path) -> None:
     assert len(read_export([paths[0], twice]).events) == 6
 
 
+def test_years_apart_are_no_overlap(tmp_path: Path) -> None:
+    text = "7,0001-01-01 00:00:00,1,1\n7,9999-12-31 23:59:59.9,1,1\n"
+    intake = read_export([put(tmp_path, "a.csv", text), put(tmp_path, "b.csv", text + "7,2024-03-04 06:00:00,1,1\n")])
+    assert (len(intake.events), intake.overlapping) == (3, 2)
+
+
 def test_doubled_rows_are_counted_and_left_out_where_asked(tmp_path: Path) -> None:
     path = put(tmp_path, "two.csv", QUARTER * 2)
     intake = read_export(path)
@@ -207,8 +213,10 @@ def test_a_table_is_read_as_its_file(tmp_path: Path) -> None:
 def test_odd_rows_of_a_table_are_dropped() -> None:
     table = frame().assign(EventId=[1.5, None, 300, 81, 8, 82])
     table.loc[3, "TimeStamp"] = None
+    table["DeviceId"] = [7, 7, 7, 7, 7, None]
     intake = read_export(table)
-    assert {why: one.count for why, one in intake.dropped.items()} == {"no code from 0 to 255": 3, "no stamp": 1}
+    assert {why: one.count for why, one in intake.dropped.items()} == {
+        "no code from 0 to 255": 3, "no stamp": 1, "no signal": 1}
     with pytest.raises(InputError, match="no columns of stamp, code and parameter"):
         read_export(pd.DataFrame({"a": [1]}))
 

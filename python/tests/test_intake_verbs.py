@@ -2,14 +2,18 @@
 
 from __future__ import annotations
 
+import random
 from pathlib import Path
 
 import pytest
 from makers import exports, made_day
 from makers.days import INTERSECTION
+from makers.faults import Fault, put
+from makers.made_day import at
 
 from sigaudit_tools.cli import _manners, verbs
 from sigaudit_tools.errors import Status
+from sigaudit_tools.intake import Intake, hour_files
 
 CONFIG = str(INTERSECTION / "config.toml")
 HOURS = [str(path) for path in sorted(INTERSECTION.glob("h0?.csv"))]
@@ -75,6 +79,18 @@ def test_check_looks_at_a_log(capfd: pytest.CaptureFixture[str]) -> None:
 def test_check_says_rows_of_another_signal(tmp_path: Path, capfd: pytest.CaptureFixture[str]) -> None:
     assert run("check", "--config", CONFIG, str(exports.write(tmp_path, "plain"))) == Status.RIGHT
     assert "6 rows are of another signal than 5101: line 2 of" in capfd.readouterr().out
+
+
+def test_detectors_fails_on_faults_where_asked(tmp_path: Path, capfd: pytest.CaptureFixture[str]) -> None:
+    (tmp_path / "config.toml").write_text(made_day.CONFIG)
+    events = put(made_day.made_day(), [Fault("one", (2,), at("09:00:00"), at("09:40:00"))], random.Random(7))
+    paths = map(str, hour_files(Intake.of_events(events, "7"), tmp_path))
+    words = ["detectors", "--config", str(tmp_path / "config.toml"), "--out", str(tmp_path / "w"), *paths]
+    assert run(*words) == Status.RIGHT
+    said = capfd.readouterr()
+    assert said.out.startswith("stuck off detector 2 2024-03-04T08:59:11.5 2024-03-04T09:42:20.1 sure 17.1\n")
+    assert "of NB2 mean nothing in the hours of" in said.err
+    assert run(*words, "--fail-on", "sure") == Status.FINDINGS
 
 
 def test_detectors_prints_and_writes(tmp_path: Path, capfd: pytest.CaptureFixture[str]) -> None:

@@ -8,13 +8,14 @@ from typing import TYPE_CHECKING
 import click
 
 from sigaudit_tools.cli import _manners, _options
-from sigaudit_tools.errors import ResourceError, UsageError
+from sigaudit_tools.errors import ResourceError, Status, UsageError
 
 if TYPE_CHECKING:
     from sigaudit_tools.faults import Faults
     from sigaudit_tools.signal.config import Config
 
 GREATEST = 128
+GRADES = ("sure", "likely", "weak")
 
 
 class _Card(click.ParamType):
@@ -42,8 +43,10 @@ class _Card(click.ParamType):
               help="Instead of all this, what was seen in the silence of a channel (`detector 5`) at a stamp.")
 @click.option("--out", type=_options.PATH, metavar="FOLDER",
               help="Write the configuration without the approaches of faulty detectors, and the hours for which it is.")
+@click.option("--fail-on", type=click.Choice(GRADES),
+              help="End with status 1 where a line has this grade, or a surer one.")
 def command(files: tuple[Path, ...], config: Path | None, signal: str | None, cards: tuple[tuple[int, ...], ...],
-            chances: bool, explain: str | None, out: Path | None) -> None:
+            chances: bool, explain: str | None, out: Path | None, fail_on: str | None) -> int:
     """Look for what falls silent while the rest of a signal goes on, and for detectors that are stuck.
 
     FILEs are those of the verb hours, or any that it reads, of one signal. The verb holes looks for stretches in which
@@ -99,12 +102,14 @@ def command(files: tuple[Path, ...], config: Path | None, signal: str | None, ca
     faults = find_faults(read, intake.events, cards=cards, hours=intake.hours)
     if asked:
         click.echo("\n".join(faults.evidence(*asked)))
-        return
+        return Status.RIGHT
     click.echo("\n".join(faults.lines() + (faults.chances() if chances else [])))
     if not faults.learned:
         _manners.say("detectors: the log is too small to learn from: a channel wants 60 silences")
     if out is not None and read is not None:
         _write_without(faults, read, out)
+    failing = GRADES[:GRADES.index(fail_on) + 1] if fail_on else ()
+    return Status.FINDINGS if any(finding.grade in failing for finding in faults.findings) else Status.RIGHT
 
 
 def _asked(text: str) -> tuple[str, int]:

@@ -12,7 +12,7 @@ from sigaudit_tools.intake.cells import Mask, Places
 from sigaudit_tools.intake.records import Rows, joined
 from sigaudit_tools.times import stamp_of
 
-_LONGEST = 1 << 36  # tenths: moments further apart are counted and not measured, so that identities fit 64 bits
+_LARGEST = 1 << 38  # of moments by signals: with more, moments are counted and not measured, so that they fit 64 bits
 
 
 @dataclasses.dataclass(frozen=True)
@@ -53,11 +53,14 @@ def stepped_back(files: Sequence[tuple[str, Rows]]) -> SteppedBack | None:
 
 def identities(rows: Rows) -> Places:
     """Numbers that are equal where signal, whole stamp, code and parameter are."""
+    if not len(rows):
+        return np.empty(0, np.int64)
     moment = moments(rows)
-    if len(moment) and int(moment.max()) - int(moment.min()) > _LONGEST:
+    if (int(moment.max()) - int(moment.min())) * len(rows.names) > _LARGEST:
         moment = np.unique(moment, return_inverse=True)[1].astype(np.int64)
-    moment = (moment - moment.min(initial=0)) * len(rows.names) + rows.signal if len(moment) else moment
-    return moment << 24 | rows.code.astype(np.int64) << 16 | rows.param
+    of_signal = (moment - moment.min()) * len(rows.names) + rows.signal
+    found: Places = of_signal << 24 | rows.code.astype(np.int64) << 16 | rows.param
+    return found
 
 
 def without_overlap(files: Sequence[Rows]) -> Rows:

@@ -68,9 +68,9 @@ def read_table(frame: pd.DataFrame, place: str, wanted: Wanted) -> Records:
 def _signals(frame: pd.DataFrame, layout: Layout) -> tuple[list[str], Names]:
     if layout.signal is None:
         return [], np.full(len(frame), -1)
-    which, names = frame.iloc[:, layout.signal].factorize(use_na_sentinel=False)
+    which, names = frame.iloc[:, layout.signal].factorize()
     whole = [int(name) if isinstance(name, float) and name.is_integer() else name for name in names]
-    return [str(name) for name in whole], which
+    return [*map(str, whole), ""], np.where(which < 0, len(names), which)
 
 
 def _stamps(frame: pd.DataFrame, layout: Layout, day_first: bool) -> Stamps:

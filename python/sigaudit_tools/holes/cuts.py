@@ -30,11 +30,9 @@ class Kind(NamedTuple):
 class Cutter:
     """Draws stretches one after another."""
 
-    def __init__(self, seed: int, stretches: list[Span], tenth: Tenths, least: int, known: list[Span]) -> None:
-        """Takes from where to where the log goes, its tenths with rows, how long a gap is at least, and what isn't
-        cut."""
-        self.rng, self.least, self.known = random.Random(seed), least, known
-        self.tenth = tenth
+    def __init__(self, seed: int, stretches: list[Span], tenth: Tenths, least: int) -> None:
+        """Takes from where to where the log goes, its tenths with rows, and how long a gap is at least."""
+        self.rng, self.least, self.tenth = random.Random(seed), least, tenth
         self.begins, self.ends = (np.array([stretch[side] for stretch in stretches]) for side in (0, 1))
         self.reached = np.cumsum(self.ends - self.begins)
         self.waiting: list[tuple[float, int]] = []
@@ -55,8 +53,14 @@ class Cutter:
     def _draws(self, count: int) -> list[tuple[float, int]]:
         """The next draws: a share of the length, and a tenth of the stretches, counted through."""
         whole = int(self.reached[-1])
+        bits, random_share, random_bits = whole.bit_length(), self.rng.random, self.rng.getrandbits
         draws, self.waiting = self.waiting[:count], self.waiting[count:]
-        return draws + [(self.rng.random(), self.rng.randrange(whole)) for _ in range(count - len(draws))]
+        while len(draws) < count:
+            share, tenth = random_share(), random_bits(bits)
+            while tenth >= whole:
+                tenth = random_bits(bits)
+            draws.append((share, tenth))
+        return draws
 
     def _gaps(self, draws: list[tuple[float, int]], kind: Kind) -> tuple[Gaps, npt.NDArray[np.intp]]:
         """The gaps that draws leave, without those that lose no row, and the places of their draws."""
@@ -71,5 +75,25 @@ class Cutter:
         places = np.flatnonzero(loses)
         gaps, stretch = Gaps(self.tenth[i[places] - 1], self.tenth[j[places]]), stretch[places]
         inside = (gaps.begin >= self.begins[stretch]) & (gaps.end < self.ends[stretch])
-        inside &= (gaps.end - gaps.begin >= self.least) & ~overlapped(gaps.begin, gaps.end, self.known)
+        inside &= gaps.end - gaps.begin >= self.least
         return gaps.where(inside), places[inside]
+
+
+class Examples:
+    """The cuts by which the models of one log learn, drawn once for all of them."""
+
+    def __init__(self, cutter: Cutter, kind: Kind, tries: int, taken: Test) -> None:
+        """Takes what draws, what is cut, how many draws there are at most, and which of them count."""
+        self.cutter, self.kind, self.left, self.taken = cutter, kind, tries, taken
+        self.drawn = Gaps.of([])
+
+    def take(self, count: int, known: list[Span]) -> Gaps:
+        """The first so many that have nothing in common with holes that are known."""
+        while True:
+            free = np.flatnonzero(~overlapped(self.drawn.begin, self.drawn.end, known))
+            if len(free) >= count or not self.left:
+                return self.drawn.where(free[:count])
+            tries = min(self.left, BLOCK)
+            more = self.cutter.take(tries, tries, self.kind, self.taken)
+            self.drawn = Gaps(np.append(self.drawn.begin, more.begin), np.append(self.drawn.end, more.end))
+            self.left -= tries

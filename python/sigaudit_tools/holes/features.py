@@ -8,8 +8,8 @@ from collections.abc import Iterator
 import numpy as np
 import numpy.typing as npt
 
-from sigaudit_tools.events import Events, Tenths
-from sigaudit_tools.holes.groups import Group, GroupName, groups_of
+from sigaudit_tools.events import Tenths
+from sigaudit_tools.holes.groups import Group, GroupName
 from sigaudit_tools.holes.renewal import NOWHERE, Gaps, Renewal
 from sigaudit_tools.holes.silence import Stillness
 from sigaudit_tools.holes.spans import Span
@@ -105,15 +105,15 @@ class Scored:
 class Features:
     """The groups of a log, and how still and busy it is."""
 
-    def __init__(self, events: Events, rings: dict[int, int], tenth: Tenths, begins: Tenths, stretches: list[Span],
+    def __init__(self, groups: list[Group], tenth: Tenths, begins: Tenths, stretches: list[Span],
                  missing: list[Span]) -> None:
-        """Takes the log's events and its tenths with rows, where its own gaps begin, from where to where it goes, and
-        what of it is missing."""
+        """Takes the log's rows by groups and its tenths with rows, where its own gaps begin, from where to where it
+        goes, and what of it is missing."""
         known = np.zeros(BINS, np.int64)
         for begin, end in stretches:
             np.add.at(known, bin_of(np.arange(begin, end, BIN)), BIN)
         self.stillness = Stillness(tenth, missing)
-        self.renewals = [Renewal(batch, known, missing, begins) for batch in _batches(groups_of(events, rings))]
+        self.renewals = [Renewal(batch, known, missing, begins) for batch in _batches(groups)]
         self.groups = [name for renewal in self.renewals for name in renewal.groups]
         self.kind = np.array([_place(name) for name in self.groups])
 

@@ -37,9 +37,9 @@ import numpy as np
 import numpy.typing as npt
 
 from sigaudit_tools.events import Events, Tenths
-from sigaudit_tools.holes.cuts import Cutter, Kind, Test
+from sigaudit_tools.holes.cuts import Cutter, Examples, Kind, Test
 from sigaudit_tools.holes.features import RISING, Features, Scored
-from sigaudit_tools.holes.groups import GroupName
+from sigaudit_tools.holes.groups import GroupName, groups_of
 from sigaudit_tools.holes.log import distinct
 from sigaudit_tools.holes.regression import regression
 from sigaudit_tools.holes.renewal import Gaps
@@ -93,6 +93,30 @@ def grade_of(score: float) -> str:
     return "sure" if score >= SURE else "likely" if score >= LIKELY else "weak" if score >= WEAK else "solid"
 
 
+class Source:
+    """What models of a log learn from, whatever holes of it they know.
+
+    Attributes:
+        stretches: from where to where the log goes without a missing hour, in order.
+        contradicts: says of gaps whether the machines find a hole in each by themselves, were there a hole.
+        tenth: the tenths with rows, rising.
+        groups: the rows by groups.
+        least: the tenths of the shortest gap that is looked at.
+        examples: cuts that don't contradict.
+    """
+
+    def __init__(self, events: Events, rings: dict[int, int], stretches: list[Span], contradicts: Test) -> None:
+        """Takes the events of a log, of each phase that is known to be in a ring its number, and as of the class."""
+        self.stretches, self.contradicts = stretches, contradicts
+        self.tenth, self.groups = distinct(events.tenth), groups_of(events, rings)
+        self.least = max(LEAST, 3 * usual_step(self.tenth) // 2)
+        self.examples = Examples(self.cutter(1), CUT, CUTS * TRIES, lambda gaps: ~contradicts(gaps))
+
+    def cutter(self, seed: int) -> Cutter:
+        """Cuts the log, by a seed."""
+        return Cutter(seed, self.stretches, self.tenth, self.least)
+
+
 class Model:
     """The gaps of a log, each with its score.
 
@@ -100,30 +124,19 @@ class Model:
         tenth: the tenths with rows, rising.
         holes: those that are known or were taken, as the last row before and the first row behind, in order.
         own: the log's own gaps that may be holes.
-        least: the tenths of the shortest of them.
     """
 
-    def __init__(self, events: Events, rings: dict[int, int], stretches: list[Span], known: list[Span],
-                 contradicts: Test) -> None:
-        """Takes a log.
-
-        Args:
-            events: of the log.
-            rings: of each phase that is known to be in a ring its number.
-            stretches: from where to where the log goes without a missing hour, in order.
-            known: holes that are known before, none over another, in order.
-            contradicts: says of gaps whether the machines find a hole in each by themselves, were there a hole.
-        """
-        self.contradicts, self.known, self.stretches = contradicts, known, stretches
+    def __init__(self, source: Source, known: list[Span]) -> None:
+        """Takes a log, and holes that are known before, none over another, in order."""
+        self.source, self.known = source, known
         self.holes = [(begin, end - 1) for begin, end in known]
-        missing = sorted([(a[1], b[0]) for a, b in zip(stretches, stretches[1:])] + known)
-        self.days = sum(end - begin for begin, end in stretches) / DAY
-        self.tenth = distinct(events.tenth)
-        self.least = max(LEAST, 3 * usual_step(self.tenth) // 2)
+        missing = sorted([(a[1], b[0]) for a, b in zip(source.stretches, source.stretches[1:])] + known)
+        self.days = sum(end - begin for begin, end in source.stretches) / DAY
+        self.tenth = source.tenth
         gaps = Gaps(self.tenth[:-1], self.tenth[1:])
-        gaps = gaps.where(gaps.end - gaps.begin >= self.least)
+        gaps = gaps.where(gaps.end - gaps.begin >= source.least)
         self.own = gaps.where(~overlapped(gaps.begin, gaps.end, missing))
-        self.features = Features(events, rings, self.tenth, self.own.begin, stretches, missing)
+        self.features = Features(source.groups, self.tenth, self.own.begin, source.stretches, missing)
 
     def learn(self, wrong: list[Span]) -> bool:
         """Learns the weights: the log's own gaps against cuts, again without those that would be blanked.
@@ -137,7 +150,7 @@ class Model:
         examples = np.flatnonzero(~overlapped(self.own.begin, self.own.end, wrong))
         if len(examples) < FEW_GAPS or len(self.tenth) < FEW_TENTHS:
             return False
-        cuts = self._cutter(1).take(CUTS, CUTS * TRIES, CUT, lambda gaps: ~self.contradicts(gaps))
+        cuts = self.source.examples.take(CUTS, self.known)
         if len(cuts) < FEW_CUTS:
             return False
         scored = self.features.scored(Gaps(np.append(self.own.begin, cuts.begin), np.append(self.own.end, cuts.end)))
@@ -192,13 +205,13 @@ class Model:
 
     def chances(self) -> Iterator[Chance]:
         """How many fresh cuts get a blank."""
-        cutter, drawn = self._cutter(2), []
+        cutter, drawn = self.source.cutter(2), []
         for first, last in zip(PARTS, PARTS[1:]):
             for shortest, longest in zip(LENGTHS, LENGTHS[1:]):
                 kind = Kind(shortest, longest, (first, last))
                 drawn.append((kind, cutter.take(CHANCE_CUTS, CHANCE_CUTS * CHANCE_TRIES, kind, self._is_free)))
         gaps = Gaps(*(np.concatenate([getattr(cuts, side) for _, cuts in drawn]) for side in ("begin", "end")))
-        found = self.contradicts(gaps)
+        found = self.source.contradicts(gaps)
         found[~found] = self.scores(gaps.where(~found)) >= LIKELY
         for (kind, cuts), blanked in zip(drawn, np.split(found, np.cumsum([len(cuts) for _, cuts in drawn[:-1]]))):
             if len(cuts):
@@ -214,10 +227,8 @@ class Model:
                 for scores in scored.told(self.holes)]
 
     def _is_free(self, gaps: Gaps) -> npt.NDArray[np.bool_]:
-        return ~overlapped(gaps.begin, gaps.end, self.holes)
-
-    def _cutter(self, seed: int) -> Cutter:
-        return Cutter(seed, self.stretches, self.tenth, self.least, self.known)
+        taken = overlapped(gaps.begin, gaps.end, self.holes) | overlapped(gaps.begin, gaps.end, self.known)
+        return np.asarray(~taken)
 
     def _odds(self, vectors: Floats) -> Floats:
         return np.asarray((vectors * self.weights[1:]).sum(axis=1) + self.weights[0] - self.base)

@@ -18,7 +18,7 @@ from sigaudit_tools.holes.contradictions import Contradiction, contradictions
 from sigaudit_tools.holes.features import Scored
 from sigaudit_tools.holes.log import Log
 from sigaudit_tools.holes.machine_rows import Rows, contradicted, strict_rows
-from sigaudit_tools.holes.model import LEAST, LIKELY, Chance, Model, grade_of
+from sigaudit_tools.holes.model import LEAST, LIKELY, Chance, Model, Source, grade_of
 from sigaudit_tools.holes.renewal import Gaps
 from sigaudit_tools.holes.spans import Span, merged
 from sigaudit_tools.holes.values import Hole, Misfit, Small, Suspect
@@ -112,8 +112,10 @@ def model_of(log: Log, config: Config | None) -> tuple[Model, list[Hole]] | None
     def contradicts(gaps: Gaps) -> npt.NDArray[np.bool_]:
         return contradicted(strict, gaps.begin, gaps.end, REACH)
 
+    source = Source(log.events, rings, log.stretches, contradicts)
+
     def learned(known: list[Span]) -> Model | None:
-        model = Model(log.events, rings, log.stretches, known, contradicts)
+        model = Model(source, known)
         return model if model.learn(stretches) else None
 
     model, found = learned([]), Found()

@@ -22,7 +22,7 @@ SIGNAL = "<b>&'x"
 
 @pytest.fixture(scope="module")
 def audit() -> Audit:
-    return audits.intersection().audit()
+    return audits.audit()
 
 
 @pytest.fixture(scope="module")

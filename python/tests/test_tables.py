@@ -18,7 +18,7 @@ KEPT = [line.split() for line in (audits.KEPT / "tables.txt").read_text().splitl
 
 @pytest.fixture(scope="module")
 def frames() -> dict[str, pd.DataFrame]:
-    return dict(audits.intersection().audit().frames)
+    return dict(audits.audit().frames)
 
 
 @pytest.mark.parametrize("name, digest", [(name, digest) for log, name, digest in KEPT if log == "intersection"])

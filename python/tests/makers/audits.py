@@ -69,3 +69,9 @@ def made(folder: Path, signal: str = "5101") -> Made:
 def intersection() -> Made:
     """The run of the intersection, made once."""
     return made(Path(tempfile.mkdtemp(prefix="sigaudit-test-")))
+
+
+@functools.cache
+def audit() -> Audit:
+    """What the page of the intersection is made of, made once."""
+    return intersection().audit()

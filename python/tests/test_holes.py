@@ -34,9 +34,9 @@ def outages() -> Events:
 
 
 @pytest.mark.parametrize("name", ["d1", "out", "d1-floors", "d3-floors", "inter-floors", "out-floors"])
-def test_lines_are_as_they_were(tmp_path: Path, name: str) -> None:
+def test_lines_are_as_they_were(name: str) -> None:
     log, _, floors = name.partition("-")
-    events = {"inter": intersection, "out": outages}[log]() if log in ("inter", "out") else day(log, tmp_path)
+    events = {"inter": intersection, "out": outages}[log]() if log in ("inter", "out") else day(log)
     assert find_holes(intersection_with_floors() if floors else CONFIG, events).lines() == kept(name)
 
 

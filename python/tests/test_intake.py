@@ -211,7 +211,7 @@ def test_a_table_is_read_as_its_file(tmp_path: Path) -> None:
 
 
 def test_odd_rows_of_a_table_are_dropped() -> None:
-    table = frame().assign(EventId=[1.5, None, 300, 81, 8, 82])
+    table = frame().assign(EventId=[1.5, None, 300, 81, 8, 82], Parameter=pd.array([2] * 6, "Int64"))
     table.loc[3, "TimeStamp"] = None
     table["DeviceId"] = [7, 7, 7, 7, 7, None]
     intake = read_export(table)

@@ -97,7 +97,7 @@ def _of_datetimes(stamp: pd.Series) -> Stamps:
 def _numbers(column: pd.Series, greatest: int) -> Places:
     """The whole numbers of a column, -1 where one isn't from 0 to the greatest."""
     import pandas as pd
-    values = pd.to_numeric(column, errors="coerce").to_numpy(np.float64)
+    values = pd.to_numeric(column, errors="coerce").to_numpy(np.float64, na_value=np.nan)
     good = (values >= 0) & (values <= greatest) & (values == np.floor(values))
     return np.where(good, values, -1).astype(np.int64)
 

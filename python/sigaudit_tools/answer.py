@@ -323,6 +323,11 @@ def _other(where: str, line: str) -> InputError:
     return InputError(f"not an answer of sigaudit: {line!r}", where, "name what it wrote to its standard output")
 
 
+def _is_edit(words: tuple[str, ...]) -> bool:
+    """Whether a line of a script has the words of one that edits."""
+    return (words[0], len(words)) in (("load", 3), ("replace", 3), ("withdraw", 2), ("blank", 3), ("unblank", 3))
+
+
 class _Reader:
     """The edits and sections of an answer, taken in order."""
 
@@ -349,7 +354,7 @@ class _Reader:
         number, what, rest = int(head[1]), head[2], head[3]
         words = self._words.get(number, ())
         is_edit = what in ("ok", "refused")
-        if not words or not (is_edit or words[0] == what):
+        if not words or not (what == "refused" or words[0] == what or (what == "ok" and _is_edit(words))):
             raise InputError(f"line {number} of the script doesn't ask for this: {head[0][:60]}", self._where,
                              "name the script to which this is the answer")
         self._answered.add(number)

@@ -184,7 +184,7 @@ class _Audit:
 
     def _log_digests(self) -> list[str]:
         if isinstance(self._log, Sequence):
-            return [digest(Path(path)) for path in self._log]
+            return [_export_digest(Path(path)) for path in self._log]
         events = self._intake.events
         return [digest_of(events.tenth.tobytes(), events.code.tobytes(), events.param.tobytes())]
 
@@ -273,6 +273,17 @@ def answer_in(work: Work, program: programs.Program, config: Config) -> None:
         return [run.ANSWER], [f"{' '.join(edit.words)}: {edit.answer}" for edit in refused]
 
     work.step("answer", made_of, make)
+
+
+def _export_digest(path: Path) -> str:
+    """The digest of a file of an export.
+
+    Raises:
+        InputError: there is no such file, or it is a folder.
+    """
+    if not path.exists() or path.is_dir():
+        raise InputError("is a folder" if path.is_dir() else "No such file", str(path), "name the files of the export")
+    return digest(path)
 
 
 def _without_rules(config: Config) -> tuple[object, ...]:

@@ -26,12 +26,13 @@ class ToolError(Exception):
     """
 
     status: Status = Status.INPUT
+    usual_remedy: str = ""
 
     def __init__(self, what: str, where: str = "", remedy: str = "") -> None:
         super().__init__(what)
         self.what = what
         self.where = where
-        self.remedy = remedy
+        self.remedy = remedy or self.usual_remedy
 
     def __str__(self) -> str:
         place = f"{self.where}: " if self.where else ""
@@ -61,3 +62,4 @@ class ResourceError(ToolError):
     """The disk is full, a file may not be read or written, memory ran out."""
 
     status = Status.RESOURCE
+    usual_remedy = "look at the file, its folder and their rights"

@@ -85,7 +85,9 @@ def test_points_and_cycles_are_those_of_the_lines(answer: Answer) -> None:
     assert list(points[["phase", "approach", "tenth"]].itertuples(index=False, name=None)) == plain_points
     short = points.merge(cycles, left_on=["phase", "cycle_tenth"], right_on=["phase", "tenth"])
     shifts = answer.shifts
-    assert short[short["length_s"] <= LONGEST_SHIFTED_S].groupby("approach")["is_green"].sum().to_dict() == shifts[shifts["shift_s"] == 0].set_index("approach")["green"].to_dict()
+    short = short[short["length_s"] <= LONGEST_SHIFTED_S]
+    on_green = short.groupby("approach")["is_green"].sum().to_dict()
+    assert on_green == shifts[shifts["shift_s"] == 0].set_index("approach")["green"].to_dict()
 
 
 def test_the_best_shift_is_the_first_of_the_greatest(answer: Answer) -> None:

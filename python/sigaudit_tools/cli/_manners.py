@@ -11,10 +11,13 @@ import types
 from collections.abc import Sequence
 
 import click
+from click.shell_completion import shell_complete
 
 from sigaudit_tools.errors import ResourceError, Status, ToolError
 
 NAME = "sigaudit-tools"
+COMPLETION = "_SIGAUDIT_TOOLS_COMPLETE"
+"""The variable by which a shell asks for completions."""
 ENDED = 128
 """What shells add to the number of a signal, to have the status of what it ended."""
 
@@ -63,9 +66,9 @@ def run(command: click.Command, arguments: Sequence[str]) -> int:
     for number in (signal.SIGTERM, signal.SIGHUP):
         signal.signal(number, _end)
     try:
-        answer = command.main(list(arguments), prog_name=NAME, standalone_mode=False)
+        status = _invoke(command, arguments)
         sys.stdout.flush()
-        return int(answer) if isinstance(answer, int) else Status.RIGHT
+        return status
     except (click.exceptions.Abort, KeyboardInterrupt):
         return _ended(ENDED + signal.SIGINT)
     except Ended as error:
@@ -88,14 +91,29 @@ def run(command: click.Command, arguments: Sequence[str]) -> int:
                                      remedy="--debug shows where; please report it"))
 
 
+def _invoke(command: click.Command, arguments: Sequence[str]) -> int:
+    """The status of a command that ends by itself; or answers a shell that completes words.
+
+    Not by click's own `main`, which takes a reader that goes for a failure.
+    """
+    instruction = os.environ.get(COMPLETION)
+    if instruction:
+        return shell_complete(command, {}, NAME, COMPLETION, instruction)
+    try:
+        with command.make_context(NAME, list(arguments)) as context:
+            answer = command.invoke(context)
+    except click.exceptions.Exit as ended:
+        return ended.exit_code
+    return int(answer) if isinstance(answer, int) else Status.RIGHT
+
+
 def _end(number: int, frame: types.FrameType | None) -> None:
     raise Ended(number)
 
 
 def _refuse(error: ToolError) -> int:
     _trace()
-    verb = click.get_current_context(silent=True)
-    click.echo(f"{NAME}: {error}" if verb is None else f"{verb.command_path}: {error}", err=True)
+    click.echo(f"{NAME}: {error}", err=True)
     return _ended(error.status)
 
 

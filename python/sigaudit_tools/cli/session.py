@@ -30,7 +30,7 @@ def command(config: Path, holes: Path | None, edits: Path | None, out: Path | No
     from sigaudit_tools.signal.config import read_config
 
     if (edits is None) == (not files) or (edits and holes):
-        raise UsageError("either hour files or --edits, and --holes with hour files alone")
+        raise UsageError("either hour files, with or without --holes, or --edits", remedy="name one of the two")
     settings = read_config(config)
     if edits:
         text = script.script_of_edits(settings, _options.text_of(edits), str(edits))

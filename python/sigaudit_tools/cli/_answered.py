@@ -107,14 +107,29 @@ def _of_run(folder: Path, holes: Path | None) -> Answered:
 def _of_files(config: Path, script: Path, answer: Path, holes: Path | None) -> Answered:
     from sigaudit_tools.answer import read_answer
     from sigaudit_tools.holes import read_holes
-    from sigaudit_tools.intake import read_export
     from sigaudit_tools.signal.config import read_config
 
     read = read_answer(read_config(config), script, answer)
     folders = Path("."), script.parent
     files = [_found(held.file, folders) for held in read.known.held.values()]
-    intake = read_export(files, signal=read.config.signal)
-    return Answered(read, intake.events, None if holes is None else read_holes(holes), folders)
+    return Answered(read, _log(files, read.config.signal), None if holes is None else read_holes(holes), folders)
+
+
+def _log(paths: list[Path], signal: str) -> Events:
+    """The rows of hour files, plain and packed ones."""
+    import numpy as np
+
+    from sigaudit_tools.events import Events
+    from sigaudit_tools.intake import files, packed, read_export
+
+    data = {path: files.read_file(path).data for path in paths}
+    parts = [Events.none()]
+    parts += [packed.read_packed(text, str(path)) for path, text in data.items() if packed.is_packed(text)]
+    plain = [path for path, text in data.items() if not packed.is_packed(text)]
+    if plain:
+        parts.append(read_export(plain, signal=signal).events)
+    tenth, code, param = ([getattr(part, name) for part in parts] for name in ("tenth", "code", "param"))
+    return Events.in_order(np.concatenate(tenth), np.concatenate(code), np.concatenate(param))
 
 
 def _found(name: str, folders: tuple[Path, ...]) -> Path:
@@ -125,11 +140,15 @@ def _found(name: str, folders: tuple[Path, ...]) -> Path:
 
 @functools.lru_cache(maxsize=16)
 def _numbered(path: Path, signal: str) -> tuple[list[int], list[int]]:
-    """The numbers of the lines of a file's rows, by their tenths, and these."""
+    """The numbers of the lines of a file's rows by their tenths, those of a packed hour counted from 1; and these."""
     import numpy as np
 
-    from sigaudit_tools.intake import files, records
+    from sigaudit_tools.intake import files, packed, records
 
-    rows = records.read_text(files.text_of(files.read_file(path).data), str(path), records.Wanted(signal)).rows
+    data = files.read_file(path).data
+    if packed.is_packed(data):
+        tenth = packed.read_packed(data, str(path)).tenth
+        return list(range(1, len(tenth) + 1)), tenth.tolist()
+    rows = records.read_text(files.text_of(data), str(path), records.Wanted(signal)).rows
     order = np.argsort(rows.tenth, kind="stable")
     return rows.line[order].tolist(), rows.tenth[order].tolist()

@@ -14,9 +14,9 @@ import math
 import numpy as np
 
 from sigaudit_tools.events import Tenths
-from sigaudit_tools.faults.rows import Group, Log, Places
+from sigaudit_tools.faults.rows import Group, Log
 from sigaudit_tools.faults.tails import ENOUGH, FAULTS
-from sigaudit_tools.faults.tracks import END, EVERY, NOTHING, ON, Track
+from sigaudit_tools.faults.tracks import BOTH, END, EVERY, NOTHING, ON, Track
 from sigaudit_tools.faults.witnesses import Witnesses
 
 ANSWERED = ("call", "ped_call", "ped_calls", "green", "walk")
@@ -90,14 +90,15 @@ class Answers:
         found = dict.fromkeys(marks, 0.0)
         if not marks:
             return found
-        alone = _alone(track, goes_on, asked.since, asked.at)
-        later = None if marks == [EVERY] else _alone(track, goes_on, asked.later_since, asked.later_at)
-        for mark in marks:
+        alone = _alone(track, goes_on, asked.since, asked.at, marks)
+        later = [size] * len(marks)
+        if marks != [EVERY]:
+            later = _alone(track, goes_on, asked.later_since, asked.later_at, marks)
+        for mark, count, chance in zip(marks, alone, later):
             most, by_chance = self.most, size
-            if later is not None:
-                by_chance = min(size, _distinct(track, later, mark) * size // len(asked.later_at))
+            if mark != EVERY:
+                by_chance = min(size, chance * size // len(asked.later_at))
                 most = min(most, by_chance // CAUSE - 1)
-            count = _distinct(track, alone, mark)
             if most >= 0 and count <= most:
                 found[mark] = math.log10((by_chance + 1) / (count + 1))
         return found
@@ -111,18 +112,15 @@ def _asked(moments: Tenths, before: int) -> Asked:
     return Asked(since, at, since[few] + shift, at[few] + shift)
 
 
-def _alone(track: Track, goes_on: Tenths, since: Tenths, at: Tenths) -> Places:
-    """The silences, by how many rows or ends are before their ends, in which a channel hasn't gone on from one tenth
-    to another."""
-    row = np.searchsorted(goes_on, at, "right")
+def _alone(track: Track, goes_on: Tenths, since: Tenths, at: Tenths, marks: list[int]) -> list[int]:
+    """In how many silences after rows of each mark a channel hasn't gone on from one tenth to another."""
+    row = goes_on.searchsorted(at, "right")
     alone = row == 0
     alone[~alone] = goes_on[row[~alone] - 1] < since[~alone]
-    found: Places = np.unique(np.searchsorted(track.tenth, at[alone], "right"))
-    return found
-
-
-def _distinct(track: Track, alone: Places, mark: int) -> int:
-    """How many of them follow such a row."""
-    if mark == EVERY:
-        return len(alone)
-    return int((track.mark[alone[alone > 0] - 1] == mark).sum())
+    silence = track.tenth.searchsorted(at[alone], "right")
+    silence.sort()
+    different = np.concatenate((silence[:1], silence[1:][silence[1:] != silence[:-1]]))
+    if marks == [EVERY]:
+        return [len(different)]
+    after = np.bincount(track.mark[different[different > 0] - 1], minlength=BOTH + 1)
+    return [int(after[mark]) for mark in marks]

@@ -7,8 +7,10 @@ by the others.
 
 from __future__ import annotations
 
+import bisect
 import dataclasses
 import math
+import operator
 from collections.abc import Iterable
 
 import numpy as np
@@ -19,9 +21,9 @@ from sigaudit_tools.faults.scores import SURE, score_of
 from sigaudit_tools.faults.tails import Amounts
 from sigaudit_tools.times import HOUR
 
-Counts = dict[int, int]
+Flag = tuple[int, int, float]  # from, to, score
 
-MINUTE = 600
+MINUTE, TEN = 600, 6000
 TOO_MANY = 60        # actuations in a minute: vehicles that follow one another take 1.5 s or more each
 BOUNCE = 5           # tenths: vehicles don't follow one another that closely over one loop
 AROUND = 50          # actuations, added to those of the others, so that a share by night isn't one of five
@@ -40,13 +42,22 @@ class Chatter:
     score: float
 
 
+@dataclasses.dataclass(frozen=True, eq=False)
+class Windows:
+    """Stretches of so many tenths: where each begins that has one, rising, and its count, shapes (n,)."""
+
+    width: int
+    begin: Tenths
+    count: Tenths
+
+
 def chattering(log: Log, least: float) -> list[Chatter]:
     """The stretches in which a detector chatters, with a score of at least so much, by detector and time."""
     ons = {number: places for (code, number), places in sorted(log.places.items()) if code == 82}
     if not ons:
         return []
     tests = math.log10(3 * len(ons))
-    others = windows(log.tenth[np.concatenate(list(ons.values()))], 10 * MINUTE)
+    others = windows(log.tenth[np.concatenate(list(ons.values()))], TEN)
     found = []
     for number, places in ons.items():
         tenth = log.tenth[places]
@@ -67,32 +78,31 @@ def _bounces(log: Log, number: int) -> np.ndarray[tuple[int], np.dtype[np.bool_]
     return found
 
 
-def _flagged(log: Log, tenth: Tenths, bounces: Tenths, others: Counts, tests: float,
-             least: float) -> list[tuple[int, int, float]]:
-    """The minutes and tens of minutes of a detector with too many actuations: from, to, score."""
-    minutes, tens = windows(tenth, MINUTE), windows(tenth, 10 * MINUTE)
-    found = [(begin, begin + MINUTE, score) for counts in (minutes, windows(bounces, MINUTE))
-             for begin, score in too_many(log, counts, tests, least)]
-    found += [(begin, begin + MINUTE, SURE) for begin, count in minutes.items() if count >= TOO_MANY]
-    faulty = _faulty(log)
-    beyond = (sorted(fullest(tens).values(), reverse=True) + [0] * (faulty + 1))[faulty]
-    part = {begin: 100 * count // (others.get(begin, 0) - count + AROUND) for begin, count in tens.items()}
-    return found + [(begin, begin + 10 * MINUTE, score) for begin, score in too_many(log, part, tests, least)
-                    if tens[begin] > beyond]
+def _flagged(log: Log, tenth: Tenths, bounces: Tenths, others: Windows, tests: float, least: float) -> list[Flag]:
+    """The minutes and tens of minutes of a detector with too many actuations."""
+    minutes, tens = windows(tenth, MINUTE), windows(tenth, TEN)
+    found = too_many(log, minutes, tests, least) + too_many(log, windows(bounces, MINUTE), tests, least)
+    found += [(begin, begin + MINUTE, SURE) for begin in minutes.begin[minutes.count >= TOO_MANY].tolist()]
+    of_all = others.count[np.searchsorted(others.begin, tens.begin)]
+    share = dataclasses.replace(tens, count=100 * tens.count // (of_all - tens.count + AROUND))
+    beyond = ([*_fullest(tens), *[0] * (_faulty(log) + 1)])[_faulty(log)]
+    many = set(tens.begin[tens.count > beyond].tolist())
+    return found + [flag for flag in too_many(log, share, tests, least) if flag[0] in many]
 
 
-def windows(tenth: Tenths, width: int) -> Counts:
-    """How many of the tenths lie in each stretch of so many, by its begin."""
-    begins, counts = np.unique(tenth // width * width, return_counts=True)
-    return dict(zip(begins.tolist(), counts.tolist()))
+def windows(tenth: Tenths, width: int) -> Windows:
+    """How many of the tenths lie in each stretch of so many."""
+    begin, count = np.unique(tenth // width * width, return_counts=True)
+    return Windows(width, begin, count)
 
 
-def fullest(counts: Counts) -> Counts:
-    """The largest count of each hour."""
-    most: Counts = {}
-    for begin, count in counts.items():
-        most[begin // HOUR] = max(count, most.get(begin // HOUR, 0))
-    return most
+def _fullest(found: Windows) -> list[int]:
+    """The largest count of each hour that has one, the largest first."""
+    if not len(found.begin):
+        return []
+    hour = found.begin // HOUR
+    heads = np.flatnonzero(np.diff(hour, prepend=hour[0] - 1))
+    return sorted(np.maximum.reduceat(found.count, heads).tolist(), reverse=True)
 
 
 def _faulty(log: Log) -> int:
@@ -100,31 +110,33 @@ def _faulty(log: Log) -> int:
     return FAULTY_HOURS * math.ceil(log.days)
 
 
-def too_many(log: Log, counts: Counts, tests: float, least: float) -> list[tuple[int, float]]:
+def too_many(log: Log, found: Windows, tests: float, least: float) -> list[Flag]:
     """The windows with a count beyond what the fullest of each hour let expect, with their scores.
 
     Hours tell nothing of what is usual where each of them is beyond what the rest lets expect, and are so few as may be
     faulty: a hundred rows in one minute do, and two vehicles in a minute don't, as a side street has each day.
     """
-    most, faulty = sorted(fullest(counts).values(), reverse=True), _faulty(log)
+    most, faulty = _fullest(found), _faulty(log)
     if len(log.hours) < 2 * faulty:
         return []
     for count in sorted(set(most)):
-        hidden = sum(each >= count for each in most)
+        hidden = bisect.bisect_right(most, -count, key=operator.neg)
         if hidden <= faulty:
             usual = Amounts(most[hidden:], len(log.hours) - hidden, 2 * faulty, 0)
             if score_of(log.days, usual.expected(count), tests) >= least:
                 break
     else:
         return []
-    scores = {many: score_of(log.days, usual.expected(many), tests) for many in set(counts.values())}
-    return [(begin, scores[many]) for begin, many in counts.items() if scores[many] >= least]
+    counts, which = np.unique(found.count, return_inverse=True)
+    score = np.array([score_of(log.days, usual.expected(each), tests) for each in counts.tolist()])[which]
+    return [(int(found.begin[place]), int(found.begin[place]) + found.width, float(score[place]))
+            for place in np.flatnonzero(score >= least).tolist()]
 
 
-def joined(spans: Iterable[tuple[int, int, float]]) -> list[tuple[int, int, float]]:
-    """Spans in order, those that are little apart as one with the highest score."""
-    found: list[tuple[int, int, float]] = []
-    for begin, end, score in spans:
+def joined(flags: Iterable[Flag]) -> list[Flag]:
+    """Flags in order, those that are little apart as one with the highest score."""
+    found: list[Flag] = []
+    for begin, end, score in flags:
         if found and begin <= found[-1][1] + APART:
             found[-1] = found[-1][0], max(end, found[-1][1]), max(score, found[-1][2])
         else:

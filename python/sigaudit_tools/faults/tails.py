@@ -7,6 +7,7 @@ than the next, since they may be faults themselves, and the silence that is judg
 
 from __future__ import annotations
 
+import collections
 import dataclasses
 import math
 from collections.abc import Iterable
@@ -39,12 +40,9 @@ class Amounts:
 
     def __init__(self, amounts: Iterable[int], count: int, top: int, faults: int) -> None:
         self.count, self.top, self.faults = count, top, faults
-        times: dict[int, int] = {}
-        for amount in amounts:
-            if amount:
-                times[amount] = times.get(amount, 0) + 1
-        self.times = times
-        self.in_order = sorted(times.items(), reverse=True)
+        self.times = collections.Counter(amounts)
+        del self.times[0]
+        self.in_order = sorted(self.times.items(), reverse=True)
         self.tails: dict[int | None, Tail] = {}
 
     def tail(self, without: int | None = None) -> Tail:
@@ -64,7 +62,7 @@ class Amounts:
             if amount <= edge:
                 break
             times -= amount == without
-            hidden = min(left, times)
+            hidden = times if times < left else left
             left, times = left - hidden, times - hidden
             if times and largest == edge:
                 largest = amount

@@ -83,19 +83,20 @@ class Track:
     def spans(self, begin: Places, end: Places) -> Spans:
         """The time around silences from some tenths to others: as wide as wanted to have FEW rows, up to days."""
         rows = self.rows
-        last, first = np.searchsorted(rows, begin, "right"), np.searchsorted(rows, end)
+        last, first = rows.searchsorted(begin, "right"), rows.searchsorted(end)
         width, count = np.full(len(begin), WIDTH), np.zeros(len(begin), np.int64)
         left = np.arange(len(begin))
         while len(left):
-            count[left] = (last[left] - np.searchsorted(rows, begin[left] - width[left])
-                           + np.searchsorted(rows, end[left] + width[left]) - first[left])
+            count[left] = (last[left] - rows.searchsorted(begin[left] - width[left])
+                           + rows.searchsorted(end[left] + width[left]) - first[left])
             left = left[(count[left] < FEW) & (width[left] < DAY)]
             width[left] *= 2
         return Spans(begin, end, width, np.maximum(1, count))
 
     def count(self, begin: Places, end: Places) -> Places:
         """The rows of the channel between some tenths and others."""
-        return np.maximum(0, np.searchsorted(self.rows, end) - np.searchsorted(self.rows, begin))
+        found: Places = np.maximum(0, self.rows.searchsorted(end) - self.rows.searchsorted(begin))
+        return found
 
 
 def track_of(log: Log, group: Group, hush: Hush) -> Track:

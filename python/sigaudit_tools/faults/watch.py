@@ -118,19 +118,19 @@ class Watch:
         """
         mark, begin, end, following = self.tracks[group].silences()
         known = (mark != NOTHING) & (following != END)
+        others = self.witnesses.others(group)
         for each in self.tracks[group].marks():
             mine = known & (mark == each)
             if mine.sum() >= ENOUGH:
-                self.learned[group, each] = self._usual(group, begin[mine], end[mine])
+                self.learned[group, each] = self._usual(group, others, begin[mine], end[mine])
             elif group.kind == "coordination" and known.sum() >= ENOUGH and any(self.answers[group].values()):
                 self.learned[group, each] = Usual(int(known.sum()), {})
 
-    def _usual(self, group: Group, begin: Places, end: Places) -> Usual:
+    def _usual(self, group: Group, others: Places, begin: Places, end: Places) -> Usual:
         """What is usual in such silences. The longest for their time of day are measured, more than the tail holds."""
         count, spans = len(begin), self.tracks[group].spans(begin, end)
         top, faults = tail_size(count, self.days), fault_size(count, self.days)
         longest = np.lexsort((begin, spans.rows * (end - begin) / spans.width))[-MEASURED * top:]
-        others = self.witnesses.others(group)
         amounts = self.amounts(group, others, spans[longest], end[longest])
         return Usual(count, {witness: Amounts(seen, count, top, faults)
                              for witness, seen in zip(others.tolist(), amounts.tolist())})
@@ -182,8 +182,8 @@ class Watch:
         columns = [seen.columns[place] for place in places.tolist()]
         wanted = np.array([column[starts] for column in columns]) + np.expm1(more) * np.maximum(1, others)
         stop = np.minimum(len(mesh), starts + PATIENCE)
-        found = np.array([np.clip(np.searchsorted(column, want), starts, stop)
-                          for column, want in zip(columns, wanted)])
+        found = np.array([column.searchsorted(want) for column, want in zip(columns, wanted)])
+        found = np.minimum(np.maximum(found, starts), stop)
         return np.where(found == stop, PATIENCE, np.maximum(1, found - starts))
 
     # ---- scores

@@ -2,6 +2,8 @@
 
 from __future__ import annotations
 
+from typing import Literal
+
 import numpy as np
 import numpy.typing as npt
 
@@ -59,10 +61,9 @@ class Witnesses:
         """How often witnesses saw something up to some tenths and at them, shape (w, n)."""
         return self._count(places, tenth, "right")
 
-    def _count(self, places: Places, tenth: Places, side: str) -> Places:
-        inside = np.clip(tenth - self._origin, 0, self._stride - 1)
-        asked = inside + places[:, None] * self._stride
-        found = np.searchsorted(self._flat, asked, "left" if side == "left" else "right")
+    def _count(self, places: Places, tenth: Places, side: Literal["left", "right"]) -> Places:
+        inside = np.minimum(np.maximum(tenth - self._origin, 0), self._stride - 1)
+        found: Places = self._flat.searchsorted(inside + places[:, None] * self._stride, side)
         return np.subtract(found, self._offset[places][:, None])
 
     def seen(self, places: Places, begin: Places, end: Places) -> Places:

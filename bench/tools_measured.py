@@ -28,7 +28,7 @@ SEVERAL_DAYS = {"whole": 15.0, "calls a row": 1.0}
 def write_days(count: int, folder: Path) -> tuple[Path, Path, int]:
     """Writes the log of some days as one CSV and its configuration; answers both and the number of rows."""
     with tarfile.open(HERE / "days" / "d1.tar.xz") as archive:
-        names = sorted(member.name for member in archive.getmembers() if member.isfile() and member.name.endswith(".csv"))
+        names = sorted(name for name in archive.getnames() if name.endswith(".csv"))
         hours = [archive.extractfile(name).read().decode().removeprefix(HEADER) for name in names]
     day = "".join(hours)
     days = [day.replace(f",{FIRST_DAY}", f",{FIRST_DAY + datetime.timedelta(number)}") for number in range(count)]

@@ -1,4 +1,4 @@
-"""A log as odd loggers would have written it, and what examples/holes makes of it. Of bench/holes; not proved.
+"""A log as odd loggers would have written it, and what the verb holes makes of it. Of bench/holes; not proved.
 
 Each logger is a pair: how it moves the tenth of a row, and what it does to the rows then. Logs are six hours of a day,
 from PART on, without an outage and with OUTAGES of them; those are drawn before the logger has its way.
@@ -6,12 +6,12 @@ from PART on, without an outage and with OUTAGES of them; those are drawn before
 import bisect
 
 import outages
-import logs
+from outages import HOUR
 
 PART = 6, 12            # hours of the day
 OUTAGES = 4
 STEP = 300              # tenths by which a clock is set
-NOON = 3 * logs.HOUR    # of the part: where clocks are set, the controller starts again, or flashes
+NOON = 3 * HOUR    # of the part: where clocks are set, the controller starts again, or flashes
 DARK = 450              # tenths without a row at a restart
 UNTOLD = {3, 4, 5, 6, 31, 43, 44, 45}    # codes that older firmware leaves out, of no machine
 FLASHING = set(range(0, 13)) | {21, 22, 23, 24, 31, 43, 44, 45, 150, 151, 152}
@@ -41,7 +41,7 @@ def drift(tenth, start):
 
 def an_hour_on(tenth, start):
     """Clocks go from 02:59:59 to 04:00:00, as in spring."""
-    return tenth + logs.HOUR if tenth >= start + NOON else tenth
+    return tenth + HOUR if tenth >= start + NOON else tenth
 
 
 def same(rows, start):
@@ -66,7 +66,7 @@ def untold(codes):
 
 def flashed(rows, start):
     """An hour of flash: detectors go on, phases, walks and the coordination don't."""
-    low, high = start + NOON, start + NOON + logs.HOUR
+    low, high = start + NOON, start + NOON + HOUR
     kept = [row for row in rows if not (low <= row[0] < high and row[1] in FLASHING)]
     return sorted(kept + [(low, 173, 4), (high, 173, 2)], key=lambda row: row[0])
 
@@ -95,8 +95,8 @@ class Part(outages.Day):
 
     def __init__(self, day, rows, after):
         self.day, self.name, self.signal, self.rows, self.after = day, day.name, day.signal, rows, after
-        self.start = day.start + PART[0] * logs.HOUR
-        self.end = day.start + PART[1] * logs.HOUR
+        self.start = day.start + PART[0] * HOUR
+        self.end = day.start + PART[1] * HOUR
 
     def of_rows(self, rows):
         return Part(self.day, rows, self.after)
@@ -105,7 +105,7 @@ class Part(outages.Day):
 def part_of(day):
     tenths = [row[0] for row in day.rows]
     low, high, after = (bisect.bisect_left(tenths, day.start + tenth) for tenth in (
-        PART[0] * logs.HOUR, PART[1] * logs.HOUR, PART[1] * logs.HOUR + 2 * STEP))
+        PART[0] * HOUR, PART[1] * HOUR, PART[1] * HOUR + 2 * STEP))
     return Part(day, day.rows[low:high], day.rows[high:after])
 
 
@@ -114,7 +114,7 @@ def written(part, name):
     move, then = LOGGERS[name]
     moved = [(move(tenth, part.start), code, param) for tenth, code, param in part.rows + part.after]
     rows = then(sorted(moved, key=lambda row: row[0]), part.start)
-    end = part.end + logs.HOUR if name == "spring" else part.end
+    end = part.end + HOUR if name == "spring" else part.end
     return part.of_rows([row for row in rows if row[0] < end])
 
 
@@ -128,5 +128,5 @@ def moved(outage, part, name):
 def at_event(blank, part, name):
     """Whether a blank is at the event that the logger has in the middle."""
     low, high = part.start + NOON - STEP, part.start + NOON + max(STEP, DARK) + (
-        logs.HOUR if name in ("flash", "spring") else 0)
+        HOUR if name in ("flash", "spring") else 0)
     return name in EVENTS and blank[0] <= high and low <= blank[1]

@@ -1,4 +1,4 @@
-"""Whole days of a log, outages drawn into them by seed, and how well `examples/holes` finds them. Of bench/holes.
+"""Whole days of a log, outages drawn into them by seed, and how well the verb holes finds them. Of bench/holes.
 
 A day is a list of rows (tenth, code, parameter) in order. Nothing here is proved.
 """
@@ -11,10 +11,11 @@ import sys
 import tarfile
 
 HERE = os.path.dirname(os.path.dirname(os.path.abspath(__file__)))
-EXAMPLES = os.path.join(HERE, "examples")
-sys.path.insert(0, EXAMPLES)
-import logs
+TOOLS = os.path.join(HERE, "sigaudit-tools")
+sys.path.insert(0, os.path.join(HERE, "python"))
 import simulation
+from sigaudit_tools.times import DAY as TENTHS_OF_DAY
+from sigaudit_tools.times import HOUR, hour_of, stamp_of, tenth_of_stamp
 
 # The lengths by which is counted, and the parts of the day, in tenths and hours.
 LENGTHS = ((50, 150), (150, 600), (600, 3000), (3000, 18001))
@@ -31,7 +32,7 @@ class Day:
 
     def __init__(self, name, signal, rows, config=None):
         self.name, self.signal, self.rows, self.config = name, signal, rows, config
-        self.start = rows[0][0] // (24 * logs.HOUR) * 24 * logs.HOUR
+        self.start = rows[0][0] // TENTHS_OF_DAY * TENTHS_OF_DAY
 
     def of_rows(self, rows):
         """The same day with other rows."""
@@ -43,37 +44,37 @@ class Day:
     def hours(self):
         """The rows by hour, those without one too, from the first to the last that has any."""
         found = {}
-        first, last = self.rows[0][0] // logs.HOUR, self.rows[-1][0] // logs.HOUR
+        first, last = self.rows[0][0] // HOUR, self.rows[-1][0] // HOUR
         for hour in range(first, last + 1):
-            found[hour * logs.HOUR] = []
+            found[hour * HOUR] = []
         for row in self.rows:
-            found[row[0] // logs.HOUR * logs.HOUR].append(row)
+            found[row[0] // HOUR * HOUR].append(row)
         return found
 
     def write(self, folder):
         """An hour a file; their names."""
         names = []
         for start, rows in self.hours().items():
-            names.append("%s_%s.csv" % (self.signal, logs.show_hour(start)))
+            names.append("%s_%s.csv" % (self.signal, hour_of(start)))
             with open(os.path.join(folder, names[-1]), "w") as file:
                 file.write("SignalID,Timestamp,EventCode,EventParam\n")
-                file.writelines("%s,%s,%d,%d\n" % (self.signal, logs.show(tenth, " "), code, param)
+                file.writelines("%s,%s,%d,%d\n" % (self.signal, stamp_of(tenth, " "), code, param)
                                 for tenth, code, param in rows)
         return names
 
 
 def read_day(path):
     """The day of an archive with one CSV file an hour."""
-    reader, rows = logs.Reader(), []
+    rows = []
     with tarfile.open(path) as archive:
         for member in sorted(archive.getmembers(), key=lambda member: member.name):
             if member.name.endswith(".csv"):
                 text = io.TextIOWrapper(archive.extractfile(member), encoding="utf-8").read()
-                for number, line in enumerate(text.splitlines()[1:], 2):
-                    rows.append(reader.row(line.split(","), None, member.name, number, line))
-    rows.sort(key=lambda row: row.tenth)
-    name = os.path.basename(path).split(".")[0]
-    return Day(name, rows[0].signal, [(row.tenth, row.code, row.param) for row in rows])
+                for line in text.splitlines()[1:]:
+                    signal, stamp, code, param = line.split(",")
+                    rows.append((tenth_of_stamp(stamp), int(code), int(param)))
+    rows.sort(key=lambda row: row[0])
+    return Day(os.path.basename(path).split(".")[0], signal, rows)
 
 
 def made_day(seed, count=1):
@@ -92,7 +93,7 @@ class Outage:
         return next(i for i, (_, longest) in enumerate(LENGTHS) if self.length < longest)
 
     def by_day(self):
-        return self.begin // logs.HOUR % 24 in DAY
+        return self.begin // HOUR % 24 in DAY
 
     def blank(self):
         """The tenths from the row before to the one after, and those of these two where they lost a row."""
@@ -119,7 +120,7 @@ def draw(day, seed, count=A_DAY):
         else:
             low = rng.randrange(tenths[0], tenths[-1])
             if kind == "tail":
-                low = low // logs.HOUR * logs.HOUR + logs.HOUR - length
+                low = low // HOUR * HOUR + HOUR - length
             first, last = bisect.bisect_left(tenths, low), bisect.bisect_left(tenths, low + length)
         if not 0 < first < last < len(tenths) or not shortest <= length <= longest:
             continue
@@ -146,12 +147,8 @@ def put(folder, name, text):
         file.write(text)
 
 
-def tenth(word):
-    return logs.parse_stamp(word)[0]
-
-
 def blanks_of(text):
-    return [(tenth(words[1]), tenth(words[2])) for words in map(str.split, text.splitlines())
+    return [(tenth_of_stamp(words[1]), tenth_of_stamp(words[2])) for words in map(str.split, text.splitlines())
             if words[:1] == ["blank"]]
 
 
@@ -170,15 +167,15 @@ def idle(blanks, outages):
 
 def config_text(day, text):
     """The configuration of the example, for the day's window."""
-    first, last = day.rows[0][0] // logs.HOUR, day.rows[-1][0] // logs.HOUR
-    lines = ['signal = "%s"' % day.signal, 'start = "%s"' % logs.show_hour(first * logs.HOUR),
+    first, last = day.rows[0][0] // HOUR, day.rows[-1][0] // HOUR
+    lines = ['signal = "%s"' % day.signal, 'start = "%s"' % hour_of(first * HOUR),
              "hours = %d" % (last - first + 1)]
     return "\n".join(lines + text.splitlines()[3:]) + "\n"
 
 
 def audit(program, folder, names, blanks):
     """The audit of the files with these blanks: the broken lines, the count of undecided ones, the hours refused."""
-    script = ["blank %s %s" % (logs.show(low), logs.show(high)) for low, high in blanks]
+    script = ["blank %s %s" % (stamp_of(low), stamp_of(high)) for low, high in blanks]
     script += ["load %d %s" % load for load in enumerate(names)] + ["audit"]
     put(folder, "script.txt", "\n".join(script) + "\n")
     answer, _, _ = run([program, "--config", "config.toml", "--script", "script.txt"], folder)

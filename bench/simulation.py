@@ -17,10 +17,10 @@ import heapq
 import math
 import random
 
-import logs
+from sigaudit_tools.times import HOUR, hour_of, tenth_of_hour
 
-START = logs.hour_of("2024-04-09T00")
-DAY = 24 * logs.HOUR
+START = tenth_of_hour("2024-04-09T00")
+DAY = 24 * HOUR
 LAYOUTS = ((2, 4, 6, 8), (1, 2, 4, 5, 6, 8), (2, 4, 5, 6, 8), (1, 2, 3, 4, 5, 6, 7, 8), (1, 2, 3, 4, 5, 6, 7, 8))
 RINGS = ((1, 2, 3, 4), (5, 6, 7, 8))
 MAIN = (2, 6)
@@ -108,14 +108,14 @@ class Signal:
     # Time and traffic.
 
     def share(self, tenth):
-        hours = (tenth - START) / logs.HOUR % 24 - (self.shift if 5 < (tenth - START) / logs.HOUR % 24 < 21 else 0)
+        hours = (tenth - START) / HOUR % 24 - (self.shift if 5 < (tenth - START) / HOUR % 24 < 21 else 0)
         place = int(hours) % 24
         part = hours - int(hours)
         shares = WEEKEND if is_weekend(tenth) else SHARES
         return (1 - part) * shares[place] + part * shares[(place + 1) % 24]
 
     def plan_at(self, tenth):
-        hour = (tenth - START) // logs.HOUR % 24
+        hour = (tenth - START) // HOUR % 24
         if is_weekend(tenth):
             return self.plans[PLANS[1]] if WEEKEND_PLAN[0] <= hour < WEEKEND_PLAN[1] else None
         return next((plan for (low, high), plan in self.plans.items() if low <= hour < high), None)
@@ -129,7 +129,7 @@ class Signal:
 
     def next_arrival(self, lane):
         """Poisson by thinning; a platoon is the first third of the upstream cycle, with four fifths of the traffic."""
-        tenth, most = lane.last + 12, lane.flow * self.today * (2.5 if lane.platoon else 1.0) / logs.HOUR
+        tenth, most = lane.last + 12, lane.flow * self.today * (2.5 if lane.platoon else 1.0) / HOUR
         while True:
             tenth += max(1, int(self.rng.expovariate(most)))
             wave = 1.0
@@ -141,7 +141,7 @@ class Signal:
 
     def next_walker(self, phase, tenth):
         while True:
-            tenth += max(5, int(self.rng.expovariate(self.ped_rate[phase] / logs.HOUR)))
+            tenth += max(5, int(self.rng.expovariate(self.ped_rate[phase] / HOUR)))
             if self.rng.random() < self.share(tenth):
                 return self.at(tenth, "press", phase)
 
@@ -440,7 +440,7 @@ class Signal:
 
     def config(self, hours=24):
         """Its configuration, with rules that it keeps for the most part, and breaks now and then."""
-        lines = ['signal = "%s"' % self.number, 'start = "%s"' % logs.show_hour(START), "hours = %d" % hours,
+        lines = ['signal = "%s"' % self.number, 'start = "%s"' % hour_of(START), "hours = %d" % hours,
                  "coordination = true"]
         for phase in self.phases:
             lines += ["", "[[phase]]", "number = %d" % phase, "ring = %d" % (1 + (phase > 4)),

@@ -1,61 +1,69 @@
-"""Faults of channels, drawn by a seed and put into a log: what bench/detectors and bench/recipes share."""
+"""Faults of channels, drawn by a seed: when they could be seen, and which findings tell of them. Of bench/detectors."""
 import math
+import os
+import sys
 
-import logs
-import silences
+HERE = os.path.dirname(os.path.dirname(os.path.abspath(__file__)))
+sys.path[:0] = [os.path.join(HERE, "python"), os.path.join(HERE, "python", "tests")]
+try:
+    import numpy  # noqa: F401  the tools want it, and the first python3 on the path may lack it
+except ImportError:
+    sys.exit("it wants a python3 that has numpy and pandas: /usr/bin/python3 %s" % " ".join(sys.argv))
+from makers.faults import COORDINATION, Fault, put, rows_of
+from sigaudit_tools.times import DAY, HOUR, stamp_of
 
 SHORTEST, LONGEST, STUCK = 10, 180, 15   # minutes
+MINUTE = 600
 APART = 18000                            # tenths between two faults of a day
-CODES = {"ped": (89, 90, 45), "ped-rows": (89, 90), "coordination": silences.COORDINATION}
 KINDS = ("one", "card", "all", "ped", "ped-rows", "coordination", "stuck-on", "stuck-off", "chatter", "slow-chatter")
-PULSES = {"chatter": ((1, 3), (1, 10)), "slow-chatter": ((1, 20), (5, 50))}  # tenths on, tenths off
+CHANNELS = {"ped": "ped_detector", "ped-rows": "ped_detector", "coordination": "coordination"}  # else detectors
+
+__all__ = ["KINDS", "could_be_seen", "draw", "matches", "minutes", "put", "rows_in", "words_of"]
 
 
-class Fault:
-    """A fault: its kind, the numbers of the detectors or inputs, its begin and end."""
-
-    def __init__(self, kind, numbers, begin, end):
-        self.kind, self.numbers, self.begin, self.end = kind, tuple(numbers), begin, end
-
-    def __str__(self):
-        return "%s %s %s %.0f minutes" % (self.kind, ",".join(map(str, self.numbers)), logs.show(self.begin),
-                                          self.minutes())
-
-    def minutes(self):
-        return (self.end - self.begin) / 600
-
-    def rows(self, log, length):
-        """How many rows its channel usually has in so long, from its begin on, and how many in all.
-
-        At the rate from an hour before the fault to an hour after it in the log without it; of a detector those 82.
-        """
-        comes = [tenth for tenth, key in zip(log.tenths, log.keys)
-                 if key >> 16 in (82, 90, *silences.COORDINATION) and self.concerns(key)]
-        low, high = self.begin - logs.HOUR, self.end + logs.HOUR
-        return sum(low <= tenth < high for tenth in comes) * length / (high - low), len(comes)
-
-    def could_be_seen(self, log, length, a_day):
-        """Whether so long a silence of its channel, from its begin on, comes by chance at most so often a day.
-
-        By the channel's own rows alone, as if they came independently of one another. A detector that stays on shows
-        at once.
-        """
-        usual, count = self.rows(log, length)
-        return self.kind == "stuck-on" or count * math.exp(-usual) <= a_day
-
-    def concerns(self, key):
-        """Whether it takes rows with this code and parameter."""
-        return key >> 16 in CODES.get(self.kind, (81, 82)) and (
-            self.kind == "coordination" or key & 65535 in self.numbers)
+def minutes(fault):
+    return (fault.end - fault.begin) / MINUTE
 
 
-def draw_one(log, rng, kind, night):
-    detectors = log.numbers("detector")
+def words_of(fault):
+    """A fault in words."""
+    return "%s %s %s %.0f minutes" % (fault.kind, ",".join(map(str, fault.numbers)), stamp_of(fault.begin),
+                                      minutes(fault))
+
+
+def rows_in(fault, events, length):
+    """How many rows its channel usually has in so long, from its begin on, and how many in all.
+
+    At the rate from an hour before the fault to an hour after it in the log without it; of a detector those 82.
+    """
+    comes = [tenth for tenth, code, number in rows_of(events)
+             if code in (82, 90, *COORDINATION) and fault.concerns(code, number)]
+    low, high = fault.begin - HOUR, fault.end + HOUR
+    return sum(low <= tenth < high for tenth in comes) * length / (high - low), len(comes)
+
+
+def could_be_seen(fault, events, length, a_day):
+    """Whether so long a silence of its channel, from its begin on, comes by chance at most so often a day.
+
+    By the channel's own rows alone, as if they came independently of one another. A detector that stays on shows at
+    once.
+    """
+    usual, count = rows_in(fault, events, length)
+    return fault.kind == "stuck-on" or count * math.exp(-usual) <= a_day
+
+
+def numbers_of(events, codes):
+    """The parameters of rows with some codes, in order."""
+    return tuple(sorted(set(events.of(codes).param.tolist())))
+
+
+def draw_one(events, rng, kind, night):
+    detectors, inputs = numbers_of(events, (81, 82)), numbers_of(events, (89, 90))
     shortest = STUCK if kind.startswith("stuck") else SHORTEST
-    length = int(600 * shortest * math.exp(rng.random() * math.log(LONGEST / shortest)))
-    day = min(log.hours) // silences.DAY * silences.DAY
+    length = int(MINUTE * shortest * math.exp(rng.random() * math.log(LONGEST / shortest)))
+    day = int(events.tenth[0]) // DAY * DAY
     begins = [(0, 5), (22, 24)] if night else [(5, 22)]
-    begins = [(day + low * logs.HOUR, day + high * logs.HOUR - length) for low, high in begins]
+    begins = [(day + low * HOUR, day + high * HOUR - length) for low, high in begins]
     low, high = rng.choice([span for span in begins if span[0] < span[1]] or begins[:1])
     begin = rng.randrange(low, max(low + 1, high))
     if kind == "card":
@@ -64,63 +72,27 @@ def draw_one(log, rng, kind, night):
     elif kind == "coordination":
         numbers = (0,)
     else:
-        numbers = {"all": detectors, "ped": log.numbers("ped_detector"), "ped-rows": log.numbers("ped_detector")}.get(
-            kind, (rng.choice(detectors),))
+        numbers = {"all": detectors, "ped": inputs, "ped-rows": inputs}.get(kind, (rng.choice(detectors),))
     return Fault(kind, numbers, begin, begin + length)
 
 
-def draw(log, rng, night=False, count=3):
+def draw(events, rng, night=False, count=3):
     """Faults of different kinds, apart from one another, each of which takes a row or makes one."""
-    drawn = []
+    drawn, rows = [], rows_of(events)
     for kind in rng.sample(KINDS, count):
         while True:
-            fault = draw_one(log, rng, kind, night)
+            fault = draw_one(events, rng, kind, night)
             apart = all(fault.begin > other.end + APART or other.begin > fault.end + APART for other in drawn)
-            if apart and any(fault.begin <= tenth < fault.end and fault.concerns(key)
-                             for tenth, key in zip(log.tenths, log.keys)):
+            if apart and any(fault.begin <= tenth < fault.end and fault.concerns(code, number)
+                             for tenth, code, number in rows):
                 drawn.append(fault)
                 break
     return drawn
 
 
-def put(log, drawn, rng):
-    """The log with the faults in it."""
-    rows = list(zip(log.tenths, log.keys))
-    for fault in drawn:
-        kept = [row for row in rows if not (fault.begin <= row[0] < fault.end and fault.concerns(row[1]))]
-        rows = sorted(kept + made(rows, fault, rng), key=lambda row: row[0])
-    made_log = silences.Log()
-    made_log.hours = set(log.hours)
-    for tenth, key in rows:
-        made_log.tenths.append(tenth)
-        made_log.keys.append(key)
-    return made_log
-
-
-def made(rows, fault, rng):
-    """The rows that a fault makes: a stuck or chattering detector goes on from its state and comes back to the true."""
-    if not fault.kind.startswith("stuck") and fault.kind not in PULSES:
-        return []
-    number, found = fault.numbers[0], []
-    states = [(tenth, key >> 16) for tenth, key in rows if fault.concerns(key)]
-    state = next((code for tenth, code in reversed(states) if tenth < fault.begin), 81)
-    true = next((code for tenth, code in reversed(states) if tenth < fault.end), 81)
-    if fault.kind in PULSES:
-        tenth = fault.begin
-        while tenth < fault.end:
-            state = 163 - state
-            found.append((tenth, state << 16 | number))
-            tenth += rng.randint(*PULSES[fault.kind][state == 81])
-    elif state != (82 if fault.kind == "stuck-on" else 81):
-        state = 163 - state
-        found.append((fault.begin, state << 16 | number))
-    return found + ([(fault.end, true << 16 | number)] if state != true else [])
-
-
 def matches(fault, finding):
-    """Whether a line tells of the fault."""
-    kind = {"ped": "ped_detector", "ped-rows": "ped_detector", "coordination": "coordination"}.get(
-        fault.kind, "detector")
+    """Whether a finding tells of the fault."""
     common = min(fault.end, finding.end) - max(fault.begin, finding.begin)
-    return (finding.kind == kind and set(fault.numbers) & set(finding.numbers)
+    return (finding.group.kind == CHANNELS.get(fault.kind, "detector")
+            and set(fault.numbers) & set(finding.group.numbers)
             and 2 * common > min(fault.end - fault.begin, finding.end - finding.begin))

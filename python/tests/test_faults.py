@@ -74,6 +74,15 @@ def test_faults_are_found_at_their_times(faulty: Faults) -> None:
     assert [finding.grade for finding in faulty.findings] == ["sure"] * 7
 
 
+def test_a_silence_is_likely_before_it_is_over(faulty: Faults) -> None:
+    for finding in faulty.findings:
+        tenth = faulty.likely_at(finding)
+        if finding.word == "chatter":
+            assert tenth is None
+        else:
+            assert tenth is not None and finding.begin < tenth <= finding.end
+
+
 def test_what_witnesses_saw_is_explained(faulty: Faults) -> None:
     asked = (("detector 2", "09:10:00"), ("detector 4", "16:10:00"), ("detector 3", "16:10:00"))
     assert [line for name, clock in asked for line in faulty.evidence(name, at(clock))] == kept("evidence")

@@ -8,7 +8,7 @@ from collections.abc import Iterable
 from sigaudit_tools.errors import InputError
 from sigaudit_tools.events import Events
 from sigaudit_tools.faults import without
-from sigaudit_tools.faults.chances import chances
+from sigaudit_tools.faults.chances import chances, likely_at
 from sigaudit_tools.faults.evidence import evidence
 from sigaudit_tools.faults.find import Finding, find, name_of
 from sigaudit_tools.faults.rows import Group, Log
@@ -58,6 +58,15 @@ class Faults:
             InputError: the log has no such channel.
         """
         return evidence(self._watch, self.findings, channel, tenth)
+
+    def likely_at(self, finding: Finding) -> int | None:
+        """The tenth at which a silence that was found had lasted long enough to be likely, to a minute.
+
+        None for chatter, and where too few of its kind were learned from.
+        """
+        if finding.actuations is not None:
+            return None
+        return likely_at(self._watch, finding.group, finding.begin, finding.end)
 
     def faulty(self, config: Config) -> set[str]:
         """The approaches of which a finding that is sure or likely names a detector."""

@@ -106,8 +106,9 @@ class Intake:
             found.append(f"dropped {self.overlapping}: in an earlier file already")
         if self.doubled is not None:
             found.append(f"dropped {self.doubled}: doubled")
-        return found if self.signals else [*found, "no row is kept, nothing is written; look at the causes above, or at "
-                                                 "--signal and --config"]
+        if not self.signals:
+            found.append("no row is kept, nothing is written; look at the causes above, or at --signal and --config")
+        return found
 
     def dropped_lines(self) -> list[str]:
         """What is said of the records that are no rows, a line for each cause."""

@@ -1,0 +1,17 @@
+pub mod Places
+pub mod Sturdy
+pub mod Reading
+pub mod Channels
+pub mod Making
+pub mod Agreeing
+pub mod Joins
+pub mod Histories
+pub mod Needs
+pub mod Ranges
+pub mod Moves
+pub mod Parts
+pub mod Good
+pub mod Rows
+pub mod Ends
+pub mod Window
+pub mod Less

@@ -1,0 +1,6 @@
+pub mod Agreeing
+pub mod Sturdy
+pub mod Tenths
+pub mod Channels
+pub mod Walks
+pub mod Less

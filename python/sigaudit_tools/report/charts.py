@@ -15,7 +15,7 @@ from markupsafe import Markup
 
 from sigaudit_tools.report.svg import (
     BLUE, BROKEN, GREEN, HALF, INK, LEFT, LINE, ORANGE, RED, SKY, SOFT, UNDECIDED, UNKNOWN, WIDE, Chart, Floats, Key,
-    Picture, Rows, Stretch, box, ring, short)
+    Picture, Rows, Stretch, box, ring, short, shorts)
 from sigaudit_tools.times import HOUR
 
 HATCHED = Key(UNKNOWN, "not known, or partly")
@@ -220,8 +220,8 @@ def diagram(title: str, known: Known, cycles: Rows, points: Rows, most: int = MO
     shown = points[(points[:, 1] <= highest) & (points.sum(axis=1) < known.end)]
     every = -(-len(shown) // most) or 1
     arrivals = shown[::every].T
-    picture.path((f"M{short(left)} {short(at)}h0" for left, at in zip(
-        picture.xs(arrivals[0] + arrivals[1]).tolist(), picture.ys(arrivals[1] / 10).tolist())),
+    picture.path((f"M{left} {at}h0" for left, at in zip(
+        shorts(picture.xs(arrivals[0] + arrivals[1])), shorts(picture.ys(arrivals[1] / 10)))),
         stroke=INK, stroke_width=2.4, stroke_linecap="round", opacity=0.75)
     picture.time_axis()
     return Diagram(picture.chart((Key("#d9efe6", "green"), Key(ORANGE, "begin of yellow", "line"),
@@ -238,8 +238,8 @@ def tallest(lengths: Rows) -> int:
 
 def _steps(x: Floats, y: Floats, wide: Floats, mask: npt.NDArray[np.bool_]) -> Iterator[str]:
     """Level strokes, each from a point and so wide."""
-    for left, at, across in zip(x[mask].tolist(), y[mask].tolist(), wide[mask].tolist()):
-        yield f"M{short(left)} {short(at)}h{short(across)}"
+    for left, at, across in zip(shorts(x[mask]), shorts(y[mask]), shorts(wide[mask])):
+        yield f"M{left} {at}h{across}"
 
 
 def shifts(title: str, counts: Sequence[int], best: int) -> Chart:

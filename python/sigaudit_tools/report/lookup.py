@@ -89,8 +89,6 @@ def percent(share: str) -> str:
     return f"{int(whole + decimals[:2])}.{decimals[2]}\u00a0%"
 
 
-def style(column: str) -> str | None:
-    """The class of a column's cells."""
-    if column in TEXTS:
-        return "wide" if column in WIDE else None
-    return "n"
+def style(column: str) -> str:
+    """The class of a column's cells: numbers (n), long texts, texts."""
+    return ("wide" if column in WIDE else "text") if column in TEXTS else "n"

@@ -9,6 +9,7 @@ from __future__ import annotations
 
 import dataclasses
 import datetime
+import functools
 from collections.abc import Iterable, Sequence
 
 import numpy as np
@@ -46,6 +47,18 @@ STEPS = tuple(minutes * 600 for minutes in (5, 10, 15, 30, 60, 120, 180, 360, 72
 def short(number: float) -> str:
     """A coordinate with one decimal at most."""
     return f"{number:.1f}".rstrip("0").rstrip(".")
+
+
+@functools.cache
+def _shorts() -> list[str]:
+    """The coordinates from 0 on that a picture has, in tenths of a unit."""
+    return [short(tenths / 10) for tenths in range(10 * WIDE + 1)]
+
+
+def shorts(numbers: Floats) -> list[str]:
+    """Coordinates from 0 to WIDE with one decimal at most, shape (n,)."""
+    texts = _shorts()
+    return [texts[place] for place in np.rint(numbers * 10).astype(np.int64).tolist()]
 
 
 def day_of(tenth: int) -> str:

@@ -177,10 +177,14 @@ def _in_order(table: pd.DataFrame, columns: str) -> pd.DataFrame:
 def rules(answer: Answer) -> pd.DataFrame:
     """Each rule by hour: how often it was kept, broken, undecided, by the last answers to `verdicts H`."""
     judged = answer.judged
-    counts = pd.crosstab([judged["hour"], judged["rule"]], judged["verdict"], dropna=False)
-    counts = counts.reindex(columns=list(answer_lines.VERDICTS), fill_value=0)
-    counts = counts[counts.sum(axis=1) > 0].rename_axis(columns=None).reset_index()
-    return _named(answer, counts, ["signal", "hour", "rule", "name", *answer_lines.VERDICTS, "in_words"])
+    hours, hour = np.unique(judged["hour"].to_numpy(), return_inverse=True)
+    kinds, rules = len(answer_lines.VERDICTS), int(judged["rule"].to_numpy().max(initial=0)) + 1
+    place = (hour * rules + judged["rule"].to_numpy()) * kinds + judged["verdict"].cat.codes.to_numpy()
+    counts = np.bincount(place, minlength=len(hours) * rules * kinds).reshape(-1, kinds)
+    there = np.flatnonzero(counts.any(axis=1))
+    table = pd.DataFrame({"hour": hours[there // rules], "rule": there % rules,
+                          **dict(zip(answer_lines.VERDICTS, counts[there].T))})
+    return _named(answer, table, ["signal", "hour", "rule", "name", *answer_lines.VERDICTS, "in_words"])
 
 
 def window_rules(answer: Answer) -> pd.DataFrame:

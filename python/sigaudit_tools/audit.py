@@ -18,7 +18,7 @@ from sigaudit_tools._version import VERSION
 from sigaudit_tools.answer import parse_answer
 from sigaudit_tools.errors import InputError
 from sigaudit_tools.events import Events
-from sigaudit_tools.files import digest, write_text, written
+from sigaudit_tools.files import digest, make_folder, write_text, written
 from sigaudit_tools.intake import Intake, hour_files, read_export
 from sigaudit_tools.run import Run
 from sigaudit_tools.signal.config import Config, read_config
@@ -237,8 +237,15 @@ class _Audit:
 
     def _find_faults(self) -> tuple[list[str], list[str]]:
         from sigaudit_tools.faults import find_faults
-        lines = find_faults(self._config, self._events).lines()
-        return [self._work.write(run.FAULTS, lines)], lines
+        faults = find_faults(self._config, self._events)
+        files, lines = [], faults.lines()
+        config = faults.config_without(self._config)
+        if config is not None:
+            make_folder(self._work.folder / run.WITHOUT)
+            write_text(self._work.folder / run.WITHOUT / "config-without.toml", config)
+            self._work.write(f"{run.WITHOUT}/hours-without.txt", faults.hours_without(self._config))
+            files = [f"{run.WITHOUT}/config-without.toml", f"{run.WITHOUT}/hours-without.txt"]
+        return [self._work.write(run.FAULTS, lines), *files], lines
 
     def _keep_script_of_hand(self) -> None:
         """Refuses to write over a script that was changed by hand."""

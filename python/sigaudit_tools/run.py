@@ -25,7 +25,8 @@ if TYPE_CHECKING:
     from sigaudit_tools.holes import Holes
 
 CONFIG, EVENTS, HOURS, CHECK = "config.toml", "events.npz", "hours.txt", "check.txt"
-HOLES, FAULTS, SCRIPT, ANSWER = "holes.txt", "detectors.txt", "session.txt", "answer.txt"
+HOLES, FAULTS, WITHOUT = "holes.txt", "detectors.txt", "without"
+SCRIPT, ANSWER = "session.txt", "answer.txt"
 DOUBTS, FILLINGS, TABLES, PAGE = "doubts.txt", "pairs.txt", "tables", "report.html"
 
 

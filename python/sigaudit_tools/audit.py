@@ -27,6 +27,7 @@ from sigaudit_tools.steps import Steps, digest_of, locked
 
 if TYPE_CHECKING:
     import pandas as pd
+    from sigaudit_tools.faults import Faults
     from sigaudit_tools.holes import Holes
 
 FEWEST_HOURS_FOR_FAULTS = 24
@@ -238,14 +239,27 @@ class _Audit:
     def _find_faults(self) -> tuple[list[str], list[str]]:
         from sigaudit_tools.faults import find_faults
         faults = find_faults(self._config, self._events)
-        files, lines = [], faults.lines()
+        lines = faults.lines()
+        try:
+            files, said = self._write_without(faults), []
+        except InputError as error:
+            files, said = [], [f"no configuration without the approaches concerned: {error}"]
+        return [self._work.write(run.FAULTS, lines), *files], [*lines, *said]
+
+    def _write_without(self, faults: Faults) -> list[str]:
+        """Writes the configuration without the approaches whose detectors are at fault, where there are such.
+
+        Raises:
+            InputError: it is written so that they can't be taken out of it.
+        """
         config = faults.config_without(self._config)
-        if config is not None:
-            make_folder(self._work.folder / run.WITHOUT)
-            write_text(self._work.folder / run.WITHOUT / "config-without.toml", config)
-            self._work.write(f"{run.WITHOUT}/hours-without.txt", faults.hours_without(self._config))
-            files = [f"{run.WITHOUT}/config-without.toml", f"{run.WITHOUT}/hours-without.txt"]
-        return [self._work.write(run.FAULTS, lines), *files], lines
+        if config is None:
+            return []
+        make_folder(self._work.folder / run.WITHOUT)
+        names = [f"{run.WITHOUT}/config-without.toml", f"{run.WITHOUT}/hours-without.txt"]
+        write_text(self._work.folder / names[0], config)
+        self._work.write(names[1], faults.hours_without(self._config))
+        return names
 
     def _keep_script_of_hand(self) -> None:
         """Refuses to write over a script that was changed by hand."""

@@ -1,4 +1,4 @@
-"""The notebook of the examples runs, cell by cell."""
+"""The notebook of the examples runs, cell by cell, and so do the lines of the README."""
 
 from __future__ import annotations
 
@@ -38,3 +38,14 @@ def test_the_notebook_runs(tmp_path: Path, monkeypatch: pytest.MonkeyPatch) -> N
     assert isinstance(splits, pd.DataFrame) and splits.shape == (8, 3) and splits.loc[2].between(15, 150).all()
     assert isinstance(arrivals, pd.DataFrame) and arrivals["share"].between(0, 1).all()
     assert (tmp_path / "first-look.html").stat().st_size > 100_000
+
+
+@needs_program
+def test_the_lines_of_the_readme_run(tmp_path: Path, monkeypatch: pytest.MonkeyPatch) -> None:
+    text = (TOP / "python" / "README.md").read_text().split("## In Python\n", 1)[1].split("\n##", 1)[0]
+    lines = [line[4:] for line in text.split("\n") if line.startswith("    ")]
+    assert len(lines) <= 10 and lines[0] == "import pandas as pd"
+    shutil.copytree(INTERSECTION, tmp_path / "examples" / "intersection")
+    monkeypatch.chdir(tmp_path)
+    exec("\n".join(lines), {})
+    assert (tmp_path / "page.html").is_file()

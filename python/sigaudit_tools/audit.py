@@ -90,13 +90,12 @@ def audit(config: Config | Path | str, log: Events | pd.DataFrame | Path | str |
     """
     found = programs.find_program(program)
     folder = Path(tempfile.mkdtemp(prefix="sigaudit-")) if out is None else Path(out)
-    try:
+    with contextlib.ExitStack() as undo:
+        if out is None:
+            undo.callback(rmtree, folder, ignore_errors=True)
         with work_in(folder, force, notify) as work:
             made = audit_in(work, config, log, found, wishes)
-    except BaseException:
-        if out is None:
-            rmtree(folder, ignore_errors=True)
-        raise
+        undo.pop_all()
     if out is None:
         weakref.finalize(made, rmtree, folder, ignore_errors=True)
     return made

@@ -92,6 +92,8 @@ class Answers:
             return found
         alone = _alone(track, goes_on, asked.since, asked.at, marks)
         later = [size] * len(marks)
+        if min(alone) > self.most:
+            return found
         if marks != [EVERY]:
             later = _alone(track, goes_on, asked.later_since, asked.later_at, marks)
         for mark, count, chance in zip(marks, alone, later):

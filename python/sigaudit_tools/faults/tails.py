@@ -7,7 +7,6 @@ than the next, since they may be faults themselves, and the silence that is judg
 
 from __future__ import annotations
 
-import collections
 import dataclasses
 import math
 from collections.abc import Iterable
@@ -20,10 +19,12 @@ CERTAINTY = 40       # silences: that a tail is geometric is no surer than so ma
 
 @dataclasses.dataclass(frozen=True)
 class Tail:
-    """Where a tail begins, how many are in it, how it falls with each event, and from how many that is learned."""
+    """Where a tail begins, how many are in it and the natural logarithm of one more, how it falls with each event, and
+    from how many that is learned."""
 
     edge: int
     reached: int
+    log_reached: float
     fall: float
     learned: int
 
@@ -40,8 +41,10 @@ class Amounts:
 
     def __init__(self, amounts: Iterable[int], count: int, top: int, faults: int) -> None:
         self.count, self.top, self.faults = count, top, faults
-        self.times = collections.Counter(amounts)
-        del self.times[0]
+        self.times: dict[int, int] = {}
+        for amount in amounts:
+            self.times[amount] = self.times[amount] + 1 if amount in self.times else 1
+        self.times.pop(0, None)
         self.in_order = sorted(self.times.items(), reverse=True)
         self.tails: dict[int | None, Tail] = {}
 
@@ -56,7 +59,7 @@ class Amounts:
         edge, reached = self._edge(without)
         if edge == 0:
             reached = self.count - (without is not None)
-        spare = min(self.faults, reached // 2)
+        spare = self.faults if self.faults < reached // 2 else reached // 2
         excess, largest, left = 0, edge, spare
         for amount, times in self.in_order:
             if amount <= edge:
@@ -69,7 +72,8 @@ class Amounts:
             excess += times * (amount - edge)
         excess += spare * (largest - edge)
         learned = reached - spare + 1
-        return Tail(edge, reached, math.log1p(1 / ((excess + 1) / learned)), min(learned, CERTAINTY))
+        return Tail(edge, reached, math.log(reached + 1), math.log1p(1 / ((excess + 1) / learned)),
+                    learned if learned < CERTAINTY else CERTAINTY)
 
     def _edge(self, without: int | None) -> tuple[int, int]:
         """The least amount in the tail, 0 where it holds all, and how many have that or more."""
@@ -88,12 +92,12 @@ class Amounts:
         tail = self.tail(without)
         if amount <= tail.edge:
             return math.log(self.count + 1)
-        return math.log(tail.reached + 1) - tail.learned * math.log1p((amount - tail.edge) * tail.fall / tail.learned)
+        return tail.log_reached - tail.learned * math.log1p((amount - tail.edge) * tail.fall / tail.learned)
 
     def need(self, expected: float) -> int:
         """The least that has to be seen so that no more than expected (its logarithm) are."""
         tail = self.tail()
-        more = tail.learned * math.expm1((math.log(tail.reached + 1) - expected) / tail.learned) / tail.fall
+        more = tail.learned * math.expm1((tail.log_reached - expected) / tail.learned) / tail.fall
         return tail.edge + max(1, math.ceil(more))
 
 

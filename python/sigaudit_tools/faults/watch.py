@@ -153,8 +153,9 @@ class Watch:
     def _dark(self, group: Group, places: Places, spans: Spans) -> Places:
         """The rows of the channel around silences at which witnesses tell nothing, shape (w, n)."""
         found = np.zeros((len(places), len(spans)), np.int64)
+        dark_spans = self.witnesses.dark
         for row, place in enumerate(places.tolist()):
-            for dark, light in self.witnesses.dark.get(place, ()):
+            for dark, light in dark_spans[place] if place in dark_spans else ():
                 found[row] += self.tracks[group].count(np.maximum(spans.begin - spans.width, dark),
                                                        np.minimum(spans.end + spans.width, light))
         return found
@@ -226,12 +227,10 @@ class Watch:
         without = np.where(counted, amount, -1)
         least = int(without.max(initial=0)) + 2
         keys, which = np.unique(believed * least + without + 1, return_inverse=True)
-        scores = []
-        for key in keys.tolist():
-            seen, left_out = key // least, key % least - 1
-            expected = usual.amounts[witness].expected(seen, None if left_out < 0 else left_out)
-            scores.append(score_of(self.days, expected, usual.tests))
-        found: Floats = np.array(scores, np.float64)[which]
+        tails = usual.amounts[witness]
+        expected = np.array([tails.expected(key // least, key % least - 1 if key % least else None)
+                             for key in keys.tolist()])
+        found: Floats = score_of(self.days, expected, usual.tests)[which]
         return found
 
     def unanswered(self, group: Group, mark: int, begin: Places, until: Places) -> Floats:
@@ -335,8 +334,8 @@ def _soonest(places: Places, waits: Floats) -> tuple[int, ...]:
     total = _sums(waits)
     while len(chosen) < min(WITNESSES, len(places)):
         both = _sums(np.minimum(second, np.maximum(best, waits)))
-        row = min((row for row in range(len(places)) if row not in chosen),
-                  key=lambda row: (both[row], total[row], places[row]))
+        both[chosen] = np.inf
+        row = int(np.lexsort((places, total, both))[0])
         chosen.append(row)
         best, second = np.minimum(best, waits[row]), np.minimum(second, np.maximum(best, waits[row]))
     return tuple(int(places[row]) for row in chosen)

@@ -41,7 +41,8 @@ class Witnesses:
         self.moments = [found[name] for name in self.names]
         self.mesh = np.concatenate([np.arange(begin, end, STEP) for begin, end in log.spans])
         self._origin, self._stride = log.hours[0] - 1, log.hours[-1] + HOUR - log.hours[0] + 2
-        self._offset = np.cumsum([0, *map(len, self.moments)])[:-1]
+        self._sizes = np.array([*map(len, self.moments)], np.int64)
+        self._offset = np.cumsum(self._sizes) - self._sizes
         self._flat = np.concatenate([moments - self._origin + place * self._stride
                                      for place, moments in enumerate(self.moments)] or [np.empty(0, np.int64)])
         self.columns = [np.searchsorted(moments, self.mesh) for moments in self.moments]
@@ -51,7 +52,7 @@ class Witnesses:
 
     def sizes(self, places: Places) -> Places:
         """How often witnesses saw something in all, shape (w,)."""
-        return np.array([len(self.moments[place]) for place in places.tolist()], np.int64)
+        return self._sizes[places]
 
     def before(self, places: Places, tenth: Places) -> Places:
         """How often witnesses saw something before some tenths, shape (w, n)."""
@@ -73,7 +74,7 @@ class Witnesses:
     def others(self, group: Group) -> Places:
         """Which can tell of a channel: other detectors and inputs; where most are its own, the controller."""
         found = [place for place in range(len(self.names)) if self._is_other(place, group)]
-        kinds = INPUTS if ("detectors", None) in (self.names[place] for place in found) else CONTROLLER
+        kinds = INPUTS if ("detectors", None) in [self.names[place] for place in found] else CONTROLLER
         return np.array([place for place in found if self.names[place][0] in kinds], np.int64)
 
     def _is_other(self, place: int, group: Group) -> bool:
@@ -82,7 +83,7 @@ class Witnesses:
         if number is not None:
             return kind != group.kind or number not in group.numbers
         own = kind == group.kind + "s"
-        return not own or 2 * len(group.numbers) < sum(one == group.kind for one, _ in self.names)
+        return not own or 2 * len(group.numbers) < [one for one, _ in self.names].count(group.kind)
 
 
 def _moments(log: Log, hush: Hush) -> dict[Name, Tenths]:

@@ -26,7 +26,7 @@ def run_pytest(arguments: list[str]) -> tuple[int, int]:
     with tempfile.TemporaryDirectory() as folder:
         report = Path(folder, "tests.xml")
         made = subprocess.run([sys.executable, "-m", "pytest", "-q", "-p", "no:cacheprovider", f"--junit-xml={report}",
-                               *arguments], cwd=HERE.parent)
+                               *arguments], cwd=HERE.parent, env=os.environ | {"COVERAGE_FILE": f"{folder}/coverage"})
         if made.returncode not in (0, 1):
             print("no test has such a name" if made.returncode == 5 else f"pytest ended with {made.returncode}")
             return 0, 1

@@ -22,7 +22,7 @@ from sigaudit_tools._version import VERSION
 
 if TYPE_CHECKING:
     from sigaudit_tools.answer import Answer, parse_answer, read_answer
-    from sigaudit_tools.audit import Wishes, audit
+    from sigaudit_tools.auditing import Wishes, audit
     from sigaudit_tools.errors import InputError, ProgramError, ResourceError, ToolError, UsageError
     from sigaudit_tools.events import Events
     from sigaudit_tools.faults import Faults, find_faults
@@ -35,7 +35,7 @@ if TYPE_CHECKING:
 
 _MODULES = {
     "answer": ("Answer", "parse_answer", "read_answer"),
-    "audit": ("Wishes", "audit"),
+    "auditing": ("Wishes", "audit"),
     "errors": ("InputError", "ProgramError", "ResourceError", "ToolError", "UsageError"),
     "events": ("Events",),
     "faults": ("Faults", "find_faults"),

@@ -10,7 +10,7 @@ from pathlib import Path
 from sigaudit_tools import program as programs
 from sigaudit_tools import run as runs
 from sigaudit_tools.answer import Answer
-from sigaudit_tools.audit import Notify, Wishes, Work, answer_in, audit_in, work_in
+from sigaudit_tools.auditing import Notify, Wishes, Work, answer_in, audit_in, work_in
 from sigaudit_tools.files import make_folder, write_text
 from sigaudit_tools.holes.doubts import find_doubts
 from sigaudit_tools.report.audit import Audit

@@ -13,7 +13,7 @@ import pytest
 from makers.runs import CONFIG, EXPORT, audit_words, call, contents, needs_program, start
 
 import sigaudit_tools as st
-from sigaudit_tools.audit import Notice
+from sigaudit_tools.auditing import Notice
 
 pytestmark = needs_program
 KEPT = Path(__file__).parent / "kept" / "outages"

@@ -7,7 +7,7 @@ import time
 
 import click
 
-from sigaudit_tools.audit import Notice
+from sigaudit_tools.auditing import Notice
 from sigaudit_tools.cli import _manners
 
 _CLEAR_LINE = "\r\x1b[K"

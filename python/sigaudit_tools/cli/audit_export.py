@@ -35,7 +35,7 @@ def command(config: Path, out: Path, silence: float | None, no_holes: bool, no_d
     A run that was ended goes on where it was; one whose configuration or files have changed does again only what hangs
     on them. Read holes.txt: the blanks that are proposed there are taken as they are.
     """
-    from sigaudit_tools.audit import Wishes
+    from sigaudit_tools.auditing import Wishes
     from sigaudit_tools.cli._progress import Progress
     from sigaudit_tools.cli._summary import say_summary
     from sigaudit_tools.publish import audit_export

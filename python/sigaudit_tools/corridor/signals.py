@@ -7,7 +7,7 @@ from pathlib import Path
 
 from sigaudit_tools import program as programs
 from sigaudit_tools.answer import Answer, parse_answer
-from sigaudit_tools.audit import Notify, Work, work_in
+from sigaudit_tools.auditing import Notify, Work, work_in
 from sigaudit_tools.errors import InputError
 from sigaudit_tools.events import Events
 from sigaudit_tools.files import digest, write_text, written

@@ -2,7 +2,9 @@
 
 from __future__ import annotations
 
+import functools
 import os
+import signal
 import subprocess
 import sys
 from pathlib import Path
@@ -24,9 +26,13 @@ def call(*words: object) -> int:
 
 
 def start(*words: object, **more: object) -> subprocess.Popen[bytes]:
-    """Starts a command in a process of its own; its output is read by pipes, unless `more` says otherwise."""
+    """Starts a command in a process of its own; its output is read by pipes, unless `more` says otherwise.
+
+    Ctrl-C ends it also where these tests run in the background, where a shell has it ignored.
+    """
     env = os.environ | {"PYTHONPATH": str(TOP / "python"), "PYTHONDONTWRITEBYTECODE": "1"}
-    options = {"stdout": subprocess.PIPE, "stderr": subprocess.PIPE, "env": env} | more
+    heed = functools.partial(signal.signal, signal.SIGINT, signal.SIG_DFL)
+    options = {"stdout": subprocess.PIPE, "stderr": subprocess.PIPE, "env": env, "preexec_fn": heed} | more
     return subprocess.Popen([sys.executable, "-m", "sigaudit_tools", *map(str, words)], **options)  # type: ignore
 
 

@@ -47,7 +47,7 @@ def spent() -> float:
 
 def steps(config: Path, log: Path, out: Path) -> dict[str, float]:
     """Processor seconds of each step of the whole way; the first that wants a library pays for its start."""
-    from sigaudit_tools.audit import Notice
+    from sigaudit_tools.auditing import Notice
     from sigaudit_tools.publish import audit_export
     found: dict[str, float] = {}
     begun = spent()

@@ -71,7 +71,7 @@ pub fn walk_pasts<M: Machine>(
     still_pasts(alloc, machine, asked, still_up_to(since, to), pasts)
 }
 
-// The still from the tenth up to the move.
+/// The still from the tenth up to the move.
 pub fn still_before(since: u32, one: Move) -> Still
     ensures from { result.from ≡ pos since }
     ensures to { result.to ≡ pos (limit_before one) }
@@ -88,7 +88,7 @@ pub fn still_before(since: u32, one: Move) -> Still
     }
 }
 
-// The still from one tenth up to but without another.
+/// The still from one tenth up to but without another.
 pub fn still_up_to(since: u32, to: u32) -> Still
     ensures from { result.from ≡ pos since }
     ensures to { result.to ≡ pos to }
@@ -101,7 +101,7 @@ pub fn still_up_to(since: u32, to: u32) -> Still
     }
 }
 
-// The first tenth of the still after the move.
+/// The first tenth of the still after the move.
 pub fn still_begin(one: Move) -> u32
     ensures { result ≡ still_after one }
 {

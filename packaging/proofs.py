@@ -137,14 +137,15 @@ class Facts:
         return found
 
     def read_gate(self):
-        """The last lines of the gate's log, which has to end well."""
+        """The last lines of what the proofs' part of the gate said; its log has to end well, with the tools' tests."""
         if not self.log:
             return []
         lines = [line.rstrip() for line in text_of(self.log).splitlines() if line.strip()]
         if not lines or not re.search(r"\b\d+ passed, 0 failed$", lines[-1]):
             sys.exit("build: %s isn't the log of a gate that passed: it ends with %s"
                      % (self.log, lines[-1] if lines else "nothing"))
-        return lines[-3:]
+        ended = [place for place, line in enumerate(lines) if re.fullmatch(r"\d+ passed, 0 failed", line)]
+        return lines[:ended[0] + 1][-3:]
 
     def text(self, version, released, wants):
         object_said = "sha256 " + digest(self.object_file) if self.object_file else "not given"
